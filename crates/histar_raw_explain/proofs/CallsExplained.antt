@@ -34,11 +34,10 @@ last_granted k lines S e same is granted none =
     at_last k lines S (Some e) same is (subst (λ (d : Option Denied). ExplainsCall (state k) e.line e.thread e.call d lines) (sym granted) none)
 
 -- a denied call
-pub last_denied : {E : Type 0} (result : Result (Vec ℕ) E) (k : KernelModel) (S : List TraceEntry) (e : TraceEntry) (d : Denied) (x : Explanation) → S ≡ k.trace → Some e ≡ slice_get S (length S - 1) → e.denied ≡ Some d → ExplainsDenial (state k) e.thread e.call d x
-    → IfOk result (λ (text : Vec ℕ). text.items ≡ explanation_text raw_words e.line e.thread x) → IfOk result (λ (text : Vec ℕ). ExplainsLast k text.items)
-last_denied (Err error) k S e d x same is denied explained text = text
-last_denied (Ok lines) k S e d x same is denied explained text =
-    at_last k lines.items S (Some e) same is (subst (λ (o : Option Denied). ExplainsCall (state k) e.line e.thread e.call o lines.items) (sym denied) (x, explained, text))
+module _ (k : KernelModel) (S : List TraceEntry) (e : TraceEntry) (d : Denied) (x : Explanation) where
+  pub last_denied : (lines : List ℕ) → S ≡ k.trace → Some e ≡ slice_get S (length S - 1) → e.denied ≡ Some d → ExplainsDenial (state k) e.thread e.call d x → lines ≡ explanation_text raw_words e.line e.thread x → ExplainsLast k lines
+  last_denied lines same is denied explained text =
+      at_last k lines S (Some e) same is (subst (λ (o : Option Denied). ExplainsCall (state k) e.line e.thread e.call o lines) (sym denied) (x, explained, text))
 
 -- the last of a list with one more
 last_is : (xs : List TraceEntry) (e : TraceEntry) → slice_get (xs ++ e ∷ []) (length (xs ++ e ∷ []) - 1) ≡ Some e

@@ -8,6 +8,6 @@ mod party_texts;
 mod session;
 mod wording;
 
-pub use lines::write_explanation;
+pub use lines::push_explanation;
 pub use session::explain_raw_script;
 pub use wording::{ByNumber, Wording};

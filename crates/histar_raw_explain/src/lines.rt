@@ -10,7 +10,11 @@ use histar_explain::{Act, Difference, Explanation, Obstacle, Reason};
 use histar_label::{Category, Level};
 use histar_object::ObjId;
 use histar_rawtext::push_number;
+use histar_syscall::TraceEntry;
 use std::alloc::{AllocError, Global};
+
+/// For how many bytes the beginning of a line has room at first.
+const OPENING_LEN: usize = 128;
 
 /// Returns what each line of an explanation begins with: a question mark and the number of the call's
 /// line, the thread, and what it may not do.
@@ -23,7 +27,8 @@ fn opening<V: Wording>(
 ) -> Result<Vec<u8>, AllocError>
     ensures { IfOk result (λ text. text.items ≡ opening_text (V.words words.now) line thread act) }
 {
-    let mut text = Vec::from_slice(alloc, b"?".as_slice())?;
+    let mut text = Vec::with_capacity(alloc, OPENING_LEN)?;
+    text.extend_from_slice(b"?")?;
     push_number(&mut text, u64::from(line))?;
     text.extend_from_slice(b" ")?;
     words.push_thread(&mut text, thread)?;
@@ -238,30 +243,29 @@ fn push_obstacle_line(
     text.extend_from_slice(b"\n")
 }
 
-/// Writes the lines that explain why the call of a thread on a line was denied.
-pub fn write_explanation<V: Wording>(
+/// Adds the lines that explain why the call of an entry was denied.
+pub fn push_explanation<V: Wording>(
     alloc: Global,
+    text: &mut Vec<u8>,
     words: &V,
-    line: u32,
-    thread: ObjId,
+    entry: &TraceEntry,
     explanation: &Explanation,
-) -> Result<Vec<u8>, AllocError>
-    ensures { IfOk result (λ text. text.items ≡ explanation_text (V.words words.now) line thread explanation.now) }
+) -> Result<(), AllocError>
+    ensures { OnOk result (text.new.items ≡ text.old.items
+        ++ explanation_text (V.words words.now) entry.now.line entry.now.thread explanation.now) }
 {
-    let opening = opening(alloc, words, line, thread, explanation.act)?;
-    let mut text = Vec::new(alloc);
+    let opening = opening(alloc, words, entry.line, entry.thread, explanation.act)?;
     push_all_unmade(
-        &mut text,
+        text,
         words,
         opening.as_slice(),
         explanation.unmade.as_slice(),
     )?;
     push_reasons(
-        &mut text,
+        text,
         words,
         opening.as_slice(),
         explanation.reasons.as_slice(),
     )?;
-    push_obstacle_line(&mut text, opening.as_slice(), explanation.obstacle)?;
-    Ok(text)
+    push_obstacle_line(text, opening.as_slice(), explanation.obstacle)
 }

@@ -6,7 +6,7 @@ ghost use Rattle.histar_syscall.specs.KernelModel.{state};
 ghost use Rattle.histar_raw_session.specs.Answers.{AnswersCall, AnswersCalls, BeginsAnswer, BeginsAnswers};
 ghost use Rattle.histar_raw_explain.specs.Explained.{ExplainsLast, ExplainsOne, ExplainsCalls, ExplainsAnswered, BeginsExplaining, RunsExplained};
 
-use crate::lines::write_explanation;
+use crate::lines::push_explanation;
 use crate::wording::ByNumber;
 use histar_devices::{Sink, Source, read_input, write_bytes};
 use histar_explain::explain;
@@ -139,5 +139,7 @@ fn explain_last<S: LabelStore + Drop>(
         return Ok(Vec::new(alloc));
     };
     let explanation = explain(alloc, kernel, entry.thread, &entry.call, denied)?;
-    write_explanation(alloc, &ByNumber, entry.line, entry.thread, &explanation)
+    let mut text = Vec::new(alloc);
+    push_explanation(alloc, &mut text, &ByNumber, entry, &explanation)?;
+    Ok(text)
 }

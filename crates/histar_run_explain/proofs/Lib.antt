@@ -1,6 +1,5 @@
 pub mod Parts
-pub mod Finding
-pub mod AllProcesses
+pub mod Remembering
 pub mod Replays
 pub mod Turns
 pub mod Scripts

@@ -1,7 +1,6 @@
 -- In a state that lays out a flat state what a category is said to be for is what it is for.
 use Rattle.std.proofs.Common.{◌≡◌, ℕ, ◌+◌, ◌*◌, ◌-◌, ◌%◌, ◌<◌, ◌≤◌, ◌==◌, Bool, true, false, ◌&&◌, ◌||◌, cond, List, [], ◌∷◌, length, Option, None, Some, refl, sym, ap, ◌∙◌, subst, inl, inr, if◌then◌else◌, arith}
-use Rattle.std.specs.Prelude.{map, not, nat_le, nat_lt, is_some, option_map, option_and_then}
-use Rattle.std.specs.List.{find}
+use Rattle.std.specs.Prelude.{map, not, nat_le, nat_lt, is_some, option_map, option_and_then, slice_get}
 use Rattle.std.proofs.lemmas.Bool.{true≢false}
 use Rattle.std.proofs.lemmas.Bool.Decides.{nat_tests}
 use Rattle.std.proofs.lemmas.List.{length-map}
@@ -23,8 +22,6 @@ use Rattle.histar_calls.specs.declared.places.Home.{Home as Where}
 use Rattle.histar_calls.specs.declared.places.Places.{Places}
 use Rattle.histar_login.specs.Start.{places_of, declared}
 use Rattle.histar_process.specs.Caller.{if_runs, is_zero, status_at}
-use Rattle.histar_tree.specs.declared.process.ProcessNode.{ProcessNode}
-use Rattle.histar_tree.specs.Processes.{levels_at, processes_at}
 use Rattle.histar_refinement.specs.Addresses.{same_step, home_address}
 use Rattle.histar_refinement.specs.Addresses.Step.{Inside, Runner}
 use Rattle.histar_refinement.specs.Categories.{CategoryName, CategoryName as names, IsUsed, among}
@@ -40,9 +37,10 @@ use Rattle.histar_refinement.proofs.Moving.{at_number}
 use Rattle.histar_refinement.proofs.Places.{asked_home, asked_inside}
 use Rattle.histar_refinement.proofs.StatusFound.{numbered_home, numbered_runner}
 use Rattle.histar_refinement.proofs.Steps.{step_tests_equality}
+use Rattle.histar_run_explain.specs.Births.{Births}
 use Rattle.histar_run_explain.specs.declared.purposes.Purpose.{Purpose}
 use Rattle.histar_run_explain.specs.declared.purposes.Purpose.TheVariants.{Reads, Writes, ReadsProcess, WritesProcess, Job}
-use Rattle.histar_run_explain.specs.Purposes.{owner_in, pair_purpose, boot_purpose, outer_label, inner_label, has_zero, has_three, is_own_secret, begins_job, is_one_of, purpose_by, purpose_up, purpose_among, purpose_somewhere}
+use Rattle.histar_run_explain.specs.Purposes.{owner_in, pair_purpose, boot_purpose, outer_label, inner_label, has_zero, has_three, job_by, purpose_born, purpose_by, purpose_up}
 use Rattle.histar_run_explain.specs.Laws.{IsPurposeOf, PurposesAreRight}
 use Rattle.histar_run_explain.proofs.Parts.{either_there, step_there, tested, both}
 
@@ -159,11 +157,11 @@ module _ (session : Session) (s : State) (f : Flat) (l : Laid session s f) where
       not_three (is_in (jobs_of p) c) (is_in (own me ∷ []) c) level other
 
   -- the category at 3 inside and not outside is the one by which the process keeps its secrets
-  secret_named : (me : ProcName) (c : ℕ) → is_own_secret s first c me ≡ true → Named c (ReadsProcess me)
-  secret_named me c e = by (f.processes me) refl
+  secret_named : (me : ProcName) (c : ℕ) → has_three (inner_label s first me) c ≡ true → has_three (outer_label s first me) c ≡ false → Named c (ReadsProcess me)
+  secret_named me c inside outside = by (f.processes me) refl
     where
       parts : (has_three (inner_label s first me) c ≡ true) × (not (has_three (outer_label s first me) c) ≡ true)
-      parts = both (has_three (inner_label s first me) c) (not (has_three (outer_label s first me) c)) e
+      parts = (inside, ap not outside)
 
       of_life : (p : Process) → f.processes me ≡ Some p → (x : Option ℕ) → p.exited ≡ x → Named c (ReadsProcess me)
       of_life p is (Some n) exited =
@@ -179,12 +177,11 @@ module _ (session : Session) (s : State) (f : Flat) (l : Laid session s f) where
       by (Some p) is = of_life p is p.exited refl
 
   -- the category at 3 outside, and not outside the process above, is a job that begins there
-  job_named : (me : ProcName) (c : ℕ) → begins_job s first c me ≡ true → Named c (Job me)
-  job_named [] c e = absurd (true≢false (sym e))
-  job_named (n ∷ above) c e = by (f.processes (n ∷ above)) refl
+  job_begun : (n : ℕ) (above : ProcName) (c : ℕ) → has_three (outer_label s first (n ∷ above)) c ≡ true → has_three (outer_label s first above) c ≡ false → Named c (Job (n ∷ above))
+  job_begun n above c in_it begins = by (f.processes (n ∷ above)) refl
     where
       parts : (has_three (outer_label s first (n ∷ above)) c ≡ true) × (not (has_three (outer_label s first above) c) ≡ true)
-      parts = both (has_three (outer_label s first (n ∷ above)) c) (not (has_three (outer_label s first above) c)) e
+      parts = (in_it, ap not begins)
 
       by : (o : Option Process) → f.processes (n ∷ above) ≡ o → Named c (Job (n ∷ above))
       by None is = absurd (true≢false (sym parts.0 ∙ ap (λ (L : Option Levels). has_three L c) (outer_absent (n ∷ above) is)))
@@ -205,15 +202,22 @@ module _ (session : Session) (s : State) (f : Flat) (l : Laid session s f) where
           knows_inside : (p : Process) (job : ProcName) → has p.chain job ≡ true → (has p.chain job || has p.held job) ≡ true
           knows_inside p job e = ap (λ b. b || has p.held job) e
 
+  job_named : (me : ProcName) (c : ℕ) (purpose : Purpose) → has_three (outer_label s first me) c ≡ true → job_by s first c me ≡ Some purpose → Named c purpose
+  job_named [] c purpose inside e = absurd (none-some purpose e)
+  job_named (n ∷ above) c purpose inside e = elim (tested (has_three (outer_label s first above) c) _ _ purpose e) [
+    | inl none ↦ absurd (none-some purpose none.1)
+    | inr begins ↦ subst (Named c) (same_Some _ _ begins.1) (job_begun n above c inside begins.0)
+  ]
+
   -- ---- what a category is for
 
   process_named : (c : ℕ) (me : ProcName) (purpose : Purpose) → purpose_by s first c me ≡ Some purpose → Named c purpose
   process_named c me purpose e = elim (tested (has_zero (outer_label s first me) c) _ _ purpose e) [
     | inl zero_at ↦ subst (Named c) (same_Some _ _ zero_at.1) (zero_named me c zero_at.0)
-    | inr more ↦ elim (tested (is_own_secret s first c me) _ _ purpose more.1) [
-      | inl secret ↦ subst (Named c) (same_Some _ _ secret.1) (secret_named me c secret.0)
-      | inr last ↦ elim (tested (begins_job s first c me) _ _ purpose last.1) [
-        | inl job ↦ subst (Named c) (same_Some _ _ job.1) (job_named me c job.0)
+    | inr more ↦ elim (tested (has_three (outer_label s first me) c) _ _ purpose more.1) [
+      | inl inside ↦ job_named me c purpose inside.0 inside.1
+      | inr outside ↦ elim (tested (has_three (inner_label s first me) c) _ _ purpose outside.1) [
+        | inl secret ↦ subst (Named c) (same_Some _ _ secret.1) (secret_named me c secret.0 outside.0)
         | inr none ↦ absurd (none-some purpose none.1)
       ]
     ]
@@ -226,11 +230,11 @@ module _ (session : Session) (s : State) (f : Flat) (l : Laid session s f) where
     | inr later ↦ up_named c above purpose later
   ]
 
-  somewhere_named : (c : ℕ) (purpose : Purpose) → purpose_somewhere (without_passwords session) s places c ≡ Some purpose → Named c purpose
-  somewhere_named c purpose e =
-      let all = step_there (purpose_among s first c) (processes_at (levels_at []) (without_passwords session) s [] first) purpose e in
-      let one = step_there (purpose_by s first c) (option_map (λ (node : ProcessNode). node.name) (find (λ (node : ProcessNode). is_one_of s first c node.name) all.0)) purpose all.2 in
-      process_named c one.0 purpose one.2
+  born_named : (c : ℕ) (births : Births) (purpose : Purpose) → purpose_born s first c births ≡ Some purpose → Named c purpose
+  born_named c births purpose e =
+      let birth = step_there (option_and_then (purpose_by s first c)) (slice_get births c) purpose e in
+      let child = step_there (purpose_by s first c) birth.0 purpose birth.2 in
+      process_named c child.0 purpose child.2
 
   -- ---- what boot made
 
@@ -301,13 +305,13 @@ module _ (session : Session) (s : State) (f : Flat) (l : Laid session s f) where
       equal_one is = grind (arith, nat_tests, is)
 
 pub purposes_are_right : PurposesAreRight
-purposes_are_right session s f l clue c purpose e = elim (either_there (boot_purpose (declared (without_passwords session)) c) _ purpose e) [
+purposes_are_right session s f l clue births c purpose e = elim (either_there (boot_purpose (declared (without_passwords session)) c) _ purpose e) [
   | inl boot ↦ boot_named session s f l c purpose boot
-  | inr more ↦ elim (either_there (purpose_up s (places_of (length session.users)).home c clue.caller) _ purpose more) [
-    | inl own ↦ up_named session s f l c clue.caller purpose own
-    | inr rest ↦ elim (either_there (purpose_up s (places_of (length session.users)).home c clue.named) _ purpose rest) [
-      | inl named ↦ up_named session s f l c clue.named purpose named
-      | inr last ↦ somewhere_named session s f l c purpose last
+  | inr more ↦ elim (either_there (purpose_born s (places_of (length session.users)).home c births) _ purpose more) [
+    | inl born ↦ born_named session s f l c births purpose born
+    | inr rest ↦ elim (either_there (purpose_up s (places_of (length session.users)).home c clue.caller) _ purpose rest) [
+      | inl own ↦ up_named session s f l c clue.caller purpose own
+      | inr named ↦ up_named session s f l c clue.named purpose named
     ]
   ]
 ]

@@ -1,9 +1,13 @@
 -- What a value that is there was made of.
-use Rattle.std.proofs.Common.{◌≡◌, ℕ, Bool, true, false, ◌&&◌, ◌||◌, List, ◌++◌, Option, None, Some, Result, Ok, Err, is_ok, refl, sym, ap, ◌∙◌, inl, inr, ◌⊎◌, if◌then◌else◌}
+use Rattle.std.proofs.Common.{◌≡◌, ℕ, Bool, true, false, ◌&&◌, ◌||◌, List, [], ◌∷◌, ◌++◌, Option, None, Some, Result, Ok, Err, is_ok, refl, sym, ap, ◌∙◌, inl, inr, ◌⊎◌, if◌then◌else◌}
 use Rattle.std.specs.Prelude.{OnOk, option_and_then}
 use Rattle.std.proofs.lemmas.Bool.{true≢false}
 use Rattle.std.proofs.lemmas.Option.{none-some}
+use Rattle.histar_flat.specs.Words.{Path}
+use Rattle.histar_object.specs.State.{State}
+use Rattle.histar_calls.specs.declared.places.Places.{Places}
 use Rattle.histar_run_explain.specs.Purposes.{or_else}
+use Rattle.histar_run_explain.specs.Standing.{is_target, path_up, target_at}
 
 -- the first of two, or the second
 pub either_there : {A : Type 0} (x y : Option A) (a : A) → or_else x y ≡ Some a → (x ≡ Some a) ⊎ (y ≡ Some a)
@@ -33,3 +37,8 @@ one_of false b e = inr e
 pub one_piece : {X E : Type 0} (r : Result X E) (new old a b : List ℕ) → new ≡ (if is_ok r then old ++ a else old) → a ≡ b → OnOk r (new ≡ old ++ b)
 one_piece (Ok x) new old a b written same = written ∙ ap (λ l. old ++ l) same
 one_piece (Err e) new old a b written same = tt
+
+-- an object that stands at a path stands at it or above it
+pub path_here : (s : State) (places : Places) (q : ℕ) (path : Path) → is_target q (target_at s places path) ≡ true → Some path ≡ path_up s places q path
+path_here s places q [] e = sym (ap (λ b. if b then Some [] else None) e)
+path_here s places q (name ∷ d) e = sym (ap (λ b. if b then Some (name ∷ d) else path_up s places q d) e)

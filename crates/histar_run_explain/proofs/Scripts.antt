@@ -31,37 +31,45 @@ use Rattle.histar_shell.proofs.RowRuns.{run_after, rows_run}
 use Rattle.histar_shell.proofs.SessionMeanings.{boot_trace, whole_is, longer_front, answers_begin}
 use Rattle.histar_shell.proofs.Starts.{start_is_laid, start_shows}
 use Rattle.histar_shell.proofs.Users.{AreScriptable}
+use Rattle.histar_run_explain.specs.Births.{Births, births_after}
 use Rattle.histar_run_explain.specs.Clues.{clue_of}
 use Rattle.histar_run_explain.specs.Entries.{ExplainsEntries}
 use Rattle.histar_run_explain.specs.NamedWords.{words_at}
-use Rattle.histar_run_explain.specs.Session.{ExplainsInTurn, ExplainsCalls, ExplainsLine}
-use Rattle.histar_run_explain.specs.Run.{words_of, ExplainsRows, ExplainsTrace, ExplainsAs}
+use Rattle.histar_run_explain.specs.Session.{births_by, ExplainsInTurn, ExplainsCalls, ExplainsLine}
+use Rattle.histar_run_explain.specs.Run.{births_of, words_of, ExplainsRows, ExplainsTrace, ExplainsAs}
 use Rattle.histar_run_explain.proofs.Turns.{answers_calls}
 
 -- what the lines have done, from a machine that shows a flat state on
-record IsExplainedSession (session : Session) (m : MachineModel) (f : Flat) (calls : List CallLine) (text : List ℕ) (end : MachineModel) : Type 0 where
+record IsExplainedSession (session : Session) (m : MachineModel) (f : Flat) (births : Births) (calls : List CallLine) (text : List ℕ) (end : MachineModel) : Type 0 where
   entries : List TraceEntry
   trace : end.kernel.trace ≡ m.kernel.trace ++ entries
-  rows : ExplainsRows session (state m.kernel) f calls entries text (state end.kernel)
+  rows : ExplainsRows session (state m.kernel) f births calls entries text (state end.kernel)
 
 -- the words of a machine are those of what it shows
-words_shown : (session : Session) (m mid : MachineModel) (g : Flat) (asked : CallLine) (entries : List TraceEntry) (lines : List ℕ) → Shows session mid g → (one : ExplainsLine m mid asked lines) → one.entries ≡ entries
-    → ExplainsEntries (words_of session (state mid.kernel) asked) (state m.kernel) entries lines (state mid.kernel)
-words_shown session m mid g asked entries lines shows one same =
-    subst (λ (places : Places). ExplainsEntries (words_at (without_passwords session) places (state mid.kernel) (clue_of asked.process asked.call)) (state m.kernel) entries lines (state mid.kernel)) shows.places
-    (subst (λ (users : Session). ExplainsEntries (words_at users mid.places (state mid.kernel) (clue_of asked.process asked.call)) (state m.kernel) entries lines (state mid.kernel)) shows.users
-    (subst (λ (es : List TraceEntry). ExplainsEntries (words_at mid.users mid.places (state mid.kernel) (clue_of asked.process asked.call)) (state m.kernel) es lines (state mid.kernel)) same one.explained))
+module _ (session : Session) (m mid : MachineModel) (g : Flat) (asked : CallLine) (shows : Shows session mid g) where
+  words_shown : (births : Births) (entries : List TraceEntry) (lines : List ℕ) (one : ExplainsLine m mid asked births lines) → one.entries ≡ entries
+      → ExplainsEntries (words_of session (state mid.kernel) asked births) (state m.kernel) entries lines (state mid.kernel)
+  words_shown births entries lines one same =
+      subst (λ (places : Places). ExplainsEntries (words_at (without_passwords session) places (state mid.kernel) (clue_of asked.process asked.call) births) (state m.kernel) entries lines (state mid.kernel)) shows.places
+      (subst (λ (users : Session). ExplainsEntries (words_at users mid.places (state mid.kernel) (clue_of asked.process asked.call) births) (state m.kernel) entries lines (state mid.kernel)) shows.users
+      (subst (λ (es : List TraceEntry). ExplainsEntries (words_at mid.users mid.places (state mid.kernel) (clue_of asked.process asked.call) births) (state m.kernel) es lines (state mid.kernel)) same one.explained))
 
-session_explained : (session : Session) (m : MachineModel) (f : Flat) (answers : List Answered) (text : List ℕ) (end : MachineModel) → ExplainsInTurn m answers text end → Shows session m f → AreScriptable (calls_of answers)
-    → IsExplainedSession session m f (calls_of answers) text end
-session_explained session m f [] text end h shows can = record {
+  -- and so is what is known of births
+  births_shown : (births : Births) → births_by mid asked births ≡ births_of session (state mid.kernel) asked births
+  births_shown births = ap (λ (places : Places). births_after (state mid.kernel) places asked.process births) shows.places
+
+session_explained : (session : Session) (m : MachineModel) (f : Flat) (births : Births) (answers : List Answered) (text : List ℕ) (end : MachineModel) (born : Births) → ExplainsInTurn m births answers text end born → Shows session m f
+    → AreScriptable (calls_of answers) → IsExplainedSession session m f births (calls_of answers) text end
+session_explained session m f births [] text end born h shows can = record {
   entries = [];
   trace = ap (λ (x : MachineModel). x.kernel.trace) h.1 ∙ sym (append-nil m.kernel.trace);
   rows = (refl, h.0, ap (λ (x : MachineModel). state x.kernel) h.1);
 }
-session_explained session m f (a ∷ answers) text end h shows can =
+session_explained session m f births (a ∷ answers) text end born h shows can =
     let line = line_follows lines_are_rows m h.0 a.call.line a.call.process a.call.call (Ok a.reply) can.0 h.3 session f shows in
-    let later = session_explained session h.0 (flat_after session f a.call.process a.call.call) answers h.2 end h.6 line.shows can.1 in
+    let g = flat_after session f a.call.process a.call.call in
+    let known = births_shown session m h.0 g a.call line.shows births in
+    let later = session_explained session h.0 g (births_by h.0 a.call births) answers h.2 end born h.6 line.shows can.1 in
     let same : h.4.entries ≡ line.entries = append_cancel_left m.kernel.trace h.4.entries line.entries (sym h.4.trace ∙ line.trace) in
     record {
       entries = line.entries ++ later.entries;
@@ -75,30 +83,31 @@ session_explained session m f (a ∷ answers) text end h shows can =
         refl,
         h.5,
         line.row,
-        words_shown session m h.0 (flat_after session f a.call.process a.call.call) a.call line.entries h.1 line.shows h.4 same,
-        later.rows,
+        subst (λ (b : Births). ExplainsEntries (words_of session (state h.0.kernel) a.call b) (state m.kernel) line.entries h.1 (state h.0.kernel)) known
+            (words_shown session m h.0 g a.call line.shows (births_by h.0 a.call births) line.entries h.1 h.4 same),
+        subst (λ (b : Births). ExplainsRows session (state h.0.kernel) g b (calls_of answers) later.entries h.2 (state end.kernel)) known later.rows,
       );
     }
 
 -- explained rows are rows
-rows_explained : (session : Session) (s : State) (f : Flat) (calls : List CallLine) (entries : List TraceEntry) (text : List ℕ) (end : State) → ExplainsRows session s f calls entries text end → AreRows session s f calls entries end
-rows_explained session s f [] entries text end h = (h.0, h.2)
-rows_explained session s f (asked ∷ more) entries text end h =
-    (h.0, h.1, h.2, h.5, h.7, rows_explained session h.2 (flat_after session f asked.process asked.call) more h.1 h.4 end h.9)
+rows_explained : (session : Session) (s : State) (f : Flat) (births : Births) (calls : List CallLine) (entries : List TraceEntry) (text : List ℕ) (end : State) → ExplainsRows session s f births calls entries text end → AreRows session s f calls entries end
+rows_explained session s f births [] entries text end h = (h.0, h.2)
+rows_explained session s f births (asked ∷ more) entries text end h =
+    (h.0, h.1, h.2, h.5, h.7, rows_explained session h.2 (flat_after session f asked.process asked.call) (births_of session h.2 asked births) more h.1 h.4 end h.9)
 
 module _ (script : Reading) (declared : IsDeclared script.session) (can : AreScriptable script.calls) (start : MachineModel) (starts : IsStart script.session start) where
-  module _ (old replied : Option (List ℕ)) (end : MachineModel) (text : List ℕ) (all : ExplainsCalls start end old replied script.calls text) where
+  module _ (old replied : Option (List ℕ)) (end : MachineModel) (text : List ℕ) (born : Births) (all : ExplainsCalls start end old replied script.calls text born) where
     abbrev answered : AnswersCalls start end old replied script.calls
-    answered = answers_calls start end old replied script.calls text all
+    answered = answers_calls start end old replied script.calls text born all
 
     -- the trace of the machine is explained
     trace_explained : ExplainsTrace script end.kernel.trace text
     trace_explained =
         let these : AreScriptable (calls_of all.answers) = subst AreScriptable (sym all.each) can in
-        let explained = session_explained script.session start (boot script.session) all.answers text end all.in_turn (start_shows script.session declared start starts) these in
-        let rows : ExplainsRows script.session (state start.kernel) (boot script.session) script.calls explained.entries text (state end.kernel) =
-        subst (λ (calls : List CallLine). ExplainsRows script.session (state start.kernel) (boot script.session) calls explained.entries text (state end.kernel)) all.each explained.rows in
-        let of_lines = rows_explained script.session (state start.kernel) (boot script.session) script.calls explained.entries text (state end.kernel) rows in
+        let explained = session_explained script.session start (boot script.session) [] all.answers text end born all.in_turn (start_shows script.session declared start starts) these in
+        let rows : ExplainsRows script.session (state start.kernel) (boot script.session) [] script.calls explained.entries text (state end.kernel) =
+        subst (λ (calls : List CallLine). ExplainsRows script.session (state start.kernel) (boot script.session) [] calls explained.entries text (state end.kernel)) all.each explained.rows in
+        let of_lines = rows_explained script.session (state start.kernel) (boot script.session) [] script.calls explained.entries text (state end.kernel) rows in
         let of_boot = boot_trace script.session start starts.booted in
         let parts : end.kernel.trace ≡ of_boot.entries ++ explained.entries = explained.trace ∙ ap (λ (es : List TraceEntry). es ++ explained.entries) of_boot.trace in
         record {

@@ -27,6 +27,7 @@ use Rattle.histar_shell.specs.declared.session.Options.{Options}
 use Rattle.histar_shell.proofs.CallRows.{lines_are_rows}
 use Rattle.histar_shell.proofs.SessionMeanings.{booted_traced, tree_at_last}
 use Rattle.histar_shell.proofs.Users.{script_says}
+use Rattle.histar_run_explain.specs.Births.{Births}
 use Rattle.histar_run_explain.specs.Session.{ExplainsCalls}
 use Rattle.histar_run_explain.specs.Run.{ExplainsText, ExplainsScript, BeginsExplained, ExplainsAtFault}
 use Rattle.histar_run_explain.proofs.Turns.{answers_calls}
@@ -107,31 +108,31 @@ module _ (options : Options) where
         let these = subst (λ (cs : List CallLine). BeginsAnswers start old new cs) calls_are b in
         begins f old new h (record { script = script; is_read = given; begun = inl (replies_begun script says.0 says.1 start started options old new these) })
 
-    module _ (old replied : Option (List ℕ)) (end : MachineModel) (lines : List ℕ) (all : ExplainsCalls start end old replied calls lines) where
-      all_lines : ExplainsCalls start end old replied script.calls lines
-      all_lines = subst (λ (cs : List CallLine). ExplainsCalls start end old replied cs lines) calls_are all
+    module _ (old replied : Option (List ℕ)) (end : MachineModel) (lines : List ℕ) (born : Births) (all : ExplainsCalls start end old replied calls lines born) where
+      all_lines : ExplainsCalls start end old replied script.calls lines born
+      all_lines = subst (λ (cs : List CallLine). ExplainsCalls start end old replied cs lines born) calls_are all
 
       -- all lines were, so the machine has a tree
       pub has_tree : HasTree end
-      has_tree = tree_at_last lines_are_rows text script given start end started calls calls_are old replied (answers_calls start end old replied calls lines all)
+      has_tree = tree_at_last lines_are_rows text script given start end started calls calls_are old replied (answers_calls start end old replied calls lines born all)
 
       -- and a beginning of what stands behind the replies was written
       pub begun_ending : (f : Fault) (new : Option (List ℕ)) → IsOutputFault f → BeginsTheEnding options end replied new → ExplainsText options text old new (Err f)
       begun_ending f new h b =
           let says = script_says text script given in
-          begins f old new h (record { script = script; is_read = given; begun = inr (ending_begun script says.0 says.1 start started old replied end lines all_lines options new b) })
+          begins f old new h (record { script = script; is_read = given; begun = inr (ending_begun script says.0 says.1 start started old replied end lines born all_lines options new b) })
 
       -- or all that, and a beginning of the explanations
       pub begun_explanations : (f : Fault) (mid new : Option (List ℕ)) → IsOutputFault f → AppendsEnding options end replied mid → AppendsFront mid new lines → ExplainsText options text old new (Err f)
       begun_explanations f mid new h ending b =
           let says = script_says text script given in
-          begins f old new h (record { script = script; is_read = given; begun = inr (front_explained script says.0 says.1 start started old replied end lines all_lines options mid new ending b) })
+          begins f old new h (record { script = script; is_read = given; begun = inr (front_explained script says.0 says.1 start started old replied end lines born all_lines options mid new ending b) })
 
       -- or all of them
       pub explained_text : (mid new : Option (List ℕ)) → AppendsEnding options end replied mid → Appends mid new lines → ExplainsText options text old new (Ok tt)
       explained_text mid new ending written =
           let says = script_says text script given in
-          record { faults = ap is_ok given; writes = record { script = script; is_read = given; explained = all_explained script says.0 says.1 start started old replied end lines all_lines options mid new ending written } }
+          record { faults = ap is_ok given; writes = record { script = script; is_read = given; explained = all_explained script says.0 says.1 start started old replied end lines born all_lines options mid new ending written } }
 
       -- so it is, whatever writing the explanations answers
       pub last_written : (mid new : Option (List ℕ)) (bytes : List ℕ) → bytes ≡ lines → (r : Answer) → AppendsEnding options end replied mid → OnOk r (Appends mid new bytes) → OnErr r (AppendsFront mid new bytes) → IfErr r IsOutputFault → ExplainsText options text old new r

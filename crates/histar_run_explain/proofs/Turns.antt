@@ -3,8 +3,7 @@ use Rattle.std.proofs.Common.{◌≡◌, ℕ, ◌≤◌, Bool, true, false, List
 use Rattle.std.proofs.lemmas.List.{length-append}
 use Rattle.std.proofs.lemmas.Grind.{flat_map-append}
 use Rattle.std.proofs.KnownBytes.{Appends-trans, Appends-nil}
-use Rattle.std.specs.Prelude.{IfOk, OnOk}
-use Rattle.std.specs.Global.{Vec}
+use Rattle.std.specs.Prelude.{OnOk}
 use Rattle.std.specs.Io.KnownBytes.{Appends}
 use Rattle.histar_devices.proofs.WritingLemmas.{whole_front}
 use Rattle.histar_flat.specs.declared.calls.CallLine.{CallLine}
@@ -24,11 +23,12 @@ use Rattle.histar_shell.specs.Machine.{MachineModel, AnswersFound, AnswersIf, An
 use Rattle.histar_shell.proofs.AnswerLemmas.{calls_more}
 use Rattle.histar_shell.proofs.TraceRuns.{GoesBy, by_program}
 use Rattle.histar_raw_explain.specs.Texts.{Words}
+use Rattle.histar_run_explain.specs.Births.{Births}
 use Rattle.histar_run_explain.specs.declared.clues.Clue.{Clue}
 use Rattle.histar_run_explain.specs.Clues.{clue_of}
 use Rattle.histar_run_explain.specs.NamedWords.{words_at}
-use Rattle.histar_run_explain.specs.Entries.{ExplainsEntries, IsRunFrom, EndsAsRun}
-use Rattle.histar_run_explain.specs.Session.{words_after, ExplainsLine, ExplainsInTurn, ExplainsCall, ExplainsCalls}
+use Rattle.histar_run_explain.specs.Entries.{AddsEntries, ExplainsEntries, IsRunFrom, EndsAsRun}
+use Rattle.histar_run_explain.specs.Session.{births_by, words_after, ExplainsLine, ExplainsInTurn, ExplainsCall, ExplainsCalls}
 
 -- what stands behind a list
 dropped : (front back : List TraceEntry) → drop (length front) (front ++ back) ≡ back
@@ -75,31 +75,32 @@ module _ (old new : MachineModel) (a b : Option (List ℕ)) (asked : CallLine) (
     same_end last ends = ends (state new.kernel) run_on
 
     -- and its explanations are those of the line
-    pub line_explained : (last : State) (lines : List ℕ) → EndsAsRun first (drop n trace) last → ExplainsEntries (words_after new asked) first (drop n trace) lines last → ExplainsCall old new a b asked lines
-    line_explained last lines ends explained = record {
+    line_explained : (last : State) (births : Births) (lines : List ℕ) → EndsAsRun first (drop n trace) last → ExplainsEntries (words_after new asked births) first (drop n trace) lines last → ExplainsCall old new a b asked births lines
+    line_explained last births lines ends explained = record {
       answered = one;
       explained = record {
         entries = goes.entries;
         trace = goes.trace;
-        explained = subst (λ (s : State). ExplainsEntries (words_after new asked) s goes.entries lines (state new.kernel)) at
-            (subst (λ (s : State). ExplainsEntries (words_after new asked) first goes.entries lines s) (same_end last ends)
-            (subst (λ (es : List TraceEntry). ExplainsEntries (words_after new asked) first es lines last) (new_end n is) explained));
+        explained = subst (λ (s : State). ExplainsEntries (words_after new asked births) s goes.entries lines (state new.kernel)) at
+            (subst (λ (s : State). ExplainsEntries (words_after new asked births) first goes.entries lines s) (same_end last ends)
+            (subst (λ (es : List TraceEntry). ExplainsEntries (words_after new asked births) first es lines last) (new_end n is) explained));
       };
     }
 
     -- also where the words are by what the line names
-    pub line_said : (last : State) (clue : Clue) (lines : List ℕ) → clue ≡ clue_of asked.process asked.call → EndsAsRun first (drop n trace) last
-        → ExplainsEntries (words_at new.users new.places (state new.kernel) clue) first (drop n trace) lines last → ExplainsCall old new a b asked lines
-    line_said last clue lines named ends explained =
-        line_explained last lines ends (subst (λ (x : Clue). ExplainsEntries (words_at new.users new.places (state new.kernel) x) first (drop n trace) lines last) named explained)
+    pub line_said : (last : State) (clue : Clue) (births : Births) (lines : List ℕ) → clue ≡ clue_of asked.process asked.call → EndsAsRun first (drop n trace) last
+        → ExplainsEntries (words_at new.users new.places (state new.kernel) clue births) first (drop n trace) lines last → ExplainsCall old new a b asked births lines
+    line_said last clue births lines named ends explained =
+        line_explained last births lines ends (subst (λ (x : Clue). ExplainsEntries (words_at new.users new.places (state new.kernel) x births) first (drop n trace) lines last) named explained)
 
 -- a line that was answered has begun to be
 pub line_begins : (old new : MachineModel) (a b : Option (List ℕ)) (asked : CallLine) → AnswersCall old new a b asked → BeginsAnswer old new a b asked
 line_begins old new a b asked one = record { outcome = Ok one.reply; answered = one.answered; written = whole_front a b _ one.written }
 
 -- the same entries are explained, and end so
-pub entries_are : {E : Type 0} (r : Result (Vec ℕ) E) (words : Words) (s last : State) (es fs : List TraceEntry) → es ≡ fs → IfOk r (λ (text : Vec ℕ). ExplainsEntries words s es text.items last) → IfOk r (λ (text : Vec ℕ). ExplainsEntries words s fs text.items last)
-entries_are r words s last es fs same h = subst (λ (l : List TraceEntry). IfOk r (λ (text : Vec ℕ). ExplainsEntries words s l text.items last)) same h
+module _ (words : Words) (s last : State) (es fs : List TraceEntry) (same : es ≡ fs) where
+  pub entries_are : {X E : Type 0} (r : Result X E) (old new : List ℕ) → OnOk r (AddsEntries words s es last old new) → OnOk r (AddsEntries words s fs last old new)
+  entries_are r old new h = subst (λ (l : List TraceEntry). OnOk r (AddsEntries words s l last old new)) same h
 
 pub ends_are : {X E : Type 0} (r : Result X E) (s last : State) (es fs : List TraceEntry) → es ≡ fs → OnOk r (EndsAsRun s es last) → OnOk r (EndsAsRun s fs last)
 ends_are r s last es fs same h = subst (λ (l : List TraceEntry). OnOk r (EndsAsRun s l last)) same h
@@ -121,48 +122,51 @@ module _ (k : KernelModel) (traced : IsTraced k) (first : State) (empty : first 
 -- ---- lines in turn
 
 -- a machine that explains in turn answers in turn
-pub answers_in_turn : (m : MachineModel) (answers : List Answered) (text : List ℕ) (end : MachineModel) → ExplainsInTurn m answers text end → AnswersInTurn m answers end
-answers_in_turn m [] text end h = h.1
-answers_in_turn m (a ∷ answers) text end h = (h.0, h.3, answers_in_turn h.0 answers h.2 end h.6)
+pub answers_in_turn : (m : MachineModel) (births : Births) (answers : List Answered) (text : List ℕ) (end : MachineModel) (born : Births) → ExplainsInTurn m births answers text end born → AnswersInTurn m answers end
+answers_in_turn m births [] text end born h = h.1
+answers_in_turn m births (a ∷ answers) text end born h = (h.0, h.3, answers_in_turn h.0 (births_by h.0 a.call births) answers h.2 end born h.6)
 
-abbrev pub answers_calls : (m end : MachineModel) (a b : Option (List ℕ)) (calls : List CallLine) (text : List ℕ) → ExplainsCalls m end a b calls text → AnswersCalls m end a b calls
-answers_calls m end a b calls text h = record { answers = h.answers; each = h.each; in_turn = answers_in_turn m h.answers text end h.in_turn; written = h.written }
+abbrev pub answers_calls : (m end : MachineModel) (a b : Option (List ℕ)) (calls : List CallLine) (text : List ℕ) (born : Births) → ExplainsCalls m end a b calls text born → AnswersCalls m end a b calls
+answers_calls m end a b calls text born h = record { answers = h.answers; each = h.each; in_turn = answers_in_turn m [] h.answers text end born h.in_turn; written = h.written }
 
 -- no line
-pub explains_none : (m : MachineModel) (a : Option (List ℕ)) → ExplainsCalls m m a a [] []
-explains_none m a = record { answers = []; each = refl; in_turn = (refl, refl); written = Appends-nil a }
+pub explains_none : (m : MachineModel) (a : Option (List ℕ)) → ExplainsCalls m m a a [] [] []
+explains_none m a = record { answers = []; each = refl; in_turn = (refl, refl, refl); written = Appends-nil a }
 
-turn_more : (first mid last : MachineModel) (answers : List Answered) (a : Answered) (text lines : List ℕ) → ExplainsInTurn first answers text mid → AnswersLine mid last a.call.line a.call.process a.call.call (Ok a.reply) → ExplainsLine mid last a.call lines
-    → ExplainsInTurn first (answers ++ a ∷ []) (text ++ lines) last
-turn_more first mid last [] a text lines done answered explained = (
-  last,
-  lines,
-  [],
-  subst (λ (m : MachineModel). AnswersLine m last a.call.line a.call.process a.call.call (Ok a.reply)) done.1 answered,
-  subst (λ (m : MachineModel). ExplainsLine m last a.call lines) done.1 explained,
-  ap (λ (l : List ℕ). l ++ lines) done.0 ∙ sym (append-nil lines),
-  (refl, refl),
-)
-turn_more first mid last (b ∷ answers) a text lines done answered explained = (
-  done.0,
-  done.1,
-  done.2 ++ lines,
-  done.3,
-  done.4,
-  ap (λ (l : List ℕ). l ++ lines) done.5 ∙ append_assoc done.1 done.2 lines,
-  turn_more done.0 mid last answers a done.2 lines done.6 answered explained,
-)
+module _ (mid last : MachineModel) (born : Births) (a : Answered) (lines : List ℕ) (answered : AnswersLine mid last a.call.line a.call.process a.call.call (Ok a.reply)) (explained : ExplainsLine mid last a.call (births_by last a.call born) lines) where
+  turn_more : (first : MachineModel) (births : Births) (answers : List Answered) (text : List ℕ) → ExplainsInTurn first births answers text mid born → ExplainsInTurn first births (answers ++ a ∷ []) (text ++ lines) last (births_by last a.call born)
+  turn_more first births [] text done = (
+    last,
+    lines,
+    [],
+    subst (λ (m : MachineModel). AnswersLine m last a.call.line a.call.process a.call.call (Ok a.reply)) done.1 answered,
+    subst (λ (m : MachineModel). ExplainsLine m last a.call (births_by last a.call births) lines) done.1 (subst (λ (b : Births). ExplainsLine mid last a.call (births_by last a.call b) lines) done.2 explained),
+    ap (λ (l : List ℕ). l ++ lines) done.0 ∙ sym (append-nil lines),
+    (refl, refl, ap (births_by last a.call) done.2),
+  )
+  turn_more first births (b ∷ answers) text done = (
+    done.0,
+    done.1,
+    done.2 ++ lines,
+    done.3,
+    done.4,
+    ap (λ (l : List ℕ). l ++ lines) done.5 ∙ append_assoc done.1 done.2 lines,
+    turn_more done.0 (births_by done.0 b.call births) answers done.2 done.6,
+  )
 
 -- the text of one more answer
 text_more : (answers : List Answered) (a : Answered) → answers_text (answers ++ a ∷ []) ≡ answers_text answers ++ answer_text a
 text_more answers a = flat_map-append answer_text answers (a ∷ []) ∙ ap (λ (l : List ℕ). answers_text answers ++ l) (append-nil (answer_text a))
 
 -- one line more
-pub explains_more : (first mid last : MachineModel) (a b c : Option (List ℕ)) (calls : List CallLine) (call : CallLine) (text lines : List ℕ) → ExplainsCalls first mid a b calls text → ExplainsCall mid last b c call lines → ExplainsCalls first last a c (calls ++ call ∷ []) (text ++ lines)
-explains_more first mid last a b c calls call text lines done one =
-    let next : Answered = record { call = call; reply = one.answered.reply } in record {
-      answers = done.answers ++ next ∷ [];
-      each = calls_more done.answers next ∙ ap (λ (l : List CallLine). l ++ call ∷ []) done.each;
-      in_turn = turn_more first mid last done.answers next text lines done.in_turn one.answered.answered one.explained;
-      written = subst (Appends a c) (sym (text_more done.answers next)) (Appends-trans a b c (answers_text done.answers) (answer_text next) done.written one.answered.written);
-    }
+module _ (first mid last : MachineModel) (a b c : Option (List ℕ)) (calls : List CallLine) (call : CallLine) (text lines : List ℕ) (old new : Births) where
+  pub explains_more : ExplainsCalls first mid a b calls text old → new ≡ births_by last call old → ExplainsCall mid last b c call new lines → ExplainsCalls first last a c (calls ++ call ∷ []) (text ++ lines) new
+  explains_more done is one =
+      let next : Answered = record { call = call; reply = one.answered.reply } in
+      let explained = subst (λ (births : Births). ExplainsLine mid last call births lines) is one.explained in
+      record {
+        answers = done.answers ++ next ∷ [];
+        each = calls_more done.answers next ∙ ap (λ (l : List CallLine). l ++ call ∷ []) done.each;
+        in_turn = subst (λ (births : Births). ExplainsInTurn first [] (done.answers ++ next ∷ []) (text ++ lines) last births) (sym is) (turn_more mid last old next lines one.answered.answered explained first [] done.answers text done.in_turn);
+        written = subst (Appends a c) (sym (text_more done.answers next)) (Appends-trans a b c (answers_text done.answers) (answer_text next) done.written one.answered.written);
+      }

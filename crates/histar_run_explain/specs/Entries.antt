@@ -1,7 +1,9 @@
 -- The entries of a line are explained, one after another.
-use Rattle.std.specs.Prelude.{◌≡◌, ℕ, List, [], ◌∷◌, ◌++◌, Option, Some, None}
+use Rattle.std.specs.Prelude.{◌≡◌, ℕ, Bool, true, false, List, [], ◌∷◌, ◌++◌, Option, Some, None}
 use Rattle.histar_object.specs.State.{State}
 use Rattle.histar_rules.specs.declared.raw.Denied.{Denied}
+use Rattle.histar_rules.specs.declared.raw.RawCall.{RawCall}
+use Rattle.histar_rules.specs.declared.raw.RawCall.TheVariants.{OwnLabel, Read, LabelOf}
 use Rattle.histar_rules.specs.Rules.{check, Leaves}
 use Rattle.histar_syscall.specs.declared.trace.TraceEntry.{TraceEntry}
 use Rattle.histar_syscall.specs.Runs.{IsRun}
@@ -30,6 +32,26 @@ ExplainsEntries words s (e ∷ entries) text last =
 -- the entries are a run from this state on
 abbrev pub IsRunFrom : State → List TraceEntry → Type 0
 IsRunFrom s entries = (end : State) × IsRun s entries end
+
+-- lines of which this holds stand behind what was there
+abbrev pub Adds : (List ℕ → Type 0) → List ℕ → List ℕ → Type 0
+Adds Holds old new = (lines : List ℕ) × (new ≡ old ++ lines) × Holds lines
+
+-- lines that explain these entries between two states do
+abbrev pub AddsEntries : Words → State → List TraceEntry → State → List ℕ → List ℕ → Type 0
+AddsEntries words s entries last old new = Adds (λ lines. ExplainsEntries words s entries lines last) old new
+
+-- a call that is granted only looks
+abbrev pub only_looks : RawCall → Bool
+only_looks OwnLabel = true
+only_looks (Read d o) = true
+only_looks (LabelOf d o) = true
+only_looks call = false
+
+-- a call of this outcome leaves the state as it was: it was denied, or it only looks
+abbrev pub changes_nothing : Option Denied → RawCall → Bool
+changes_nothing (Some denied) call = true
+changes_nothing None call = only_looks call
 
 -- where the entries lead from the first state, the last one is
 abbrev pub EndsAsRun : State → List TraceEntry → State → Type 0

@@ -12,6 +12,7 @@ use Rattle.histar_refinement.specs.Addresses.Step.{Left, Status, Inside, Runner}
 use Rattle.histar_refinement.specs.Categories.{CategoryName, CategoryName as names, IsUsed}
 use Rattle.histar_refinement.specs.LaysOut.{Laid}
 use Rattle.histar_refinement.specs.Laws.{StandsFor}
+use Rattle.histar_run_explain.specs.Births.{Births}
 use Rattle.histar_run_explain.specs.declared.clues.Clue.{Clue}
 use Rattle.histar_run_explain.specs.declared.purposes.Purpose.{Purpose}
 use Rattle.histar_run_explain.specs.declared.purposes.Purpose.TheVariants.{Boot, Reads, Writes, ReadsProcess, WritesProcess, Job}
@@ -49,8 +50,8 @@ IsPurposeOf session f name (Job me) = (job : ProcName) × (n : ℕ) × (above : 
 -- Whatever naming lays out the flat state: a category for which a purpose is given is that of a name that is used, and has this purpose.
 abbrev pub PurposesAreRight : Type 0
 PurposesAreRight =
-    (session : Session) (s : State) (f : Flat) (l : Laid session s f) (clue : Clue) (c : ℕ) (purpose : Purpose)
-    → purpose_of (without_passwords session) (places_of (length session.users)) s clue c ≡ Some purpose
+    (session : Session) (s : State) (f : Flat) (l : Laid session s f) (clue : Clue) (births : Births) (c : ℕ) (purpose : Purpose)
+    → purpose_of (without_passwords session) (places_of (length session.users)) s clue births c ≡ Some purpose
     → (name : CategoryName) × (l.category name ≡ c) × IsUsed session f name × IsPurposeOf session f name purpose
 
 -- ---- objects

@@ -1,3 +1,4 @@
+pub mod Births
 pub mod Clues
 pub mod Purposes
 pub mod Standing

@@ -5,6 +5,7 @@ use Rattle.histar_flat.specs.Texts.{process_text}
 use Rattle.histar_object.specs.State.{State}
 use Rattle.histar_calls.specs.declared.places.Places.{Places}
 use Rattle.histar_raw_explain.specs.Texts.{Words, raw_words}
+use Rattle.histar_run_explain.specs.Births.{Births}
 use Rattle.histar_run_explain.specs.declared.clues.Clue.{Clue}
 use Rattle.histar_run_explain.specs.declared.purposes.Purpose.{Purpose}
 use Rattle.histar_run_explain.specs.declared.standing.Standing.{Standing}
@@ -22,10 +23,10 @@ object_text session q None = raw_words.object q
 object_text session q (Some standing) = standing_text session standing
 
 -- in a state: the thread is the line's process, and objects and categories are named
-abbrev pub words_at : Session → Places → State → Clue → Words
-words_at session places s clue = record {
+abbrev pub words_at : Session → Places → State → Clue → Births → Words
+words_at session places s clue births = record {
   thread = λ t. process_text clue.caller;
   object = λ q. object_text session q (standing_of session places s clue q);
-  category = λ c. category_text session c (purpose_of session places s clue c);
-  listed = λ c. category_text session c (purpose_of session places s clue c);
+  category = λ c. category_text session c (purpose_of session places s clue births c);
+  listed = λ c. category_text session c (purpose_of session places s clue births c);
 }

@@ -1,7 +1,6 @@
 -- What a category is for, as the numbers that boot gave and the labels of the containers of processes say.
-use Rattle.std.specs.Prelude.{ℕ, ◌+◌, ◌*◌, ◌-◌, ◌/◌, ◌%◌, ◌==◌, Bool, false, ◌&&◌, not, nat_le, nat_lt, List, [], ◌∷◌, ◌++◌, length}
-use Rattle.std.specs.Prelude.{Option, None, Some, is_some, option_map, slice_get, codes, if◌then◌else◌}
-use Rattle.std.specs.List.{find}
+use Rattle.std.specs.Prelude.{ℕ, ◌+◌, ◌*◌, ◌-◌, ◌/◌, ◌%◌, ◌==◌, Bool, false, ◌&&◌, nat_le, nat_lt, List, [], ◌∷◌, ◌++◌, length}
+use Rattle.std.specs.Prelude.{Option, None, Some, slice_get, codes, if◌then◌else◌}
 use Rattle.histar_flat.specs.Words.{Name, ProcName}
 use Rattle.histar_flat.specs.Texts.{process_text}
 use Rattle.histar_flat.specs.Sessions.{Group, Session}
@@ -15,8 +14,7 @@ use Rattle.histar_process.specs.Caller.{home_at, if_runs, is_zero, status_at}
 use Rattle.histar_process.specs.Kin.{user_name}
 use Rattle.histar_calls.specs.declared.places.Home.{Home}
 use Rattle.histar_calls.specs.declared.places.Places.{Places}
-use Rattle.histar_tree.specs.declared.process.ProcessNode.{ProcessNode}
-use Rattle.histar_tree.specs.Processes.{levels_at, processes_at}
+use Rattle.histar_run_explain.specs.Births.{Births}
 use Rattle.histar_run_explain.specs.declared.clues.Clue.{Clue}
 use Rattle.histar_run_explain.specs.declared.purposes.Purpose.{Purpose}
 use Rattle.histar_run_explain.specs.declared.purposes.Purpose.TheVariants.{Boot, Reads, Writes, ReadsProcess, WritesProcess, Job}
@@ -65,48 +63,38 @@ abbrev pub has_three : Option Levels → ℕ → Bool
 has_three None c = false
 has_three (Some L) c = is_three (level_of L c)
 
--- by a category a process keeps its secrets: its internal container has it at 3, and its container hasn't
-abbrev pub is_own_secret : State → Home → ℕ → ProcName → Bool
-is_own_secret s first c me = has_three (inner_label s first me) c && not (has_three (outer_label s first me) c)
+-- the job of a process whose container has its category at 3, where it begins with the process: the container of its parent hasn't that
+abbrev pub job_by : State → Home → ℕ → ProcName → Option Purpose
+job_by s first c [] = None
+job_by s first c (n ∷ above) = if has_three (outer_label s first above) c then None else Some (Job (n ∷ above))
 
--- a job begins with a process: its container has the job's category at 3, and that of its parent hasn't
-abbrev pub begins_job : State → Home → ℕ → ProcName → Bool
-begins_job s first c [] = false
-begins_job s first c (n ∷ above) = has_three (outer_label s first (n ∷ above)) c && not (has_three (outer_label s first above) c)
-
--- what a category is for, where it is one of a process's: its container has at 0 the one by which it writes
+-- What a category is for, where it is one of a process's: its container has at 0 the one by which it writes, and at 3 those of its
+-- jobs, and its internal container has beside these at 3 the one by which it keeps its secrets.
 abbrev pub purpose_by : State → Home → ℕ → ProcName → Option Purpose
 purpose_by s first c me =
     if has_zero (outer_label s first me) c then Some (WritesProcess me)
-    else (if is_own_secret s first c me then Some (ReadsProcess me) else (if begins_job s first c me then Some (Job me) else None))
+    else (if has_three (outer_label s first me) c then job_by s first c me
+    else (if has_three (inner_label s first me) c then Some (ReadsProcess me) else None))
 
 -- what it is for, where it is one of a process's or of one above it
 abbrev pub purpose_up : State → Home → ℕ → ProcName → Option Purpose
 purpose_up s first c [] = purpose_by s first c []
 purpose_up s first c (n ∷ above) = or_else (purpose_by s first c (n ∷ above)) (purpose_up s first c above)
 
--- a category is one of a process's
-unfoldable pub is_one_of : State → Home → ℕ → ProcName → Bool
-is_one_of s first c me = is_some (purpose_by s first c me)
+-- what it is for, where it is one of the process's that it may be of
+abbrev pub purpose_born : State → Home → ℕ → Births → Option Purpose
+purpose_born s first c births = do
+  birth ← slice_get births c
+  child ← birth
+  purpose_by s first c child
 
--- what it is for, where it is one of these processes'
-abbrev pub purpose_among : State → Home → ℕ → List ProcessNode → Option Purpose
-purpose_among s first c processes = do
-  name ← option_map (λ (node : ProcessNode). node.name) (find (λ (node : ProcessNode). is_one_of s first c node.name) processes)
-  purpose_by s first c name
-
--- what it is for, where it is some process's
-abbrev pub purpose_somewhere : Session → State → Places → ℕ → Option Purpose
-purpose_somewhere session s places c = do
-  processes ← processes_at (levels_at []) session s [] places.home
-  purpose_among s places.home c processes
-
--- What a category is for: boot's are known by their numbers, and others are looked for at the processes that a line names and those
--- above them, and then at all.
-abbrev pub purpose_of : Session → Places → State → Clue → ℕ → Option Purpose
-purpose_of session places s clue c =
+-- What a category is for: boot's are known by their numbers, and others are looked for at the process that was born with the
+-- category, and then at the processes that a line names and those above them.
+abbrev pub purpose_of : Session → Places → State → Clue → Births → ℕ → Option Purpose
+purpose_of session places s clue births c =
     or_else (boot_purpose (declared session) c)
-    (or_else (purpose_up s places.home c clue.caller) (or_else (purpose_up s places.home c clue.named) (purpose_somewhere session s places c)))
+    (or_else (purpose_born s places.home c births)
+    (or_else (purpose_up s places.home c clue.caller) (purpose_up s places.home c clue.named)))
 
 -- ---- how it is written
 

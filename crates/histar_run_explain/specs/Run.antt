@@ -21,28 +21,35 @@ use Rattle.histar_shell.specs.Ending.{asked_trace}
 use Rattle.histar_shell.specs.Meaning.{IsMeantTrace, meaning_text}
 use Rattle.histar_shell.specs.Outcome.{AgreesWith}
 use Rattle.histar_raw_explain.specs.Texts.{Words}
+use Rattle.histar_run_explain.specs.Births.{Births, births_after}
 use Rattle.histar_run_explain.specs.Clues.{clue_of}
 use Rattle.histar_run_explain.specs.Entries.{ExplainsEntries}
 use Rattle.histar_run_explain.specs.NamedWords.{words_at}
 
 -- how the state after a line names what the line's explanations speak of
-abbrev pub words_of : Session → State → CallLine → Words
-words_of session after asked = words_at (without_passwords session) (places_of (length session.users)) after (clue_of asked.process asked.call)
+abbrev pub words_of : Session → State → CallLine → Births → Words
+words_of session after asked births =
+    words_at (without_passwords session) (places_of (length session.users)) after (clue_of asked.process asked.call) births
+
+-- what is known of births after a line
+abbrev pub births_of : Session → State → CallLine → Births → Births
+births_of session after asked births = births_after after (places_of (length session.users)) asked.process births
 
 -- The lines of a script, one after another, from a state that lays out this flat state: each is the row of its call, and the text
--- explains each denied entry of it at the state before the entry, in the words of the state after the line.
-abbrev pub ExplainsRows : Session → State → Flat → List CallLine → List TraceEntry → List ℕ → State → Type 0
-ExplainsRows session s f [] entries text end = (entries ≡ []) × (text ≡ []) × (end ≡ s)
-ExplainsRows session s f (asked ∷ more) entries text end =
+-- explains each denied entry of it at the state before the entry, in the words of the state after the line and of what is known of births then.
+abbrev pub ExplainsRows : Session → State → Flat → Births → List CallLine → List TraceEntry → List ℕ → State → Type 0
+ExplainsRows session s f births [] entries text end = (entries ≡ []) × (text ≡ []) × (end ≡ s)
+ExplainsRows session s f births (asked ∷ more) entries text end =
     (own : List TraceEntry) × (later : List TraceEntry) × (mid : State) × (lines : List ℕ) × (rest : List ℕ)
     × (entries ≡ own ++ later) × (text ≡ lines ++ rest)
-    × IsRow session s f asked own mid × ExplainsEntries (words_of session mid asked) s own lines mid
-    × ExplainsRows session mid (flat_after session f asked.process asked.call) more later rest end
+    × IsRow session s f asked own mid
+    × ExplainsEntries (words_of session mid asked (births_of session mid asked births)) s own lines mid
+    × ExplainsRows session mid (flat_after session f asked.process asked.call) (births_of session mid asked births) more later rest end
 
 -- the trace is one of the script's meaning, and the text explains each denied entry of its lines
 pub record ExplainsTrace (script : Reading) (trace : List TraceEntry) (text : List ℕ) : Type 0 where
   pub recorded : IsMeantTrace script trace
-  pub rows : ExplainsRows script.session recorded.start (boot script.session) script.calls recorded.of_lines text recorded.end
+  pub rows : ExplainsRows script.session recorded.start (boot script.session) [] script.calls recorded.of_lines text recorded.end
 
 -- What `run` writes, and then the explanations, was written as far as `Writes` says.
 pub record ExplainsAs (Writes : List ℕ → Type 0) (options : Options) (script : Reading) : Type 0 where

@@ -9,36 +9,42 @@ use Rattle.histar_shell.specs.Answers.{answers_text, calls_of}
 use Rattle.histar_shell.specs.AnsweredCalls.{AnswersCall}
 use Rattle.histar_shell.specs.Machine.{MachineModel, AnswersLine}
 use Rattle.histar_raw_explain.specs.Texts.{Words}
+use Rattle.histar_run_explain.specs.Births.{Births, births_after}
 use Rattle.histar_run_explain.specs.Clues.{clue_of}
 use Rattle.histar_run_explain.specs.Entries.{ExplainsEntries}
 use Rattle.histar_run_explain.specs.NamedWords.{words_at}
 
 -- how a machine's state after a line names what the line's explanations speak of
-abbrev pub words_after : MachineModel → CallLine → Words
-words_after m asked = words_at m.users m.places (state m.kernel) (clue_of asked.process asked.call)
+abbrev pub words_after : MachineModel → CallLine → Births → Words
+words_after m asked births = words_at m.users m.places (state m.kernel) (clue_of asked.process asked.call) births
+
+-- what is known of births, once a machine has answered a line
+abbrev pub births_by : MachineModel → CallLine → Births → Births
+births_by m asked births = births_after (state m.kernel) m.places asked.process births
 
 -- the lines explain each denied entry that a call line has added to the trace, at the state before the entry
-pub record ExplainsLine (before after : MachineModel) (asked : CallLine) (lines : List ℕ) : Type 0 where
+pub record ExplainsLine (before after : MachineModel) (asked : CallLine) (births : Births) (lines : List ℕ) : Type 0 where
   pub entries : List TraceEntry
   pub trace : after.kernel.trace ≡ before.kernel.trace ++ entries
-  pub explained : ExplainsEntries (words_after after asked) (state before.kernel) entries lines (state after.kernel)
+  pub explained : ExplainsEntries (words_after after asked births) (state before.kernel) entries lines (state after.kernel)
 
 -- a machine answered these call lines one after another, each with the reply that it is listed with, and the text explains them
-abbrev pub ExplainsInTurn : MachineModel → List Answered → List ℕ → MachineModel → Type 0
-ExplainsInTurn m [] text end = (text ≡ []) × (end ≡ m)
-ExplainsInTurn m (a ∷ answers) text end =
+abbrev pub ExplainsInTurn : MachineModel → Births → List Answered → List ℕ → MachineModel → Births → Type 0
+ExplainsInTurn m births [] text end born = (text ≡ []) × (end ≡ m) × (born ≡ births)
+ExplainsInTurn m births (a ∷ answers) text end born =
     (mid : MachineModel) × (lines : List ℕ) × (rest : List ℕ)
-    × AnswersLine m mid a.call.line a.call.process a.call.call (Ok a.reply) × ExplainsLine m mid a.call lines
-    × (text ≡ lines ++ rest) × ExplainsInTurn mid answers rest end
+    × AnswersLine m mid a.call.line a.call.process a.call.call (Ok a.reply)
+    × ExplainsLine m mid a.call (births_by mid a.call births) lines
+    × (text ≡ lines ++ rest) × ExplainsInTurn mid (births_by mid a.call births) answers rest end born
 
 -- the machine answered each of these call lines, the lines of its replies were written, and the text explains them
-pub record ExplainsCalls (before after : MachineModel) (old new : Option (List ℕ)) (calls : List CallLine) (text : List ℕ) : Type 0 where
+pub record ExplainsCalls (before after : MachineModel) (old new : Option (List ℕ)) (calls : List CallLine) (text : List ℕ) (born : Births) : Type 0 where
   pub answers : List Answered
   pub each : calls_of answers ≡ calls
-  pub in_turn : ExplainsInTurn before answers text after
+  pub in_turn : ExplainsInTurn before [] answers text after born
   pub written : Appends old new (answers_text answers)
 
 -- the machine answered one call line, the line of its reply was written, and these lines explain it
-pub record ExplainsCall (before after : MachineModel) (old new : Option (List ℕ)) (call : CallLine) (lines : List ℕ) : Type 0 where
+pub record ExplainsCall (before after : MachineModel) (old new : Option (List ℕ)) (call : CallLine) (births : Births) (lines : List ℕ) : Type 0 where
   pub answered : AnswersCall before after old new call
-  pub explained : ExplainsLine before after call lines
+  pub explained : ExplainsLine before after call births lines

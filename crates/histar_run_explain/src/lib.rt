@@ -4,6 +4,7 @@
 //! [`laws`] says what the names amount to.
 #![tactic(auto)]
 
+mod births;
 mod clues;
 mod homes;
 pub mod laws;

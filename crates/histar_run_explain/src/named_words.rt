@@ -18,14 +18,14 @@ use histar_object::ObjId;
 use histar_process::user_name;
 use histar_raw_explain::{ByNumber, Wording};
 use histar_shell::{Machine, push_path, push_process};
-use std::alloc::{AllocError, Global};
+use std::alloc::AllocError;
 
 /// Names the objects and categories of a machine, as they are after a line.
 #[derive(Drop)]
 pub(crate) struct Names<'m, S: LabelStore + Drop> {
-    pub(crate) alloc: Global,
     pub(crate) machine: &'m Machine<S>,
-    pub(crate) clue: Clue,
+    pub(crate) clue: &'m Clue,
+    pub(crate) births: &'m [Option<ProcName>],
 }
 
 /// Adds the name of nobody or of a user.
@@ -106,9 +106,9 @@ impl<'m, S: LabelStore + Drop> Names<'m, S> {
     /// Adds a category by what it is for.
     fn push_category_name(&self, text: &mut Vec<u8>, category: Category) -> Result<(), AllocError>
         ensures { OnOk result (text.new.items ≡ text.old.items ++ (words_at self.now.machine.now.users self.now.machine.now.places
-            (state self.now.machine.now.kernel) self.now.clue).category category) }
+            (state self.now.machine.now.kernel) self.now.clue.now self.now.births.now).category category) }
     {
-        match purpose_of(self.alloc, self.machine, &self.clue, category)? {
+        match purpose_of(self.machine, self.clue, self.births, category) {
             None => ByNumber.push_category(text, category),
             Some(purpose) => push_purpose(text, self.machine.users(), &purpose),
         }
@@ -116,14 +116,14 @@ impl<'m, S: LabelStore + Drop> Names<'m, S> {
 }
 
 impl<'m, S: LabelStore + Drop> Wording for Names<'m, S> {
-    ghost words = { λ n. words_at n.machine.now.users n.machine.now.places (state n.machine.now.kernel) n.clue };
+    ghost words = { λ n. words_at n.machine.now.users n.machine.now.places (state n.machine.now.kernel) n.clue.now n.births.now };
 
     fn push_thread(&self, text: &mut Vec<u8>, _thread: ObjId) -> Result<(), AllocError> {
         push_process(text, &self.clue.caller)
     }
 
     fn push_object(&self, text: &mut Vec<u8>, object: ObjId) -> Result<(), AllocError> {
-        match standing_of(self.machine, &self.clue, object) {
+        match standing_of(self.machine, self.clue, object) {
             None => ByNumber.push_object(text, object),
             Some(standing) => push_standing(text, self.machine.users(), &standing),
         }

@@ -1,12 +1,11 @@
 //! What a category is for.
-ghost use Rattle.std.specs.Prelude.{◌≡◌, ◌+◌, ◌≤◌, length, option_map, IfOk};
-ghost use Rattle.std.specs.List.{find};
+ghost use Rattle.std.specs.Prelude.{◌≡◌, ◌+◌, ◌≤◌, length};
 ghost use Rattle.std.specs.Option.{option_copied};
 ghost use Rattle.histar_flat.specs.Words.{most_numbers};
 ghost use Rattle.histar_flat.specs.Sessions.{most_groups, most_users};
 ghost use Rattle.histar_login.specs.Start.{declared};
 ghost use Rattle.histar_syscall.specs.KernelModel.{state};
-ghost use Rattle.histar_run_explain.specs.Purposes.{begins_job, boot_purpose, has_three, has_zero, inner_label, is_one_of, is_own_secret, outer_label, pair_purpose, purpose_among, purpose_by, purpose_of, purpose_somewhere, purpose_up};
+ghost use Rattle.histar_run_explain.specs.Purposes.{boot_purpose, has_three, has_zero, inner_label, job_by, outer_label, pair_purpose, purpose_born, purpose_by, purpose_of, purpose_up};
 
 use crate::clues::Clue;
 use crate::homes::{home_at, name_of};
@@ -16,8 +15,6 @@ use histar_label::{Category, Label, LabelStore, Level};
 use histar_layout::{UserTable, is_three, read_status};
 use histar_shell::Machine;
 use histar_syscall::Kernel;
-use histar_tree::{ProcessNode, procs_of};
-use std::alloc::{AllocError, Global};
 
 /// What a category is for.
 #[derive(Clone, Copy)]
@@ -112,33 +109,24 @@ fn has_three(label: Option<&Label>, category: Category) -> bool
     }
 }
 
-/// Checks whether a process keeps its secrets by a category.
-fn is_own_secret<S: LabelStore + Drop>(
+/// Returns the job of a process whose container has its category at 3, where it begins with the process: the
+/// container of its parent hasn't that.
+fn job_by<S: LabelStore + Drop>(
     kernel: &Kernel<S>,
     places: &Places,
     category: Category,
     numbers: &[u8],
-) -> bool
-    ensures { result ≡ is_own_secret (state kernel.now) places.now.home category numbers.now }
-{
-    has_three(inner_label(kernel, places, numbers), category)
-        && !has_three(outer_label(kernel, places, numbers), category)
-}
-
-/// Checks whether the job of a category begins with a process.
-fn begins_job<S: LabelStore + Drop>(
-    kernel: &Kernel<S>,
-    places: &Places,
-    category: Category,
-    numbers: &[u8],
-) -> bool
-    ensures { result ≡ begins_job (state kernel.now) places.now.home category numbers.now }
+) -> Option<Purpose>
+    requires { length numbers.now ≤ most_numbers }
+    ensures { result ≡ job_by (state kernel.now) places.now.home category numbers.now }
 {
     let [_, above @ ..] = numbers else {
-        return false;
+        return None;
     };
-    has_three(outer_label(kernel, places, numbers), category)
-        && !has_three(outer_label(kernel, places, above), category)
+    if has_three(outer_label(kernel, places, above), category) {
+        return None;
+    }
+    Some(Purpose::Job(name_of(numbers)))
 }
 
 /// Returns what a category is for, where it is one of a process's.
@@ -151,12 +139,13 @@ fn purpose_by<S: LabelStore + Drop>(
     requires { length numbers.now ≤ most_numbers }
     ensures { result ≡ purpose_by (state kernel.now) places.now.home category numbers.now }
 {
-    if has_zero(outer_label(kernel, places, numbers), category) {
+    let outer = outer_label(kernel, places, numbers);
+    if has_zero(outer, category) {
         Some(Purpose::WritesProcess(name_of(numbers)))
-    } else if is_own_secret(kernel, places, category, numbers) {
+    } else if has_three(outer, category) {
+        job_by(kernel, places, category, numbers)
+    } else if has_three(inner_label(kernel, places, numbers), category) {
         Some(Purpose::ReadsProcess(name_of(numbers)))
-    } else if begins_job(kernel, places, category, numbers) {
-        Some(Purpose::Job(name_of(numbers)))
     } else {
         None
     }
@@ -182,64 +171,18 @@ fn purpose_up<S: LabelStore + Drop>(
     }
 }
 
-/// Checks whether a category is one of a process's.
-#[tactic(auto, unfolding(crate::specs::Purposes::is_one_of))]
-fn is_one_of<S: LabelStore + Drop>(
+/// Returns what a category is for, where it is one of the process's that it may be of.
+fn purpose_born<S: LabelStore + Drop>(
     kernel: &Kernel<S>,
     places: &Places,
     category: Category,
-    name: &ProcName,
-) -> bool
-    ensures { result ≡ is_one_of (state kernel.now) places.now.home category name.now }
-{
-    purpose_by(kernel, places, category, name.numbers()).is_some()
-}
-
-/// Returns the name of the first of these processes of which a category is one.
-fn owner_among<S: LabelStore + Drop>(
-    kernel: &Kernel<S>,
-    places: &Places,
-    category: Category,
-    processes: &[ProcessNode],
-) -> Option<ProcName>
-    ensures { result ≡ option_map (λ node. node.name)
-        (find (λ node. is_one_of (state kernel.now) places.now.home category node.name) processes.now) }
-{
-    for process in processes {
-        if is_one_of(kernel, places, category, &process.name) {
-            return Some(process.name);
-        }
-    }
-    None
-}
-
-/// Returns what a category is for, where it is one of these processes'.
-fn purpose_among<S: LabelStore + Drop>(
-    kernel: &Kernel<S>,
-    places: &Places,
-    category: Category,
-    processes: &[ProcessNode],
+    births: &[Option<ProcName>],
 ) -> Option<Purpose>
-    ensures { result ≡ purpose_among (state kernel.now) places.now.home category processes.now }
+    ensures { result ≡ purpose_born (state kernel.now) places.now.home category births.now }
 {
-    let name = owner_among(kernel, places, category, processes)?;
-    purpose_by(kernel, places, category, name.numbers())
-}
-
-/// Returns what a category is for, where it is some process's.
-fn purpose_somewhere<S: LabelStore + Drop>(
-    alloc: Global,
-    kernel: &Kernel<S>,
-    places: &Places,
-    users: &UserTable,
-    category: Category,
-) -> Result<Option<Purpose>, AllocError>
-    ensures { IfOk result (λ purpose. purpose ≡ purpose_somewhere users.now (state kernel.now) places.now category) }
-{
-    let Some(processes) = procs_of(alloc, kernel, places, users)? else {
-        return Ok(None);
-    };
-    Ok(purpose_among(kernel, places, category, processes.as_slice()))
+    let birth = *births.get(category.number() as usize)?;
+    let child = birth?;
+    purpose_by(kernel, places, category, child.numbers())
 }
 
 /// Returns how many users and groups there are together.
@@ -250,26 +193,25 @@ fn owners(users: &UserTable) -> usize
     users.len() + users.groups().len()
 }
 
-/// Returns what a category is for. Those of other processes than a line names are looked for at last, since
-/// each process is looked at then.
+/// Returns what a category is for.
 pub(crate) fn purpose_of<S: LabelStore + Drop>(
-    alloc: Global,
     machine: &Machine<S>,
     clue: &Clue,
+    births: &[Option<ProcName>],
     category: Category,
-) -> Result<Option<Purpose>, AllocError>
-    ensures { IfOk result (λ purpose. purpose
-        ≡ purpose_of machine.now.users machine.now.places (state machine.now.kernel) clue.now category) }
+) -> Option<Purpose>
+    ensures { result
+        ≡ purpose_of machine.now.users machine.now.places (state machine.now.kernel) clue.now births.now category }
 {
     let (kernel, places) = (machine.kernel(), machine.places());
     if let Some(purpose) = boot_purpose(owners(machine.users()), category) {
-        return Ok(Some(purpose));
+        return Some(purpose);
+    }
+    if let Some(purpose) = purpose_born(kernel, places, category, births) {
+        return Some(purpose);
     }
     if let Some(purpose) = purpose_up(kernel, places, category, clue.caller.numbers()) {
-        return Ok(Some(purpose));
+        return Some(purpose);
     }
-    if let Some(purpose) = purpose_up(kernel, places, category, clue.named.numbers()) {
-        return Ok(Some(purpose));
-    }
-    purpose_somewhere(alloc, kernel, places, machine.users(), category)
+    purpose_up(kernel, places, category, clue.named.numbers())
 }

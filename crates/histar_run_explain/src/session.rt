@@ -1,5 +1,5 @@
 //! A run with explanations, from bytes to bytes.
-ghost use Rattle.std.specs.Prelude.{◌≡◌, ◌≤◌, drop, length, false, IfErr, IfOk, IfSome, OnOk, OnErr};
+ghost use Rattle.std.specs.Prelude.{◌≡◌, ◌≤◌, [], drop, length, false, IfErr, IfOk, IfSome, OnOk, OnErr};
 ghost use Rattle.std.specs.Io.KnownBytes.{Appends};
 ghost use Rattle.histar_devices.specs.Device.{CountsFailure};
 ghost use Rattle.histar_devices.specs.Writing.{AppendsFront};
@@ -7,16 +7,17 @@ ghost use Rattle.histar_script.specs.Runs.{IsOutputFault, LeavesSink, RunsInput,
 ghost use Rattle.histar_syscall.specs.KernelModel.{state};
 ghost use Rattle.histar_shell.specs.AnsweredCalls.{BeginsAnswer, BeginsAnswers};
 ghost use Rattle.histar_shell.specs.Machine.{IsTraced};
-ghost use Rattle.histar_run_explain.specs.Entries.{EndsAsRun, ExplainsEntries, IsRunFrom};
+ghost use Rattle.histar_run_explain.specs.Entries.{Adds, AddsEntries, EndsAsRun, IsRunFrom};
 ghost use Rattle.histar_run_explain.specs.NamedWords.{words_at};
-ghost use Rattle.histar_run_explain.specs.Session.{ExplainsCall, ExplainsCalls};
+ghost use Rattle.histar_run_explain.specs.Session.{ExplainsCall, ExplainsCalls, births_by};
 ghost use Rattle.histar_run_explain.specs.Run.{ExplainsText};
 
+use crate::births::note_births;
 use crate::clues::{Clue, clue_of};
 use crate::named_words::Names;
 use crate::replaying::explain_entries;
 use histar_devices::{Sink, Source, read_input, write_bytes};
-use histar_flat::CallLine;
+use histar_flat::{CallLine, ProcName};
 use histar_label::{InternStore, LabelStore, OutOfMemory};
 use histar_raw_explain::ByNumber;
 use histar_script::{Fault, read_script};
@@ -27,10 +28,21 @@ use std::alloc::Global;
 /// How many answers of label comparisons each of the two kernels remembers.
 const REMEMBERED_ANSWERS: usize = 256;
 
+/// What explanations are made from, beside the machine.
+#[derive(Drop)]
+struct Explainer<S: LabelStore + Drop> {
+    /// The kernel that comes to the state before each raw call.
+    second: Kernel<S>,
+    /// For each category, by its number, a process that it may be of.
+    births: Vec<Option<ProcName>>,
+    /// The explanations so far.
+    text: Vec<u8>,
+}
+
 /// Runs a script as `run` does, and writes behind all that was asked for why each denied raw call was denied.
 ///
-/// The raw calls of a line are made once more on a second kernel, which so comes to the state before each of
-/// them. The explanations are kept until all else is written. It doesn't flush the sink.
+/// The raw calls of a line that change something are made once more on a second kernel, which so comes to the
+/// state before each of them. The explanations are kept until all else is written. It doesn't flush the sink.
 pub fn explain_script<R: Source, W: Sink>(
     alloc: Global,
     reader: &mut R,
@@ -76,10 +88,15 @@ fn explain_text<W: Sink>(
     let Ok(mut machine) = Machine::boot(alloc, store, session) else {
         return Err(Fault::OutOfMemory);
     };
-    let mut second = second_kernel(alloc, &machine)?;
-    let explanations = answer_calls(alloc, &mut machine, &mut second, calls, writer)?;
+    let second = second_kernel(alloc, &machine)?;
+    let mut explainer = Explainer {
+        second,
+        births: Vec::new(alloc),
+        text: Vec::new(alloc),
+    };
+    answer_calls(alloc, &mut machine, &mut explainer, calls, writer)?;
     write_ending(alloc, &machine, writer, options)?;
-    write_explanations(writer, explanations.as_slice())
+    write_explanations(writer, explainer.text.as_slice())
 }
 
 /// Writes the explanations.
@@ -103,47 +120,49 @@ fn second_kernel<S: LabelStore + Drop>(
 {
     let store = InternStore::new(alloc, REMEMBERED_ANSWERS)?;
     let mut kernel = Kernel::new(alloc, store)?;
-    explain_entries(alloc, &mut kernel, &ByNumber, machine.trace())?;
+    let mut text = Vec::new(alloc);
+    explain_entries(alloc, &mut kernel, &ByNumber, &mut text, machine.trace())?;
     Ok(kernel)
 }
 
-/// Has the machine do the calls in their order, writes a line for each, and returns the explanations of the
-/// raw calls that were denied.
+/// Has the machine do the calls in their order, writes a line for each, and keeps the explanations of the raw
+/// calls that were denied.
 fn answer_calls<S: LabelStore + Drop, T: LabelStore + Drop, W: Sink>(
     alloc: Global,
     machine: &mut Machine<S>,
-    second: &mut Kernel<T>,
+    explainer: &mut Explainer<T>,
     calls: Vec<CallLine>,
     writer: &mut W,
-) -> Result<Vec<u8>, Fault>
-    requires { state second.old ≡ state machine.old.kernel }
-    ensures ok { IfOk result (λ text. ExplainsCalls machine.old machine.new (W.written writer.old)
-        (W.written writer.new) calls.items text.items) }
+) -> Result<(), Fault>
+    requires second { state explainer.old.second ≡ state machine.old.kernel }
+    requires births { explainer.old.births.items ≡ [] }
+    requires text { explainer.old.text.items ≡ [] }
+    ensures ok { OnOk result (ExplainsCalls machine.old machine.new (W.written writer.old) (W.written writer.new)
+        calls.items explainer.new.text.items explainer.new.births.items) }
     ensures err { OnErr result (BeginsAnswers machine.old (W.written writer.old) (W.written writer.new) calls.items) }
     ensures faults { IfErr result IsOutputFault }
     ensures count { CountsFailure (W.failures writer.old) (W.failures writer.new) (is_write_failed result) }
 {
-    let mut explanations = Vec::new(alloc);
     'calls: for call in calls {
-        let lines = answer_and_explain(alloc, machine, second, call, writer)?;
-        explanations.extend_from_slice(lines.as_slice())?;
+        answer_and_explain(alloc, machine, explainer, call, writer)?;
     }
-    Ok(explanations)
+    Ok(())
 }
 
-/// Has the machine do one call, writes its line, and returns the lines that explain its raw calls that were
+/// Has the machine do one call, writes its line, and keeps the lines that explain its raw calls that were
 /// denied.
 fn answer_and_explain<S: LabelStore + Drop, T: LabelStore + Drop, W: Sink>(
     alloc: Global,
     machine: &mut Machine<S>,
-    second: &mut Kernel<T>,
+    explainer: &mut Explainer<T>,
     call: CallLine,
     writer: &mut W,
-) -> Result<Vec<u8>, Fault>
-    requires { state second.old ≡ state machine.old.kernel }
-    ensures ok { IfOk result (λ lines. ExplainsCall machine.old machine.new (W.written writer.old)
-        (W.written writer.new) call lines.items) }
-    ensures same { OnOk result (state second.new ≡ state machine.new.kernel) }
+) -> Result<(), Fault>
+    requires { state explainer.old.second ≡ state machine.old.kernel }
+    ensures ok { OnOk result (Adds (ExplainsCall machine.old machine.new (W.written writer.old) (W.written writer.new)
+        call explainer.new.births.items) explainer.old.text.items explainer.new.text.items) }
+    ensures births { OnOk result (explainer.new.births.items ≡ births_by machine.new call explainer.old.births.items) }
+    ensures same { OnOk result (state explainer.new.second ≡ state machine.new.kernel) }
     ensures err { OnErr result (BeginsAnswer machine.old machine.new (W.written writer.old)
         (W.written writer.new) call) }
     ensures faults { IfErr result IsOutputFault }
@@ -152,7 +171,8 @@ fn answer_and_explain<S: LabelStore + Drop, T: LabelStore + Drop, W: Sink>(
     let clue = clue_of(&call.process, &call.call);
     let before = machine.trace().len();
     answer_call(alloc, machine, call, writer)?;
-    Ok(explain_line(alloc, machine, second, &clue, before)?)
+    note_births(machine, &clue.caller, &mut explainer.births)?;
+    Ok(explain_line(alloc, machine, explainer, &clue, before)?)
 }
 
 /// Returns what stands in a trace behind so many entries.
@@ -164,31 +184,35 @@ fn entries_behind(trace: &[TraceEntry], before: usize) -> &[TraceEntry]
     entries
 }
 
-/// Has a second kernel make the raw calls of a line once more, those behind so many entries of the machine's trace, and returns
-/// the lines that explain those that were denied.
+/// Brings the second kernel behind a line, whose raw calls stand behind so many entries of the machine's trace,
+/// and keeps the lines that explain those that were denied.
 fn explain_line<S: LabelStore + Drop, T: LabelStore + Drop>(
     alloc: Global,
     machine: &Machine<S>,
-    second: &mut Kernel<T>,
+    explainer: &mut Explainer<T>,
     clue: &Clue,
     before: usize,
-) -> Result<Vec<u8>, OutOfMemory>
+) -> Result<(), OutOfMemory>
     requires within { before ≤ length machine.now.kernel.trace }
-    requires run { IsRunFrom (state second.old) (drop before machine.now.kernel.trace) }
-    ensures explained { IfOk result (λ lines. ExplainsEntries (words_at machine.now.users machine.now.places (state machine.now.kernel) clue.now)
-        (state second.old) (drop before machine.now.kernel.trace) lines.items (state second.new)) }
-    ensures ends { OnOk result (EndsAsRun (state second.old) (drop before machine.now.kernel.trace)
-        (state second.new)) }
+    requires run { IsRunFrom (state explainer.old.second) (drop before machine.now.kernel.trace) }
+    ensures explained { OnOk result (AddsEntries
+        (words_at machine.now.users machine.now.places (state machine.now.kernel) clue.now explainer.old.births.items)
+        (state explainer.old.second) (drop before machine.now.kernel.trace) (state explainer.new.second)
+        explainer.old.text.items explainer.new.text.items) }
+    ensures births { explainer.new.births.items ≡ explainer.old.births.items }
+    ensures ends { OnOk result (EndsAsRun (state explainer.old.second) (drop before machine.now.kernel.trace)
+        (state explainer.new.second)) }
 {
     let names = Names {
-        alloc,
         machine,
-        clue: *clue,
+        clue,
+        births: explainer.births.as_slice(),
     };
     explain_entries(
         alloc,
-        second,
+        &mut explainer.second,
         &names,
+        &mut explainer.text,
         entries_behind(machine.trace(), before),
     )
 }

@@ -131,8 +131,8 @@ fn path_of(names: &[Name]) -> Path
     }
 }
 
-/// Returns the path at which an object stands, where that is this one or one above it.
-fn path_up<S: LabelStore + Drop>(
+/// Returns the path at which an object stands, where that is the path of these names or one above it.
+fn path_among<S: LabelStore + Drop>(
     kernel: &Kernel<S>,
     places: &Places,
     object: ObjId,
@@ -147,7 +147,26 @@ fn path_up<S: LabelStore + Drop>(
     let [_, above @ ..] = names else {
         return None;
     };
-    path_up(kernel, places, object, above)
+    path_among(kernel, places, object, above)
+}
+
+/// Returns the path at which an object stands, where that is this one or one above it.
+fn path_up<S: LabelStore + Drop>(
+    kernel: &Kernel<S>,
+    places: &Places,
+    object: ObjId,
+    path: &Path,
+) -> Option<Path>
+    ensures { result ≡ path_up (state kernel.now) places.now object path.now }
+{
+    let names = path.names();
+    if is_target(object, target_at(kernel, places, names)) {
+        return Some(*path);
+    }
+    let [_, directory @ ..] = names else {
+        return None;
+    };
+    path_among(kernel, places, object, directory)
 }
 
 /// Checks whether an object is the internal container or the thread of a process that runs, by the bytes of
@@ -204,7 +223,7 @@ pub(crate) fn standing_of<S: LabelStore + Drop>(
     if let Some(standing) = left_standing(machine.users().len(), object) {
         return Some(standing);
     }
-    if let Some(path) = path_up(kernel, places, object, clue.path.names()) {
+    if let Some(path) = path_up(kernel, places, object, &clue.path) {
         return Some(Standing::At(path));
     }
     if let Some(process) = process_up(kernel, places, object, clue.caller.numbers()) {

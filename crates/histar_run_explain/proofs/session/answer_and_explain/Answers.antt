@@ -1,5 +1,8 @@
-use Rattle.std.proofs.Common.{◌≤◌, length, refl, sym, ap, subst}
+use Rattle.std.proofs.Common.{◌≤◌, length, refl, sym, ap, ◌∙◌, subst}
+use Rattle.histar_syscall.specs.KernelModel.{state}
 use Rattle.histar_raw_explain.proofs.Errors.{on_err}
+use Rattle.histar_run_explain.specs.declared.clues.Clue.{Clue}
+use Rattle.histar_run_explain.specs.Births.{births_after}
 use Rattle.histar_run_explain.proofs.Turns.{grown, runs_on, same_end, line_said, line_begins}
 use Rattle.histar_run_explain.proofs.session.answer_and_explain.Goals as goal
 
@@ -13,10 +16,23 @@ explain_line-requires-clause-run g c = runs_on c.args.machine.now c.answer_call.
 pub returns-in_err-explain_line-clause-err : goal.returns-in_err-explain_line-clause-err
 returns-in_err-explain_line-clause-err g c = on_err _ _ (line_begins _ _ _ _ c.args.call c.in_ok-answer_call.ensures.ok)
 
+pub returns-in_err-note_births-clause-err : goal.returns-in_err-note_births-clause-err
+returns-in_err-note_births-clause-err g c = on_err _ _ (line_begins _ _ _ _ c.args.call c.in_ok-answer_call.ensures.ok)
+
 pub returns-clause-ok : goal.returns-clause-ok
 returns-clause-ok g c =
-    line_said c.args.machine.now c.answer_call.new.machine _ _ c.args.call c.in_ok-answer_call.ensures.ok _ refl _ (ap length c.trace-before.ensures) _ c.requires _ c.clue_of-clue.result c.in_ok-explain_line.field-0.items c.clue_of-clue.ensures
-    c.in_ok-explain_line.ensures.ends c.in_ok-explain_line.ensures.explained
+    let adds = c.in_ok-explain_line.ensures.explained in
+    rw c.in_ok-explain_line.ensures.births (
+      adds.0,
+      adds.1,
+      line_said c.args.machine.now c.answer_call.new.machine _ _ c.args.call c.in_ok-answer_call.ensures.ok _ refl _ (ap length c.trace-before.ensures) _ c.requires _ c.clue_of-clue.result _ adds.0 c.clue_of-clue.ensures
+          c.in_ok-explain_line.ensures.ends adds.2,
+    )
+
+pub returns-clause-births : goal.returns-clause-births
+returns-clause-births g c =
+    c.in_ok-explain_line.ensures.births ∙ c.in_ok-note_births.ensures
+    ∙ ap (λ (clue : Clue). births_after (state c.answer_call.new.machine.kernel) c.answer_call.new.machine.places clue.caller c.args.explainer.now.births.items) c.clue_of-clue.ensures
 
 pub returns-clause-same : goal.returns-clause-same
 returns-clause-same g c = same_end c.args.machine.now c.answer_call.new.machine _ _ c.args.call c.in_ok-answer_call.ensures.ok _ refl _ (ap length c.trace-before.ensures) _ c.requires _ c.in_ok-explain_line.ensures.ends

@@ -1,35 +1,30 @@
-use Rattle.std.proofs.Common.{sym, ◌∙◌, rules}
+use Rattle.std.proofs.Common.{refl, sym, ◌∙◌, rules}
 use Rattle.std.proofs.lemmas.List.{map-id}
 use Rattle.std.proofs.lemmas.Iterator.Adapters.{YieldsList-from_vec}
 use Rattle.std.proofs.lemmas.Iterator.Consumers.{YieldsList-so_far, YieldsList-turn}
 use Rattle.histar_shell.proofs.AnswerLemmas.{begins_more, parts_at}
 use Rattle.histar_raw_explain.proofs.Errors.{on_err}
-use Rattle.histar_run_explain.proofs.Turns.{answers_calls, explains_more, line_begins}
+use Rattle.histar_run_explain.proofs.Turns.{answers_calls, explains_more, explains_none}
 use Rattle.histar_run_explain.proofs.session.answer_calls.Goals as goal
 
+pub calls-init : goal.calls-init
+calls-init g c = record { explained = rw (c.requires.text, c.requires.births) (explains_none _ _); same = c.requires.second; count = refl }
+
 pub calls-preserved : goal.calls-preserved
-calls-preserved g c = record {
-  explained = rw (c.in_ok-extend_from_slice.ensures.items, c.as_slice.ensures.value) (explains_more _ _ _ _ _ _ c.calls.yielded c.in-Some.call _ _ c.calls.invariant.explained c.in_ok-lines.ensures.ok);
-  same = c.in_ok-lines.ensures.same;
-  count = search rules;
-}
+calls-preserved g c =
+    let adds = c.in_ok-answer_and_explain.ensures.ok in
+    record {
+      explained = rw adds.1 (explains_more _ _ _ _ _ _ c.calls.yielded c.in-Some.call _ _ _ _ c.calls.invariant.explained c.in_ok-answer_and_explain.ensures.births adds.2);
+      same = c.in_ok-answer_and_explain.ensures.same;
+      count = search rules;
+    }
 
-pub returns-in_err-lines-clause-err : goal.returns-in_err-lines-clause-err
-returns-in_err-lines-clause-err g c =
+pub returns-in_err-answer_and_explain-clause-err : goal.returns-in_err-answer_and_explain-clause-err
+returns-in_err-answer_and_explain-clause-err g c =
     let gives = c.into_iter-call-iterator.ensures.into_iter_gives in
     let all = YieldsList-from_vec c.args.calls.items gives.0 (search rules) in
     let so_far = YieldsList-so_far all c.calls.yielded c.calls.call-iterator c.calls.yielded_by in
     let turn = YieldsList-turn all c.calls.yielded c.calls.call-iterator c.calls.yielded_by c.next.result c.next.new.self c.in-Some.call c.in-Some.is c.next.ensures.steps in
     let parts = parts_at c.args.calls.items c.calls.yielded c.in-Some.call (sym (map-id c.calls.yielded) ∙ so_far) turn in
-    let done = answers_calls _ _ _ _ c.calls.yielded _ c.calls.invariant.explained in
-    on_err _ _ (begins_more _ _ _ _ _ _ c.args.calls.items c.calls.yielded _ c.in-Some.call parts done c.in_err-lines.ensures.err)
-
-pub returns-in_err-extend_from_slice-clause-err : goal.returns-in_err-extend_from_slice-clause-err
-returns-in_err-extend_from_slice-clause-err g c =
-    let gives = c.into_iter-call-iterator.ensures.into_iter_gives in
-    let all = YieldsList-from_vec c.args.calls.items gives.0 (search rules) in
-    let so_far = YieldsList-so_far all c.calls.yielded c.calls.call-iterator c.calls.yielded_by in
-    let turn = YieldsList-turn all c.calls.yielded c.calls.call-iterator c.calls.yielded_by c.next.result c.next.new.self c.in-Some.call c.in-Some.is c.next.ensures.steps in
-    let parts = parts_at c.args.calls.items c.calls.yielded c.in-Some.call (sym (map-id c.calls.yielded) ∙ so_far) turn in
-    let done = answers_calls _ _ _ _ c.calls.yielded _ c.calls.invariant.explained in
-    on_err _ _ (begins_more _ _ _ _ _ _ c.args.calls.items c.calls.yielded _ c.in-Some.call parts done (line_begins _ _ _ _ c.in-Some.call c.in_ok-lines.ensures.ok.answered))
+    let done = answers_calls _ _ _ _ c.calls.yielded _ _ c.calls.invariant.explained in
+    on_err _ _ (begins_more _ _ _ _ _ _ c.args.calls.items c.calls.yielded _ c.in-Some.call parts done c.in_err-answer_and_explain.ensures.err)

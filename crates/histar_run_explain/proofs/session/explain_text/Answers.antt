@@ -25,24 +25,24 @@ returns-in_err-second-clause-runs g c =
 
 pub write_ending-requires : goal.write_ending-requires
 write_ending-requires g c =
-    has_tree c.args.options c.args.text.now c.in_ok-script.script c.in_ok-script.ensures.exact _ c.into_parts-session.ensures.session _ c.into_parts-session.ensures.calls c.in-Ok.machine c.in-Ok.ensures.starts _ _ _ _ c.in_ok-explanations.ensures.ok
+    has_tree c.args.options c.args.text.now c.in_ok-script.script c.in_ok-script.ensures.exact _ c.into_parts-session.ensures.session _ c.into_parts-session.ensures.calls c.in-Ok.machine c.in-Ok.ensures.starts _ _ _ _ _ c.in_ok-answer_calls.ensures.ok
 
-pub returns-in_err-explanations-clause-nothing : goal.returns-in_err-explanations-clause-nothing
-returns-in_err-explanations-clause-nothing g c =
-    let p = err_from_is_err_and c.from_residual-in_err-explanations.result c.from_residual-in_err-explanations.ensures.1 in
-    rw (p.1, p.2) (sink_called c.args.writer.now c.answer_calls.new.writer c.in_err-explanations.field-0.0 c.in_err-explanations.ensures.faults)
+pub returns-in_err-answer_calls-clause-nothing : goal.returns-in_err-answer_calls-clause-nothing
+returns-in_err-answer_calls-clause-nothing g c =
+    let p = err_from_is_err_and c.from_residual-in_err-answer_calls.result c.from_residual-in_err-answer_calls.ensures.1 in
+    rw (p.1, p.2) (sink_called c.args.writer.now c.answer_calls.new.writer c.in_err-answer_calls.field-0.0 c.in_err-answer_calls.ensures.faults)
 
-pub returns-in_err-explanations-clause-reads : goal.returns-in_err-explanations-clause-reads
-returns-in_err-explanations-clause-reads g c =
-    let p = err_from_is_err_and c.from_residual-in_err-explanations.result c.from_residual-in_err-explanations.ensures.1 in
-    rw (p.1, p.2) (no_read_failed c.in_err-explanations.field-0.0 c.in_err-explanations.ensures.faults)
+pub returns-in_err-answer_calls-clause-reads : goal.returns-in_err-answer_calls-clause-reads
+returns-in_err-answer_calls-clause-reads g c =
+    let p = err_from_is_err_and c.from_residual-in_err-answer_calls.result c.from_residual-in_err-answer_calls.ensures.1 in
+    rw (p.1, p.2) (no_read_failed c.in_err-answer_calls.field-0.0 c.in_err-answer_calls.ensures.faults)
 
-pub returns-in_err-explanations-clause-runs : goal.returns-in_err-explanations-clause-runs
-returns-in_err-explanations-clause-runs g c =
-    let p = err_from_is_err_and c.from_residual-in_err-explanations.result c.from_residual-in_err-explanations.ensures.1 in
+pub returns-in_err-answer_calls-clause-runs : goal.returns-in_err-answer_calls-clause-runs
+returns-in_err-answer_calls-clause-runs g c =
+    let p = err_from_is_err_and c.from_residual-in_err-answer_calls.result c.from_residual-in_err-answer_calls.ensures.1 in
     rw (p.1, p.2)
     (begun_replies c.args.options c.args.text.now c.in_ok-script.script c.in_ok-script.ensures.exact _ c.into_parts-session.ensures.session _ c.into_parts-session.ensures.calls c.in-Ok.machine c.in-Ok.ensures.starts
-    c.in_err-explanations.field-0.0 _ _ c.in_err-explanations.ensures.faults c.in_err-explanations.ensures.err)
+    c.in_err-answer_calls.field-0.0 _ _ c.in_err-answer_calls.ensures.faults c.in_err-answer_calls.ensures.err)
 
 pub returns-in_err-write_ending-clause-nothing : goal.returns-in_err-write_ending-clause-nothing
 returns-in_err-write_ending-clause-nothing g c =
@@ -57,19 +57,19 @@ returns-in_err-write_ending-clause-reads g c =
 pub returns-in_err-write_ending-clause-writes : goal.returns-in_err-write_ending-clause-writes
 returns-in_err-write_ending-clause-writes g c =
     let p = err_from_is_err_and c.from_residual-in_err-write_ending.result c.from_residual-in_err-write_ending.ensures.1 in
-    rw (p.1, p.2) (counts_on _ _ _ _ c.in_ok-explanations.ensures.count c.in_err-write_ending.ensures.count)
+    rw (p.1, p.2) (counts_on _ _ _ _ c.in_ok-answer_calls.ensures.count c.in_err-write_ending.ensures.count)
 
 pub returns-in_err-write_ending-clause-runs : goal.returns-in_err-write_ending-clause-runs
 returns-in_err-write_ending-clause-runs g c =
     let p = err_from_is_err_and c.from_residual-in_err-write_ending.result c.from_residual-in_err-write_ending.ensures.1 in
     rw (p.1, p.2)
     (begun_ending c.args.options c.args.text.now c.in_ok-script.script c.in_ok-script.ensures.exact _ c.into_parts-session.ensures.session _ c.into_parts-session.ensures.calls c.in-Ok.machine c.in-Ok.ensures.starts
-    _ _ _ _ c.in_ok-explanations.ensures.ok c.in_err-write_ending.field-0.0 _ c.in_err-write_ending.ensures.faults c.in_err-write_ending.ensures.err)
+    _ _ _ _ _ c.in_ok-answer_calls.ensures.ok c.in_err-write_ending.field-0.0 _ c.in_err-write_ending.ensures.faults c.in_err-write_ending.ensures.err)
 
-pub returns-in_err-explanations-clause-writes : goal.returns-in_err-explanations-clause-writes
-returns-in_err-explanations-clause-writes g c =
-    let p = err_from_is_err_and c.from_residual-in_err-explanations.result c.from_residual-in_err-explanations.ensures.1 in
-    rw (p.1, p.2) c.in_err-explanations.ensures.count
+pub returns-in_err-answer_calls-clause-writes : goal.returns-in_err-answer_calls-clause-writes
+returns-in_err-answer_calls-clause-writes g c =
+    let p = err_from_is_err_and c.from_residual-in_err-answer_calls.result c.from_residual-in_err-answer_calls.ensures.1 in
+    rw (p.1, p.2) c.in_err-answer_calls.ensures.count
 
 pub returns-clause-nothing : goal.returns-clause-nothing
 returns-clause-nothing g c = sink_after c.args.writer.now c.write_explanations.new.writer c.write_explanations.result c.write_explanations.ensures.faults
@@ -78,9 +78,9 @@ pub returns-clause-reads : goal.returns-clause-reads
 returns-clause-reads g c = no_read_fails c.write_explanations.result c.write_explanations.ensures.faults
 
 pub returns-clause-writes : goal.returns-clause-writes
-returns-clause-writes g c = counts_on _ _ _ _ (c.in_ok-write_ending.ensures.count ∙ c.in_ok-explanations.ensures.count) c.write_explanations.ensures.count
+returns-clause-writes g c = counts_on _ _ _ _ (c.in_ok-write_ending.ensures.count ∙ c.in_ok-answer_calls.ensures.count) c.write_explanations.ensures.count
 
 pub returns-clause-runs : goal.returns-clause-runs
 returns-clause-runs g c =
     last_written c.args.options c.args.text.now c.in_ok-script.script c.in_ok-script.ensures.exact _ c.into_parts-session.ensures.session _ c.into_parts-session.ensures.calls c.in-Ok.machine c.in-Ok.ensures.starts
-    _ _ _ _ c.in_ok-explanations.ensures.ok _ _ _ c.as_slice.ensures.value c.write_explanations.result c.in_ok-write_ending.ensures.ok c.write_explanations.ensures.ok c.write_explanations.ensures.err c.write_explanations.ensures.faults
+    _ _ _ _ _ c.in_ok-answer_calls.ensures.ok _ _ _ c.as_slice.ensures.value c.write_explanations.result c.in_ok-write_ending.ensures.ok c.write_explanations.ensures.ok c.write_explanations.ensures.err c.write_explanations.ensures.faults
