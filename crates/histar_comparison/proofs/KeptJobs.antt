@@ -5,7 +5,7 @@ use Rattle.histar_flat.specs.Words.{ProcName}
 use Rattle.histar_flat.specs.Meaning.{Answered}
 use Rattle.histar_shell.specs.Machine.{MachineModel}
 use Rattle.histar_shell.proofs.AnswerLemmas.{calls_more, in_turn_more}
-use Rattle.histar_shell.proofs.CallRows.{lines_are_rows}
+use Rattle.histar_shell.proofs.CallRows.{calls_refine}
 use Rattle.histar_shell.proofs.SessionMeanings.{all_replies}
 use Rattle.histar_shell.specs.Machine.{IsStart}
 use Rattle.histar_script.specs.Script.{Reading}
@@ -57,4 +57,4 @@ pub jobs_are : (script : Reading) → CanRun script → (start end : MachineMode
     → KeepsJobs start end old new script.calls → old ≡ [] → new ≡ jobs_started (meaning script.session script.calls)
 jobs_are script can start end starts old new kept none =
     kept.kept ∙ ap (λ (l : List ProcName). l ++ jobs_started kept.answers) none
-    ∙ ap jobs_started (all_replies lines_are_rows script can.declared can.calls start starts end kept.answers kept.each kept.in_turn)
+    ∙ ap jobs_started (all_replies calls_refine script can.declared can.calls start starts end kept.answers kept.each kept.in_turn)

@@ -11,7 +11,7 @@ use Rattle.histar_isolation.specs.Trees.{PathText, tree_lines}
 use Rattle.histar_shell.specs.Machine.{MachineModel, IsStart}
 use Rattle.histar_shell.specs.Ending.{HasTree}
 use Rattle.histar_shell.specs.Meaning.{Shows, last_state}
-use Rattle.histar_shell.proofs.CallRows.{lines_are_rows}
+use Rattle.histar_shell.proofs.CallRows.{calls_refine}
 use Rattle.histar_shell.proofs.SessionMeanings.{all_replies, shows_end}
 use Rattle.histar_shell.proofs.ShownTrees.{shown_tree, same_lines}
 use Rattle.histar_comparison.specs.Replies.{RepliesModel, no_replies, with_replies}
@@ -29,7 +29,7 @@ lines_of_flat entries = sym (map_twice line_text flat_line entries)
 module _ (job : ProcName) (script : Reading) (can : CanRun script) (start end : MachineModel) (starts : IsStart script.session start) (old new : RepliesModel) (kept : KeepsReplies job start end old new script.calls) where
   -- the flat state at the end is shown
   shows : Shows script.session end (last_state script)
-  shows = shows_end lines_are_rows script can.declared can.calls start starts end kept.answers kept.each kept.in_turn
+  shows = shows_end calls_refine script can.declared can.calls start starts end kept.answers kept.each kept.in_turn
 
   -- so there is a tree
   pub has_tree : HasTree end
@@ -37,7 +37,7 @@ module _ (job : ProcName) (script : Reading) (can : CanRun script) (start end : 
 
   -- the replies are those that the script means
   pub replies_are : old ≡ no_replies → new ≡ with_replies job no_replies (meaning script.session script.calls)
-  replies_are empty = kept.kept ∙ (λ i. with_replies job (empty i) (all_replies lines_are_rows script can.declared can.calls start starts end kept.answers kept.each kept.in_turn i))
+  replies_are empty = kept.kept ∙ (λ i. with_replies job (empty i) (all_replies calls_refine script can.declared can.calls start starts end kept.answers kept.each kept.in_turn i))
 
   -- and the lines are those of the tree
   pub tree_is : (lines : List PathText) → ShowsTree end lines → lines ≡ tree_lines (last_state script)

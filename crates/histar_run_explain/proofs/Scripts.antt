@@ -17,7 +17,7 @@ use Rattle.histar_syscall.specs.Runs.{IsRun}
 use Rattle.histar_calls.specs.declared.places.Places.{Places}
 use Rattle.histar_layout.specs.UserTable.{without_passwords}
 use Rattle.histar_refinement.specs.LaysOut.{LaysOut}
-use Rattle.histar_rows.specs.Rows.{AreRows}
+use Rattle.histar_sim.specs.Simulation.{SimulatesLines}
 use Rattle.histar_shell.specs.Answers.{answers_text, calls_of}
 use Rattle.histar_shell.specs.AnsweredCalls.{AnswersCalls, BeginsAnswers}
 use Rattle.histar_shell.specs.Ending.{AppendsEnding, BeginsTheEnding, asked_trace}
@@ -25,7 +25,7 @@ use Rattle.histar_shell.specs.Machine.{MachineModel, IsStart}
 use Rattle.histar_shell.specs.Meaning.{Shows, meaning_text}
 use Rattle.histar_shell.specs.declared.session.Options.{Options}
 use Rattle.histar_shell.proofs.AnswerLemmas.{front_after}
-use Rattle.histar_shell.proofs.CallRows.{lines_are_rows}
+use Rattle.histar_shell.proofs.CallRows.{calls_refine}
 use Rattle.histar_shell.proofs.LineMeanings.{line_follows}
 use Rattle.histar_shell.proofs.RowRuns.{run_after, rows_run}
 use Rattle.histar_shell.proofs.SessionMeanings.{boot_trace, whole_is, longer_front, answers_begin}
@@ -66,7 +66,7 @@ session_explained session m f births [] text end born h shows can = record {
   rows = (refl, h.0, ap (λ (x : MachineModel). state x.kernel) h.1);
 }
 session_explained session m f births (a ∷ answers) text end born h shows can =
-    let line = line_follows lines_are_rows m h.0 a.call.line a.call.process a.call.call (Ok a.reply) can.0 h.3 session f shows in
+    let line = line_follows calls_refine m h.0 a.call.line a.call.process a.call.call (Ok a.reply) can.0 h.3 session f shows in
     let g = flat_after session f a.call.process a.call.call in
     let known = births_shown session m h.0 g a.call line.shows births in
     let later = session_explained session h.0 g (births_by h.0 a.call births) answers h.2 end born h.6 line.shows can.1 in
@@ -90,7 +90,7 @@ session_explained session m f births (a ∷ answers) text end born h shows can =
     }
 
 -- explained rows are rows
-rows_explained : (session : Session) (s : State) (f : Flat) (births : Births) (calls : List CallLine) (entries : List TraceEntry) (text : List ℕ) (end : State) → ExplainsRows session s f births calls entries text end → AreRows session s f calls entries end
+rows_explained : (session : Session) (s : State) (f : Flat) (births : Births) (calls : List CallLine) (entries : List TraceEntry) (text : List ℕ) (end : State) → ExplainsRows session s f births calls entries text end → SimulatesLines session s f calls entries end
 rows_explained session s f births [] entries text end h = (h.0, h.2)
 rows_explained session s f births (asked ∷ more) entries text end h =
     (h.0, h.1, h.2, h.5, h.7, rows_explained session h.2 (flat_after session f asked.process asked.call) (births_of session h.2 asked births) more h.1 h.4 end h.9)
@@ -136,7 +136,7 @@ module _ (script : Reading) (declared : IsDeclared script.session) (can : AreScr
       -- what stands behind the replies was written too
       run_written : (mid : Option (List ℕ)) → AppendsEnding options end replied mid → Appends old mid run_text
       run_written mid ending =
-          subst (Appends old mid) (whole_is lines_are_rows script declared can start starts options old replied end answered ending.0 ending.1 end.kernel.trace refl)
+          subst (Appends old mid) (whole_is calls_refine script declared can start starts options old replied end answered ending.0 ending.1 end.kernel.trace refl)
           (Appends-trans old replied mid (answers_text all.answers) ending.0 all.written ending.2)
 
       -- and then the explanations
@@ -163,12 +163,12 @@ module _ (script : Reading) (declared : IsDeclared script.session) (can : AreScr
         trace = end.kernel.trace;
         explanations = text;
         explains = trace_explained;
-        written = longer_front lines_are_rows script declared can start starts options old new run_text text
+        written = longer_front calls_refine script declared can start starts options old new run_text text
             (subst (AppendsFront old new)
-            (ap (λ (l : List ℕ). answers_text all.answers ++ l) (append-nil begun.0) ∙ whole_is lines_are_rows script declared can start starts options old replied end answered begun.0 begun.1 end.kernel.trace refl)
+            (ap (λ (l : List ℕ). answers_text all.answers ++ l) (append-nil begun.0) ∙ whole_is calls_refine script declared can start starts options old replied end answered begun.0 begun.1 end.kernel.trace refl)
             (front_after old replied new (answers_text all.answers) begun.0 [] all.written begun.2));
       }
 
   -- the first lines were answered
   pub replies_begun : (options : Options) (old new : Option (List ℕ)) → BeginsAnswers start old new script.calls → AppendsFront old new (meaning_text options script)
-  replies_begun options old new begun = answers_begin lines_are_rows script declared can start starts options old new begun
+  replies_begun options old new begun = answers_begin calls_refine script declared can start starts options old new begun

@@ -24,7 +24,7 @@ use Rattle.histar_shell.specs.Ending.{AppendsEnding, BeginsTheEnding, HasTree}
 use Rattle.histar_shell.specs.Machine.{MachineModel, IsStart, IsTraced}
 use Rattle.histar_shell.specs.Outcome.{AgreesWith, IsFaultAt}
 use Rattle.histar_shell.specs.declared.session.Options.{Options}
-use Rattle.histar_shell.proofs.CallRows.{lines_are_rows}
+use Rattle.histar_shell.proofs.CallRows.{calls_refine}
 use Rattle.histar_shell.proofs.SessionMeanings.{booted_traced, tree_at_last}
 use Rattle.histar_shell.proofs.Users.{script_says}
 use Rattle.histar_run_explain.specs.Births.{Births}
@@ -114,7 +114,7 @@ module _ (options : Options) where
 
       -- all lines were, so the machine has a tree
       pub has_tree : HasTree end
-      has_tree = tree_at_last lines_are_rows text script given start end started calls calls_are old replied (answers_calls start end old replied calls lines born all)
+      has_tree = tree_at_last calls_refine text script given start end started calls calls_are old replied (answers_calls start end old replied calls lines born all)
 
       -- and a beginning of what stands behind the replies was written
       pub begun_ending : (f : Fault) (new : Option (List ℕ)) → IsOutputFault f → BeginsTheEnding options end replied new → ExplainsText options text old new (Err f)

@@ -15,7 +15,7 @@ use Rattle.histar_script.specs.declared.fault.Fault.TheVariants.{OutOfMemory, Wr
 use Rattle.histar_syscall.specs.declared.trace.TraceEntry.{TraceEntry}
 use Rattle.histar_layout.specs.UserTable.{without_passwords}
 use Rattle.histar_login.specs.Start.{places_of}
-use Rattle.histar_rows.specs.Rows.{IsRow}
+use Rattle.histar_sim.specs.Simulation.{SimulatesLine}
 use Rattle.histar_shell.specs.declared.session.Options.{Options}
 use Rattle.histar_shell.specs.Ending.{asked_trace}
 use Rattle.histar_shell.specs.Meaning.{IsMeantTrace, meaning_text}
@@ -42,7 +42,7 @@ ExplainsRows session s f births [] entries text end = (entries ≡ []) × (text 
 ExplainsRows session s f births (asked ∷ more) entries text end =
     (own : List TraceEntry) × (later : List TraceEntry) × (mid : State) × (lines : List ℕ) × (rest : List ℕ)
     × (entries ≡ own ++ later) × (text ≡ lines ++ rest)
-    × IsRow session s f asked own mid
+    × SimulatesLine session s f asked own mid
     × ExplainsEntries (words_of session mid asked (births_of session mid asked births)) s own lines mid
     × ExplainsRows session mid (flat_after session f asked.process asked.call) (births_of session mid asked births) more later rest end
 

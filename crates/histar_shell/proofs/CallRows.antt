@@ -6,48 +6,48 @@ use Rattle.histar_flat.specs.Calls.{IsCall}
 use Rattle.histar_flat.specs.Sessions.{Session}
 use Rattle.histar_login.specs.Start.{places_of}
 use Rattle.histar_refinement.specs.Sessions.{IsSession}
-use Rattle.histar_rows.specs.Laws.{IsRowOfCaller}
-use Rattle.histar_file_rows.proofs.Read.{reads_are_rows}
-use Rattle.histar_file_rows.proofs.Write.{writes_are_rows}
-use Rattle.histar_file_rows.proofs.Create.{creates_are_rows}
-use Rattle.histar_file_rows.proofs.Mkdir.{mkdirs_are_rows}
-use Rattle.histar_file_rows.proofs.Append.{appends_are_rows}
-use Rattle.histar_file_rows.proofs.ListCall.{lists_are_rows}
-use Rattle.histar_file_rows.proofs.StatCall.{stats_are_rows}
-use Rattle.histar_login_rows.proofs.Login.{logins_are_rows}
-use Rattle.histar_move_rows.proofs.UnlinkCall.{unlinks_are_rows}
-use Rattle.histar_move_rows.proofs.RmdirCall.{rmdirs_are_rows}
-use Rattle.histar_move_rows.proofs.RmtreeCall.{rmtrees_are_rows}
-use Rattle.histar_move_rows.proofs.RenameCall.{renames_are_rows}
-use Rattle.histar_process_rows.proofs.SpawnCall.{spawns_are_rows}
-use Rattle.histar_process_rows.proofs.ExitCall.{exits_are_rows}
-use Rattle.histar_process_rows.proofs.StatusCall.{statuses_are_rows}
-use Rattle.histar_process_rows.proofs.KillCall.{kills_are_rows}
-use Rattle.histar_process_rows.proofs.Whoami.{whoamis_are_rows}
-use Rattle.histar_wrap_rows.proofs.WrapCall.{wraps_are_rows}
+use Rattle.histar_sim.specs.Refines.{CallerRefines}
+use Rattle.histar_sim.proofs.Read.{read_refines}
+use Rattle.histar_sim.proofs.Write.{write_refines}
+use Rattle.histar_sim.proofs.Create.{create_refines}
+use Rattle.histar_sim.proofs.Mkdir.{mkdir_refines}
+use Rattle.histar_sim.proofs.Append.{append_refines}
+use Rattle.histar_sim.proofs.ListCall.{list_refines}
+use Rattle.histar_sim.proofs.StatCall.{stat_refines}
+use Rattle.histar_sim.proofs.Login.{login_refines}
+use Rattle.histar_sim.proofs.UnlinkCall.{unlink_refines}
+use Rattle.histar_sim.proofs.RmdirCall.{rmdir_refines}
+use Rattle.histar_sim.proofs.RmtreeCall.{rmtree_refines}
+use Rattle.histar_sim.proofs.RenameCall.{rename_refines}
+use Rattle.histar_sim.proofs.SpawnCall.{spawn_refines}
+use Rattle.histar_sim.proofs.ExitCall.{exit_refines}
+use Rattle.histar_sim.proofs.StatusCall.{status_refines}
+use Rattle.histar_sim.proofs.KillCall.{kill_refines}
+use Rattle.histar_sim.proofs.Whoami.{whoami_refines}
+use Rattle.histar_sim.proofs.WrapCall.{wrap_refines}
 use Rattle.histar_shell.specs.Machine.{program_of}
 
 -- the program of each call that a line can make refines the rule of the call
-abbrev pub LinesAreRows : Type 0
-LinesAreRows = (session : Session) → IsSession session → (call : UnixCall) → IsCall call
-    → IsRowOfCaller session call (λ me caller. program_of session (places_of (length session.users)) me caller call)
+abbrev pub CallsRefine : Type 0
+CallsRefine = (session : Session) → IsSession session → (call : UnixCall) → IsCall call
+    → CallerRefines session call (λ me caller. program_of session (places_of (length session.users)) me caller call)
 
-pub lines_are_rows : LinesAreRows
-lines_are_rows session ok (Create path mode) can me caller old new f result ready at = creates_are_rows session ok path mode can me old new f caller.thread result ready
-lines_are_rows session ok (Mkdir path mode) can me caller old new f result ready at = mkdirs_are_rows session ok path mode can me old new f caller.thread result ready
-lines_are_rows session ok (Read path) can me caller old new f result ready at = reads_are_rows session ok path me old new f caller.thread result ready
-lines_are_rows session ok (Write path bytes) can me caller old new f result ready at = writes_are_rows session ok path bytes me old new f caller.thread result ready
-lines_are_rows session ok (Append path bytes) can me caller old new f result ready at = appends_are_rows session ok path bytes me old new f caller.thread result ready
-lines_are_rows session ok (ListCall path) can me caller old new f result ready at = lists_are_rows session ok path me old new f caller.thread result ready
-lines_are_rows session ok (Stat path) can me caller old new f result ready at = stats_are_rows session ok path me old new f caller.thread result ready
-lines_are_rows session ok (Unlink path) can me caller old new f result ready at = unlinks_are_rows session ok path me old new f caller.thread result ready
-lines_are_rows session ok (Rmdir path) can me caller old new f result ready at = rmdirs_are_rows session ok path me old new f caller.thread result ready
-lines_are_rows session ok (Rmtree path) can me caller old new f result ready at = rmtrees_are_rows session ok path me old new f caller.thread result ready
-lines_are_rows session ok (Rename path name) can me caller old new f result ready at = renames_are_rows session ok path name can.1 me old new f caller.thread result ready
-lines_are_rows session ok Spawn can me caller old new f result ready at = spawns_are_rows session ok me caller old new f result ready at
-lines_are_rows session ok (Exit number) can me caller old new f result ready at = exits_are_rows session ok number can me caller old new f result ready at
-lines_are_rows session ok (Status name) can me caller old new f result ready at = statuses_are_rows session ok name me old new f caller.thread result ready
-lines_are_rows session ok (Kill name) can me caller old new f result ready at = kills_are_rows session ok name me old new f caller.thread result ready
-lines_are_rows session ok Whoami can me caller old new f result ready at = whoamis_are_rows session ok me old new f caller.thread result ready
-lines_are_rows session ok (Login name password) can me caller old new f result ready at = logins_are_rows session ok name password me caller old new f result ready at
-lines_are_rows session ok (Wrap path) can me caller old new f result ready at = wraps_are_rows session ok path can me caller old new f result ready at
+pub calls_refine : CallsRefine
+calls_refine session ok (Create path mode) can me caller old new f result ready at = create_refines session ok path mode can me old new f caller.thread result ready
+calls_refine session ok (Mkdir path mode) can me caller old new f result ready at = mkdir_refines session ok path mode can me old new f caller.thread result ready
+calls_refine session ok (Read path) can me caller old new f result ready at = read_refines session ok path me old new f caller.thread result ready
+calls_refine session ok (Write path bytes) can me caller old new f result ready at = write_refines session ok path bytes me old new f caller.thread result ready
+calls_refine session ok (Append path bytes) can me caller old new f result ready at = append_refines session ok path bytes me old new f caller.thread result ready
+calls_refine session ok (ListCall path) can me caller old new f result ready at = list_refines session ok path me old new f caller.thread result ready
+calls_refine session ok (Stat path) can me caller old new f result ready at = stat_refines session ok path me old new f caller.thread result ready
+calls_refine session ok (Unlink path) can me caller old new f result ready at = unlink_refines session ok path me old new f caller.thread result ready
+calls_refine session ok (Rmdir path) can me caller old new f result ready at = rmdir_refines session ok path me old new f caller.thread result ready
+calls_refine session ok (Rmtree path) can me caller old new f result ready at = rmtree_refines session ok path me old new f caller.thread result ready
+calls_refine session ok (Rename path name) can me caller old new f result ready at = rename_refines session ok path name can.1 me old new f caller.thread result ready
+calls_refine session ok Spawn can me caller old new f result ready at = spawn_refines session ok me caller old new f result ready at
+calls_refine session ok (Exit number) can me caller old new f result ready at = exit_refines session ok number can me caller old new f result ready at
+calls_refine session ok (Status name) can me caller old new f result ready at = status_refines session ok name me old new f caller.thread result ready
+calls_refine session ok (Kill name) can me caller old new f result ready at = kill_refines session ok name me old new f caller.thread result ready
+calls_refine session ok Whoami can me caller old new f result ready at = whoami_refines session ok me old new f caller.thread result ready
+calls_refine session ok (Login name password) can me caller old new f result ready at = login_refines session ok name password me caller old new f result ready at
+calls_refine session ok (Wrap path) can me caller old new f result ready at = wrap_refines session ok path can me caller old new f result ready at

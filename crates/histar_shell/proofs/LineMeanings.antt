@@ -30,12 +30,12 @@ use Rattle.histar_refinement.proofs.CallerFound.{caller_found, caller_there}
 use Rattle.histar_refinement.proofs.Renaming.{nothing_under}
 use Rattle.histar_refinement.proofs.StatusFound.{thread_led}
 use Rattle.histar_flat.specs.Calls.{IsCall}
-use Rattle.histar_rows.specs.Rows.{IsLine, IsReady, DoesItsRow, IsFirstFree, AreFilesSmall}
-use Rattle.histar_rows.specs.Reads.{HasReads}
-use Rattle.histar_rows.proofs.FirstFree.{first_free_after}
+use Rattle.histar_sim.specs.Simulation.{IsLine, IsReady, FollowsRule, IsFirstFree, AreFilesSmall}
+use Rattle.histar_sim.specs.Reads.{HasReads}
+use Rattle.histar_sim.proofs.FirstFree.{first_free_after}
 use Rattle.histar_shell.specs.Machine.{MachineModel, on_line, program_of, Makes, HasMade, AnswersFound, AnswersRunning, AnswersIf, AnswersLine}
 use Rattle.histar_shell.specs.Meaning.{Shows, EndsAsMeant, FollowsMeaning}
-use Rattle.histar_shell.proofs.CallRows.{LinesAreRows}
+use Rattle.histar_shell.proofs.CallRows.{CallsRefine}
 use Rattle.histar_shell.proofs.SamePrograms.{same_program}
 use Rattle.histar_tree.specs.Laws.{AreShallow}
 use Rattle.histar_shell.proofs.SmallFiles.{small_after}
@@ -47,7 +47,7 @@ none_of : {A : Type 0} (o : Option A) → is_some o ≡ false → o ≡ None
 none_of None e = refl
 none_of (Some x) e = absurd (true≢false e)
 
-module _ (rows : LinesAreRows) (session : Session) (old new : MachineModel) (f : Flat) (shows : Shows session old f) where
+module _ (rows : CallsRefine) (session : Session) (old new : MachineModel) (f : Flat) (shows : Shows session old f) where
   ok : IsSession session
   ok = is_session session shows.declared
 
@@ -70,7 +70,7 @@ module _ (rows : LinesAreRows) (session : Session) (old new : MachineModel) (f :
 
     -- a call of the process is its row
     made_row : (k : KernelModel) → state k ≡ state old.kernel → (call : UnixCall) (result : Result Reply Stopped) → IsCall call
-        → Makes session (places_of (length session.users)) me caller k new.kernel call result → DoesItsRow session f me call k new.kernel caller.thread result
+        → Makes session (places_of (length session.users)) me caller k new.kernel call result → FollowsRule session f me call k new.kernel caller.thread result
     made_row k same call result can made =
         let there : IsReady session (state k) f me caller.thread = subst (λ (s : State). IsReady session s f me caller.thread) (sym same) ready in
         let at : caller_at (state k) (places_of (length session.users)).home me ≡ Some caller =
@@ -85,7 +85,7 @@ module _ (rows : LinesAreRows) (session : Session) (old new : MachineModel) (f :
 
     -- at the places that boot told the machine
     row_of_made : (line : ℕ) (call : UnixCall) (result : Result Reply Stopped) → IsCall call → HasMade old new line me caller call result
-        → DoesItsRow session f me call (on_line line old.kernel) new.kernel caller.thread result
+        → FollowsRule session f me call (on_line line old.kernel) new.kernel caller.thread result
     row_of_made line call result can h =
         made_row (on_line line old.kernel) refl call result can
         (made_of (on_line line old.kernel) call result (subst (λ (places : Places). Makes old.users places me caller (on_line line old.kernel) new.kernel call result) shows.places h.made))
@@ -184,6 +184,6 @@ module _ (rows : LinesAreRows) (session : Session) (old new : MachineModel) (f :
       by false k = runs_end line process call result can k
 
 -- a line follows the meaning
-pub line_follows : (rows : LinesAreRows) (old new : MachineModel) (line : ℕ) (process : ProcName) (call : UnixCall) (result : Result Reply Stopped) → IsCall call
+pub line_follows : (rows : CallsRefine) (old new : MachineModel) (line : ℕ) (process : ProcName) (call : UnixCall) (result : Result Reply Stopped) → IsCall call
     → AnswersLine old new line process call result → FollowsMeaning old new line process call result
 line_follows rows old new line process call result can h session f shows = line_ends rows session old new f shows line process call result can h

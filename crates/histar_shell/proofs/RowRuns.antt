@@ -7,7 +7,7 @@ use Rattle.histar_flat.specs.FlatCalls.{flat_after}
 use Rattle.histar_object.specs.State.{State}
 use Rattle.histar_syscall.specs.declared.trace.TraceEntry.{TraceEntry}
 use Rattle.histar_syscall.specs.Runs.{IsRun}
-use Rattle.histar_rows.specs.Rows.{AreRows}
+use Rattle.histar_sim.specs.Simulation.{SimulatesLines}
 
 -- a run after another is one run
 pub run_after : (first mid last : State) (front back : List TraceEntry) → IsRun first front mid → IsRun mid back last → IsRun first (front ++ back) last
@@ -15,7 +15,7 @@ run_after first mid last [] back before after = subst (λ (s : State). IsRun s b
 run_after first mid last (e ∷ front) back before after = (before.0, before.1, before.2, run_after before.0 mid last front back before.3 after)
 
 -- the lines of a script are a run
-pub rows_run : (session : Session) (s : State) (f : Flat) (asked : List CallLine) (entries : List TraceEntry) (end : State) → AreRows session s f asked entries end → IsRun s entries end
+pub rows_run : (session : Session) (s : State) (f : Flat) (asked : List CallLine) (entries : List TraceEntry) (end : State) → SimulatesLines session s f asked entries end → IsRun s entries end
 rows_run session s f [] entries end rows = subst (λ (es : List TraceEntry). IsRun s es end) (sym rows.0) rows.1
 rows_run session s f (line ∷ more) entries end rows =
     subst (λ (es : List TraceEntry). IsRun s es end) (sym rows.3)

@@ -26,7 +26,7 @@ use Rattle.histar_shell.specs.Machine.{MachineModel, IsStart}
 use Rattle.histar_shell.specs.AnsweredCalls.{AnswersCalls, BeginsAnswers}
 use Rattle.histar_syscall.specs.declared.trace.TraceEntry.{TraceEntry}
 use Rattle.histar_flat.specs.declared.calls.CallLine.{CallLine}
-use Rattle.histar_shell.proofs.CallRows.{LinesAreRows}
+use Rattle.histar_shell.proofs.CallRows.{CallsRefine}
 use Rattle.histar_shell.proofs.SessionMeanings.{meant_run}
 
 -- what a run answers
@@ -49,7 +49,7 @@ module _ (options : Options) where
   -- ---- a text that is run
 
   -- its answers are those of its meaning
-  pub runs_text : (rows : LinesAreRows) (text : List ℕ) (old new : Option (List ℕ)) (result : Answer) → AgreesWith (script_of text) result → WritesAnswers options old new (script_of text) result → RunsText options text old new result
+  pub runs_text : (rows : CallsRefine) (text : List ℕ) (old new : Option (List ℕ)) (result : Answer) → AgreesWith (script_of text) result → WritesAnswers options old new (script_of text) result → RunsText options text old new result
   runs_text rows text old new result agrees answers = record { faults = agrees; answers = answers; means = meant_run rows options old new text result answers }
 
   -- what reading the script answers is the fault in it, or out of memory
@@ -69,11 +69,11 @@ module _ (options : Options) where
   script_fault_writes WriteFailed w read given = absurd given
 
   -- a text in which reading finds a fault
-  pub faulty_text : (rows : LinesAreRows) (text : List ℕ) (w : Option (List ℕ)) (f : Fault) → Gives (Err f) (script_of text) → RunsText options text w w (Err f)
+  pub faulty_text : (rows : CallsRefine) (text : List ℕ) (w : Option (List ℕ)) (f : Fault) → Gives (Err f) (script_of text) → RunsText options text w w (Err f)
   faulty_text rows text w f given = runs_text rows text w w (Err f) (script_fault_agrees f (script_of text) given) (script_fault_writes f w (script_of text) given)
 
   -- a text for which no machine was booted
-  pub unbooted_text : (rows : LinesAreRows) (text : List ℕ) (w : Option (List ℕ)) → RunsText options text w w (Err OutOfMemory)
+  pub unbooted_text : (rows : CallsRefine) (text : List ℕ) (w : Option (List ℕ)) → RunsText options text w w (Err OutOfMemory)
   unbooted_text rows text w = runs_text rows text w w (Err OutOfMemory) tt (inl (Keeps-refl w))
 
   -- answering the calls fails by no fault of a script
@@ -128,12 +128,12 @@ module _ (options : Options) where
   }
 
   -- a text of which a beginning of the calls was answered
-  pub begun_text : (rows : LinesAreRows) (text : List ℕ) (old new : Option (List ℕ)) (f : Fault) (script : Reading) → script_of text ≡ Ok script → IsOutputFault f → BeginsScript options old new (script_of text) → RunsText options text old new (Err f)
+  pub begun_text : (rows : CallsRefine) (text : List ℕ) (old new : Option (List ℕ)) (f : Fault) (script : Reading) → script_of text ≡ Ok script → IsOutputFault f → BeginsScript options old new (script_of text) → RunsText options text old new (Err f)
   begun_text rows text old new f script given h begun =
       runs_text rows text old new (Err f) (answer_fault_agrees f (script_of text) h (ap is_ok given)) (answer_fault_writes f old new (script_of text) h begun)
 
   -- a text of which all calls were answered
-  pub answered_text : (rows : LinesAreRows) (text : List ℕ) (old new : Option (List ℕ)) (trace : List TraceEntry) (script : Reading) → script_of text ≡ Ok script → AnswersScript options old new (script_of text) trace → RunsText options text old new (Ok trace)
+  pub answered_text : (rows : CallsRefine) (text : List ℕ) (old new : Option (List ℕ)) (trace : List TraceEntry) (script : Reading) → script_of text ≡ Ok script → AnswersScript options old new (script_of text) trace → RunsText options text old new (Ok trace)
   answered_text rows text old new trace script given answers = runs_text rows text old new (Ok trace) (ap is_ok given) answers
 
   -- ---- an input that is taken

@@ -20,9 +20,9 @@ use Rattle.histar_syscall.specs.KernelModel.{KernelModel, state}
 use Rattle.histar_syscall.specs.Runs.{IsBy, IsRun}
 use Rattle.histar_login.specs.Boot.{boot_thread_number, boot_calls, IsBooted}
 use Rattle.histar_refinement.specs.LaysOut.{LaysOut}
-use Rattle.histar_shell.proofs.CallRows.{LinesAreRows}
-use Rattle.histar_rows.specs.Rows.{AreRows}
-use Rattle.histar_rows.proofs.Chains.{entries_of, chain_run, chain_own, granted_run}
+use Rattle.histar_shell.proofs.CallRows.{CallsRefine}
+use Rattle.histar_sim.specs.Simulation.{SimulatesLines}
+use Rattle.histar_sim.proofs.Chains.{entries_of, chain_run, chain_own, granted_run}
 use Rattle.histar_devices.specs.Writing.{AppendsFront}
 use Rattle.histar_shell.specs.Answers.{answer_text, answers_text, calls_of}
 use Rattle.histar_shell.specs.Machine.{MachineModel, IsStart, IsTraced}
@@ -43,7 +43,7 @@ pub record IsMeantSession (session : Session) (m : MachineModel) (f : Flat) (ans
   pub replies : answers ≡ answered_from session f (calls_of answers)
   pub entries : List TraceEntry
   pub trace : end.kernel.trace ≡ m.kernel.trace ++ entries
-  pub rows : AreRows session (state m.kernel) f (calls_of answers) entries (state end.kernel)
+  pub rows : SimulatesLines session (state m.kernel) f (calls_of answers) entries (state end.kernel)
   pub shows : Shows session end (flat_end session f (calls_of answers))
 
 module _ (declared : Session) where
@@ -69,7 +69,7 @@ module _ (declared : Session) where
   }
 
   -- a session of lines that a script can have
-  pub session_means : (rows : LinesAreRows) (m : MachineModel) (f : Flat) (answers : List Answered) (end : MachineModel) → AnswersInTurn m answers end → Shows declared m f → AreScriptable (calls_of answers) → IsMeantSession declared m f answers end
+  pub session_means : (rows : CallsRefine) (m : MachineModel) (f : Flat) (answers : List Answered) (end : MachineModel) → AnswersInTurn m answers end → Shows declared m f → AreScriptable (calls_of answers) → IsMeantSession declared m f answers end
   session_means rows m f [] end session shows can = session_none m f end session shows
   session_means rows m f (a ∷ answers) end session shows can =
       let line = line_follows rows m session.0 a.call.line a.call.process a.call.call (Ok a.reply) can.0 session.1 declared f shows in
@@ -103,7 +103,7 @@ boot_trace session m booted =
       own = subst (λ (line : ℕ). AllByRecursion (IsBy line boot_thread_number) entries) booted.line (chain_own boot_thread_number booted.first.line granted.0);
     }
 
-module _ (rows : LinesAreRows) (script : Reading) (declared : IsDeclared script.session) (can : AreScriptable script.calls) (start : MachineModel) (starts : IsStart script.session start) where
+module _ (rows : CallsRefine) (script : Reading) (declared : IsDeclared script.session) (can : AreScriptable script.calls) (start : MachineModel) (starts : IsStart script.session start) where
   -- the session from the start on
   from_start : (answers : List Answered) (end : MachineModel) → AreScriptable (calls_of answers) → AnswersInTurn start answers end → IsMeantSession script.session start (boot script.session) answers end
   from_start answers end these session = session_means script.session rows start (boot script.session) answers end session (start_shows script.session declared start starts) these
@@ -143,7 +143,7 @@ module _ (rows : LinesAreRows) (script : Reading) (declared : IsDeclared script.
       let session = from_start answered.answers end these answered.in_turn in
       let of_boot = boot_trace script.session start starts.booted in
       let parts = recorded ∙ session.trace ∙ ap (λ (es : List TraceEntry). es ++ session.entries) of_boot.trace in
-      let of_lines = subst (λ (calls : List CallLine). AreRows script.session (state start.kernel) (boot script.session) calls session.entries (state end.kernel)) answered.each session.rows in
+      let of_lines = subst (λ (calls : List CallLine). SimulatesLines script.session (state start.kernel) (boot script.session) calls session.entries (state end.kernel)) answered.each session.rows in
       record {
         of_boot = of_boot.entries;
         of_lines = session.entries;
@@ -217,11 +217,11 @@ module _ (rows : LinesAreRows) (script : Reading) (declared : IsDeclared script.
     begins_meaning old new read is_read (inr begun) = record { script = script; is_read = is_read; written = inr (ends_meaning old new begun) }
 
 -- the beginning of a script's answers is one of its meaning
-begun_script : (rows : LinesAreRows) (options : Options) (old new : Option (List ℕ)) (text : List ℕ) → BeginsScript options old new (script_of text) → BeginsMeaning options old new (script_of text)
+begun_script : (rows : CallsRefine) (options : Options) (old new : Option (List ℕ)) (text : List ℕ) → BeginsScript options old new (script_of text) → BeginsMeaning options old new (script_of text)
 begun_script rows options old new text h = let says = script_says text h.script h.is_read in begins_meaning rows h.script says.0 says.1 h.start h.starts options old new (script_of text) h.is_read h.begun
 
 -- at a fault
-meant_at_fault : (rows : LinesAreRows) (options : Options) (old new : Option (List ℕ)) (text : List ℕ) (fault : Fault) → WritesAtFault options old new (script_of text) fault → WritesMeaningAtFault options old new (script_of text) fault
+meant_at_fault : (rows : CallsRefine) (options : Options) (old new : Option (List ℕ)) (text : List ℕ) (fault : Fault) → WritesAtFault options old new (script_of text) fault → WritesMeaningAtFault options old new (script_of text) fault
 meant_at_fault rows options old new text (BadScript n) h = h
 meant_at_fault rows options old new text TooLong h = h
 meant_at_fault rows options old new text OutOfMemory (inl h) = inl h
@@ -230,14 +230,14 @@ meant_at_fault rows options old new text ReadFailed h = h
 meant_at_fault rows options old new text WriteFailed h = begun_script rows options old new text h
 
 -- what a run answers is as its script means
-pub meant_run : (rows : LinesAreRows) (options : Options) (old new : Option (List ℕ)) (text : List ℕ) (result : Result (List TraceEntry) Fault) → WritesAnswers options old new (script_of text) result → RunsAsMeant options old new (script_of text) result
+pub meant_run : (rows : CallsRefine) (options : Options) (old new : Option (List ℕ)) (text : List ℕ) (result : Result (List TraceEntry) Fault) → WritesAnswers options old new (script_of text) result → RunsAsMeant options old new (script_of text) result
 meant_run rows options old new text (Ok trace) h =
     let says = script_says text h.script h.is_read in
     writes_meaning rows h.script says.0 says.1 h.start h.starts options old h.replied new (script_of text) h.is_read trace h.end h.answered h.ending h.ends h.appended h.recorded
 meant_run rows options old new text (Err fault) h = meant_at_fault rows options old new text fault h
 
 -- a machine that answered all lines of a script has a tree
-pub tree_at_last : (rows : LinesAreRows) (text : List ℕ) (script : Reading) → script_of text ≡ Ok script → (start end : MachineModel) → IsStart script.session start → (calls : List CallLine) → calls ≡ script.calls → (old replied : Option (List ℕ)) → AnswersCalls start end old replied calls → HasTree end
+pub tree_at_last : (rows : CallsRefine) (text : List ℕ) (script : Reading) → script_of text ≡ Ok script → (start end : MachineModel) → IsStart script.session start → (calls : List CallLine) → calls ≡ script.calls → (old replied : Option (List ℕ)) → AnswersCalls start end old replied calls → HasTree end
 tree_at_last rows text script is_read start end starts calls listed old replied answered =
     let says = script_says text script is_read in
     shown_tree script.session end (last_state script) (shows_last rows script says.0 says.1 start starts old replied end (subst (λ (l : List CallLine). AnswersCalls start end old replied l) listed answered))

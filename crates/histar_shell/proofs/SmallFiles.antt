@@ -22,7 +22,7 @@ use Rattle.histar_flat.specs.Meaning.{boot, first_user}
 use Rattle.histar_flat.proofs.FileLemmas.{same_path_found, get_new, get_other, get-keep}
 use Rattle.histar_flat.proofs.Renaming.{get_renamed}
 use Rattle.histar_flat.proofs.Changes.{another_name, by_rule}
-use Rattle.histar_rows.specs.Rows.{AreFilesSmall}
+use Rattle.histar_sim.specs.Simulation.{AreFilesSmall}
 
 -- what is put at a path is a directory, or a file that is small enough
 abbrev IsSmall : Content → Type 0

@@ -9,7 +9,7 @@ use Rattle.histar_login.specs.Start.{start_state}
 use Rattle.histar_refinement.specs.LaysOut.{LaysOut}
 use Rattle.histar_refinement.proofs.Start.{start_lays_out}
 use Rattle.histar_refinement.proofs.StartTable.{length_start}
-use Rattle.histar_rows.proofs.FirstFree.{first_free_at_start}
+use Rattle.histar_sim.proofs.FirstFree.{first_free_at_start}
 use Rattle.histar_shell.specs.Machine.{MachineModel, IsStart}
 use Rattle.histar_shell.specs.Meaning.{Shows}
 use Rattle.histar_shell.proofs.SmallFiles.{small_at_start}

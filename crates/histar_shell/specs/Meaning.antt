@@ -23,7 +23,7 @@ use Rattle.histar_login.specs.Boot.{boot_thread_number}
 use Rattle.histar_login.specs.Start.{places_of}
 use Rattle.histar_refinement.specs.LaysOut.{LaysOut}
 use Rattle.histar_refinement.specs.Lines.{IsThreadOf}
-use Rattle.histar_rows.specs.Rows.{IsRow, AreRows, IsFirstFree, AreFilesSmall, IsBrokenOff}
+use Rattle.histar_sim.specs.Simulation.{SimulatesLine, SimulatesLines, IsFirstFree, AreFilesSmall, IsBrokenOff}
 use Rattle.histar_devices.specs.Writing.{AppendsFront}
 use Rattle.histar_tree.specs.TreeLines.{flat_lines}
 use Rattle.histar_tree.specs.Laws.{AreShallow}
@@ -63,7 +63,7 @@ pub record AnswersAsMeant (session : Session) (old new : MachineModel) (f : Flat
   pub is_reply : reply ≡ reply_to session f asked.process asked.call
   pub entries : List TraceEntry
   pub trace : new.kernel.trace ≡ old.kernel.trace ++ entries
-  pub row : IsRow session (state old.kernel) f asked entries (state new.kernel)
+  pub row : SimulatesLine session (state old.kernel) f asked entries (state new.kernel)
   pub shows : Shows session new (flat_after session f asked.process asked.call)
 
 -- The line ended without an answer: its raw calls are a run of the kernel by the thread of its process, broken off before the reply that
@@ -99,7 +99,7 @@ pub record IsMeantTrace (script : Reading) (trace : List TraceEntry) : Type 0 wh
   pub boot_own : AllByRecursion (IsBy 0 boot_thread_number) of_boot
   pub boot_lays_out : LaysOut script.session start (boot script.session)
   pub end : State
-  pub rows : AreRows script.session start (boot script.session) script.calls of_lines end
+  pub rows : SimulatesLines script.session start (boot script.session) script.calls of_lines end
   pub run : IsRun empty_state trace end
 
 -- The reading is of a script; the trace is that of its meaning; and the text of the meaning was written, and then where it is asked for

@@ -4,7 +4,7 @@ use Rattle.histar_process.specs.Caller.{caller_at}
 use Rattle.histar_shell.specs.Machine.{MachineModel, on_line, Makes, AnswersLine}
 use Rattle.histar_syscall.specs.KernelModel.{KernelModel, state}
 use Rattle.histar_shell.proofs.Lines.{had_made, gone_line}
-use Rattle.histar_shell.proofs.CallRows.{lines_are_rows}
+use Rattle.histar_shell.proofs.CallRows.{calls_refine}
 use Rattle.histar_shell.proofs.LineMeanings.{line_follows}
 use Rattle.histar_shell.proofs.TraceRuns.{traced_on}
 use Rattle.histar_shell.proofs.machine.Machine.step.Goals as goal
@@ -24,7 +24,7 @@ returns-in_default-clause-answers g c =
     (gone_line before c.args.line c.args.process.now c.args.call c.if-self.false lost)
 
 pub returns-in_default-clause-means : goal.returns-in_default-clause-means
-returns-in_default-clause-means g c = line_follows lines_are_rows c.args.self.now c.args.self.now c.args.line c.args.process.now c.args.call (Ok Gone)
+returns-in_default-clause-means g c = line_follows calls_refine c.args.self.now c.args.self.now c.args.line c.args.process.now c.args.call (Ok Gone)
     c.each_call_is_right.ensures (returns-in_default-clause-answers g c)
 
 -- who is found has the call made
@@ -39,4 +39,4 @@ returns-clause-answers g c =
     (record { made = makes; places = refl; users = refl; stops = c.is_err-self-inside.ensures.value }))
 
 pub returns-clause-means : goal.returns-clause-means
-returns-clause-means g c = line_follows lines_are_rows _ _ c.args.line c.args.process.now c.args.call _ c.each_call_is_right.ensures (returns-clause-answers g c)
+returns-clause-means g c = line_follows calls_refine _ _ c.args.line c.args.process.now c.args.call _ c.each_call_is_right.ensures (returns-clause-answers g c)

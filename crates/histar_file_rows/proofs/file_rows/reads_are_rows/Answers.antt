@@ -1,5 +1,0 @@
-use Rattle.histar_file_rows.proofs.Read as row
-use Rattle.histar_file_rows.proofs.file_rows.reads_are_rows.Goals as goal
-
-pub returns : goal.returns
-returns c = row.reads_are_rows

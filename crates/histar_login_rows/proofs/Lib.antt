@@ -1,2 +1,0 @@
-pub mod TakenLabels
-pub mod Login

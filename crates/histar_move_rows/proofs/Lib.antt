@@ -1,6 +1,0 @@
-pub mod Entries
-pub mod TakingAway
-pub mod UnlinkCall
-pub mod RmdirCall
-pub mod RmtreeCall
-pub mod RenameCall

@@ -1,6 +1,0 @@
-pub mod ReadsByCall
-pub mod Chains
-pub mod Endings
-pub mod Steps
-pub mod Walks
-pub mod FirstFree

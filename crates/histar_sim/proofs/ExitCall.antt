@@ -1,0 +1,188 @@
+-- An exit does what the flat rule of `exit` says.
+use Rattle.std.proofs.Common.{◌≡◌, ℕ, ◌≤◌, ◌&&◌, true, List, [], ◌∷◌, None, Some, Result, refl, sym, ap, ◌∙◌, subst}
+use Rattle.std.specs.Prelude.{option_map}
+use mathlib.Core.Bool.{true≢false}
+use Rattle.histar_flat.specs.declared.calls.UnixCall.{UnixCall}
+use Rattle.histar_flat.specs.declared.calls.UnixCall.TheVariants as calls
+use Rattle.histar_flat.specs.declared.replies.Reply.{Reply}
+use Rattle.histar_flat.specs.declared.replies.Reply.TheVariants.{Done}
+use Rattle.histar_flat.specs.Words.{ProcName, greatest_status}
+use Rattle.histar_flat.specs.Sessions.{Session}
+use Rattle.histar_flat.specs.Classes.{Process, sees}
+use Rattle.histar_flat.specs.FlatState.{Flat}
+use Rattle.histar_flat.specs.FlatCalls.{changed}
+use Rattle.histar_label.specs.Levels.{Levels, is_below, is_below_raised}
+use Rattle.histar_object.specs.declared.objects.Kind.TheVariants.{Segment, Container, Thread}
+use Rattle.histar_object.specs.Objects.{Numbers as Links, holding}
+use Rattle.histar_object.specs.State.{State, with_segment_bytes}
+use Rattle.histar_container.specs.ObjectsModel.{CutsOff}
+use Rattle.histar_container.proofs.TableMoves.{changed_here, changed_other}
+use Rattle.histar_rules.specs.declared.raw.RawCall.{RawCall}
+use Rattle.histar_rules.specs.declared.raw.RawCall.TheVariants as raw
+use Rattle.histar_rules.specs.Rules.{check}
+use Rattle.histar_syscall.specs.KernelModel.{KernelModel, state}
+use Rattle.histar_syscall.proofs.Runs.{same_kernel}
+use Rattle.histar_layout.specs.Status.{ProcessStatus, once_exited, status_bytes}
+use Rattle.histar_calls.specs.declared.ending.Stopped.{Stopped}
+use Rattle.histar_calls.specs.declared.places.Home.{Home}
+use Rattle.histar_calls.specs.Programs.{Program, Runs}
+use Rattle.histar_calls.specs.Programs.Program.{Answers}
+use Rattle.histar_calls.specs.Parts.{ask}
+use Rattle.histar_process.specs.ExitCall.{exit_program}
+use Rattle.histar_refinement.specs.Sessions.{IsSession}
+use Rattle.histar_refinement.specs.Addresses.{home_address}
+use Rattle.histar_refinement.specs.Addresses.Step.{Status, Inside, Runner}
+use Rattle.histar_refinement.specs.Guards.{guard_label, rights_label, rights_clearance}
+use Rattle.histar_refinement.specs.Labels.{process_guard, thread_rights}
+use Rattle.histar_refinement.specs.LaysOut.{Laid, LaysOut}
+use Rattle.histar_refinement.specs.Processes.{or_zero, process_bytes}
+use Rattle.histar_refinement.proofs.CallerFound.{where_is, caller_found}
+use Rattle.histar_refinement.proofs.Exiting.{written, written_is, lays_out_exited}
+use Rattle.histar_refinement.proofs.MakingRanges.{all_known}
+use Rattle.histar_refinement.proofs.RawChecks.{object}
+use Rattle.histar_layout.proofs.Declared.{equal_tested}
+use Rattle.histar_refinement.proofs.StatusFound.{numbered_runner, zero_there}
+use Rattle.histar_sim.specs.Simulation.{IsReady}
+use Rattle.histar_sim.proofs.Chains.{all_granted, Chain}
+use Rattle.histar_sim.proofs.Steps.{Goal, granted_step, answered_step}
+use Rattle.histar_sim.specs.Laws.{ExitRefines}
+use Rattle.histar_sim.proofs.FoundProcesses.{at_container, at_segment, container_found, segment_found, step_below, observed, modified, thread}
+use Rattle.histar_sim.proofs.OwnSegment.{status_few, listed_few, segment_apart, thread_no_segment, write_granted, unlink_granted}
+use Rattle.histar_sim.proofs.Searches.{runs_as, status_of, read_of, status_step}
+
+module _ (session : Session) (ok : IsSession session) (number : ℕ) (small : number ≤ greatest_status) (old new : KernelModel) (f : Flat) (me : ProcName) (t : ℕ) (ready : IsReady session (state old) f me t) (result : Result Reply Stopped) where
+  abbrev call : UnixCall
+  call = calls.Exit number
+
+  abbrev p : Process
+  p = ready.caller.process
+
+  abbrev l : Laid session (state old) f
+  l = ready.lays_out.laid
+
+  abbrev here : f.processes me ≡ Some ready.caller.process
+  here = ready.caller.stands
+
+  abbrev Row : Type 0
+  Row = Goal session f me ready.caller call old new t ready.thread result
+
+  -- its container, its process segment and its internal container
+  abbrev C : ℕ
+  C = (where_is session (state old) f ready.lays_out.laid me).container
+
+  abbrev S : ℕ
+  S = (where_is session (state old) f ready.lays_out.laid me).segment
+
+  abbrev o : ℕ
+  o = or_zero (ready.lays_out.laid.naming.number (Inside ∷ home_address me))
+
+  at_inside : l.naming.number (Inside ∷ home_address me) ≡ Some o
+  at_inside = zero_there _ o (l.stands.tree.held Runner (Inside ∷ home_address me) (numbered_runner session (state old) f l me p here ready.caller.runs)) refl
+
+  -- the labels of the thread and of both
+  abbrev own : Levels
+  own = rights_label ready.lays_out.laid.category (thread_rights session me ready.caller.process)
+
+  abbrev most : Levels
+  most = rights_clearance ready.lays_out.laid.category (thread_rights session me ready.caller.process)
+
+  abbrev due : Levels
+  due = guard_label ready.lays_out.laid.category (process_guard me ready.caller.process)
+
+  abbrev links : Links
+  links = (container_found session (state old) f ready.lays_out.laid me ready.caller.process ready.caller.stands).0
+
+  abbrev held : List ℕ
+  held = process_bytes f.processes ready.lays_out.laid.naming.number me ready.caller.process
+
+  thread_is : (state old).objects t ≡ object own (Thread most)
+  thread_is = thread session (state old) f l me p here me p t (runs_as session (state old) f me t ready)
+
+  holder_is : (state old).objects C ≡ object due (Container links)
+  holder_is = (container_found session (state old) f l me p here).1
+
+  segment_is : (state old).objects S ≡ object due (Segment held)
+  segment_is = segment_found session (state old) f l me p here
+
+  sees_itself : sees p p ≡ true
+  sees_itself = all_known p
+
+  seen : is_below_raised due own ≡ true
+  seen = observed session (state old) f l me p here me p ∙ sees_itself
+
+  may : (is_below own due && is_below_raised due own) ≡ true
+  may = modified session (state old) f l me p here me p here sees_itself ∙ equal_tested me me refl
+
+  -- what is written, and the raw calls
+  abbrev told : ProcessStatus
+  told = status_of session (state old) f me t ready me ready.caller.process
+
+  abbrev bytes : List ℕ
+  bytes = status_bytes (once_exited number told)
+
+  abbrev read : RawCall
+  read = read_of session (state old) f me t ready me
+
+  abbrev writing : RawCall
+  writing = raw.Write C S 0 bytes
+
+  abbrev unlinking : RawCall
+  unlinking = raw.Unlink C o
+
+  abbrev ending : Program
+  ending = ask unlinking (λ _. Answers Done)
+
+  write_said : check (state old) t writing ≡ None
+  write_said =
+      write_granted (state old) t C S own most due links held thread_is holder_is segment_is seen may (step_below session (state old) f l me p here Status S (at_segment session (state old) f l me p here)) bytes
+      (status_few (once_exited number told) (listed_few f.processes l.naming.number me p.born (l.processes me p here).few))
+
+  -- the state once it is written
+  abbrev exited : State
+  exited = with_segment_bytes (state old) S bytes
+
+  unlink_said : check exited t unlinking ≡ None
+  unlink_said =
+      unlink_granted exited t C S own most due links bytes
+      (changed_other (state old).objects S (holding bytes) t (thread_no_segment (state old) t C S own most due links held thread_is holder_is segment_is) ∙ thread_is)
+      (changed_other (state old).objects S (holding bytes) C (λ e. segment_apart (state old) t C S own most due links held thread_is holder_is segment_is (sym e)) ∙ holder_is)
+      (changed_here (state old).objects S (holding bytes) ∙ ap (option_map (holding bytes)) segment_is)
+      seen may o (step_below session (state old) f l me p here Inside o at_inside)
+
+  -- what is written is what the flat state asks for then
+  written_so : written session (state old) f l me p here number small C S o (at_container session (state old) f l me p here) (at_segment session (state old) f l me p here) at_inside ≡ bytes
+  written_so = written_is session (state old) f l me p here number small C S o (at_container session (state old) f l me p here) (at_segment session (state old) f l me p here) at_inside
+
+  laid_after : (end : State) → CutsOff exited C o end → LaysOut session end (changed session f me p call)
+  laid_after end cuts =
+      lays_out_exited session (state old) f l me p here number small C S o (at_container session (state old) f l me p here) (at_segment session (state old) f l me p here) at_inside end
+      (subst (λ (b : List ℕ). CutsOff (with_segment_bytes (state old) S b) C o end) (sym written_so) cuts) ready.lays_out.jobs_given
+
+  module _ (mid : KernelModel) (stays : state mid ≡ state old) (chain : Chain old t (all_granted (read ∷ [])) mid) where
+    -- the internal container is taken away, and the call is answered
+    unlinked : (later : KernelModel) → state later ≡ exited → Chain old t (all_granted (read ∷ writing ∷ [])) later → Runs ending later new t result → Row
+    unlinked later is so_far on =
+        granted_step session f me ready.caller call old new t ready.thread result (read ∷ writing ∷ []) later so_far unlinking (λ _. Answers Done) (ap (λ (s : State). check s t unlinking) is ∙ unlink_said) on
+        (λ end done cut right whole last.
+        answered_step session f me ready.caller call old new t ready.thread result (read ∷ writing ∷ unlinking ∷ []) end whole Done refl refl tt tt
+        (laid_after (state end) (subst (λ (s : State). CutsOff s C o (state end)) is cut.state)) last)
+
+    -- the segment is written
+    wrote : Runs (ask writing (λ _. ending)) mid new t result → Row
+    wrote on =
+        granted_step session f me ready.caller call old new t ready.thread result (read ∷ []) mid chain writing (λ _. ending) (ap (λ (s : State). check s t writing) stays ∙ write_said) on
+        (λ later done called right so_far rest. unlinked later (called.state ∙ ap (λ (s : State). with_segment_bytes s S bytes) stays) so_far rest)
+
+  exit_is_row : Runs (exit_program (where_is session (state old) f l me) number) old new t result → Row
+  unfolding exit_program
+  exit_is_row run =
+      status_step session ok old new f me t ready call result me p here [] old refl (same_kernel old) (λ status. ask (raw.Write C S 0 (status_bytes (once_exited number status))) (λ _. ask (raw.Unlink C status.internal) (λ _. Answers Done))) run
+      (λ unseen. absurd (true≢false (sym sees_itself ∙ unseen)))
+      (λ seen mid stays chain on. wrote mid stays chain on)
+
+-- an exit does what its flat rule says
+pub exit_refines : ExitRefines
+exit_refines session ok number small me caller old new f result ready found run =
+    let is = (caller_found session (state old) f ready.lays_out.laid me caller found).1 in
+    let home_is : where_is session (state old) f ready.lays_out.laid me ≡ caller.home = λ i. record { container = or_zero (is.home i); segment = or_zero (is.segment i) } in
+    exit_is_row session ok number small old new f me caller.thread ready result (subst (λ (home : Home). Runs (exit_program home number) old new caller.thread result) (sym home_is) run)

@@ -1,0 +1,247 @@
+-- The way to a process, at a state that lays out a flat state: it is refused as the flat rules refuse it, or the process segment of each
+-- process on the way is read, and the last one is handed on.
+use Rattle.std.proofs.Common.{◌≡◌, ℕ, ◌&&◌, Bool, true, false, List, [], ◌∷◌, ◌++◌, Option, None, Some, Result, refl, sym, ap, ◌∙◌, subst, length, if◌then◌else◌}
+use Rattle.std.proofs.lemmas.List.{map-append, append-nil}
+use mathlib.Core.Bool.{true≢false}
+use Rattle.std.specs.Prelude.{not, map, is_some, option_map}
+use Rattle.std.specs.List.{AllByRecursion, list_all}
+use Rattle.histar_base.specs.Refusals.{◌orelse◌, unless}
+use Rattle.histar_flat.specs.declared.calls.UnixCall.{UnixCall}
+use Rattle.histar_flat.specs.declared.replies.Errno.{Errno}
+use Rattle.histar_flat.specs.declared.replies.Errno.TheVariants.{EACCES, ESRCH}
+use Rattle.histar_flat.specs.declared.replies.Reply.{Reply}
+use Rattle.histar_flat.specs.declared.replies.Reply.TheVariants.{Refused}
+use Rattle.histar_flat.specs.Words.{ProcName}
+use Rattle.histar_flat.specs.Sessions.{Session}
+use Rattle.histar_flat.specs.Classes.{Process, knows, sees}
+use Rattle.histar_flat.specs.FlatState.{Flat, is_some_and}
+use Rattle.histar_flat.specs.FlatCalls.{not_found, refused}
+use Rattle.histar_object.specs.Objects.{bytes_in}
+use Rattle.histar_object.specs.State.{State}
+use Rattle.histar_rules.specs.declared.raw.Denied.TheVariants.{Observe}
+use Rattle.histar_rules.specs.declared.raw.RawCall.{RawCall}
+use Rattle.histar_rules.specs.declared.raw.RawCall.TheVariants as raw
+use Rattle.histar_rules.specs.Rules.{check}
+use Rattle.histar_syscall.specs.KernelModel.{KernelModel, state}
+use Rattle.histar_syscall.specs.declared.trace.TraceEntry.{TraceEntry}
+use Rattle.histar_syscall.proofs.Runs.{same_kernel}
+use Rattle.histar_layout.specs.declared.status.Child.{Child as Listed}
+use Rattle.histar_layout.specs.Status.{ProcessStatus, child_at, status_in}
+use Rattle.histar_calls.specs.declared.ending.Stopped.{Stopped}
+use Rattle.histar_calls.specs.declared.places.Home.{Home}
+use Rattle.histar_calls.specs.Programs.{Program, Runs}
+use Rattle.histar_calls.specs.Parts.{given, if_there}
+use Rattle.histar_process.specs.Parts.{find_home, home_of, must_be_there, read_status}
+use Rattle.histar_login.specs.Start.{places_of}
+use Rattle.histar_refinement.specs.Sessions.{IsSession}
+use Rattle.histar_refinement.specs.LaysOut.{Laid}
+use Rattle.histar_refinement.specs.Laws.{RunsAs}
+use Rattle.histar_refinement.specs.Processes.{status_by}
+use Rattle.histar_refinement.proofs.CallerFound.{where_is, status_is, child_is}
+use Rattle.histar_refinement.proofs.Standing.{some_of}
+use Rattle.histar_refinement.proofs.StatusFound.{thread_back}
+use Rattle.histar_sim.specs.Simulation.{IsReady}
+use Rattle.histar_sim.specs.Reads.{AreAmong, looked_at}
+use Rattle.histar_sim.proofs.ReadsByCall.{AreStatusReads, HasSearch}
+use Rattle.histar_sim.proofs.Chains.{Step, all_granted, entries_of, Chain}
+use Rattle.histar_sim.proofs.Endings.{ReadsAmong}
+use Rattle.histar_sim.proofs.Steps.{Goal, granted_step, refused_step, refused_at_once}
+use Rattle.histar_sim.proofs.Walks.{among_granted_all, among_refused, all_joined}
+use Rattle.histar_sim.proofs.FoundProcesses.{first_place, led_to, read_said}
+
+-- a process in no job is seen by every process
+seen_if_free : (p other : Process) → other.chain ≡ [] → sees p other ≡ true
+seen_if_free p other free = ap (list_all (knows p)) free
+
+module _ (session : Session) (s : State) (f : Flat) (me : ProcName) (t : ℕ) (ready : IsReady session s f me t) where
+  abbrev p : Process
+  p = ready.caller.process
+
+  abbrev l : Laid session s f
+  l = ready.lays_out.laid
+
+  -- the thread is that of the process
+  pub runs_as : RunsAs session s f ready.lays_out.laid me ready.caller.process t
+  runs_as = (ready.caller.stands, ready.caller.runs, (thread_back session s f ready.lays_out.laid me t ready.thread).3)
+
+  -- where a process is found
+  abbrev pub place_of : ProcName → Home
+  place_of name = where_is session s f ready.lays_out.laid name
+
+  -- what its process segment tells
+  abbrev pub status_of : ProcName → Process → ProcessStatus
+  status_of name other = status_by f.processes ready.lays_out.laid.naming.number name other
+
+  -- the raw call that reads its process segment
+  abbrev pub read_of : ProcName → RawCall
+  read_of name = raw.Read (place_of name).container (place_of name).segment
+
+  -- the raw calls of the way to it
+  abbrev pub search_reads : ProcName → List RawCall
+  search_reads name = map read_of (looked_at session f p name)
+
+  -- process 0 is there, and seen
+  pub first_there : (first : Process) × (f.processes [] ≡ Some first) × (sees p first ≡ true)
+  first_there =
+      let there = some_of (f.processes []) l.first in
+      (there.0, there.1, seen_if_free p there.0 (ready.first there.0 there.1))
+
+  -- the processes that are looked at are there
+  looked_there : (name : ProcName) → AllByRecursion (λ (q : ProcName). is_some (f.processes q) ≡ true) (looked_at session f p name)
+  looked_there [] = (l.first, tt)
+  looked_there (n ∷ above) =
+      all_joined (λ (q : ProcName). is_some (f.processes q) ≡ true) (looked_at session f p above) _ (looked_there above)
+      (by (not (is_some (not_found f p above))) (is_some (f.processes (n ∷ above))) refl)
+    where
+      by : (a b : Bool) → is_some (f.processes (n ∷ above)) ≡ b → AllByRecursion (λ (q : ProcName). is_some (f.processes q) ≡ true) (if a && b then (n ∷ above) ∷ [] else [])
+      by true true e = (e, tt)
+      by true false e = tt
+      by false b e = tt
+
+  are_reads : (names : List ProcName) → AllByRecursion (λ (q : ProcName). is_some (f.processes q) ≡ true) names → AreStatusReads session s names (map read_of names)
+  are_reads [] all = refl
+  are_reads (name ∷ more) all =
+      let there = some_of (f.processes name) all.0 in
+      ((place_of name).container, (place_of name).segment, map read_of more, led_to session s f l name there.0 there.1, refl, are_reads more all.1)
+
+  -- the raw calls of the way to a process are the reads that a call on it cannot do without
+  pub has_search : (name : ProcName) (entries : List TraceEntry) → AreAmong (search_reads name) entries → HasSearch session s f p name entries
+  has_search name entries among = (search_reads name, are_reads (looked_at session f p name) (looked_there name), among)
+
+  -- on the way to a child it is looked at where it is there, behind those on the way to its parent
+  search_longer : (n : ℕ) (above : ProcName) → not_found f p above ≡ None → (b : Bool) → is_some (f.processes (n ∷ above)) ≡ b
+      → search_reads (n ∷ above) ≡ search_reads above ++ (if b then read_of (n ∷ above) ∷ [] else [])
+  search_longer n above found b is =
+      map-append read_of (looked_at session f p above) (if not (is_some (not_found f p above)) && is_some (f.processes (n ∷ above)) then (n ∷ above) ∷ [] else [])
+      ∙ (λ i. search_reads above ++ map read_of (if not (is_some (found i)) && is i then (n ∷ above) ∷ [] else [])) ∙ by b
+    where
+      by : (b : Bool) → search_reads above ++ map read_of (if b then (n ∷ above) ∷ [] else []) ≡ search_reads above ++ (if b then read_of (n ∷ above) ∷ [] else [])
+      by true = refl
+      by false = refl
+
+  -- where the parent is not found no process more is looked at
+  search_stopped : (n : ℕ) (above : ProcName) (errno : Errno) → not_found f p above ≡ Some errno → search_reads (n ∷ above) ≡ search_reads above
+  search_stopped n above errno is =
+      map-append read_of (looked_at session f p above) (if not (is_some (not_found f p above)) && is_some (f.processes (n ∷ above)) then (n ∷ above) ∷ [] else [])
+      ∙ (λ i. search_reads above ++ map read_of (if not (is_some (is i)) && is_some (f.processes (n ∷ above)) then (n ∷ above) ∷ [] else [])) ∙ append-nil (search_reads above)
+
+  -- what the bytes of a process segment tell
+  pub told : (name : ProcName) (other : Process) → f.processes name ≡ Some other → status_in (bytes_in (s.objects (place_of name).segment)) ≡ Some (status_of name other)
+  told name other here = status_is session s f l name other here
+
+  -- and what they tell of a child
+  pub child_told : (n : ℕ) (name : ProcName) (other : Process) → f.processes name ≡ Some other
+      → child_at (status_of name other).children n ≡ option_map (λ (q : Process). record { number = n; container = (place_of (n ∷ name)).container; segment = (place_of (n ∷ name)).segment }) (f.processes (n ∷ name))
+  child_told n name other here = child_is session s f l n name other here
+
+module _ (session : Session) (ok : IsSession session) (old new : KernelModel) (f : Flat) (me : ProcName) (t : ℕ) (ready : IsReady session (state old) f me t) (call : UnixCall) (result : Result Reply Stopped) where
+  abbrev Row : Type 0
+  Row = Goal session f me ready.caller call old new t ready.thread result
+
+  abbrev process : Process
+  process = ready.caller.process
+
+  abbrev calls_to : ProcName → List RawCall
+  calls_to name = search_reads session (state old) f me t ready name
+
+  abbrev place : ProcName → Home
+  place name = where_is session (state old) f ready.lays_out.laid name
+
+  abbrev status : ProcName → Process → ProcessStatus
+  status name other = status_of session (state old) f me t ready name other
+
+  abbrev read : ProcName → RawCall
+  read name = read_of session (state old) f me t ready name
+
+  -- the call is refused so, and these raw calls are the reads that it cannot do without
+  abbrev pub IsRefusedBy : Errno → List Step → Type 0
+  IsRefusedBy errno steps = (refused session f me process call ≡ Some errno) × ReadsAmong session f me ready.caller call old new t ready.thread steps (Refused errno)
+
+  -- where the process cannot be learnt of, the call is refused, once the reads of the way are made
+  abbrev pub Refuses : ProcName → Type 0
+  Refuses name = (errno : Errno) → not_found f process name ≡ Some errno → (steps : List Step) → AreAmong (calls_to name) (entries_of old.line t steps) → IsRefusedBy errno steps
+
+  -- where it can, the call goes on with where it is found and what its process segment tells
+  abbrev pub GoesOn : ProcName → (Home → ProcessStatus → Program) → Type 0
+  GoesOn name rest =
+      not_found f process name ≡ None → (other : Process) → f.processes name ≡ Some other → sees process other ≡ true
+      → (mid : KernelModel) → state mid ≡ state old → Chain old t (all_granted (calls_to name)) mid → Runs (rest (place name) (status name other)) mid new t result → Row
+
+  -- a process segment is read after these raw calls
+  pub status_step : (name : ProcName) (other : Process) → f.processes name ≡ Some other → (before : List RawCall) (mid : KernelModel) → state mid ≡ state old → Chain old t (all_granted before) mid
+      → (rest : ProcessStatus → Program) → Runs (read_status (place name) rest) mid new t result
+      → (sees process other ≡ false → IsRefusedBy EACCES (all_granted before ++ (read name, Some Observe) ∷ []))
+      → (sees process other ≡ true → (later : KernelModel) → state later ≡ state old → Chain old t (all_granted (before ++ read name ∷ [])) later → Runs (rest (status name other)) later new t result → Row) → Row
+  unfolding read_status
+  status_step name other here before mid stays chain rest run refuses go_on = by (sees process other) refl
+    where
+      said : (b : Bool) → sees process other ≡ b → check (state mid) t (read name) ≡ unless b Observe
+      said b is =
+          ap (λ (s : State). check s t (read name)) stays
+          ∙ read_said session (state old) f ready.lays_out.laid name other here me process t (runs_as session (state old) f me t ready) ∙ ap (λ (b : Bool). unless b Observe) is
+
+      by : (b : Bool) → sees process other ≡ b → Row
+      by false is =
+          let end = refuses is in
+          refused_step session f me ready.caller call old new t ready.thread result before mid chain stays ready.lays_out EACCES end.0 (read name) _ Observe (said false is) refl end.1 run
+      by true is =
+          granted_step session f me ready.caller call old new t ready.thread result before mid chain (read name) _ (said true is) run
+          (λ later bytes called right longer on.
+          let tells : status_in bytes ≡ Some (status name other) =
+          ap status_in (right ∙ ap (λ (s : State). bytes_in (s.objects (place name).segment)) stays) ∙ told session (state old) f me t ready name other here in
+          go_on is later (called.state ∙ stays) longer (subst (λ (o : Option ProcessStatus). Runs (if_there rest o) later new t result) tells on))
+
+  -- from a process that was found on to a child of it
+  module _ (n : ℕ) (above : ProcName) (rest : Home → ProcessStatus → Program) (refuses : Refuses (n ∷ above)) (go_on : GoesOn (n ∷ above) rest) (found : not_found f process above ≡ None)
+      (parent : Process) (here : f.processes above ≡ Some parent) (mid : KernelModel) (stays : state mid ≡ state old) (chain : Chain old t (all_granted (calls_to above)) mid) where
+    -- the tests of the next number
+    abbrev tests : Option Process → Option Errno
+    tests o = unless (is_some o) ESRCH orelse unless (is_some_and o (sees process)) EACCES
+
+    tests_are : (o : Option Process) → f.processes (n ∷ above) ≡ o → not_found f process (n ∷ above) ≡ tests o
+    tests_are o is = λ i. found i orelse tests (is i)
+
+    -- once the number was looked up
+    abbrev at_child : Option Listed → Program
+    at_child child = given (must_be_there child) (λ child. read_status (home_of child) (rest (home_of child)))
+
+    enters : (child : Process) → f.processes (n ∷ above) ≡ Some child → Runs (read_status (place (n ∷ above)) (rest (place (n ∷ above)))) mid new t result → Row
+    enters child is on =
+        let longer = search_longer session (state old) f me t ready n above found true (ap is_some is) in
+        status_step (n ∷ above) child is (calls_to above) mid stays chain (rest (place (n ∷ above))) on
+        (λ unseen. refuses EACCES (tests_are (Some child) is ∙ ap (λ (b : Bool). unless b EACCES) unseen) (all_granted (calls_to above) ++ (read (n ∷ above), Some Observe) ∷ [])
+        (subst (λ (calls : List RawCall). AreAmong calls (entries_of old.line t (all_granted (calls_to above) ++ (read (n ∷ above), Some Observe) ∷ []))) (sym longer) (among_refused old.line t (calls_to above) (read (n ∷ above)) Observe)))
+        (λ seen later same further end. go_on (tests_are (Some child) is ∙ ap (λ (b : Bool). unless b EACCES) seen) child is seen later same
+        (subst (λ (calls : List RawCall). Chain old t (all_granted calls) later) (sym longer) further) end)
+
+    by_child : (o : Option Process) → f.processes (n ∷ above) ≡ o
+        → Runs (at_child (option_map (λ (q : Process). record { number = n; container = (place (n ∷ above)).container; segment = (place (n ∷ above)).segment }) o)) mid new t result → Row
+    by_child None is on =
+        let same = search_longer session (state old) f me t ready n above found false (ap is_some is) ∙ append-nil (calls_to above) in
+        let end = refuses ESRCH (tests_are None is) (all_granted (calls_to above))
+        (subst (λ (calls : List RawCall). AreAmong calls (entries_of old.line t (all_granted (calls_to above)))) (sym same) (among_granted_all old.line t (calls_to above))) in
+        refused_at_once session f me ready.caller call old new t ready.thread result (calls_to above) mid chain stays ready.lays_out ESRCH end.0 refl refl end.1 on
+    by_child (Some child) is on = enters child is on
+
+    -- the number is looked up in what the parent's process segment tells, and the child's is read
+    pub child_step : Runs (at_child (child_at (status above parent).children n)) mid new t result → Row
+    child_step run = by_child (f.processes (n ∷ above)) refl (subst (λ (o : Option Listed). Runs (at_child o) mid new t result) (child_told session (state old) f me t ready n above parent here) run)
+
+  -- where the parent cannot be learnt of, no more can the child
+  pub parent_refuses : (n : ℕ) (above : ProcName) → Refuses (n ∷ above) → Refuses above
+  parent_refuses n above refuses errno is steps among =
+      refuses errno (ap (λ (o : Option Errno). o orelse unless (is_some (f.processes (n ∷ above))) ESRCH orelse unless (is_some_and (f.processes (n ∷ above)) (sees process)) EACCES) is) steps
+      (subst (λ (calls : List RawCall). AreAmong calls (entries_of old.line t steps)) (sym (search_stopped session (state old) f me t ready n above errno is)) among)
+
+  -- The way to a process: it is refused as the flat rules refuse the call, or the call goes on with the process.
+  pub search_step : (name : ProcName) (rest : Home → ProcessStatus → Program) → Runs (find_home (places_of (length session.users)).home name (λ home. read_status home (rest home))) old new t result → Refuses name → GoesOn name rest → Row
+  unfolding find_home
+  search_step [] rest run refuses go_on =
+      let first = first_there session (state old) f me t ready in
+      status_step [] first.0 first.1 [] old refl (same_kernel old) (rest (place []))
+      (subst (λ (home : Home). Runs (read_status home (rest home)) old new t result) (first_place session (state old) f ready.lays_out.laid) run)
+      (λ unseen. absurd (true≢false (sym first.2 ∙ unseen)))
+      (λ seen later stays chain on. go_on refl first.0 first.1 seen later stays chain on)
+  search_step (n ∷ above) rest run refuses go_on =
+      search_step above (λ home status. given (must_be_there (child_at status.children n)) (λ child. read_status (home_of child) (rest (home_of child)))) run (parent_refuses n above refuses)
+      (λ found parent here seen mid stays chain on. child_step n above rest refuses go_on found parent here mid stays chain on)

@@ -1,0 +1,5 @@
+use Rattle.histar_sim.proofs.Login.{login_refines}
+use Rattle.histar_sim.proofs.calls.login_refines.Goals as goal
+
+pub returns : goal.returns
+returns c = login_refines

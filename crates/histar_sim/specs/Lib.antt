@@ -1,0 +1,4 @@
+pub mod Reads
+pub mod Simulation
+pub mod Refines
+pub mod Laws

@@ -1,0 +1,137 @@
+-- What one line of a script does to the kernel, and what all lines do.
+use Rattle.std.specs.Prelude.{◌≡◌, ℕ, ◌+◌, ◌≤◌, Bool, true, false, ◌&&◌, not, nat_lt, ◌⊎◌, IsTrue, List, [], ◌∷◌, ◌++◌, length, Option, None, Some, is_some, option_map, Result, Ok, Err, if◌then◌else◌}
+use Rattle.std.specs.List.{AllByRecursion}
+use Rattle.histar_flat.specs.declared.calls.CallLine.{CallLine}
+use Rattle.histar_flat.specs.declared.calls.UnixCall.{UnixCall}
+use Rattle.histar_flat.specs.declared.replies.Reply.{Reply}
+use Rattle.histar_flat.specs.declared.replies.Reply.TheVariants.{Data, Refused, Gone}
+use Rattle.histar_flat.specs.Words.{Path, ProcName}
+use Rattle.histar_flat.specs.Sessions.{Session}
+use Rattle.histar_flat.specs.Files.{get}
+use Rattle.histar_flat.specs.Classes.{Class, Process}
+use Rattle.histar_flat.specs.FlatState.{Flat}
+use Rattle.histar_flat.specs.FlatState.Content.{File}
+use Rattle.histar_flat.specs.FlatCalls.{most_bytes, running, reply_to, flat_after}
+use Rattle.histar_object.specs.State.{State}
+use Rattle.histar_rules.specs.declared.raw.Denied.{Denied}
+use Rattle.histar_rules.specs.declared.raw.Denied.TheVariants.{TooBig}
+use Rattle.histar_rules.specs.Rules.{check, Leaves, greatest, has_number}
+use Rattle.histar_syscall.specs.declared.trace.TraceEntry.{TraceEntry}
+use Rattle.histar_syscall.specs.declared.answers.Answer.TheVariants as answers
+use Rattle.histar_syscall.specs.Answers.{raw_answer}
+use Rattle.histar_syscall.specs.KernelModel.{KernelModel, state}
+use Rattle.histar_syscall.specs.Runs.{IsBy, IsRun, some_label_refusal, some_range_refusal}
+use Rattle.histar_calls.specs.declared.ending.Stopped.{Stopped}
+use Rattle.histar_calls.specs.Refusals.{write_errno_of}
+use Rattle.histar_calls.specs.Replies.{is_no_access, is_no_permission, IsRefusedOnce, IsRestoring}
+use Rattle.histar_refinement.specs.LaysOut.{LaysOut}
+use Rattle.histar_refinement.specs.Lines.{IsThreadOf}
+use Rattle.histar_sim.specs.Reads.{HasReads}
+
+-- The process that makes a call runs.
+pub record IsRunning (f : Flat) (me : ProcName) : Type 0 where
+  pub process : Process
+  pub stands : f.processes me ≡ Some process
+  pub runs : process.exited ≡ None
+
+-- from this state on, the last of the entries is a read that the kernel answers with these bytes
+pub record EndsWithRead (s : State) (entries : List TraceEntry) (bytes : List ℕ) : Type 0 where
+  pub front : List TraceEntry
+  pub last : TraceEntry
+  pub parts : entries ≡ front ++ last ∷ []
+  pub before : State
+  pub run : IsRun s front before
+  pub granted : last.denied ≡ None
+  pub answers : raw_answer before last.thread last.call ≡ Some (answers.Bytes bytes)
+
+-- the reply is that of a denial: EACCES of one by label, EPERM of one by range, EFBIG of bytes that are too many; no other has one
+abbrev pub IsReplyOfDenial : Reply → Option Denied → Type 0
+IsReplyOfDenial reply None = Unit {0}
+IsReplyOfDenial reply (Some denied) = option_map Refused (write_errno_of denied) ≡ Some reply
+
+-- The entries of a line that was answered so, between the state before the line and the one after it. They are a run of the
+-- kernel; each is of the line and of the thread that the process segment of the line's process names before it. Some is refused by
+-- comparing labels exactly where the reply is EACCES, and by range exactly where it is EPERM; at most one is refused, the reply is
+-- that of the denial, and after it the thread is only given labels. What was read is what the last of them reads. A line that is answered `gone` has
+-- none.
+pub record IsLine (session : Session) (before : State) (line : ℕ) (process : ProcName) (reply : Reply) (entries : List TraceEntry) (after : State) : Type 0 where
+  pub run : IsRun before entries after
+  pub own : AllByRecursion (λ e. (e.line ≡ line) × IsThreadOf session before process e.thread) entries
+  pub access : some_label_refusal entries ≡ is_no_access reply
+  pub permission : some_range_refusal entries ≡ is_no_permission reply
+  pub denials : AllByRecursion (λ e. IsReplyOfDenial reply e.denied) entries
+  pub once : IsRefusedOnce entries
+  pub ends_with_read : (bytes : List ℕ) → reply ≡ Data bytes → EndsWithRead before entries bytes
+  pub gone : reply ≡ Gone → entries ≡ []
+
+-- The line is the row of its call: it is answered what the flat state says, it has the reads that the call cannot do without, and the
+-- state after it lays out the flat state after the call.
+pub record SimulatesLine (session : Session) (before : State) (f : Flat) (asked : CallLine) (entries : List TraceEntry) (after : State) : Type 0 where
+  pub line : IsLine session before asked.line asked.process (reply_to session f asked.process asked.call) entries after
+  pub reads : HasReads session before f (running f asked.process) asked.call (reply_to session f asked.process asked.call) entries
+  pub lays_out : LaysOut session after (flat_after session f asked.process asked.call)
+
+-- the lines of a script, one after another, from a state that lays out this flat state: each is the row of its call
+abbrev pub SimulatesLines : Session → State → Flat → List CallLine → List TraceEntry → State → Type 0
+SimulatesLines session s f [] entries end = (entries ≡ []) × (end ≡ s)
+SimulatesLines session s f (asked ∷ more) entries end =
+    (own : List TraceEntry) × (later : List TraceEntry) × (mid : State)
+    × (entries ≡ own ++ later) × SimulatesLine session s f asked own mid × SimulatesLines session mid (flat_after session f asked.process asked.call) more later end
+
+-- the next category has a number
+abbrev pub has_category : State → Bool
+has_category s = nat_lt s.next_category greatest
+
+-- a denial that may end a line without an answer: the next object or the next category has no number any more
+abbrev pub IsExhausted : State → Denied → Type 0
+IsExhausted s TooBig = (has_number s ≡ false) ⊎ (has_category s ≡ false)
+IsExhausted s denied = ⊥
+
+-- after a denial of an exhausted counter, or after the denial of the reply, from where on the thread is only given labels
+abbrev pub MayBreakOff : Reply → State → Option Denied → List TraceEntry → Type 0
+MayBreakOff reply s None entries = Unit {0}
+MayBreakOff reply s (Some denied) entries = IsExhausted s denied ⊎ (IsReplyOfDenial reply (Some denied) × AllByRecursion IsRestoring entries)
+
+-- the entries are a run of the kernel that was broken off before this reply
+abbrev pub IsBrokenOff : Reply → State → List TraceEntry → State → Type 0
+IsBrokenOff reply s [] end = end ≡ s
+IsBrokenOff reply s (e ∷ entries) end =
+    (mid : State) × (check s e.thread e.call ≡ e.denied) × Leaves e.denied s e.thread e.call mid
+    × MayBreakOff reply s e.denied entries × IsBrokenOff reply mid entries end
+
+-- A call of a process has added these entries to the trace, on the line that was begun; they are the row of the call.
+pub record IsAnswered (session : Session) (f : Flat) (me : ProcName) (call : UnixCall) (old new : KernelModel) : Type 0 where
+  pub entries : List TraceEntry
+  pub trace : new.trace ≡ old.trace ++ entries
+  pub line : new.line ≡ old.line
+  pub row : SimulatesLine session (state old) f (record { line = old.line; process = me; call = call }) entries (state new)
+
+-- The raw calls that were made are a run of the kernel by the thread, broken off before the reply of the flat rules.
+pub record IsUnanswered (session : Session) (f : Flat) (me : ProcName) (call : UnixCall) (old new : KernelModel) (t : ℕ) : Type 0 where
+  pub entries : List TraceEntry
+  pub trace : new.trace ≡ old.trace ++ entries
+  pub line : new.line ≡ old.line
+  pub run : IsBrokenOff (reply_to session f me call) (state old) entries (state new)
+  pub own : AllByRecursion (IsBy old.line t) entries
+
+-- a call of a process, which its thread makes, does what its flat rule says, or it ends without a reply
+abbrev pub FollowsRule : Session → Flat → ProcName → UnixCall → KernelModel → KernelModel → ℕ → Result Reply Stopped → Type 0
+FollowsRule session f me call old new t (Ok reply) = (reply ≡ reply_to session f me call) × IsAnswered session f me call old new
+FollowsRule session f me call old new t (Err stopped) = IsUnanswered session f me call old new t
+
+-- each file holds as many bytes as a segment can hold
+abbrev pub AreFilesSmall : Flat → Type 0
+AreFilesSmall f = (q : Path) (class : Class) (bytes : List ℕ) → get f.files q ≡ Some (record { class = class; content = File bytes }) → length bytes ≤ most_bytes
+
+-- process 0 is in no job
+abbrev pub IsFirstFree : Flat → Type 0
+IsFirstFree f = (p : Process) → f.processes [] ≡ Some p → p.chain ≡ []
+
+-- Where a call of a process is made: the state lays out this flat state, in which the process runs, process 0 is in no job and files are
+-- small enough, and the thread is the process's own.
+pub record IsReady (session : Session) (s : State) (f : Flat) (me : ProcName) (t : ℕ) : Type 0 where
+  pub lays_out : LaysOut session s f
+  pub caller : IsRunning f me
+  pub first : IsFirstFree f
+  pub small : AreFilesSmall f
+  pub thread : IsThreadOf session s me t
