@@ -1,8 +1,11 @@
 //! Users, the calls that they make, and the lines of a script that hold them.
+ghost use Rattle.std.specs.Prelude.{◌≡◌};
+ghost use Rattle.histar_flat.specs.CallRules.{path_of};
 ghost use Rattle.histar_flat.specs.Calls.{IsCall};
 
 use crate::names::{Name, Password};
 use crate::owned_paths::OwnedPath;
+use crate::paths::Path;
 use crate::processes::ProcName;
 use histar_base::Bytes;
 
@@ -65,6 +68,23 @@ pub enum UnixCall {
     Login(Name, Password),
     /// Starts a job: a directory for it, and a child of the process that is in it.
     Wrap(OwnedPath),
+}
+
+impl UnixCall {
+    /// Returns the path that the call names, or `/` where it names none.
+    pub fn path(&self) -> Path
+        ensures { result ≡ path_of self.now }
+    {
+        match self {
+            UnixCall::Create(path, _) | UnixCall::Mkdir(path, _) => path.path(),
+            UnixCall::Write(path, _) | UnixCall::Append(path, _) => path.path(),
+            UnixCall::Rename(path, _) => path.path(),
+            UnixCall::Read(path) | UnixCall::List(path) | UnixCall::Stat(path) => path.path(),
+            UnixCall::Unlink(path) | UnixCall::Rmdir(path) | UnixCall::Rmtree(path) => path.path(),
+            UnixCall::Wrap(path) => path.path(),
+            _ => Path::root(),
+        }
+    }
 }
 
 /// Shows that a call is such as a line of a script can have: its path, its name and its status obey

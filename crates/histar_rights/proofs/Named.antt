@@ -6,7 +6,7 @@ use Rattle.std.proofs.lemmas.Bool.Decides.{nat_tests}
 use Rattle.histar_base.specs.Refusals.{◌orelse◌, unless}
 use Rattle.histar_flat.specs.declared.calls.CallLine.{CallLine}
 use Rattle.histar_flat.specs.declared.calls.UnixCall.{UnixCall}
-use Rattle.histar_flat.specs.declared.calls.UnixCall.TheVariants.{Create, Mkdir, Write, Append, Read, List as ListCall, Stat, Unlink, Rmdir, Rmtree, Rename, Spawn, Exit, Status, Kill, Whoami, Login, Wrap}
+use Rattle.histar_flat.specs.declared.calls.UnixCall.TheVariants.{Spawn, Exit, Kill, Login, Wrap}
 use Rattle.histar_flat.specs.declared.replies.Errno.{Errno}
 use Rattle.histar_flat.specs.declared.replies.Errno.TheVariants.{EAGAIN, EPERM}
 use Rattle.histar_flat.specs.Words.{ProcName, most_children, most_numbers}
@@ -106,22 +106,9 @@ pub record AreInPlace (f : Flat) : Type 0 where
 module _ (session : Session) (f : Flat) (placed : AreInPlace f) (me : ProcName) where
   -- the change of a call that is not refused
   after_change : (p : Process) → length me ≤ most_numbers → IsOver f me → (call : UnixCall) → refused session f me p call ≡ None → AreInPlace (changed session f me p call)
-  after_change p short over (Create q mode) passes = record { named = placed.named; joined = placed.joined }
-  after_change p short over (Mkdir q mode) passes = record { named = placed.named; joined = placed.joined }
-  after_change p short over (Write q bytes) passes = record { named = placed.named; joined = placed.joined }
-  after_change p short over (Append q bytes) passes = record { named = placed.named; joined = placed.joined }
-  after_change p short over (Read q) passes = record { named = placed.named; joined = placed.joined }
-  after_change p short over (ListCall q) passes = record { named = placed.named; joined = placed.joined }
-  after_change p short over (Stat q) passes = record { named = placed.named; joined = placed.joined }
-  after_change p short over (Unlink q) passes = record { named = placed.named; joined = placed.joined }
-  after_change p short over (Rmdir q) passes = record { named = placed.named; joined = placed.joined }
-  after_change p short over (Rmtree q) passes = record { named = placed.named; joined = placed.joined }
-  after_change p short over (Rename q k) passes = record { named = placed.named; joined = placed.joined }
   after_change p short over Spawn passes = record { named = named_child f me p p.chain placed.named (room_for_child me p passes); joined = joined_child f me p p.chain placed.joined over }
   after_change p short over (Exit n) passes = record { named = named_with f me (record p { exited = Some n }) placed.named short; joined = joined_with f me (record p { exited = Some n }) placed.joined over }
-  after_change p short over (Status name) passes = record { named = placed.named; joined = placed.joined }
   after_change p short over (Kill name) passes = record { named = named_without f name placed.named; joined = joined_without f name placed.joined }
-  after_change p short over Whoami passes = record { named = placed.named; joined = placed.joined }
   after_change p short over (Login name password) passes = record { named = named_with f me (record p { user = name; held = [] }) placed.named short; joined = joined_with f me (record p { user = name; held = [] }) placed.joined over }
   after_change p short over (Wrap q) passes =
       let g = with_node f q (Scratch p.user (inner_chain me p)) Dir in
@@ -130,6 +117,7 @@ module _ (session : Session) (f : Flat) (placed : AreInPlace f) (me : ProcName) 
         named = named_child g me r (inner_chain me p) placed.named (room_for_child me p (passes_first (no_child me p) (no_room session f p q orelse unless (not (same p.user nobody)) EPERM) passes));
         joined = joined_child g me r (inner_chain me p) placed.joined over;
       }
+  after_change p short over call passes = record { named = placed.named; joined = placed.joined }
 
   by_refusal : (p : Process) → length me ≤ most_numbers → IsOver f me → (call : UnixCall) → (refusal : Option Errno) → refused session f me p call ≡ refusal → AreInPlace (flat_or refusal f (changed session f me p call))
   by_refusal p short over call None is = after_change p short over call is

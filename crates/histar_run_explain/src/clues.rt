@@ -1,6 +1,6 @@
 //! What a line names.
 ghost use Rattle.std.specs.Prelude.{◌≡◌};
-ghost use Rattle.histar_run_explain.specs.Clues.{clue_of, path_named, process_named};
+ghost use Rattle.histar_run_explain.specs.Clues.{clue_of, process_named};
 
 use histar_flat::{Path, ProcName, UnixCall};
 
@@ -13,25 +13,6 @@ pub(crate) struct Clue {
     pub(crate) named: ProcName,
     /// The path that the call names.
     pub(crate) path: Path,
-}
-
-/// Returns the path that a call names, or `/`.
-fn path_named(call: &UnixCall) -> Path
-    ensures { result ≡ path_named call.now }
-{
-    match call {
-        UnixCall::Create(path, _) | UnixCall::Mkdir(path, _) => path.path(),
-        UnixCall::Write(path, _) | UnixCall::Append(path, _) => path.path(),
-        UnixCall::Rename(path, _) => path.path(),
-        UnixCall::Read(path) => path.path(),
-        UnixCall::List(path) => path.path(),
-        UnixCall::Stat(path) => path.path(),
-        UnixCall::Unlink(path) => path.path(),
-        UnixCall::Rmdir(path) => path.path(),
-        UnixCall::Rmtree(path) => path.path(),
-        UnixCall::Wrap(path) => path.path(),
-        _ => Path::root(),
-    }
 }
 
 /// Returns the process that a call names, or the one that makes it.
@@ -52,6 +33,6 @@ pub(crate) fn clue_of(caller: &ProcName, call: &UnixCall) -> Clue
     Clue {
         caller: *caller,
         named: process_named(caller, call),
-        path: path_named(call),
+        path: call.path(),
     }
 }
