@@ -1,4 +1,5 @@
 pub mod Scratch
+pub mod Filling
 pub mod WrapCall
 pub mod Steps
 pub mod Laws

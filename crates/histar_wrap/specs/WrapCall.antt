@@ -9,19 +9,15 @@ use Rattle.histar_calls.specs.declared.places.Places.{Places}
 use Rattle.histar_calls.specs.Programs.{Program}
 use Rattle.histar_calls.specs.Programs.Program.{Answers}
 use Rattle.histar_calls.specs.Parts.{◌>>=◌, ◌>>◌, ask, find_room}
-use Rattle.histar_process.specs.Birth.{birth}
 use Rattle.histar_process.specs.SpawnCall.{room_for_child}
-use Rattle.histar_wrap.specs.Scratch.{directory_label, hold_job, kin_in, make_scratch}
+use Rattle.histar_wrap.specs.Filling.{fill_job, plan_for}
 
--- There is room for a child, and for an entry. The thread asks for its own labels and makes the job's category; the scratch directory
--- is made, the job's first process is born, and the thread holds the job.
+-- There is room for a child, and for an entry. The thread asks for its own labels and makes the job's category, and the job is filled.
 unfoldable pub wrap_program : Session → Places → ProcName → Home → Path → Program
 wrap_program session places name me path = do
   status ← room_for_child name me
   room ← find_room places path
   own ← ask OwnLabel
   job ← ask MakeCategory
-  make_scratch own (directory_label session own.0 job) room
-  birth me status (kin_in session own.0 job)
-  hold_job own job
+  fill_job me status room (plan_for session own job)
   Answers (Child ((status.born + 1) ∷ name))

@@ -1,0 +1,43 @@
+use Rattle.std.proofs.Common.{Ok, Err}
+use Rattle.histar_calls.proofs.Running.{fails_so}
+use Rattle.histar_process.proofs.Calling.{born_so}
+use Rattle.histar_wrap.specs.Filling.{fill_job, planned}
+use Rattle.histar_wrap.proofs.Wrapping.{held, no_birth, no_scratch}
+use Rattle.histar_wrap.proofs.wrap.fill_job.Goals as goal
+
+pub returns-in_err-make_scratch : goal.returns-in_err-make_scratch
+returns-in_err-make_scratch g c status is =
+    let t = c.args.caller.now.thread in
+    let me = c.args.caller.now.home in
+    let room = c.args.room in
+    let plan = planned c.args.plan in
+    let old = c.args.kernel.now in
+    let k1 = c.make_scratch.new.kernel in
+    let ending = c.in_err-make_scratch.field-0.0 in
+    fails_so t (fill_job me status room plan) old k1 ending _ c.from_residual.ensures.1
+    (no_scratch t me status room plan old k1 ending c.in_err-make_scratch.ensures)
+
+pub returns-in_err-give_birth : goal.returns-in_err-give_birth
+returns-in_err-give_birth g c status is =
+    let t = c.args.caller.now.thread in
+    let me = c.args.caller.now.home in
+    let room = c.args.room in
+    let plan = planned c.args.plan in
+    let old = c.args.kernel.now in
+    let k1 = c.make_scratch.new.kernel in
+    let k2 = c.give_birth.new.kernel in
+    let ending = c.in_err-give_birth.field-0.0 in
+    let born = born_so t k1 k2 me status _ plan.kin (λ i. record { owned = c.as_slice.ensures.value i; jobs = c.as_slice-2.ensures.value i }) (Err ending) (c.in_err-give_birth.ensures status is) in
+    fails_so t (fill_job me status room plan) old k2 ending _ c.from_residual-in_err-give_birth.ensures.1
+    (no_birth t me status room plan old k1 c.in_ok-make_scratch.ensures k2 ending born)
+
+pub returns : goal.returns
+returns g c status is =
+    let t = c.args.caller.now.thread in
+    let me = c.args.caller.now.home in
+    let room = c.args.room in
+    let plan = planned c.args.plan in
+    let k1 = c.make_scratch.new.kernel in
+    let k2 = c.give_birth.new.kernel in
+    let born = born_so t k1 k2 me status _ plan.kin (λ i. record { owned = c.as_slice.ensures.value i; jobs = c.as_slice-2.ensures.value i }) (Ok tt) (c.in_ok-give_birth.ensures status is) in
+    held t me status room plan c.args.kernel.now k1 c.in_ok-make_scratch.ensures k2 c.hold_job.new.kernel born c.hold_job.result c.hold_job.ensures

@@ -1,0 +1,44 @@
+-- A job, once its category is made: what it is made of, and the part of the program that makes it.
+use Rattle.std.specs.Prelude.{◌≡◌, ℕ, List, Option, Some, Result}
+use Rattle.histar_flat.specs.Sessions.{Session}
+use Rattle.histar_label.specs.Levels.{Levels}
+use Rattle.histar_syscall.specs.KernelModel.{KernelModel}
+use Rattle.histar_layout.specs.Status.{ProcessStatus, status_in}
+use Rattle.histar_calls.specs.declared.ending.Ending.{Ending}
+use Rattle.histar_calls.specs.declared.find.Room.{Room}
+use Rattle.histar_calls.specs.declared.places.Home.{Home}
+use Rattle.histar_calls.specs.Parts.{◌>>◌}
+use Rattle.histar_calls.specs.Programs.{Part, RunsPart}
+use Rattle.histar_process.specs.declared.caller.Caller.{Caller}
+use Rattle.histar_process.specs.Birth.{birth}
+use Rattle.histar_process.specs.Kin.{Kin}
+use Rattle.histar_wrap.specs.declared.wrap.Plan.{Plan}
+use Rattle.histar_wrap.specs.Scratch.{directory_label, hold_job, kin_in, make_scratch}
+
+-- what a job is made of: the wrapper's own label and clearance, the category, the label of the scratch directory, and what the first process gets
+pub record JobPlan : Type 0 where
+  pub own : Levels × Levels
+  pub job : ℕ
+  pub label : Levels
+  pub kin : Kin
+
+-- the plan of a new job of a thread with this label and clearance
+abbrev pub plan_for : Session → Levels × Levels → ℕ → JobPlan
+plan_for session own job = record { own = own; job = job; label = directory_label session own.0 job; kin = kin_in session own.0 job }
+
+-- the plan that the code keeps
+abbrev pub planned : Plan → JobPlan
+planned p = record { own = (p.own, p.clearance); job = p.job; label = p.label; kin = record { owned = p.owned.items; jobs = p.jobs.items } }
+
+-- The scratch directory is made, the job's first process is born, and the thread holds the job.
+abbrev pub fill_job : Home → ProcessStatus → Room → JobPlan → Part (Unit {0})
+fill_job me status room plan rest = do
+  make_scratch plan.own plan.label room
+  birth me status plan.kin
+  hold_job plan.own plan.job
+  rest tt
+
+-- a job was filled by a caller whose process segment has these bytes, whatever status they show
+abbrev pub FillsJob : Caller → List ℕ → Room → JobPlan → KernelModel → KernelModel → Result (Unit {0}) Ending → Type 0
+FillsJob caller bytes room plan old new result =
+    (status : ProcessStatus) → status_in bytes ≡ Some status → RunsPart (fill_job caller.home status room plan) old new caller.thread result
