@@ -1,4 +1,5 @@
 pub mod Running
+pub mod Exits
 pub mod Directories
 pub mod Finding
 pub mod Making

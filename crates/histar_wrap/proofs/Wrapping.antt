@@ -3,7 +3,6 @@ use Rattle.std.proofs.Common.{◌≡◌, ℕ, ◌+◌, List, ◌∷◌, Result, 
 use Rattle.std.specs.Prelude.{false}
 use Rattle.histar_flat.specs.Sessions.{Session}
 use Rattle.histar_flat.specs.Words.{Path, ProcName}
-use Rattle.histar_flat.specs.declared.replies.Reply.{Reply}
 use Rattle.histar_flat.specs.declared.replies.Reply.TheVariants.{Child}
 use Rattle.histar_label.specs.Levels.{Levels}
 use Rattle.histar_rules.specs.declared.raw.RawCall.TheVariants.{MakeCategory, MakeContainer, OwnLabel}
@@ -12,16 +11,15 @@ use Rattle.histar_syscall.proofs.Runs.{same_kernel}
 use Rattle.histar_layout.specs.Status.{ProcessStatus}
 use Rattle.histar_layout.specs.Categories.{IsUserOf, scratch_label}
 use Rattle.histar_calls.specs.Parts.{ask, find_room}
-use Rattle.histar_calls.specs.Programs.{Part, Program, Runs, RunsPart}
+use Rattle.histar_calls.specs.Programs.{Part, Program, RunsPart}
 use Rattle.histar_calls.specs.Programs.Program.{Answers}
-use Rattle.histar_calls.specs.Refusals.{settled}
 use Rattle.histar_calls.specs.declared.ending.Ending.{Ending}
 use Rattle.histar_calls.specs.declared.ending.Ending.TheVariants.{Stopped as HasStopped}
-use Rattle.histar_calls.specs.declared.ending.Stopped.{Stopped}
 use Rattle.histar_calls.specs.declared.find.Room.{Room}
 use Rattle.histar_calls.specs.declared.places.Home.{Home}
 use Rattle.histar_calls.specs.declared.places.Places.{Places}
-use Rattle.histar_calls.proofs.Running.{then_call, call_fails, then_part, part_fails}
+use Rattle.histar_calls.proofs.Exits.{Leaves}
+use Rattle.histar_calls.proofs.Running.{then_part, part_fails}
 use Rattle.histar_layout.proofs.UserOf.{user_is}
 use Rattle.histar_process.specs.Birth.{birth}
 use Rattle.histar_process.specs.Kin.{Kin, owned_by}
@@ -79,19 +77,6 @@ module _ (t : ℕ) (me : Home) (status : ProcessStatus) (room : Room) (plan : Jo
 -- memory ran out before a job was filled
 pub before_filling : (t : ℕ) (me : Home) (status : ProcessStatus) (room : Room) (plan : JobPlan) (k : KernelModel) → RunsPart (fill_job me status room plan) k k t (Err HasStopped)
 before_filling t me status room plan k = no_scratch t me status room plan k k HasStopped (before_scratch t plan.own plan.label room k)
-
--- What is left of a program at a state of the kernel: whoever runs this has run the whole.
-pub record Leaves (t : ℕ) (whole : Program) (old : KernelModel) (rest : Program) (k : KernelModel) : Type 0 where
-  pub leads : (new : KernelModel) (result : Result Reply Stopped) → Runs rest k new t result → Runs whole old new t result
-
-module _ {t : ℕ} {whole : Program} {old k : KernelModel} {A : Type 0} (part : Part A) (rest : A → Program) (way : Leaves t whole old (part rest) k) where
-  -- the next part was run
-  pub further : (mid : KernelModel) (x : A) → RunsPart part k mid t (Ok x) → Leaves t whole old (rest x) mid
-  further mid x first = record { leads = λ new result on. way.leads new result (then_call t part k new rest mid x first result on) }
-
-  -- the next part failed, and with it the call
-  pub ends : (new : KernelModel) (ending : Ending) → RunsPart part k new t (Err ending) → Runs whole old new t (settled (Err ending))
-  ends new ending first = way.leads new (settled (Err ending)) (call_fails t part k new rest ending first)
 
 module _ (session : Session) (places : Places) (name : ProcName) (me : Home) (path : Path) where
   -- what is still to do once the job is filled

@@ -7,11 +7,12 @@ use Rattle.histar_layout.specs.declared.status.StatusHead.{StatusHead}
 use Rattle.histar_calls.specs.declared.ending.Ending.TheVariants.{Stopped}
 use Rattle.histar_calls.specs.Parts.{ask, find_room}
 use Rattle.histar_calls.specs.Programs.{RunsPart}
+use Rattle.histar_calls.proofs.Exits.{ends, further}
 use Rattle.histar_calls.proofs.Running.{call_fails_so, grants, refuses, replies_so}
 use Rattle.histar_process.specs.SpawnCall.{room_for_child}
 use Rattle.histar_wrap.specs.Filling.{JobPlan, fill_job, plan_for}
 use Rattle.histar_wrap.specs.WrapCall.{wrap_program}
-use Rattle.histar_wrap.proofs.Wrapping.{after_filling, after_job, after_own, after_room, after_status, before_filling, begun, ends, further}
+use Rattle.histar_wrap.proofs.Wrapping.{after_filling, after_job, after_own, after_room, after_status, before_filling, begun}
 use Rattle.histar_wrap.proofs.wrap.start_job.Goals as goal
 
 pub returns-in_err-head : goal.returns-in_err-head
