@@ -4,3 +4,4 @@ pub mod RepliesOfProcessCalls
 pub mod Births
 pub mod Rooms
 pub mod Calling
+pub mod Spawning

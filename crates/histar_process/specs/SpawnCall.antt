@@ -5,6 +5,7 @@ use Rattle.histar_flat.specs.Words.{ProcName, most_children, most_numbers}
 use Rattle.histar_flat.specs.declared.replies.Errno.{Errno}
 use Rattle.histar_flat.specs.declared.replies.Errno.TheVariants.{EAGAIN}
 use Rattle.histar_flat.specs.declared.replies.Reply.TheVariants as replies
+use Rattle.histar_label.specs.Levels.{Levels}
 use Rattle.histar_rules.specs.declared.raw.RawCall.TheVariants.{OwnLabel, SetLabel, SetClearance}
 use Rattle.histar_layout.specs.Status.{ProcessStatus}
 use Rattle.histar_calls.specs.declared.places.Home.{Home}
@@ -29,12 +30,18 @@ room_for_child name me rest = do
   given (must_have_room (nat_lt status.born most_children))
   rest status
 
+-- the thread takes this label and this clearance
+abbrev pub take_labels : Levels × Levels → Part (Unit {0})
+take_labels own rest = do
+  ask (SetLabel own.0)
+  ask (SetClearance own.1)
+  rest tt
+
 -- There is room for a child. The thread asks for its own labels, the child is born, and the thread takes its own labels again.
 unfoldable pub spawn_program : Session → ProcName → Home → Program
 spawn_program session name me = do
   status ← room_for_child name me
   own ← ask OwnLabel
   birth me status (kin_of session own.0)
-  ask (SetLabel own.0)
-  ask (SetClearance own.1)
+  take_labels own
   Answers (replies.Child ((status.born + 1) ∷ name))

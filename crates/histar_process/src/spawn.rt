@@ -1,10 +1,13 @@
 //! Giving birth to a child.
 ghost use Rattle.std.specs.Prelude.{◌≡◌, ◌<◌, length, IfOk};
 ghost use Rattle.histar_flat.specs.Words.{most_children, most_numbers};
-ghost use Rattle.histar_calls.specs.Programs.{Runs};
+ghost use Rattle.histar_calls.specs.Programs.{Runs, RunsPart};
 ghost use Rattle.histar_calls.specs.Refusals.{settled};
+ghost use Rattle.histar_layout.specs.StatusParts.{HasRoomForChild};
+ghost use Rattle.histar_process.specs.Births.{RunsBirth};
+ghost use Rattle.histar_process.specs.Kin.{kin_of};
 ghost use Rattle.histar_process.specs.Reading.{RunsRoom};
-ghost use Rattle.histar_process.specs.SpawnCall.{must_have_room, spawn_program};
+ghost use Rattle.histar_process.specs.SpawnCall.{must_have_room, spawn_program, take_labels};
 
 use crate::birth::give_birth;
 use crate::caller::Caller;
@@ -12,7 +15,7 @@ use crate::find::{Segment, read_segment};
 use crate::kin::owned_by;
 use histar_calls::{Ending, Home, Stopped, settle};
 use histar_flat::{Errno, MOST_NUMBERS, ProcName, Reply};
-use histar_label::LabelStore;
+use histar_label::{Label, LabelStore};
 use histar_layout::{UserTable, is_in_job, jobs_in, user_of};
 use histar_object::ObjId;
 use histar_syscall::Kernel;
@@ -46,23 +49,53 @@ fn spawn_child<S: LabelStore + Drop>(
     ensures { Runs (spawn_program users.now name.now caller.now.home) kernel.old kernel.new
         caller.now.thread (settled result) }
 {
-    let (home, thread) = (&caller.home, caller.thread);
-    let Segment { head, bytes } = room_for_child(alloc, kernel, thread, name, home)?;
-    let (own, most) = kernel.own_label(thread)?;
-    let jobs = jobs_in(alloc, &own)?;
-    let owned = owned_by(alloc, users, user_of(&own, users), !is_in_job(&own))?;
+    let thread = caller.thread;
+    let Segment { head, bytes } = room_for_child(alloc, kernel, thread, name, &caller.home)?;
+    let (own, clearance) = kernel.own_label(thread)?;
+    bear_child(alloc, kernel, users, caller, bytes.as_slice(), &own)?;
+    take_labels(kernel, thread, own, clearance)?;
+    Ok(Reply::Child(name.child(head.born + 1)))
+}
+
+/// Has a child be born to a caller whose thread has this label and whose segment has these bytes: its
+/// user is the caller's, and it is in the same jobs.
+fn bear_child<S: LabelStore + Drop>(
+    alloc: Global,
+    kernel: &mut Kernel<S>,
+    users: &UserTable,
+    caller: &Caller,
+    bytes: &[u8],
+    own: &Label,
+) -> Result<(), Ending>
+    requires { HasRoomForChild bytes.now }
+    ensures { let kin = kin_of users.now own.now in
+        RunsBirth caller.now.home bytes.now kin.owned kin.jobs kernel.old kernel.new caller.now.thread result }
+{
+    let jobs = jobs_in(alloc, own)?;
+    let owned = owned_by(alloc, users, user_of(own, users), !is_in_job(own))?;
     give_birth(
         alloc,
         kernel,
-        thread,
-        home,
-        bytes.as_slice(),
+        caller.thread,
+        &caller.home,
+        bytes,
         owned.as_slice(),
         jobs.as_slice(),
-    )?;
+    )
+}
+
+/// Gives a thread a label and a clearance.
+fn take_labels<S: LabelStore + Drop>(
+    kernel: &mut Kernel<S>,
+    thread: ObjId,
+    own: Label,
+    clearance: Label,
+) -> Result<(), Ending>
+    ensures { RunsPart (take_labels (own, clearance)) kernel.old kernel.new thread result }
+{
     kernel.set_label(thread, own)?;
-    kernel.set_clearance(thread, most)?;
-    Ok(Reply::Child(name.child(head.born + 1)))
+    kernel.set_clearance(thread, clearance)?;
+    Ok(())
 }
 
 /// The segment of the process of this name, to which a child more may be born. EAGAIN where the name has

@@ -1,185 +1,128 @@
 use Rattle.std.proofs.Common.{◌≡◌, ℕ, ◌+◌, List, ◌∷◌, Some, Ok, Err, sym, ap, ◌∙◌, subst}
 use Rattle.histar_flat.specs.declared.replies.Reply.TheVariants.{Child}
-use Rattle.histar_rules.specs.declared.raw.RawCall.TheVariants.{OwnLabel, SetLabel, SetClearance}
+use Rattle.histar_label.specs.Levels.{Levels}
+use Rattle.histar_rules.specs.declared.raw.RawCall.TheVariants.{OwnLabel}
 use Rattle.histar_layout.specs.Status.{status_in}
 use Rattle.histar_layout.specs.declared.status.StatusHead.{StatusHead}
 use Rattle.histar_calls.specs.Parts.{ask}
 use Rattle.histar_calls.specs.Programs.Program.{Answers}
-use Rattle.histar_calls.specs.declared.ending.Ending.TheVariants.{Stopped}
-use Rattle.histar_calls.proofs.Running.{grants, refuses, then_call, call_fails, call_fails_so, replies_so}
+use Rattle.histar_calls.proofs.Exits.{ends, further}
+use Rattle.histar_calls.proofs.Running.{call_fails_so, grants, refuses, replies_so}
 use Rattle.histar_process.specs.Birth.{birth}
 use Rattle.histar_process.specs.Kin.{kin_of}
-use Rattle.histar_process.specs.SpawnCall.{room_for_child, spawn_program}
-use Rattle.histar_process.proofs.Calling.{before_birth, born_so, kin_is}
+use Rattle.histar_process.specs.SpawnCall.{room_for_child, spawn_program, take_labels}
+use Rattle.histar_process.proofs.Spawning.{after_birth, after_labels, after_room, begun}
 use Rattle.histar_process.proofs.spawn.spawn_child.Goals as goal
 
 pub returns-in_err-head : goal.returns-in_err-head
-unfolding spawn_program
 returns-in_err-head g c =
     let t = c.args.caller.now.thread in
     let me = c.args.caller.now.home in
     let name = c.args.name.now in
     let session = c.args.users.now in
     let old = c.args.kernel.now in
+    let whole = spawn_program session name me in
     let k1 = c.room_for_child.new.kernel in
-    call_fails_so t (spawn_program session name me) old k1 c.in_err-head.field-0.0 _ c.from_residual.ensures.1
-    (call_fails t (room_for_child name me) old k1 _ c.in_err-head.field-0.0 c.in_err-head.ensures.runs)
+    let to_room = after_room session name me in
+    let begin = begun session name me t old in
+    call_fails_so t whole old k1 c.in_err-head.field-0.0 _ c.from_residual.ensures.1
+    (ends (room_for_child name me) to_room begin k1 c.in_err-head.field-0.0 c.in_err-head.ensures.runs)
 
 pub returns-in_err-own : goal.returns-in_err-own
-unfolding spawn_program
 returns-in_err-own g c =
     let t = c.args.caller.now.thread in
     let me = c.args.caller.now.home in
     let name = c.args.name.now in
     let session = c.args.users.now in
     let old = c.args.kernel.now in
+    let whole = spawn_program session name me in
     let k1 = c.room_for_child.new.kernel in
+    let to_room = after_room session name me in
+    let begin = begun session name me t old in
     let status = c.in_ok-head.ensures.runs.0 in
-    let segment = c.in_ok-head.ensures.runs.1 in
+    let to_labels = after_labels session name me status in
+    let at_own = further (room_for_child name me) to_room begin k1 status c.in_ok-head.ensures.runs.2 in
     let k2 = c.own_label.new.self in
-    call_fails_so t (spawn_program session name me) old k2 _ _ c.from_residual-in_err-own.ensures.1
-    (then_call t (room_for_child name me) old k2 _ k1 status c.in_ok-head.ensures.runs.2 _
-    (call_fails t (ask OwnLabel) k1 k2 _ _ (refuses t OwnLabel k1 k2 _ c.in_err-own.field-0.0 c.in_err-own.ensures)))
+    call_fails_so t whole old k2 _ _ c.from_residual-in_err-own.ensures.1
+    (ends (ask OwnLabel) to_labels at_own k2 _ (refuses t OwnLabel k1 k2 _ c.in_err-own.field-0.0 c.in_err-own.ensures))
 
-pub returns-in_err-jobs : goal.returns-in_err-jobs
-unfolding spawn_program
-returns-in_err-jobs g c =
+pub returns-in_err-bear_child : goal.returns-in_err-bear_child
+returns-in_err-bear_child g c =
     let t = c.args.caller.now.thread in
     let me = c.args.caller.now.home in
     let name = c.args.name.now in
     let session = c.args.users.now in
     let old = c.args.kernel.now in
+    let whole = spawn_program session name me in
     let k1 = c.room_for_child.new.kernel in
+    let to_room = after_room session name me in
+    let begin = begun session name me t old in
     let status = c.in_ok-head.ensures.runs.0 in
-    let segment = c.in_ok-head.ensures.runs.1 in
+    let to_labels = after_labels session name me status in
+    let at_own = further (room_for_child name me) to_room begin k1 status c.in_ok-head.ensures.runs.2 in
     let k2 = c.own_label.new.self in
-    let own = c.in_ok-own.own in
-    let most = c.in_ok-own.most in
-    let kin = kin_of session own in
-    call_fails_so t (spawn_program session name me) old k2 Stopped _ c.from_residual-in_err-jobs.ensures.1
-    (then_call t (room_for_child name me) old k2 _ k1 status c.in_ok-head.ensures.runs.2 _
-    (then_call t (ask OwnLabel) k1 k2 _ k2 (own, most) (grants t OwnLabel k1 k2 (own, most) c.in_ok-own.ensures.0 c.in_ok-own.ensures.1) _
-    (call_fails t (birth me status kin) k2 k2 _ Stopped (before_birth t me status kin k2))))
+    let own : Levels × Levels = (c.in_ok-own.own, c.in_ok-own.clearance) in
+    let kin = kin_of session own.0 in
+    let born = after_birth session name me status own in
+    let at_birth = further (ask OwnLabel) to_labels at_own k2 own (grants t OwnLabel k1 k2 own c.in_ok-own.ensures.0 c.in_ok-own.ensures.1) in
+    let status_is = subst (λ (bytes : List ℕ). status_in bytes ≡ Some status) (sym c.as_slice.ensures) c.in_ok-head.ensures.runs.1.status_is in
+    let k3 = c.bear_child.new.kernel in
+    let ending = c.in_err-bear_child.field-0.0 in
+    call_fails_so t whole old k3 ending _ c.from_residual-in_err-bear_child.ensures.1
+    (ends (birth me status kin) (λ (done : Unit {0}). born) at_birth k3 ending (c.in_err-bear_child.ensures status status_is))
 
-pub returns-in_err-owned : goal.returns-in_err-owned
-unfolding spawn_program
-returns-in_err-owned g c =
+pub returns-in_err-take_labels : goal.returns-in_err-take_labels
+returns-in_err-take_labels g c =
     let t = c.args.caller.now.thread in
     let me = c.args.caller.now.home in
     let name = c.args.name.now in
     let session = c.args.users.now in
     let old = c.args.kernel.now in
+    let whole = spawn_program session name me in
     let k1 = c.room_for_child.new.kernel in
+    let to_room = after_room session name me in
+    let begin = begun session name me t old in
     let status = c.in_ok-head.ensures.runs.0 in
-    let segment = c.in_ok-head.ensures.runs.1 in
+    let to_labels = after_labels session name me status in
+    let at_own = further (room_for_child name me) to_room begin k1 status c.in_ok-head.ensures.runs.2 in
     let k2 = c.own_label.new.self in
-    let own = c.in_ok-own.own in
-    let most = c.in_ok-own.most in
-    let kin = kin_of session own in
-    call_fails_so t (spawn_program session name me) old k2 Stopped _ c.from_residual-in_err-owned.ensures.1
-    (then_call t (room_for_child name me) old k2 _ k1 status c.in_ok-head.ensures.runs.2 _
-    (then_call t (ask OwnLabel) k1 k2 _ k2 (own, most) (grants t OwnLabel k1 k2 (own, most) c.in_ok-own.ensures.0 c.in_ok-own.ensures.1) _
-    (call_fails t (birth me status kin) k2 k2 _ Stopped (before_birth t me status kin k2))))
-
-pub returns-in_err-give_birth : goal.returns-in_err-give_birth
-unfolding spawn_program
-returns-in_err-give_birth g c =
-    let t = c.args.caller.now.thread in
-    let me = c.args.caller.now.home in
-    let name = c.args.name.now in
-    let session = c.args.users.now in
-    let old = c.args.kernel.now in
-    let k1 = c.room_for_child.new.kernel in
-    let status = c.in_ok-head.ensures.runs.0 in
-    let segment = c.in_ok-head.ensures.runs.1 in
-    let k2 = c.own_label.new.self in
-    let own = c.in_ok-own.own in
-    let most = c.in_ok-own.most in
-    let kin = kin_of session own in
-    let status_is = subst (λ (bytes : List ℕ). status_in bytes ≡ Some status) (sym c.as_slice.ensures) segment.status_is in
-    let kin_so = kin_is own session c.user_of.result c.is_in_job.result c.as_slice-2.result.now c.as_slice-3.result.now c.user_of.ensures c.is_in_job.ensures (c.as_slice-2.ensures.value ∙ c.in_ok-owned.ensures) (c.as_slice-3.ensures.value ∙ c.in_ok-jobs.ensures) in
-    let k3 = c.give_birth.new.kernel in
-    call_fails_so t (spawn_program session name me) old k3 c.in_err-give_birth.field-0.0 _ c.from_residual-in_err-give_birth.ensures.1
-    (then_call t (room_for_child name me) old k3 _ k1 status c.in_ok-head.ensures.runs.2 _
-    (then_call t (ask OwnLabel) k1 k3 _ k2 (own, most) (grants t OwnLabel k1 k2 (own, most) c.in_ok-own.ensures.0 c.in_ok-own.ensures.1) _
-    (call_fails t (birth me status kin) k2 k3 _ c.in_err-give_birth.field-0.0 (born_so t k2 k3 me status _ kin kin_so (Err c.in_err-give_birth.field-0.0) (c.in_err-give_birth.ensures status status_is)))))
-
-pub returns-in_err-set_label : goal.returns-in_err-set_label
-unfolding spawn_program
-returns-in_err-set_label g c =
-    let t = c.args.caller.now.thread in
-    let me = c.args.caller.now.home in
-    let name = c.args.name.now in
-    let session = c.args.users.now in
-    let old = c.args.kernel.now in
-    let k1 = c.room_for_child.new.kernel in
-    let status = c.in_ok-head.ensures.runs.0 in
-    let segment = c.in_ok-head.ensures.runs.1 in
-    let k2 = c.own_label.new.self in
-    let own = c.in_ok-own.own in
-    let most = c.in_ok-own.most in
-    let kin = kin_of session own in
-    let status_is = subst (λ (bytes : List ℕ). status_in bytes ≡ Some status) (sym c.as_slice.ensures) segment.status_is in
-    let kin_so = kin_is own session c.user_of.result c.is_in_job.result c.as_slice-2.result.now c.as_slice-3.result.now c.user_of.ensures c.is_in_job.ensures (c.as_slice-2.ensures.value ∙ c.in_ok-owned.ensures) (c.as_slice-3.ensures.value ∙ c.in_ok-jobs.ensures) in
-    let k3 = c.give_birth.new.kernel in
-    let k4 = c.set_label.new.self in
-    call_fails_so t (spawn_program session name me) old k4 _ _ c.from_residual-in_err-set_label.ensures.1
-    (then_call t (room_for_child name me) old k4 _ k1 status c.in_ok-head.ensures.runs.2 _
-    (then_call t (ask OwnLabel) k1 k4 _ k2 (own, most) (grants t OwnLabel k1 k2 (own, most) c.in_ok-own.ensures.0 c.in_ok-own.ensures.1) _
-    (then_call t (birth me status kin) k2 k4 _ k3 tt (born_so t k2 k3 me status _ kin kin_so (Ok tt) (c.in_ok-give_birth.ensures status status_is)) _
-    (call_fails t (ask (SetLabel own)) k3 k4 (λ _. ask (SetClearance most) (λ _. Answers (Child ((status.born + 1) ∷ name)))) _ (refuses t (SetLabel own) k3 k4 _ c.in_err-set_label.field-0.0 c.in_err-set_label.ensures)))))
-
-pub returns-in_err-set_clearance : goal.returns-in_err-set_clearance
-unfolding spawn_program
-returns-in_err-set_clearance g c =
-    let t = c.args.caller.now.thread in
-    let me = c.args.caller.now.home in
-    let name = c.args.name.now in
-    let session = c.args.users.now in
-    let old = c.args.kernel.now in
-    let k1 = c.room_for_child.new.kernel in
-    let status = c.in_ok-head.ensures.runs.0 in
-    let segment = c.in_ok-head.ensures.runs.1 in
-    let k2 = c.own_label.new.self in
-    let own = c.in_ok-own.own in
-    let most = c.in_ok-own.most in
-    let kin = kin_of session own in
-    let status_is = subst (λ (bytes : List ℕ). status_in bytes ≡ Some status) (sym c.as_slice.ensures) segment.status_is in
-    let kin_so = kin_is own session c.user_of.result c.is_in_job.result c.as_slice-2.result.now c.as_slice-3.result.now c.user_of.ensures c.is_in_job.ensures (c.as_slice-2.ensures.value ∙ c.in_ok-owned.ensures) (c.as_slice-3.ensures.value ∙ c.in_ok-jobs.ensures) in
-    let k3 = c.give_birth.new.kernel in
-    let k4 = c.set_label.new.self in
-    let k5 = c.set_clearance.new.self in
-    call_fails_so t (spawn_program session name me) old k5 _ _ c.from_residual-in_err-set_clearance.ensures.1
-    (then_call t (room_for_child name me) old k5 _ k1 status c.in_ok-head.ensures.runs.2 _
-    (then_call t (ask OwnLabel) k1 k5 _ k2 (own, most) (grants t OwnLabel k1 k2 (own, most) c.in_ok-own.ensures.0 c.in_ok-own.ensures.1) _
-    (then_call t (birth me status kin) k2 k5 _ k3 tt (born_so t k2 k3 me status _ kin kin_so (Ok tt) (c.in_ok-give_birth.ensures status status_is)) _
-    (then_call t (ask (SetLabel own)) k3 k5 (λ _. ask (SetClearance most) (λ _. Answers (Child ((status.born + 1) ∷ name)))) k4 tt (grants t (SetLabel own) k3 k4 tt c.in_ok-set_label.ensures.0 tt) _
-    (call_fails t (ask (SetClearance most)) k4 k5 (λ _. Answers (Child ((status.born + 1) ∷ name))) _ (refuses t (SetClearance most) k4 k5 _ c.in_err-set_clearance.field-0.0 c.in_err-set_clearance.ensures))))))
+    let own : Levels × Levels = (c.in_ok-own.own, c.in_ok-own.clearance) in
+    let kin = kin_of session own.0 in
+    let born = after_birth session name me status own in
+    let at_birth = further (ask OwnLabel) to_labels at_own k2 own (grants t OwnLabel k1 k2 own c.in_ok-own.ensures.0 c.in_ok-own.ensures.1) in
+    let status_is = subst (λ (bytes : List ℕ). status_in bytes ≡ Some status) (sym c.as_slice.ensures) c.in_ok-head.ensures.runs.1.status_is in
+    let k3 = c.bear_child.new.kernel in
+    let at_end = further (birth me status kin) (λ (done : Unit {0}). born) at_birth k3 tt (c.in_ok-bear_child.ensures status status_is) in
+    let k4 = c.take_labels.new.kernel in
+    let reply = Answers (Child ((status.born + 1) ∷ name)) in
+    let ending = c.in_err-take_labels.field-0.0 in
+    call_fails_so t whole old k4 ending _ c.from_residual-in_err-take_labels.ensures.1
+    (ends (take_labels own) (λ (done : Unit {0}). reply) at_end k4 ending c.in_err-take_labels.ensures)
 
 pub returns : goal.returns
-unfolding spawn_program
 returns g c =
     let t = c.args.caller.now.thread in
     let me = c.args.caller.now.home in
     let name = c.args.name.now in
     let session = c.args.users.now in
     let old = c.args.kernel.now in
+    let whole = spawn_program session name me in
     let k1 = c.room_for_child.new.kernel in
+    let to_room = after_room session name me in
+    let begin = begun session name me t old in
     let status = c.in_ok-head.ensures.runs.0 in
-    let segment = c.in_ok-head.ensures.runs.1 in
+    let to_labels = after_labels session name me status in
+    let at_own = further (room_for_child name me) to_room begin k1 status c.in_ok-head.ensures.runs.2 in
     let k2 = c.own_label.new.self in
-    let own = c.in_ok-own.own in
-    let most = c.in_ok-own.most in
-    let kin = kin_of session own in
-    let status_is = subst (λ (bytes : List ℕ). status_in bytes ≡ Some status) (sym c.as_slice.ensures) segment.status_is in
-    let kin_so = kin_is own session c.user_of.result c.is_in_job.result c.as_slice-2.result.now c.as_slice-3.result.now c.user_of.ensures c.is_in_job.ensures (c.as_slice-2.ensures.value ∙ c.in_ok-owned.ensures) (c.as_slice-3.ensures.value ∙ c.in_ok-jobs.ensures) in
-    let k3 = c.give_birth.new.kernel in
-    let k4 = c.set_label.new.self in
-    let k5 = c.set_clearance.new.self in
-    let reply_is = ap (λ (p : List ℕ). Child p) (c.child.ensures ∙ ap (λ (h : StatusHead). (h.born + 1) ∷ name) segment.head) in
-    then_call t (room_for_child name me) old k5 _ k1 status c.in_ok-head.ensures.runs.2 _
-    (then_call t (ask OwnLabel) k1 k5 _ k2 (own, most) (grants t OwnLabel k1 k2 (own, most) c.in_ok-own.ensures.0 c.in_ok-own.ensures.1) _
-    (then_call t (birth me status kin) k2 k5 _ k3 tt (born_so t k2 k3 me status _ kin kin_so (Ok tt) (c.in_ok-give_birth.ensures status status_is)) _
-    (then_call t (ask (SetLabel own)) k3 k5 (λ _. ask (SetClearance most) (λ _. Answers (Child ((status.born + 1) ∷ name)))) k4 tt (grants t (SetLabel own) k3 k4 tt c.in_ok-set_label.ensures.0 tt) _
-    (then_call t (ask (SetClearance most)) k4 k5 (λ _. Answers (Child ((status.born + 1) ∷ name))) k5 tt (grants t (SetClearance most) k4 k5 tt c.in_ok-set_clearance.ensures.0 tt) _
-    (replies_so t k5 (Child ((status.born + 1) ∷ name)) (Child c.child.result) reply_is)))))
+    let own : Levels × Levels = (c.in_ok-own.own, c.in_ok-own.clearance) in
+    let kin = kin_of session own.0 in
+    let born = after_birth session name me status own in
+    let at_birth = further (ask OwnLabel) to_labels at_own k2 own (grants t OwnLabel k1 k2 own c.in_ok-own.ensures.0 c.in_ok-own.ensures.1) in
+    let status_is = subst (λ (bytes : List ℕ). status_in bytes ≡ Some status) (sym c.as_slice.ensures) c.in_ok-head.ensures.runs.1.status_is in
+    let k3 = c.bear_child.new.kernel in
+    let at_end = further (birth me status kin) (λ (done : Unit {0}). born) at_birth k3 tt (c.in_ok-bear_child.ensures status status_is) in
+    let k4 = c.take_labels.new.kernel in
+    let reply = Answers (Child ((status.born + 1) ∷ name)) in
+    let reply_is = ap (λ (p : List ℕ). Child p) (c.child.ensures ∙ ap (λ (h : StatusHead). (h.born + 1) ∷ name) c.in_ok-head.ensures.runs.1.head) in
+    let done = further (take_labels own) (λ (done : Unit {0}). reply) at_end k4 tt c.in_ok-take_labels.ensures in
+    done.leads k4 (Ok (Child c.child.result)) (replies_so t k4 (Child ((status.born + 1) ∷ name)) (Child c.child.result) reply_is)

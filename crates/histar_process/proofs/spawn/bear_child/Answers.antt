@@ -1,0 +1,32 @@
+use Rattle.std.proofs.Common.{◌∙◌}
+use Rattle.histar_calls.proofs.Running.{fails_so}
+use Rattle.histar_calls.specs.declared.ending.Ending.TheVariants.{Stopped}
+use Rattle.histar_process.specs.Birth.{birth}
+use Rattle.histar_process.specs.Kin.{kin_of}
+use Rattle.histar_process.proofs.Calling.{before_birth, born_so, kin_is}
+use Rattle.histar_process.proofs.spawn.bear_child.Goals as goal
+
+pub returns-in_err-jobs : goal.returns-in_err-jobs
+returns-in_err-jobs g c status is =
+    let t = c.args.caller.now.thread in
+    let me = c.args.caller.now.home in
+    let old = c.args.kernel.now in
+    let kin = kin_of c.args.users.now c.args.own.now in
+    fails_so t (birth me status kin) old old Stopped _ c.from_residual.ensures.1 (before_birth t me status kin old)
+
+pub returns-in_err-owned : goal.returns-in_err-owned
+returns-in_err-owned g c status is =
+    let t = c.args.caller.now.thread in
+    let me = c.args.caller.now.home in
+    let old = c.args.kernel.now in
+    let kin = kin_of c.args.users.now c.args.own.now in
+    fails_so t (birth me status kin) old old Stopped _ c.from_residual-in_err-owned.ensures.1 (before_birth t me status kin old)
+
+pub returns : goal.returns
+returns g c status is =
+    let t = c.args.caller.now.thread in
+    let me = c.args.caller.now.home in
+    let session = c.args.users.now in
+    let own = c.args.own.now in
+    let kin_so = kin_is own session c.user_of.result c.is_in_job.result c.as_slice.result.now c.as_slice-2.result.now c.user_of.ensures c.is_in_job.ensures (c.as_slice.ensures.value ∙ c.in_ok-owned.ensures) (c.as_slice-2.ensures.value ∙ c.in_ok-jobs.ensures) in
+    born_so t c.args.kernel.now c.give_birth.new.kernel me status _ (kin_of session own) kin_so c.give_birth.result (c.give_birth.ensures status is)
