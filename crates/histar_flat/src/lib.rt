@@ -21,7 +21,7 @@ mod words;
 pub use calls::{CallLine, Mode, UnixCall, User, each_call_is_right};
 pub use groups::Group;
 pub use names::{Name, Password};
-pub use owned_paths::OwnedPath;
+pub use owned_paths::{OwnedPath, read_owned_path};
 pub use paths::Path;
 pub use processes::{MOST_NUMBERS, ProcName};
 pub use readers::{

@@ -1,9 +1,10 @@
 //! Paths as calls own them.
-ghost use Rattle.std.specs.Prelude.{◌≡◌, ◌≤◌, length, IfOk, IsTrue};
-ghost use Rattle.histar_flat.specs.Words.{most_names, is_path};
+ghost use Rattle.std.specs.Prelude.{◌≡◌, ◌<◌, ◌≤◌, [], ◌∷◌, length, IfOk, IsTrue, OnOk};
+ghost use Rattle.histar_flat.specs.Words.{most_names, is_path, path_of, path_from};
 
 use crate::names::Name;
-use crate::paths::Path;
+use crate::paths::{MOST_NAMES, Path};
+use crate::readers::{read_name, split_at_first};
 use std::alloc::{AllocError, Global};
 use std::marker::Model;
 
@@ -26,6 +27,24 @@ impl Model for OwnedPath {
 }
 
 impl OwnedPath {
+    // `/`, with room for so many names.
+    fn root(alloc: Global, names: usize) -> Result<OwnedPath, AllocError>
+        ensures { IfOk result (λ owned. owned ≡ []) }
+    {
+        let names = Vec::with_capacity(alloc, names)?;
+        Ok(OwnedPath { names })
+    }
+
+    // Goes on to an entry of the directory that the path leads to.
+    fn enter(&mut self, name: Name) -> Result<(), AllocError>
+        requires { length self.old < most_names }
+        ensures { OnOk result (self.new ≡ name ∷ self.old) }
+    {
+        let _ = name.as_bytes();
+        self.names.insert(0, name)?;
+        Ok(())
+    }
+
     /// The same path.
     pub fn of(alloc: Global, path: &Path) -> Result<OwnedPath, AllocError>
         ensures { IfOk result (λ owned. owned ≡ path.now) }
@@ -50,4 +69,46 @@ impl OwnedPath {
     {
         Path::of(self.names())
     }
+}
+
+/// Returns the path that the bytes are, read straight into memory of its own.
+pub fn read_owned_path(alloc: Global, text: &[u8]) -> Result<Option<OwnedPath>, AllocError>
+    ensures { IfOk result (λ path. path ≡ path_of text.now) }
+{
+    match text {
+        [b'/'] => {
+            let root = OwnedPath::root(alloc, 0)?;
+            Ok(Some(root))
+        }
+        [b'/', names @ ..] => read_owned_names(alloc, names),
+        _ => Ok(None),
+    }
+}
+
+// The path that names with slashes between them lead to from `/`.
+fn read_owned_names(alloc: Global, text: &[u8]) -> Result<Option<OwnedPath>, AllocError>
+    ensures { IfOk result (λ path. path ≡ path_from most_names [] text.now) }
+{
+    let mut path = OwnedPath::root(alloc, count_names(text))?;
+    let mut rest = text;
+    for _ in 0..MOST_NAMES {
+        let (word, after) = split_at_first(rest, b'/');
+        let Some(name) = read_name(word) else {
+            return Ok(None);
+        };
+        path.enter(name)?;
+        match after {
+            None => return Ok(Some(path)),
+            Some(names) => rest = names,
+        }
+    }
+    Ok(None)
+}
+
+// How many names a text may have by its slashes, and no more than a path may have.
+fn count_names(text: &[u8]) -> usize
+    ensures { result ≤ most_names }
+{
+    let slashes = text.iter().filter(|b| **b == b'/').count();
+    MOST_NAMES.min(slashes + 1)
 }

@@ -1,5 +1,5 @@
 -- What a store that interns labels holds: its labels, and the answers that it remembers.
-use Rattle.std.specs.Prelude.{◌≡◌, ◌<◌, Bool, List, Option, IfSome, length, slice_get, Contains}
+use Rattle.std.specs.Prelude.{◌≡◌, ◌<◌, Bool, List, Option, IfSome, length, slice_get, Contains, All}
 use Rattle.histar_label.specs.declared.intern_store.Comparison.{Comparison}
 use Rattle.histar_label.specs.declared.levels.Test.TheVariants.{BelowJoin}
 use Rattle.histar_label.specs.Levels.{Levels, is_within}
@@ -17,8 +17,8 @@ pub record IsRight (labels : List Levels) (c : Comparison) (answer : Bool) : Typ
   pub upper_stands : c.upper < length labels
   pub right : answer ≡ answer_of labels c
 
--- no label has two Ids, and each answer that is remembered is right, the latest among them
-pub record IsInterned (labels : List Levels) (answers : List (Comparison × Bool)) (latest : Option (Comparison × Bool)) : Type 0 where
+-- no label has two Ids, and each answer that is remembered or at hand is right
+pub record IsInterned (labels : List Levels) (answers : List (Comparison × Bool)) (at_hand : List (Option (Comparison × Bool))) : Type 0 where
   pub one_id : HasOneId (slice_get labels)
   pub right : (e : Comparison × Bool) → Contains answers e → IsRight labels e.0 e.1
-  pub latest_is_right : IfSome latest (λ e. IsRight labels e.0 e.1)
+  pub right_at_hand : All (λ o. IfSome o (λ e. IsRight labels e.0 e.1)) at_hand

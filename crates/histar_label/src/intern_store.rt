@@ -1,8 +1,9 @@
 //! A store that keeps each label once, and remembers answers of comparisons.
-ghost use Rattle.std.specs.Prelude.{◌≡◌, ◌<◌, ◌⊎◌, ℕ, Bool, Some, IfOk, IfSome, OnErr};
-ghost use Rattle.std.specs.Prelude.{[], length, slice_get, Contains, Ok};
+ghost use Rattle.std.specs.Prelude.{◌≡◌, ◌+◌, ◌<◌, ◌⊎◌, ℕ, Bool, Some, IfOk, IfSome, OnErr};
+ghost use Rattle.std.specs.Prelude.{[], length, slice_get, slice_set, Contains, Ok, None, All};
 ghost use Rattle.std.specs.Option.{option_copied};
-ghost use Rattle.histar_label.specs.Store.{Keeps, HasOneId};
+ghost use Rattle.histar_label.specs.Levels.{exceptions_of};
+ghost use Rattle.histar_label.specs.Store.{Keeps, HasOneId, label_at};
 ghost use Rattle.histar_label.specs.InternStore.{answer_of};
 ghost use Rattle.histar_label.specs.declared.intern_store.Comparison.{Comparison};
 
@@ -28,6 +29,16 @@ impl Model for InternId {
     ghost inverse = { λ n. record { 0 = n } };
 }
 
+/// How many answers have a place at hand: a power of two.
+const AT_HAND: usize = 1024;
+
+/// As many exceptions as two labels may have between them to be compared sooner than an answer is
+/// looked up.
+const FEW_EXCEPTIONS: usize = 12;
+
+/// An odd number whose multiples spread over all places: 2^64 by the golden ratio.
+const SPREAD: usize = 0x9e37_79b9_7f4a_7c15;
+
 /// A comparison of two labels, in this order.
 #[derive(Clone, Copy, Debug, PartialEq, Eq, Hash)]
 struct Comparison {
@@ -36,11 +47,19 @@ struct Comparison {
     upper: InternId,
 }
 
+impl Comparison {
+    // The place at hand of its answer. Another comparison may have the same one.
+    fn place(self) -> usize {
+        let spread = self.lower.0.wrapping_mul(SPREAD).wrapping_add(self.upper.0);
+        (spread.wrapping_mul(SPREAD) / (usize::MAX / AT_HAND + 1)) ^ (self.reading as usize)
+    }
+}
+
 /// Keeps each label once, so that equal labels have one Id, and remembers the answers of the latest
 /// comparisons of two labels. It forgets no label, so it grows with each new one.
 ///
-/// The very latest answer has a place of its own: a walk asks of a container and of a segment in it
-/// one after the other, and mostly they have one label.
+/// Each comparison has a place at hand for its answer, which it shares with others: the latest of
+/// them is there. Labels with many exceptions are looked up among the remembered answers next.
 ///
 /// A put of a label that is there already needs no memory. A comparison whose answer finds no memory
 /// is answered, and made anew the next time.
@@ -48,7 +67,7 @@ struct Comparison {
 pub struct InternStore {
     labels: IndexSet<Label>,
     answers: LruCache<Comparison, bool>,
-    latest: Option<(Comparison, bool)>,
+    at_hand: Vec<Option<(Comparison, bool)>>,
 }
 
 impl Model for InternStore {
@@ -63,11 +82,11 @@ impl Model for InternStore {
 
     ghost view = { λ s. s.labels.keys };
 
-    ghost invariant = { λ s. IsInterned s.labels.keys s.answers.entries s.latest };
+    ghost invariant = { λ s. IsInterned s.labels.keys s.answers.entries s.at_hand.items };
 }
 
 impl InternStore {
-    /// A store with no labels, which remembers at most `cache` answers.
+    /// A store with no labels, which remembers at most `cache` answers beside those at hand.
     pub fn new(alloc: Global, cache: usize) -> Result<InternStore, OutOfMemory>
         requires { 0 < cache }
         ensures { IfOk result (λ store. store ≡ []) }
@@ -76,30 +95,13 @@ impl InternStore {
         Ok(InternStore {
             labels: IndexSet::new(alloc),
             answers: LruCache::new(alloc, capacity)?,
-            latest: None,
+            at_hand: no_answers(alloc)?,
         })
     }
 
-    // The answer of a comparison. The latest is at hand.
+    // The answer of a comparison, from its place at hand if it is there. A label is below itself, however
+    // star is read.
     fn answer(&mut self, comparison: Comparison) -> bool
-        requires lower_stands { comparison.lower < length self.old }
-        requires upper_stands { comparison.upper < length self.old }
-        ensures answer { result ≡ answer_of self.old comparison }
-        ensures unchanged { self.new ≡ self.old }
-    {
-        if let Some((latest, answer)) = self.latest {
-            if latest == comparison {
-                return answer;
-            }
-        }
-        let answer = self.recall_or_compare(comparison);
-        self.latest = Some((comparison, answer));
-        answer
-    }
-
-    // The answer of a comparison, as it was remembered, or made now and remembered. A label is
-    // below itself, however star is read.
-    fn recall_or_compare(&mut self, comparison: Comparison) -> bool
         requires lower_stands { comparison.lower < length self.old }
         requires upper_stands { comparison.upper < length self.old }
         ensures answer { result ≡ answer_of self.old comparison }
@@ -107,6 +109,26 @@ impl InternStore {
     {
         if comparison.lower == comparison.upper {
             return true;
+        }
+        let place = comparison.place();
+        if let Some(answer) = found_at(&self.at_hand, place, comparison) {
+            return answer;
+        }
+        let answer = self.compare_or_recall(comparison);
+        keep_at(&mut self.at_hand, place, (comparison, answer));
+        answer
+    }
+
+    // The answer of a comparison: made now where the labels have few exceptions, and else as it was
+    // remembered, or made now and remembered.
+    fn compare_or_recall(&mut self, comparison: Comparison) -> bool
+        requires lower_stands { comparison.lower < length self.old }
+        requires upper_stands { comparison.upper < length self.old }
+        ensures answer { result ≡ answer_of self.old comparison }
+        ensures unchanged { self.new ≡ self.old }
+    {
+        if exceptions_of_both(&self.labels, &comparison) <= FEW_EXCEPTIONS {
+            return compare(&self.labels, comparison);
         }
         if let Some(answer) = recall(&mut self.answers, comparison) {
             return answer;
@@ -170,6 +192,52 @@ fn compare(labels: &IndexSet<Label>, comparison: Comparison) -> bool
     match comparison.reading {
         Reading::Plain => lower.below(upper),
         Reading::Raised => lower.below_raised(upper),
+    }
+}
+
+// How many exceptions the labels of a comparison have between them.
+fn exceptions_of_both(labels: &IndexSet<Label>, comparison: &Comparison) -> usize
+    requires lower_stands { comparison.now.lower < length labels.now.keys }
+    requires upper_stands { comparison.now.upper < length labels.now.keys }
+    ensures { result ≡ length (exceptions_of (label_at (slice_get labels.now.keys) comparison.now.lower))
+        + length (exceptions_of (label_at (slice_get labels.now.keys) comparison.now.upper)) }
+{
+    let lower = labels.get_index(comparison.lower.0).unwrap();
+    let upper = labels.get_index(comparison.upper.0).unwrap();
+    lower.exceptions().len() + upper.exceptions().len()
+}
+
+// No answer in any place at hand.
+fn no_answers(alloc: Global) -> Result<Vec<Option<(Comparison, bool)>>, OutOfMemory>
+    ensures { IfOk result (λ places. All (λ o. o ≡ None) places.items) }
+{
+    let mut places = Vec::with_capacity(alloc, AT_HAND)?;
+    'places: for _ in 0..AT_HAND {
+        places.push(None)?;
+    }
+    Ok(places)
+}
+
+// The answer in a place at hand, if it is that of the comparison.
+fn found_at(
+    places: &[Option<(Comparison, bool)>],
+    place: usize,
+    comparison: Comparison,
+) -> Option<bool>
+    ensures { IfSome result (λ answer. Contains places.now (Some (comparison, answer))) }
+{
+    match *places.get(place)? {
+        Some((latest, answer)) if latest == comparison => Some(answer),
+        _ => None,
+    }
+}
+
+// Keeps an answer in a place at hand, in place of the one there.
+fn keep_at(places: &mut Vec<Option<(Comparison, bool)>>, place: usize, latest: (Comparison, bool))
+    ensures { places.new.items ≡ slice_set places.old.items place (Some latest) }
+{
+    if place < places.len() {
+        places[place] = Some(latest);
     }
 }
 

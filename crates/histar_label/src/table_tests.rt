@@ -201,6 +201,15 @@ fn labels_stay_without_memory(rt: HostRuntime) -> Result<(), Fail> {
     Ok(())
 }
 
+/// This level at 13 categories, and 1 elsewhere.
+fn at_many(alloc: Global, level: Level) -> Result<Label, OutOfMemory> {
+    let mut label = Label::new(alloc, Level::L1);
+    for number in 100..113 {
+        label.set(Category::new(number), level)?;
+    }
+    Ok(label)
+}
+
 /// Each comparison has its own answer, whichever was made before it.
 fn answers_in_turn<S: LabelStore>(
     rt: &impl Abort,
@@ -222,6 +231,13 @@ fn answers_in_turn<S: LabelStore>(
     assert!(rt; answer);
     let answer = store.below(secret, owner);
     assert!(rt; !answer);
+    let long = store.put(at_many(alloc, Level::L3)?)?;
+    let answer = store.below(open, long);
+    assert!(rt; answer);
+    let answer = store.below(long, open);
+    assert!(rt; !answer);
+    let answer = store.below(long, long);
+    assert!(rt; answer);
     Ok(())
 }
 

@@ -1,3 +1,4 @@
 pub mod LinkLemmas
 pub mod Changes
 pub mod Placing
+pub mod Numbering

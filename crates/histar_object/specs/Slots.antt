@@ -1,5 +1,6 @@
 -- How a table places its objects: each number has a slot, and each slot an object or none.
-use Rattle.std.specs.Prelude.{◌≡◌, ℕ, nat_eq, List, [], ◌∷◌, Option, None, Some, IsSome}
+use Rattle.std.specs.Prelude.{◌≡◌, ℕ, nat_eq, List, [], ◌∷◌, Option, None, Some, IsSome, slice_get, refl, suc}
+use Rattle.std.specs.Coded.{Coded, code_by, coded×, coded_ℕ, coded_list}
 use Rattle.std.specs.List.{IsDistinct}
 use Rattle.std.specs.Map.{keys_of, lookup}
 
@@ -20,3 +21,30 @@ module _ {X : Type 0} where
     pub stands : (q k : ℕ) → lookup (nat_eq q) slots ≡ Some k → IsSome (at k)
     pub apart : (p q k : ℕ) → lookup (nat_eq p) slots ≡ Some k → lookup (nat_eq q) slots ≡ Some k → p ≡ q
     pub named : (k : ℕ) → IsSome (at k) → (q : ℕ) × (lookup (nat_eq q) slots ≡ Some k)
+
+-- the slots of numbers: each number that has one, with its slot, and for how many more there is room
+pub record SlotsModel : Type 0 where
+  pub entries : List (ℕ × ℕ)
+  pub room : ℕ
+
+abbrev pub coded_slots : Coded SlotsModel
+coded_slots = code_by (List (ℕ × ℕ) × ℕ) (coded× (coded_list (coded× coded_ℕ coded_ℕ)) coded_ℕ) (λ s. (s.entries, s.room)) (λ p. record { entries = p.0; room = p.1 }) (λ _. refl)
+
+-- the numbers from n on with their slots, those without one left out
+abbrev pub numbered : ℕ → List (Option ℕ) → List (ℕ × ℕ)
+numbered n [] = []
+numbered n (slot ∷ slots) = place n slot (numbered (suc n) slots)
+
+-- what is there, where something is
+abbrev pub flat : Option (Option ℕ) → Option ℕ
+flat None = None
+flat (Some slot) = slot
+
+-- the slot in the place of a number
+abbrev pub in_place : List (Option ℕ) → ℕ → Option ℕ
+in_place slots q = flat (slice_get slots q)
+
+-- no number of the map is there twice, and none that has a slot in its place of the list is in the map too
+pub record AreApart (listed : List (Option ℕ)) (others : List (ℕ × ℕ)) : Type 0 where
+  pub once : IsDistinct nat_eq (keys_of others)
+  pub apart : (q k : ℕ) → in_place listed q ≡ Some k → lookup (nat_eq q) others ≡ None

@@ -4,6 +4,7 @@
 mod ids;
 mod links;
 mod objects;
+mod slot_map;
 mod table;
 
 pub use ids::ObjId;

@@ -5,24 +5,23 @@ ghost use Rattle.histar_object.specs.Objects.{objects_of, slot_of, HasRoom, put,
 
 use crate::ids::ObjId;
 use crate::objects::{Kind, Object};
+use crate::slot_map::SlotMap;
 use slab::Slab;
 use std::alloc::{AllocError, Global};
-use std::collections::HashMap;
 use std::marker::Model;
 
 /// Objects by number. `L` is what stands for a label.
 ///
-/// Each object has a slot, and a map has the slot of each number. A slot is used again once its
-/// object is taken out; numbers are the caller's, who gives none again.
+/// Each object has a slot. A slot is used again once its object is taken out; numbers are the
+/// caller's, who gives none again. Numbers that come in order are looked up fastest.
 #[derive(Drop)]
 pub struct Table<L> {
-    slots: HashMap<ObjId, usize>,
+    slots: SlotMap,
     objects: Slab<Object<L>>,
 }
 
 impl<L> Model for Table<L> {
     ghost use Rattle.std.specs.Prelude.{◌-◌, min};
-    ghost use Rattle.std.specs.HashMap.{spare};
     ghost use Rattle.slab.specs.Slab.{get, slab_len};
     ghost use Rattle.histar_object.specs.Objects.{TableModel};
     ghost use Rattle.histar_object.specs.Codes.{coded_table};
@@ -35,7 +34,7 @@ impl<L> Model for Table<L> {
     ghost view = { λ t. record {
       objects = placed (get t.objects) t.slots.entries;
       slots = t.slots.entries;
-      room = min (spare t.slots) (t.objects.capacity - slab_len t.objects);
+      room = min t.slots.room (t.objects.capacity - slab_len t.objects);
     } };
 
     ghost invariant = { λ t. IsPlaced (get t.objects) t.slots.entries };
@@ -50,7 +49,7 @@ impl<L> Table<L> {
         ensures { objects_of result ≡ no_objects }
     {
         Table {
-            slots: HashMap::new(alloc),
+            slots: SlotMap::new(alloc),
             objects: Slab::new(alloc),
         }
     }
@@ -60,14 +59,14 @@ impl<L> Table<L> {
     pub fn slot(&self, id: ObjId) -> Option<usize>
         ensures { result ≡ slot_of self.now id }
     {
-        self.slots.get(&id).copied()
+        self.slots.get(id)
     }
 
     /// The object of this number.
     pub fn get(&self, id: ObjId) -> Option<&Object<L>>
         ensures { option_copied result ≡ objects_of self.now id }
     {
-        let slot = *self.slots.get(&id)?;
+        let slot = self.slots.get(id)?;
         self.objects.get(slot)
     }
 
@@ -76,7 +75,7 @@ impl<L> Table<L> {
         ensures* writes_back { sem 𝓛 (LendsObject L.row self.entry id result) }
         ensures value { option_copied_mut result ≡ objects_of self.old id }
     {
-        let slot = *self.slots.get(&id)?;
+        let slot = self.slots.get(id)?;
         self.objects.get_mut(slot)
     }
 
@@ -88,7 +87,7 @@ impl<L> Table<L> {
         ensures slots { slot_of self.new ≡ slot_of self.old }
     {
         self.objects.reserve(1)?;
-        self.slots.reserve(1)
+        self.slots.reserve()
     }
 
     /// Keeps an object under a number that has none. There is room for it, so it needs no memory.
@@ -99,9 +98,7 @@ impl<L> Table<L> {
         ensures slots { (q : ℕ) → q ≢ id → slot_of self.new q ≡ slot_of self.old q }
     {
         let slot = self.objects.insert_reserved(object);
-        let Ok(_) = self.slots.insert(id, slot) else {
-            unreachable!()
-        };
+        self.slots.insert_reserved(id, slot);
     }
 
     /// Keeps an object under a number that has none. Where memory runs out the object is dropped.
@@ -124,7 +121,7 @@ impl<L> Table<L> {
         ensures without { objects_of self.new ≡ without (objects_of self.old) id }
         ensures slots { (q : ℕ) → q ≢ id → slot_of self.new q ≡ slot_of self.old q }
     {
-        let slot = self.slots.remove(&id)?;
+        let slot = self.slots.remove(id)?;
         self.objects.try_remove(slot)
     }
 

@@ -2,7 +2,6 @@
 //! copied, so memory may run out.
 ghost use Rattle.std.specs.Prelude.{◌≡◌, ◌++◌, Some, IfOk};
 ghost use Rattle.std.specs.Option.{option_copied};
-ghost use Rattle.histar_flat.specs.Words.{path_of};
 ghost use Rattle.histar_script.specs.CallForms.{a_path, a_mode, any_bytes, a_name, a_password, writing_calls, reading_calls, entry_calls, process_calls};
 ghost use Rattle.histar_script.specs.Reading.{user_of, two_values_of, lone_call_of, call_among, call_of, words_item, item_of};
 
@@ -11,8 +10,8 @@ use crate::items::Item;
 use crate::lines::{is_plain, split_word};
 use histar_base::Bytes;
 use histar_flat::{
-    Mode, Name, OwnedPath, Password, UnixCall, User, read_mode, read_name, read_password,
-    read_path, read_process, read_status, read_user_name,
+    Mode, Name, OwnedPath, Password, UnixCall, User, read_mode, read_name, read_owned_path,
+    read_password, read_process, read_status, read_user_name,
 };
 use std::alloc::{AllocError, Global};
 
@@ -25,17 +24,6 @@ fn read_user(text: &[u8]) -> Option<User>
     let name = read_user_name(word)?;
     let password = read_password(rest?)?;
     Some(User { name, password })
-}
-
-/// Reads a path, as a call owns it.
-fn read_owned_path(alloc: Global, text: &[u8]) -> Result<Option<OwnedPath>, AllocError>
-    ensures { IfOk result (λ path. path ≡ path_of text.now) }
-{
-    let Some(path) = read_path(text) else {
-        return Ok(None);
-    };
-    let path = OwnedPath::of(alloc, &path)?;
-    Ok(Some(path))
 }
 
 /// Reads `PATH MODE`.

@@ -52,10 +52,16 @@ pub fn is_plain(line: &[u8]) -> bool
     line.len() <= MOST_LINE_BYTES && has_plain_bytes(line)
 }
 
+// Whether all bytes are printable. It goes on behind one that isn't, which is rare, so that many bytes are
+// looked at at once.
 fn has_plain_bytes(line: &[u8]) -> bool
     ensures { result ≡ list_all plain_byte line.now }
 {
-    line.iter().all(|b| is_plain_byte(*b))
+    let mut are_plain = true;
+    for b in line {
+        are_plain &= is_plain_byte(*b);
+    }
+    are_plain
 }
 
 fn is_plain_byte(b: u8) -> bool

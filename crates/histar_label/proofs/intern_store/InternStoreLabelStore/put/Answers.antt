@@ -2,6 +2,7 @@ use Rattle.std.proofs.Common.{◌≡◌, true, Some, Ok, refl, sym, ap, ◌∙�
 use mathlib.Core.Bool.{false≢true}
 use Rattle.std.specs.List.{slice_get}
 use Rattle.std.proofs.lemmas.Option.{IfSome_then}
+use Rattle.std.proofs.lemmas.List.Elements.{All-weaker}
 use Rattle.histar_label.specs.Levels.{Levels}
 use Rattle.histar_label.specs.Same.{is_same, same_label, own_label}
 use Rattle.histar_label.proofs.Interned.{Keeps-insert_key, IsRight-insert_key, HasOneId-distinct, found_by_id}
@@ -19,7 +20,7 @@ pub invariant_of-self-2 : goal.invariant_of-self-2
 invariant_of-self-2 c = record {
   one_id = HasOneId-distinct is_same own c.insert_full.new.self.keys c.in_ok-place.ensures.unique;
   right = λ e there. rw c.in_ok-place.ensures.keys (IsRight-insert_key is_same c.self.inside.labels.keys c.args.label e.0 e.1 (c.self.invariant.right e there));
-  latest_is_right = rw c.in_ok-place.ensures.keys (IfSome_then c.self.inside.latest c.self.invariant.latest_is_right (λ e. IsRight-insert_key is_same c.self.inside.labels.keys c.args.label e.0 e.1));
+  right_at_hand = rw c.in_ok-place.ensures.keys (All-weaker _ _ (λ o was. IfSome_then o was (λ e. IsRight-insert_key is_same c.self.inside.labels.keys c.args.label e.0 e.1)) c.self.inside.at_hand.items c.self.invariant.right_at_hand);
 }
 
 pub returns-clause-stands : goal.returns-clause-stands

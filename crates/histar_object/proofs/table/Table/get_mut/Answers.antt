@@ -1,6 +1,5 @@
 use Rattle.std.proofs.Common.{◌≡◌, None, Some, refl, sym, ap, ◌∙◌}
 use Rattle.std.specs.Prelude.{Option, OnSome, ◌-◌, min}
-use Rattle.std.specs.HashMap.{spare}
 use Rattle.std.specs.Option.{option_copied}
 use Rattle.slab.specs.Slab.{get, with_value}
 use Rattle.slab.proofs.SlabLemmas.{Updates-with_value}
@@ -15,7 +14,7 @@ on_some (Some x) holds = holds
 pub returns-in_err-slot : goal.returns-in_err-slot
 returns-in_err-slot g c =
     let slots = c.self.inside.slots.entries in
-    let none : slot_at slots c.args.id ≡ None = sym c.get.ensures.value ∙ ap option_copied c.in_err-slot.was in
+    let none : slot_at slots c.args.id ≡ None = sym c.get.ensures ∙ c.in_err-slot.was in
     rw c.from_residual.ensures (
       (refl, λ w. tt, c.self.view_is),
       record { writes_back = tt; value = rw (← c.self.view_is) (sym (none_at (get c.self.inside.objects) slots c.self.invariant c.args.id none)) },
@@ -25,8 +24,8 @@ pub invariant_of-self-lent : goal.invariant_of-self-lent
 invariant_of-self-lent g c lent =
     let old = get c.self.inside.objects in
     let slots = c.self.inside.slots.entries in
-    let slot = c.in_ok-slot.field-0.now in
-    let here : slot_at slots c.args.id ≡ Some slot = sym c.get.ensures.value ∙ ap option_copied c.in_ok-slot.was in (
+    let slot = c.in_ok-slot.slot in
+    let here : slot_at slots c.args.id ≡ Some slot = sym c.get.ensures ∙ c.in_ok-slot.was in (
       λ w. (let updates = Updates-with_value c.self.inside.objects slot w (c.self.invariant.stands c.args.id slot here) in
           let new = get (with_value c.self.inside.objects slot w) in
           let one = written old new slots c.self.invariant c.args.id slot w here updates.changed updates.others in
@@ -38,8 +37,8 @@ pub returns : goal.returns
 returns g c =
     let old = get c.self.inside.objects in
     let slots = c.self.inside.slots.entries in
-    let slot = c.in_ok-slot.field-0.now in
-    let here : slot_at slots c.args.id ≡ Some slot = sym c.get.ensures.value ∙ ap option_copied c.in_ok-slot.was in (
+    let slot = c.in_ok-slot.slot in
+    let here : slot_at slots c.args.id ≡ Some slot = sym c.get.ensures ∙ c.in_ok-slot.was in (
       (
         refl,
         λ w. (let updates = Updates-with_value c.self.inside.objects slot w (c.self.invariant.stands c.args.id slot here) in
@@ -50,7 +49,7 @@ returns g c =
             on_some c.get_mut.result (rw (← c.self.view_is) (record {
               objects = objects;
               slots = λ i q. slot_at slots q;
-              room = ap (λ n. min (spare c.self.inside.slots) (c.self.inside.objects.capacity - n)) held;
+              room = ap (λ n. min c.self.inside.slots.room (c.self.inside.objects.capacity - n)) held;
             }))),
         c.self.view_is,
       ),

@@ -23,8 +23,8 @@ invariant_of-self-2 g c =
     let slot = c.in_ok-slot.slot in
     let here : slot_at slots c.args.id ≡ Some slot = sym c.remove.ensures.value ∙ c.in_ok-slot.was in
     let updates = c.try_remove.ensures.updates in
-    let one = removed old new slots c.self.invariant c.args.id slot c.remove.new.self.entries here c.remove.ensures.updates.0 updates.changed updates.others in
-    IsPlaced-changed old new slots c.remove.new.self.entries c.args.id slot None None one c.self.invariant c.remove.ensures.unique
+    let one = removed old new slots c.self.invariant c.args.id slot c.remove.new.self.entries here c.remove.ensures.updates updates.changed updates.others in
+    IsPlaced-changed old new slots c.remove.new.self.entries c.args.id slot None None one c.self.invariant c.remove.ensures.once
 
 pub returns-clause-value : goal.returns-clause-value
 returns-clause-value g c =
@@ -40,9 +40,9 @@ returns-clause-without g c =
     let slot = c.in_ok-slot.slot in
     let here : slot_at slots c.args.id ≡ Some slot = sym c.remove.ensures.value ∙ c.in_ok-slot.was in
     let updates = c.try_remove.ensures.updates in
-    let one = removed old new slots c.self.invariant c.args.id slot c.remove.new.self.entries here c.remove.ensures.updates.0 updates.changed updates.others in
-    rw (← c.self.view_is) (objects-changed old new slots c.remove.new.self.entries c.args.id slot None None one c.self.invariant c.remove.ensures.unique)
+    let one = removed old new slots c.self.invariant c.args.id slot c.remove.new.self.entries here c.remove.ensures.updates updates.changed updates.others in
+    rw (← c.self.view_is) (objects-changed old new slots c.remove.new.self.entries c.args.id slot None None one c.self.invariant c.remove.ensures.once)
 
 pub returns-clause-slots : goal.returns-clause-slots
 returns-clause-slots g c =
-    rw (← c.self.view_is) (other_slots c.self.inside.slots.entries c.remove.new.self.entries c.args.id None c.remove.ensures.updates.0)
+    rw (← c.self.view_is) (other_slots c.self.inside.slots.entries c.remove.new.self.entries c.args.id None c.remove.ensures.updates)

@@ -12,13 +12,13 @@ pub invariant_of-self-2 : goal.invariant_of-self-2
 invariant_of-self-2 g c =
     let slots = c.self.inside.slots.entries in
     IsPlaced-reordered (get c.self.inside.objects) (get c.reserve.new.self) slots c.reserve-2.new.self.entries c.self.invariant
-    (ap get c.reserve.ensures.rest_kept) c.reserve-2.ensures.entries.2 c.reserve-2.ensures.unique
+    (ap get c.reserve.ensures.rest_kept) c.reserve-2.ensures.slots c.reserve-2.ensures.once
 
 pub returns-clause-objects : goal.returns-clause-objects
 returns-clause-objects g c =
     let slots = c.self.inside.slots.entries in
     rw (← c.self.view_is) (objects-reordered (get c.self.inside.objects) (get c.reserve.new.self) slots c.reserve-2.new.self.entries c.self.invariant
-    (ap get c.reserve.ensures.rest_kept) c.reserve-2.ensures.entries.2 c.reserve-2.ensures.unique)
+    (ap get c.reserve.ensures.rest_kept) c.reserve-2.ensures.slots c.reserve-2.ensures.once)
 
 pub returns-clause-slots : goal.returns-clause-slots
-returns-clause-slots g c = rw (← c.self.view_is) (λ i q. c.reserve-2.ensures.entries.2 q i)
+returns-clause-slots g c = rw (← c.self.view_is) (λ i q. c.reserve-2.ensures.slots q i)

@@ -1,5 +1,4 @@
-use Rattle.std.proofs.Common.{◌∙◌}
 use Rattle.histar_object.proofs.table.Table.slot.Goals as goal
 
 pub returns : goal.returns
-returns g c = rw (← c.self.view_is) (c.copied.ensures ∙ c.get.ensures.value)
+returns g c = rw (← c.self.view_is) c.get.ensures

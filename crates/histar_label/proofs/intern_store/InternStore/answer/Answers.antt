@@ -1,0 +1,34 @@
+use Rattle.std.proofs.Common.{◌≡◌, Some, sym, ◌∙◌, arith}
+use Rattle.std.specs.Prelude.{IfSome}
+use Rattle.std.proofs.lemmas.Bool.Decides.{nat_tests}
+use Rattle.std.proofs.lemmas.List.Elements.{All-contains, All-set}
+use Rattle.std.specs.List.{slice_get}
+use Rattle.histar_label.specs.Store.{label_at}
+use Rattle.histar_label.specs.InternStore.{IsRight}
+use Rattle.histar_label.proofs.Interned.{is_within-refl}
+use Rattle.histar_label.proofs.intern_store.InternStore.answer.Goals as goal
+
+pub returns-then-eq-clause-answer : goal.returns-then-eq-clause-answer
+returns-then-eq-clause-answer c =
+    let same : c.args.comparison.lower ≡ c.args.comparison.upper = grind (arith, nat_tests, c.eq.ensures, c.if-eq.ensures) in
+    sym (rw same (is_within-refl (label_at (slice_get c.args.self.now) c.args.comparison.upper) c.args.comparison.reading))
+
+pub returns-in-Some-clause-answer : goal.returns-in-Some-clause-answer
+returns-in-Some-clause-answer c =
+    let there = rw c.deref.ensures.value at c.in-Some.ensures in
+    let right = All-contains (λ o. IfSome o (λ e. IsRight c.self.inside.labels.keys e.0 e.1)) c.self.inside.at_hand.items (Some (c.args.comparison, c.in-Some.answer)) c.self.invariant.right_at_hand there in
+    rw (← c.self.view_is) right.right
+
+pub invariant_of-self : goal.invariant_of-self
+invariant_of-self c =
+    let labels = c.self-2.inside.labels.keys in
+    let same : labels ≡ c.args.self.now = c.self-2.view_is ∙ c.compare_or_recall-answer.ensures.unchanged in
+    record {
+      one_id = c.self-2.invariant.one_id;
+      right = c.self-2.invariant.right;
+      right_at_hand = rw c.keep_at.ensures (
+          All-set (λ o. IfSome o (λ e. IsRight labels e.0 e.1)) c.self-2.inside.at_hand.items c.place-place.result (Some (c.args.comparison, c.compare_or_recall-answer.result))
+          (rw same (record { lower_stands = c.requires.lower_stands; upper_stands = c.requires.upper_stands; right = c.compare_or_recall-answer.ensures.answer }))
+          c.self-2.invariant.right_at_hand
+          );
+    }

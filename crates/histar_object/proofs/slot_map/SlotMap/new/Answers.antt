@@ -1,0 +1,14 @@
+use Rattle.std.proofs.Common.{◌++◌, ap}
+use Rattle.std.specs.List.{IsDistinct}
+use Rattle.histar_object.specs.Slots.{numbered}
+use Rattle.histar_object.proofs.Numbering.{distinct_in_both}
+use Rattle.histar_object.proofs.slot_map.SlotMap.new.Goals as goal
+
+pub invariant_of-result : goal.invariant_of-result
+invariant_of-result c = rw c.new.ensures.items (record { once = c.new-2.ensures.unique; apart = λ q k told. absurd (cc) })
+
+pub returns-clause-empty : goal.returns-clause-empty
+returns-clause-empty c i = numbered 0 (c.new.ensures.items i) ++ c.new-2.ensures.empty i
+
+pub returns-clause-once : goal.returns-clause-once
+returns-clause-once c = distinct_in_both c.new.result.items c.new-2.result.entries (invariant_of-result c)
