@@ -211,15 +211,15 @@ module _ (m : MachineModel) (q : Path) (me : ProcName) where
     unfolding FindsSpot
     spot_rights spot reached session f shows = by (get f.files q) refl (flat_states_are_resolved session s f shows.lays_out q)
       where
-        as : FoundAs session s f shows.lays_out.laid me start
-        as = found_as session s f shows.lays_out.laid me start (ap (λ (p : Places). visitor_at s p me) (sym shows.places) ∙ found)
+        found_so : FoundAs session s f shows.lays_out.laid me start
+        found_so = found_as session s f shows.lays_out.laid me start (ap (λ (p : Places). visitor_at s p me) (sym shows.places) ∙ found)
 
         abbrev v : Visitor session s f shows.lays_out.laid
-        v = as.visitor
+        v = found_so.visitor
 
         led : Reaches s (places session s) (start_cell session s f shows.lays_out.laid v) q spot
         led = subst (λ (p : Places). Reaches s p (start_cell session s f shows.lays_out.laid v) q spot) shows.places
-            (subst (λ (c : Cell). Reaches s m.places c q spot) (sym as.cell) reached)
+            (subst (λ (c : Cell). Reaches s m.places c q spot) (sym found_so.cell) reached)
 
         by : (o : Option Node) → get f.files q ≡ o → MatchOption o (LeadsNowhere s (places session s) q) (LeadsToNode s (places session s) q)
             → spot.cell.rights ≡ rights_if session f q me (get f.files q) (running f me)
@@ -229,4 +229,4 @@ module _ (m : MachineModel) (q : Path) (me : ProcName) where
             let there = rights_reached session s f shows.lays_out.laid (few_bytes f shows.small) (is_session session shows.declared) v q spot led node e in
             let runs = runs_there session s f shows.lays_out.laid v.name v.process v.runs.0 v.runs.1 in
             ap (λ (c : Cell). c.rights) there ∙ (λ i. rights_if session f q v.name (sym e i) (sym runs i))
-            ∙ ap (λ (n : ProcName). rights_if session f q n (get f.files q) (running f n)) as.name
+            ∙ ap (λ (n : ProcName). rights_if session f q n (get f.files q) (running f n)) found_so.name

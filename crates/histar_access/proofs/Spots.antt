@@ -43,7 +43,7 @@ module _ (s : State) (above : Target) (name : Name) (container listing : ℕ) (i
 
   -- the entry of a directory
   pub entry_found : (found : Option Target) → IsLookedUp bytes name (Ok found) → FindsEntry s above name found
-  entry_found None looked target lists =
+  entry_found None looked = λ target lists.
       let here = in_segment target lists in
       let same = same_directory bytes looked.0 here.0 looked.1 here.1 in
       none-some target (looked.2 ∙ ap (λ (dir : Entries). map.get dir name) same ∙ here.2)

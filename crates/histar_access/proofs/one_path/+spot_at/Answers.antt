@@ -15,11 +15,11 @@ returns-in_err-directory g t c =
 pub returns-in_err-target : goal.returns-in_err-target
 returns-in_err-target g t c =
     nowhere_listed (state c.args.kernel.now) c.args.places.now c.args.visitor.now c.args.names.now c.name-item.result c.in-len1-up.len_at_least
-    c.name-item.is c.in_ok-directory.field-0 c.in_ok-directory.ensures c.in_err-target.ensures c.from_residual-in_err-target.result
+    c.name-item.is c.in_ok-directory.directory c.in_ok-directory.ensures c.in_err-target.ensures c.from_residual-in_err-target.result
     c.from_residual-in_err-target.ensures
 
 pub returns : goal.returns
 returns g t c =
     spot_found (state c.args.kernel.now) c.args.places.now c.args.visitor.now c.args.names.now c.name-item.result c.in-len1-up.len_at_least
-    c.name-item.is c.in_ok-directory.field-0 c.in_ok-directory.ensures c.in_ok-target.field-0 c.in_ok-target.ensures c.spot_below-2.result
+    c.name-item.is c.in_ok-directory.directory c.in_ok-directory.ensures c.in_ok-target.field-0 c.in_ok-target.ensures c.spot_below-2.result
     c.spot_below-2.ensures

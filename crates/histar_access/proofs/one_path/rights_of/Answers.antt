@@ -7,6 +7,3 @@ returns-in_default g c = ?
 
 pub returns-in-Some : goal.returns-in-Some
 returns-in-Some g c = ?
-
-pub returns-in-None : goal.returns-in-None
-returns-in-None g c = ?
