@@ -1,19 +1,19 @@
 -- The rights that are found on the way to a path are those of the flat state that is laid out.
-use Rattle.std.specs.Prelude.{◌≡◌, ℕ, true, is_some, List, [], ◌∷◌, length, Option, None, Some, MatchOption, option_and_then, option_map, refl}
+use Rattle.std.specs.Prelude.{◌≡◌, ℕ, false, is_some, [], ◌∷◌, length, Option, None, Some, MatchOption, option_and_then, option_map, refl}
 use Rattle.std.proofs.Common.{ap, inl, sym, ◌∙◌, subst}
 use Rattle.std.proofs.lemmas.Bool.{true≢false}
 use Rattle.std.proofs.lemmas.Option.{none-some, same_Some}
 use Rattle.std.specs.FinMap as map
-use Rattle.histar_flat.specs.Words.{Name, Path, ProcName}
+use Rattle.histar_flat.specs.Words.{Path, ProcName}
 use Rattle.histar_flat.specs.Sessions.{Session}
 use Rattle.histar_flat.specs.Files.{get}
 use Rattle.histar_flat.specs.Classes.{Class, Process}
-use Rattle.histar_flat.specs.FlatState.{Content, Flat, Node, is_dir, is_dir_at, is_some_and}
+use Rattle.histar_flat.specs.FlatState.{Content, Flat, Node, is_dir, is_some_and}
 use Rattle.histar_flat.specs.FlatState.Content.{Dir, File}
 use Rattle.histar_flat.specs.FlatCalls.{running}
 use Rattle.histar_object.specs.Objects.{bytes_in}
 use Rattle.histar_object.specs.State.{State}
-use Rattle.histar_syscall.specs.KernelModel.{state}
+use Rattle.histar_syscall.specs.KernelModel.{KernelModel, state}
 use Rattle.histar_layout.specs.Directory.{Entries}
 use Rattle.histar_layout.specs.Listing.{object_of}
 use Rattle.histar_layout.specs.declared.entry.Target.{Target}
@@ -42,11 +42,10 @@ use Rattle.histar_rights.proofs.Giving.{directories_give_rights}
 use Rattle.histar_diff.specs.Shown.{rights_if}
 use Rattle.histar_diff.specs.Tables.{no_rights}
 use Rattle.histar_tree.specs.Laws.{LeadsToNode}
-use Rattle.histar_tree.specs.Resolve.{LeadsNowhere, LeadsTo}
+use Rattle.histar_tree.specs.Resolve.{LeadsNowhere}
 use Rattle.histar_tree.proofs.PathsLaid.{flat_states_are_resolved}
 use Rattle.histar_tree.proofs.TreeLaid.{led_to_directory, led_to_file}
 use Rattle.histar_shell.specs.Machine.{MachineModel}
-use Rattle.histar_shell.specs.Meaning.{Shows}
 use Rattle.histar_shell.proofs.Users.{is_session}
 use Rattle.histar_access.specs.declared.cells.Cell.{Cell}
 use Rattle.histar_access.specs.declared.one_path.Spot.{Spot}
@@ -66,15 +65,17 @@ module _ (session : Session) (s : State) where
   directory_reached start [] spot is c g at =
       let slash = sym at ∙ ap (λ (x : Spot). x.target) is in
       (ap container_in slash, ap listing_in slash)
-  directory_reached start (n ∷ d) spot is c g at = by is.0.target refl is.3
+  directory_reached start (n ∷ d) spot is c g at = by is.0.target refl is.3 (directory_reached start d is.0 is.2)
     where
-      by : (above : Target) → is.0.target ≡ above → Lists s above n is.1 → IsDirectoryAt session s (n ∷ d) c g
-      by (targets.File file) same lists = absurd lists
-      by (targets.Directory container listing) same lists = (
+      by : (above : Target) → is.0.target ≡ above → Lists s above n is.1
+          → ((container listing : ℕ) → is.0.target ≡ targets.Directory container listing → IsDirectoryAt session s d container listing)
+          → IsDirectoryAt session s (n ∷ d) c g
+      by (targets.File file) same lists there = absurd lists
+      by (targets.Directory container listing) same lists there = (
         container,
         listing,
         lists.0,
-        directory_reached start d is.0 is.2 container listing same,
+        there container listing same,
         lists.1,
         lists.2 ∙ ap (λ (t : Target). Some t) (sym (ap (λ (x : Spot). x.target) is.4) ∙ at),
       )
@@ -128,16 +129,18 @@ module _ (session : Session) (s : State) where
           → spot.cell ≡ cell (rights_at session f v.name v.process q node)
       rights_reached [] spot is node at =
           ap (λ (x : Spot). x.cell) is ∙ given_there [] node at places.slash.container (l.as_booted (Slash ∷ []) _ refl)
-      rights_reached (n ∷ d) spot is node at = by (get f.files d) refl
+      rights_reached (n ∷ d) spot is node at = by (get f.files d) refl (rights_reached d is.0 is.2)
         where
           numbered : l.naming.number (address_of (n ∷ d)) ≡ Some (object_of is.1)
           numbered = number_reached (start_cell session s f l v) (n ∷ d) spot is node at ∙ ap (λ (x : Spot). Some (object_of x.target)) is.4
 
-          by : (o : Option Node) → get f.files d ≡ o → spot.cell ≡ cell (rights_at session f v.name v.process (n ∷ d) node)
-          by None e = absurd (true≢false (sym (parent_is_dir session s f l n d node at) ∙ ap (λ (o : Option Node). is_some_and o is_dir) e))
-          by (Some above) e =
+          by : (o : Option Node) → get f.files d ≡ o
+              → ((above : Node) → get f.files d ≡ Some above → is.0.cell ≡ cell (rights_at session f v.name v.process d above))
+              → spot.cell ≡ cell (rights_at session f v.name v.process (n ∷ d) node)
+          by None e given = absurd (true≢false (sym (parent_is_dir session s f l n d node at) ∙ ap (λ (o : Option Node). is_some_and o is_dir) e))
+          by (Some above) e given =
               let from : is.0.cell ≡ cell (rights_above session f v.name v.process (n ∷ d)) =
-              rights_reached d is.0 is.2 above e ∙ ap (λ (o : Option Node). cell (rights_or session f v.name v.process d o)) (sym e) in
+              given above e ∙ ap (λ (o : Option Node). cell (rights_or session f v.name v.process d o)) (sym e) in
               ap (λ (x : Spot). x.cell) is.4 ∙ ap (cell_below s (object_of is.1)) from ∙ given_there (n ∷ d) node at (object_of is.1) numbered
 
     -- the process of a name that is found to run
@@ -160,6 +163,12 @@ module _ (session : Session) (s : State) where
             }
 
 -- ---- of a machine
+
+-- what was found in a machine's own kernel
+pub found_there : (m : MachineModel) (q : Path) (kernel : KernelModel) (at : Places) (names : Path) (start : Cell) (found : Option Spot)
+    → kernel ≡ m.kernel → at ≡ m.places → names ≡ q → FindsSpot (state kernel) at start names found → FindsSpot (state m.kernel) m.places start q found
+found_there m q kernel at names start found same_kernel same_places same_names is =
+    subst (λ (x : KernelModel × Places × Path). FindsSpot (state x.0) x.1 start x.2 found) (λ i. (same_kernel i, same_places i, same_names i)) is
 
 -- where nothing stands there are no rights
 none_there : (session : Session) (f : Flat) (q : Path) (me : ProcName) (process : Option Process) → no_rights ≡ rights_if session f q me None process
@@ -188,7 +197,7 @@ module _ (m : MachineModel) (q : Path) (me : ProcName) where
       same_there None = refl
       same_there (Some caller) = refl
 
-      not_some : (o : Option Process) → is_some o ≡ is_some {A = Cell} None → o ≡ None
+      not_some : (o : Option Process) → is_some o ≡ false → o ≡ None
       not_some None e = refl
       not_some (Some p) e = absurd (true≢false e)
 
@@ -214,19 +223,16 @@ module _ (m : MachineModel) (q : Path) (me : ProcName) where
         found_so : FoundAs session s f shows.lays_out.laid me start
         found_so = found_as session s f shows.lays_out.laid me start (ap (λ (p : Places). visitor_at s p me) (sym shows.places) ∙ found)
 
-        abbrev v : Visitor session s f shows.lays_out.laid
-        v = found_so.visitor
-
-        led : Reaches s (places session s) (start_cell session s f shows.lays_out.laid v) q spot
-        led = subst (λ (p : Places). Reaches s p (start_cell session s f shows.lays_out.laid v) q spot) shows.places
+        led : Reaches s (places session s) (start_cell session s f shows.lays_out.laid found_so.visitor) q spot
+        led = subst (λ (p : Places). Reaches s p (start_cell session s f shows.lays_out.laid found_so.visitor) q spot) shows.places
             (subst (λ (c : Cell). Reaches s m.places c q spot) (sym found_so.cell) reached)
 
         by : (o : Option Node) → get f.files q ≡ o → MatchOption o (LeadsNowhere s (places session s) q) (LeadsToNode s (places session s) q)
             → spot.cell.rights ≡ rights_if session f q me (get f.files q) (running f me)
         by None e none =
-            absurd (none spot.target (leads_there s (places session s) (start_cell session s f shows.lays_out.laid v) q spot led))
+            absurd (none spot.target (leads_there s (places session s) (start_cell session s f shows.lays_out.laid found_so.visitor) q spot led))
         by (Some node) e resolved =
-            let there = rights_reached session s f shows.lays_out.laid (few_bytes f shows.small) (is_session session shows.declared) v q spot led node e in
-            let runs = runs_there session s f shows.lays_out.laid v.name v.process v.runs.0 v.runs.1 in
-            ap (λ (c : Cell). c.rights) there ∙ (λ i. rights_if session f q v.name (sym e i) (sym runs i))
+            let there = rights_reached session s f shows.lays_out.laid (few_bytes f shows.small) (is_session session shows.declared) found_so.visitor q spot led node e in
+            let runs = runs_there session s f shows.lays_out.laid found_so.visitor.name found_so.visitor.process found_so.visitor.runs.0 found_so.visitor.runs.1 in
+            ap (λ (c : Cell). c.rights) there ∙ (λ i. rights_if session f q found_so.visitor.name (sym e i) (sym runs i))
             ∙ ap (λ (n : ProcName). rights_if session f q n (get f.files q) (running f n)) found_so.name

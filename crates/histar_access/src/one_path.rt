@@ -71,11 +71,7 @@ fn spot_below<S: LabelStore + Drop>(kernel: &Kernel<S>, above: &Cell, target: Ta
 }
 
 /// Returns where the entry of this name leads, if what the other leads to lists it.
-fn entry_at<S: LabelStore + Drop>(
-    kernel: &Kernel<S>,
-    above: &Target,
-    name: &Name,
-) -> Option<Target>
+fn entry_at<S: LabelStore + Drop>(kernel: &Kernel<S>, above: &Target, name: &Name) -> Option<Target>
     ensures { FindsEntry (state kernel.now) above.now name.now result }
 {
     let Target::Directory(_, listing) = above else {

@@ -21,5 +21,5 @@ returns-in_err-target g t c =
 pub returns : goal.returns
 returns g t c =
     spot_found (state c.args.kernel.now) c.args.places.now c.args.visitor.now c.args.names.now c.name-item.result c.in-len1-up.len_at_least
-    c.name-item.is c.in_ok-directory.directory c.in_ok-directory.ensures c.in_ok-target.field-0 c.in_ok-target.ensures c.spot_below-2.result
+    c.name-item.is c.in_ok-directory.directory c.in_ok-directory.ensures c.in_ok-target.target c.in_ok-target.ensures c.spot_below-2.result
     c.spot_below-2.ensures
