@@ -7,6 +7,8 @@ pub mod Writing
 pub mod Runners
 pub mod ShownTables
 pub mod RightsLines
+pub mod Spots
+pub mod SpotRights
 pub mod Calling
 pub mod TableLemmas
 pub mod RowLemmas

@@ -53,7 +53,7 @@ use Rattle.histar_access.proofs.Visiting.{start_cell, visitors}
 
 module _ (session : Session) (s : State) (f : Flat) (l : Laid session s f) where
   -- the paths are a tree
-  are_tree : IsTree f
+  pub are_tree : IsTree f
   are_tree = record {
     root = ap (λ (o : Option Node). is_some_and o is_dir) (root_is_dir session s f l).1;
     below = λ n d is. by n d (get f.files (n ∷ d)) refl is;
@@ -104,7 +104,7 @@ module _ (session : Session) (s : State) (f : Flat) (l : Laid session s f) where
         ∙ ap (λ (ps : List Named). map (line_of session f ps) es) named
 
 -- files have few bytes
-few_bytes : (f : Flat)
+pub few_bytes : (f : Flat)
     → ((q : Path) (class : Class) (bytes : List ℕ) → get f.files q ≡ Some
     (record { class = class; content = File bytes }) → length bytes ≤ most_bytes) → HaveFewBytes f
 few_bytes f small q = by (get f.files q) refl

@@ -84,6 +84,10 @@ module _ (session : Session) (s : State) (f : Flat) (l : Laid session s f) where
   cells_are [] = refl
   cells_are (me ∷ names) = one_cell me (caller_at s first me) refl names (visitors names) (filter_map cell_by names) (cells_are names)
 
+  -- a process that has not exited runs
+  pub runs_there : (me : ProcName) (p : Process) → f.processes me ≡ Some p → p.exited ≡ None → running f me ≡ Some p
+  runs_there me p here none = ap if_running here ∙ ap (λ (o : Option ℕ). elim o [ None ↦ Some p | Some n ↦ None ]) none
+
   -- and so are the processes that run
   none_runs : (o : Option Process) → is_some o ≡ false → o ≡ None
   none_runs None e = refl
@@ -97,11 +101,8 @@ module _ (session : Session) (s : State) (f : Flat) (l : Laid session s f) where
       ∙ ap is_some e)) ∙ same
   one_named me (Some caller) e rest ps same =
       let found = (callers_are_found session s f l me caller).0 e in
-      let runs : running f me ≡ Some found.0 = ap if_running found.1.runs.0 ∙ still found.0 found.0.exited refl found.1.runs.1 in
+      let runs = runs_there me found.0 found.1.runs.0 found.1.runs.1 in
       (λ i. cons_option (option_map (λ p. (me, p)) (runs i)) (same i))
-    where
-      still : (p : Process) (x : Option ℕ) → p.exited ≡ x → p.exited ≡ None → if_running (Some p) ≡ Some p
-      still p x e none = ap (λ (o : Option ℕ). elim o [ None ↦ Some p | Some n ↦ None ]) none
 
   pub named_are : (names : List ProcName) → filter_map named_by names ≡ map named_of (visitors names)
   unfolding visitors

@@ -1,6 +1,7 @@
 -- The rights of threads at the paths of a state, by the labels of its objects.
 use Rattle.std.specs.Prelude.{ℕ, List, [], ◌∷◌, ◌++◌, length, map, take, Option, option_map}
 use Rattle.std.specs.List.{filter_map}
+use Rattle.histar_flat.specs.Words.{ProcName}
 use Rattle.histar_object.specs.State.{State, observes, modifies}
 use Rattle.histar_layout.specs.Listing.{object_of}
 use Rattle.histar_calls.specs.declared.places.Places.{Places}
@@ -16,12 +17,16 @@ use Rattle.histar_access.specs.declared.cells.Cell.{Cell}
 use Rattle.histar_access.specs.Rows.{last_or}
 
 -- a process that runs, with the rights that each one has above `/`
-abbrev pub visitor : ProcessNode → Caller → Cell
-visitor node caller = record { process = node.name; thread = caller.thread; rights = above_root }
+abbrev pub visitor : ProcName → Caller → Cell
+visitor me caller = record { process = me; thread = caller.thread; rights = above_root }
+
+-- the process of a name, where it is found to run
+abbrev pub visitor_at : State → Places → ProcName → Option Cell
+visitor_at s places me = option_map (visitor me) (caller_at s places.home me)
 
 -- a process, where it is found to run
 abbrev pub visitor_of : State → Places → ProcessNode → Option Cell
-visitor_of s places node = option_map (visitor node) (caller_at s places.home node.name)
+visitor_of s places node = visitor_at s places node.name
 
 -- those of these processes that run
 abbrev pub visitors_among : State → Places → List ProcessNode → List Cell

@@ -1,6 +1,7 @@
 pub mod Rows
 pub mod Cells
 pub mod Shown
+pub mod OnePath
 pub mod Session
 pub mod RightsTable
 pub mod Diff

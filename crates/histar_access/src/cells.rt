@@ -24,7 +24,7 @@ pub struct Cell {
 
 impl Cell {
     /// Returns the rights of the process at what lies in the directory of this cell.
-    fn below<S: LabelStore + Drop>(&self, kernel: &Kernel<S>, object: ObjId) -> Cell
+    pub(crate) fn below<S: LabelStore + Drop>(&self, kernel: &Kernel<S>, object: ObjId) -> Cell
         ensures { result ≡ cell_below (state kernel.now) object self.now }
     {
         let observes = observes(kernel, self.thread, object);

@@ -6,13 +6,14 @@ ghost use Rattle.histar_devices.specs.Writing.{AppendsFront};
 ghost use Rattle.histar_rights.specs.Table.{access_line_text, access_text};
 ghost use Rattle.histar_script.specs.Runs.{IsOutputFault, is_write_failed};
 ghost use Rattle.histar_syscall.specs.KernelModel.{state};
-ghost use Rattle.histar_access.specs.Cells.{line_of_node, lines_from, visitor_of};
+ghost use Rattle.histar_access.specs.Cells.{line_of_node, lines_from, visitor_at};
 ghost use Rattle.histar_access.specs.Rows.{last_or};
 ghost use Rattle.histar_access.specs.Shown.{AppendsTable, AreProcessesIn, BeginsTable};
 ghost use Rattle.histar_access.specs.Shown.{HasProcesses, IsShown, visitors_in};
 
 use crate::cells::{Cell, push_cells, row_below};
 use histar_devices::{Sink, write_bytes};
+use histar_flat::ProcName;
 use histar_label::LabelStore;
 use histar_process::find_caller;
 use histar_rights::Rights;
@@ -67,20 +68,23 @@ pub(crate) fn visitors_among<S: LabelStore + Drop>(
 {
     let mut visitors = Vec::new(alloc);
     for process in processes {
-        if let Some(visitor) = visitor_of(machine, process) {
+        if let Some(visitor) = visitor_at(machine, &process.name) {
             visitors.push(visitor)?;
         }
     }
     Ok(visitors)
 }
 
-/// Returns a process with its thread, where it runs.
-fn visitor_of<S: LabelStore + Drop>(machine: &Machine<S>, process: &ProcessNode) -> Option<Cell>
-    ensures { result ≡ visitor_of (state machine.now.kernel) machine.now.places process.now }
+/// Returns the process of a name with its thread, where it runs.
+pub(crate) fn visitor_at<S: LabelStore + Drop>(
+    machine: &Machine<S>,
+    process: &ProcName,
+) -> Option<Cell>
+    ensures { result ≡ visitor_at (state machine.now.kernel) machine.now.places process.now }
 {
-    let caller = find_caller(machine.kernel(), machine.places().home, &process.name)?;
+    let caller = find_caller(machine.kernel(), machine.places().home, process)?;
     Some(Cell {
-        process: process.name,
+        process: *process,
         thread: caller.thread,
         rights: Rights::ABOVE_ROOT,
     })

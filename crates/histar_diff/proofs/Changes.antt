@@ -25,7 +25,7 @@ use Rattle.histar_diff.specs.declared.differences.Difference.{Difference}
 use Rattle.histar_diff.specs.Lines.{same_rights}
 use Rattle.histar_diff.specs.Differences.{Pair, by_pair, newer_user, pair_cmp}
 use Rattle.histar_diff.specs.Shown.{ShowsRights, rights_if, rights_of, runner}
-use Rattle.histar_diff.specs.Changes.{AreChanges, AnswersAre, change, user_now}
+use Rattle.histar_diff.specs.Changes.{AreChanges, AnswersAre, IsAnsweredBy, change, user_now}
 use Rattle.histar_diff.specs.Laws.{ChangesAreListed, ChangesAreOneList, DifferencesAreChanges, NobodyIsAnsweredOtherwise}
 use Rattle.histar_diff.proofs.ShownTables.{pair_cmp_exact, pair_cmp_total, same_rights_are, tables_show_rights, without_pairs}
 
@@ -154,6 +154,13 @@ rights_answer session calls me q None (Some p) at runs = refl
 rights_answer session calls me q (Some node) None at runs = refl
 rights_answer session calls me q (Some node) (Some p) at runs = λ number. letters_are_replies session calls me p runs q node at number
 
+-- so are those at a path for a process, whether it runs and something stands there or not
+pub rights_answered : (session : Session) (calls : List CallLine) (me : ProcName) (q : Path)
+    → IsAnsweredBy session calls me q (rights_of session (flat_end session (boot session) calls) q me)
+rights_answered session calls me q =
+    let f = flat_end session (boot session) calls in
+    rights_answer session calls me q (get f.files q) (running f me) refl refl
+
 -- where nothing has changed nobody is answered otherwise
 pub nobody_is_answered_otherwise : NobodyIsAnsweredOtherwise
 nobody_is_answered_otherwise session later calls more none me q =
@@ -161,7 +168,6 @@ nobody_is_answered_otherwise session later calls more none me q =
     let g = flat_end later (boot later) more in
     record {
       letters = rights_of session f q me;
-      before = rights_answer session calls me q (get f.files q) (running f me) refl refl;
-      after = subst (λ (r : Rights). AnswersAre later more me q r (get g.files q) (running g me)) (sym (same_where_none session f later g q me none))
-          (rights_answer later more me q (get g.files q) (running g me) refl refl);
+      before = rights_answered session calls me q;
+      after = subst (IsAnsweredBy later more me q) (sym (same_where_none session f later g q me none)) (rights_answered later more me q);
     }

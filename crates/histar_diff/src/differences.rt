@@ -11,14 +11,6 @@ use histar_flat::{Name, Path, ProcName};
 use histar_rights::Rights;
 use std::alloc::{AllocError, Global};
 
-/// No right, as where a table lacks a path or a process.
-const NO_RIGHTS: Rights = Rights {
-    stat: false,
-    read: false,
-    write: false,
-    remove: false,
-};
-
 /// A path and a process whose rights differ between two tables.
 #[derive(Clone, Copy)]
 pub struct Difference {
@@ -120,9 +112,9 @@ fn rights_at_place(rights: &[Rights], place: Option<usize>) -> Rights
     ensures { result ≡ rights_at_place rights.now place }
 {
     let Some(place) = place else {
-        return NO_RIGHTS;
+        return Rights::NONE;
     };
-    rights.get(place).copied().unwrap_or(NO_RIGHTS)
+    rights.get(place).copied().unwrap_or(Rights::NONE)
 }
 
 #[cfg(test)]
@@ -163,10 +155,10 @@ mod tests {
         let bob = runner(zero.child(2), b"bob".as_slice()).expect(&rt, "a user");
         let carol = runner(zero.child(10), b"carol".as_slice()).expect(&rt, "a user");
         let columns = columns_of(alloc, [root, bob].as_slice(), [root, carol].as_slice())?;
-        let old = [line(alloc, notes, [NO_RIGHTS, READER].as_slice())?];
+        let old = [line(alloc, notes, [Rights::NONE, READER].as_slice())?];
         let new = [
-            line(alloc, letter, [NO_RIGHTS, READER].as_slice())?,
-            line(alloc, notes, [READER, NO_RIGHTS].as_slice())?,
+            line(alloc, letter, [Rights::NONE, READER].as_slice())?,
+            line(alloc, notes, [READER, Rights::NONE].as_slice())?,
         ];
         let listed = lines_differences(alloc, columns.as_slice(), old.as_slice(), new.as_slice())?;
         let mut text = Vec::new(alloc);

@@ -3,3 +3,4 @@ pub mod Giving
 pub mod Answered
 pub mod Named
 pub mod Listed
+pub mod Spelling

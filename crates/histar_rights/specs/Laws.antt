@@ -14,7 +14,7 @@ use Rattle.histar_flat.specs.FlatCalls.{most_bytes, most_entries, refused, runni
 use Rattle.histar_flat.specs.Meaning.{boot, flat_end, meaning}
 use Rattle.histar_rights.specs.declared.rights.Rights.{Rights}
 use Rattle.histar_rights.specs.Running.{HaveShownNames, AreRunning, running_in}
-use Rattle.histar_rights.specs.Rights.{reading_call, may_make_in, above_root, rights_at, rights_below}
+use Rattle.histar_rights.specs.Rights.{reading_call, may_make_in, above_root, rights_at, rights_below, rights_spelled, rights_text}
 
 -- no file has more bytes than a file may have
 abbrev pub HaveFewBytes : Flat → Type 0
@@ -81,3 +81,7 @@ RunningAreListed = (session : Session) (calls : List CallLine) → AreRunning (f
 -- after the calls of a script each process that is there has a name that can be shown
 abbrev pub ProcessesHaveShownNames : Type 0
 ProcessesHaveShownNames = (session : Session) (calls : List CallLine) → HaveShownNames (flat_end session (boot session) calls)
+
+-- a text spells rights exactly where it is their letters
+abbrev pub LettersSpellRights : Type 0
+LettersSpellRights = (text : List ℕ) (r : Rights) → (rights_spelled text ≡ Some r) ↔ (text ≡ rights_text r)

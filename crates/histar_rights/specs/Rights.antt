@@ -1,5 +1,5 @@
 -- The rights of a process at a path, by the calls that are not refused.
-use Rattle.std.specs.Prelude.{ℕ, Bool, true, false, not, ◌&&◌, List, [], ◌++◌, codes, is_some, if◌then◌else◌}
+use Rattle.std.specs.Prelude.{ℕ, Bool, true, false, not, ◌&&◌, ◌==◌, List, [], ◌∷◌, ◌++◌, codes, Option, Some, None, is_some, if◌then◌else◌}
 use Rattle.histar_flat.specs.declared.calls.UnixCall.{UnixCall}
 use Rattle.histar_flat.specs.declared.calls.UnixCall.TheVariants.{Append, Read, List as ListCall, Stat, Rmtree}
 use Rattle.histar_flat.specs.Words.{Path, ProcName}
@@ -57,3 +57,17 @@ letter has text = if has then text else codes "-"
 -- the letters of rights
 abbrev pub rights_text : Rights → List ℕ
 rights_text r = letter r.stat (codes "s") ++ letter r.read (codes "r") ++ letter r.write (codes "w") ++ letter r.remove (codes "d")
+
+-- whether a right is there, by the byte in its place: its letter, or a hyphen
+abbrev pub right_spelled : ℕ → ℕ → Option Bool
+right_spelled letter byte = if byte == letter then Some true else (if byte == 45 then Some false else None)
+
+-- rights, where each of the four is there or is not
+abbrev pub rights_by : Option Bool → Option Bool → Option Bool → Option Bool → Option Rights
+rights_by (Some stat) (Some read) (Some write) (Some remove) = Some (record { stat = stat; read = read; write = write; remove = remove })
+rights_by _ _ _ _ = None
+
+-- the rights that a text spells: `s`, `r`, `w` and `d`, with a hyphen in the place of each one that is not there
+unfoldable pub rights_spelled : List ℕ → Option Rights
+rights_spelled (s ∷ r ∷ w ∷ d ∷ []) = rights_by (right_spelled 115 s) (right_spelled 114 r) (right_spelled 119 w) (right_spelled 100 d)
+rights_spelled _ = None

@@ -5,4 +5,4 @@
 mod rights;
 pub mod rights_laws;
 
-pub use rights::Rights;
+pub use rights::{Rights, read_rights};

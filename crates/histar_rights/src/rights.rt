@@ -1,6 +1,7 @@
 //! Rights.
 ghost use Rattle.std.specs.Prelude.{◌≡◌, ◌++◌, OnOk};
-ghost use Rattle.histar_rights.specs.Rights.{rights_below, rights_text};
+ghost use Rattle.histar_rights.specs.Rights.{right_spelled, rights_below, rights_spelled};
+ghost use Rattle.histar_rights.specs.Rights.{rights_text};
 
 use std::alloc::AllocError;
 
@@ -26,6 +27,14 @@ impl Rights {
         remove: false,
     };
 
+    /// No right, as where nothing is at a path, or a process doesn't run.
+    pub const NONE: Rights = Rights {
+        stat: false,
+        read: false,
+        write: false,
+        remove: false,
+    };
+
     /// Returns the rights at what lies in this directory, by what labels allow.
     pub fn below(self, observes: bool, modifies: bool) -> Rights
         ensures { result ≡ rights_below self observes modifies }
@@ -47,4 +56,33 @@ impl Rights {
         line.extend_from_slice(if self.write { b"w" } else { b"-" })?;
         line.extend_from_slice(if self.remove { b"d" } else { b"-" })
     }
+}
+
+/// Reads the letters of rights, with a hyphen for each one that is not there.
+#[tactic(auto, using(crate::proofs::Spelling::spelled_by_four, crate::proofs::Spelling::not_spelled_below, crate::proofs::Spelling::not_spelled_above))]
+pub fn read_rights(text: &[u8]) -> Option<Rights>
+    ensures { result ≡ rights_spelled text.now }
+{
+    let [stat, read, write, remove] = text else {
+        return None;
+    };
+    Some(Rights {
+        stat: right_spelled(b's', *stat)?,
+        read: right_spelled(b'r', *read)?,
+        write: right_spelled(b'w', *write)?,
+        remove: right_spelled(b'd', *remove)?,
+    })
+}
+
+/// Returns whether a right is there, by its letter or a hyphen in its place.
+fn right_spelled(letter: u8, byte: u8) -> Option<bool>
+    ensures { result ≡ right_spelled letter byte }
+{
+    if byte == letter {
+        return Some(true);
+    }
+    if byte == b'-' {
+        return Some(false);
+    }
+    None
 }

@@ -1,5 +1,6 @@
 //! What rights come to. Each law is the contract of a function that does nothing.
-ghost use Rattle.histar_rights.specs.Laws.{DirectoriesGiveRights, LettersAreReplies, ProcessesHaveShownNames, RunningAreListed, WritersMakeEntries};
+ghost use Rattle.histar_rights.specs.Laws.{DirectoriesGiveRights, LettersAreReplies, LettersSpellRights};
+ghost use Rattle.histar_rights.specs.Laws.{ProcessesHaveShownNames, RunningAreListed, WritersMakeEntries};
 
 /// The rights at a path are those that its directory gives, and that its class allows the process.
 pub fn directories_give_rights()
@@ -26,4 +27,9 @@ pub fn running_are_listed()
 /// After the calls of a script each process has a name that can be shown.
 pub fn processes_are_named()
     ensures { ProcessesHaveShownNames }
+{}
+
+/// A text is read as rights exactly where it is their letters, as `push_letters` adds them.
+pub fn letters_spell_rights()
+    ensures { LettersSpellRights }
 {}

@@ -24,7 +24,7 @@ use Rattle.histar_test.specs.Running.{tally_with}
 use Rattle.histar_test.specs.Session.{AreTests, Checked, IsChecked, IsTestOf, ReadsFiles, TestsFiles, are_met, check_count}
 use Rattle.histar_test.specs.Session.{checked_of, expectations_in, files_text, plan_text, report_text}
 use Rattle.histar_test.specs.Steps.{Test, expectation_count, test_of}
-use Rattle.histar_test.proofs.StepLaws.{test_checked}
+use Rattle.histar_test.proofs.StepLaws.{test_counted}
 
 -- ---- the files that are read
 
@@ -49,7 +49,7 @@ counted [] [] each = refl
 counted [] (test ∷ tests) each = absurd each
 counted (file ∷ files) [] each = absurd each
 counted (file ∷ files) (test ∷ tests) each =
-    let own : length (checks_of test.test) ≡ expectation_count test.test.steps = (test_checked file.text.items test.test each.0.test).count in
+    let own : length (checks_of test.test) ≡ expectation_count test.test.steps = test_counted file.text.items test.test each.0.test in
     let later : expectations_in tests ≡ check_count (map checked_of tests) = counted files tests each.1 in
     let one : expectations_in (test ∷ tests) ≡ expectation_count test.test.steps + expectations_in tests =
     sum_by-cons (λ (named : NamedTest). expectation_count named.test.steps) test tests in

@@ -19,9 +19,11 @@ use Rattle.histar_test.specs.declared.checks.Made.{Made}
 use Rattle.histar_test.specs.declared.running.Run.{Run}
 use Rattle.histar_test.specs.declared.running.Tally.{Tally}
 use Rattle.histar_test.specs.declared.steps.Step.{Step}
-use Rattle.histar_test.specs.declared.steps.Step.TheVariants.{Makes, Expects}
-use Rattle.histar_test.specs.Checks.{check_text, checks_from, checks_text}
-use Rattle.histar_test.specs.Running.{BeginsSteps, MakesCall, Starts, TakesStep, TakesSteps, check_at, flat_at, last_at, tally_with, step_text}
+use Rattle.histar_test.specs.declared.questions.Question.{Question}
+use Rattle.histar_test.specs.declared.steps.Step.TheVariants.{Makes, Expects, Asks}
+use Rattle.histar_test.specs.Checks.{check_text, checks_from, checks_text, question_check}
+use Rattle.histar_test.specs.Running.{AsksMachine, BeginsStep, BeginsSteps, CountsCheck, MakesCall, Starts, TakesStep, TakesSteps, WritesStep}
+use Rattle.histar_test.specs.Running.{check_at, flat_at, last_at, reply_check, step_text, tally_with}
 use Rattle.histar_test.proofs.CheckLemmas.{check_first, checks_text-append, tally_more, tally_none}
 
 -- a machine that answered a call made it
@@ -38,28 +40,52 @@ call_made old new call said text reply means is session f shows =
 -- a call that was made is a step that was taken
 pub call_taken : (old new : Run) (call : CallLine) (said : List ℕ) (made : Made) → MakesCall old.machine new.machine call said made
     → new.last ≡ Some made → new.tally ≡ old.tally → TakesStep old new (Makes call said)
-call_taken old new call said made makes last tally = record {
-  is_taken = λ session f shows.
-      let is = makes session f shows in
-      record { shows = is.shows; last = last ∙ ap (λ (m : Made). Some m) is.is };
-  tally = tally ∙ tally_none old.tally;
-}
+call_taken old new call said made makes last tally session f shows =
+    let is = makes session f shows in
+    record { shows = is.shows; last = last ∙ ap (λ (m : Made). Some m) is.is; tally = tally ∙ tally_none old.tally }
 
 -- an expectation is a step that was taken
 pub text_taken : (old new : Run) (wanted : List ℕ) → new.machine ≡ old.machine → new.last ≡ None
-    → new.tally ≡ tally_with old.tally (check_at old.last (Expects wanted)) → TakesStep old new (Expects wanted)
-text_taken old new wanted same none tally = record {
-  is_taken = λ session f shows. record { shows = subst (λ (m : MachineModel). Shows session m f) (sym same) shows; last = none };
+    → new.tally ≡ tally_with old.tally (reply_check old.last wanted) → TakesStep old new (Expects wanted)
+text_taken old new wanted same none tally session f shows = record {
+  shows = subst (λ (m : MachineModel). Shows session m f) (sym same) shows;
+  last = none;
   tally = tally;
 }
 
+-- so is a question
+pub rights_taken : (old new : Run) (q : Question) (check : Check) → AsksMachine old.machine q check → CountsCheck old new check
+    → TakesStep old new (Asks q)
+rights_taken old new q check asks counts session f shows = record {
+  shows = subst (λ (m : MachineModel). Shows session m f) (sym counts.machine) shows;
+  last = counts.last;
+  tally = counts.tally ∙ ap (λ (c : Check). tally_with old.tally (c ∷ [])) (asks session f shows);
+}
+
 -- the lines of the check of an expectation
-pub check_lines : (file : List ℕ) (k number : ℕ) (last : Option Made) (made : Made) (wanted : List ℕ) → last ≡ Some made → number ≡ k
-    → check_text file number (record { made = made; wanted = wanted }) ≡ checks_text file k (check_at last (Expects wanted))
-check_lines file k number last made wanted is same =
-    let check : Check = record { made = made; wanted = wanted } in
-    ap (λ (n : ℕ). check_text file n check) same ∙ sym (append-nil (check_text file k check))
-    ∙ ap (λ (l : Option Made). checks_text file k (check_at l (Expects wanted))) (sym is)
+pub reply_lines : (file : List ℕ) (k : ℕ) (last : Option Made) (made : Made) (wanted : List ℕ) → last ≡ Some made
+    → check_text file k (record { made = made; wanted = wanted }) ≡ checks_text file k (reply_check last wanted)
+reply_lines file k last made wanted is =
+    sym (append-nil (check_text file k (record { made = made; wanted = wanted })))
+    ∙ ap (λ (l : Option Made). checks_text file k (reply_check l wanted)) (sym is)
+
+-- and of that of a question
+pub rights_lines : (session : Session) (f : Flat) (file : List ℕ) (k : ℕ) (q : Question) (check : Check) → check ≡ question_check session f q
+    → check_text file k check ≡ checks_text file k (question_check session f q ∷ [])
+rights_lines session f file k q check is =
+    sym (append-nil (check_text file k check)) ∙ ap (λ (c : Check). checks_text file k (c ∷ [])) is
+
+-- what was written of a question
+pub rights_written : {a b : Option (List ℕ)} → (file : List ℕ) (old : Run) (q : Question) (check : Check) → AsksMachine old.machine q check
+    → Appends a b (check_text file (old.tally.count + 1) check) → WritesStep file old (Asks q) a b
+rights_written {a = a} {b = b} file old q check asks written session f shows =
+    subst (Appends a b) (rights_lines session f file (old.tally.count + 1) q check (asks session f shows)) written
+
+-- or begun
+pub rights_begun : {a b : Option (List ℕ)} → (file : List ℕ) (old : Run) (q : Question) (check : Check) → AsksMachine old.machine q check
+    → AppendsFront a b (check_text file (old.tally.count + 1) check) → BeginsStep file old (Asks q) a b
+rights_begun {a = a} {b = b} file old q check asks begun session f shows =
+    subst (AppendsFront a b) (rights_lines session f file (old.tally.count + 1) q check (asks session f shows)) begun
 
 -- ---- steps one after another
 
@@ -102,19 +128,20 @@ text_on file start now done more is =
 goes_further : {session : Session} {f : Flat} {file : List ℕ} {start now : Run} {steps : List Step} {before after : Option (List ℕ)} → (step : Step)
     (later : List Step) (at : IsAt session f file start now steps before after)
     → checks_from session f start.last (steps ++ step ∷ later)
-    ≡ at.done ++ (check_at now.last step ++ checks_from session (flat_at session at.flat step) (last_at session at.flat step) later)
+    ≡ at.done
+    ++ (check_at session at.flat now.last step ++ checks_from session (flat_at session at.flat step) (last_at session at.flat now.last step) later)
 goes_further {session = session} {now = now} step later at =
     at.goes_on (step ∷ later) ∙ ap (λ (cs : List Check). at.done ++ cs) (check_first session at.flat now.last step later)
 
 -- one more step was taken
 pub at_more : {file : List ℕ} {start now new : Run} {steps : List Step} {step : Step} {a b : Option (List ℕ)} → (c : Option (List ℕ))
-    → HasCome file start now steps a b → TakesStep now new step → Appends b c (step_text file now step)
+    → HasCome file start now steps a b → TakesStep now new step → WritesStep file now step b c
     → HasCome file start new (steps ++ step ∷ []) a c
 at_more {file = file} {start = start} {now = now} {new = new} {steps = steps} {step = step} {a = a} {b = b} c come takes more = record {
   from = λ session f shows.
       let at = come.from session f shows in
-      let taken = takes.is_taken session at.flat at.shows in
-      let check = check_at now.last step in
+      let taken = takes session at.flat at.shows in
+      let check = check_at session at.flat now.last step in
       let flat = flat_at session at.flat step in
       record {
         flat = flat;
@@ -125,27 +152,30 @@ at_more {file = file} {start = start} {now = now} {new = new} {steps = steps} {s
             ∙ ap (λ (last : Option Made). at.done ++ (check ++ checks_from session flat last later)) (sym taken.last)
             ∙ sym (append_assoc at.done check (checks_from session flat new.last later));
         written = subst (Appends a c) (sym (text_on file start.tally now.tally at.done check at.tally))
-            (Appends-trans a b c (checks_text file (start.tally.count + 1) at.done) (step_text file now step) at.written more);
-        tally = takes.tally ∙ ap (λ (t : Tally). tally_with t check) at.tally ∙ tally_more start.tally at.done check;
+            (Appends-trans a b c (checks_text file (start.tally.count + 1) at.done) (step_text file session at.flat now step) at.written
+            (more session at.flat at.shows));
+        tally = taken.tally ∙ ap (λ (t : Tally). tally_with t check) at.tally ∙ tally_more start.tally at.done check;
       };
 }
 
 -- one more was begun
 pub at_front : {file : List ℕ} {start now : Run} {steps : List Step} {a b : Option (List ℕ)} → (step : Step) (all later : List Step)
-    (c : Option (List ℕ)) → all ≡ steps ++ step ∷ later → HasCome file start now steps a b → AppendsFront b c (step_text file now step)
+    (c : Option (List ℕ)) → all ≡ steps ++ step ∷ later → HasCome file start now steps a b → BeginsStep file now step b c
     → BeginsSteps file start all a c
 at_front {file = file} {start = start} {now = now} {a = a} {b = b} step all later c parts come begun session f shows =
     let at = come.from session f shows in
-    let check = check_at now.last step in
-    let rest = checks_from session (flat_at session at.flat step) (last_at session at.flat step) later in
+    let check = check_at session at.flat now.last step in
+    let text_now = step_text file session at.flat now step in
+    let rest = checks_from session (flat_at session at.flat step) (last_at session at.flat now.last step) later in
     let k = start.tally.count + 1 in
     let more = checks_text file ((now.tally.count + 1) + length check) rest in
-    let text : checks_text file k (checks_from session f start.last all) ≡ checks_text file k at.done ++ (step_text file now step ++ more) =
+    let text : checks_text file k (checks_from session f start.last all) ≡ checks_text file k at.done ++ (text_now ++ more) =
     ap (λ (s : List Step). checks_text file k (checks_from session f start.last s)) parts
     ∙ ap (checks_text file k) (goes_further step later at)
     ∙ text_on file start.tally now.tally at.done (check ++ rest) at.tally
     ∙ ap (λ (t : List ℕ). checks_text file k at.done ++ t) (checks_text-append file (now.tally.count + 1) check rest) in
-    subst (AppendsFront a c) (sym text) (front_after a b c (checks_text file k at.done) (step_text file now step) more at.written begun)
+    subst (AppendsFront a c) (sym text) (front_after a b c (checks_text file k at.done) text_now more at.written
+    (begun session at.flat at.shows))
 
 -- after the last step
 pub at_end : {file : List ℕ} {start now : Run} {steps : List Step} {a b : Option (List ℕ)} → HasCome file start now steps a b

@@ -1,10 +1,10 @@
 -- The calls and the expectations of a test are those of its lines.
 use Rattle.std.proofs.Common.{◌≡◌, ℕ, ◌+◌, Bool, true, false, List, [], ◌∷◌, ◌++◌, take, drop, length, Option, Some, None, Result, Ok, Err, ◌&&◌}
 use Rattle.std.proofs.Common.{refl, sym, ap, ◌∙◌, append-nil, append_assoc, arith}
-use Rattle.std.specs.Prelude.{codes, is_some, map, if◌then◌else◌, ◌==◌}
-use Rattle.std.specs.List.{cons_option, filter_map}
+use Rattle.std.specs.Prelude.{codes, is_some, option_to_list, if◌then◌else◌, ◌==◌}
 use Rattle.std.specs.Option.{option_and_then}
 use Rattle.std.specs.Str.{bytes_eq}
+use Rattle.std.proofs.lemmas.List.Elements.{filter_map-append}
 use Rattle.std.proofs.lemmas.List.Sums.{sum_by-append}
 use Rattle.histar_flat.specs.declared.calls.CallLine.{CallLine}
 use Rattle.histar_flat.specs.declared.calls.UnixCall.{UnixCall}
@@ -21,155 +21,135 @@ use Rattle.histar_script.specs.Lines.{is_plain, is_too_long, lines_of}
 use Rattle.histar_script.specs.Reading.{is_empty, item_of, reading, script_of, takes_call, takes_group, takes_user}
 use Rattle.histar_script.specs.Reading.{with_item, with_line, with_lines, words_item}
 use Rattle.histar_script.specs.Script.{Reading, nothing_read}
-use Rattle.histar_test.specs.declared.checks.Check.{Check}
 use Rattle.histar_test.specs.declared.checks.Made.{Made}
+use Rattle.histar_test.specs.declared.questions.Question.{Question}
 use Rattle.histar_test.specs.declared.steps.Step.{Step}
-use Rattle.histar_test.specs.declared.steps.Step.TheVariants.{Makes, Expects}
-use Rattle.histar_test.specs.Checks.{checks_from, made_of}
-use Rattle.histar_test.specs.Laws.{ExpectationsAreChecked, TestsMakeTheCalls}
-use Rattle.histar_test.specs.Steps.{Test, call_in, calls_in, expectation_count, expectation_of, step_by, step_of, steps_before}
-use Rattle.histar_test.specs.Steps.{steps_from, test_by, test_of}
+use Rattle.histar_test.specs.declared.steps.Step.TheVariants.{Makes, Expects, Asks}
+use Rattle.histar_test.specs.Checks.{checks_from, checks_of, made_of}
+use Rattle.histar_test.specs.Laws.{TestsMakeTheCalls}
+use Rattle.histar_test.specs.Steps.{Test, asked_of, asking_step, call_in, call_of_step, calls_in, expectation_count, expectation_of, open_after}
+use Rattle.histar_test.specs.Steps.{question_of, step_by, step_of, step_then, steps_before, steps_by, steps_from, test_by, test_of}
 use Rattle.histar_test.proofs.StepLemmas.{Read, by_step}
 
 -- ---- what a step says of its line
 
--- nothing is expected where a line is no step
-none_expects : (line : List ℕ) (text : Option (List ℕ)) (call : Option CallLine) → step_by line text call ≡ None → text ≡ None
-none_expects line (Some text) call e = absurd cc
-none_expects line None call e = refl
+-- a line that asks is no other step
+asks_alone : (n : ℕ) (o : Option Question) (step : Option Step) → asking_step n o ≡ Ok step → (q : Question) × (step ≡ Some (Asks q)) × (o ≡ Some q)
+asks_alone n (Some q) step e = (q, cc, refl)
+asks_alone n None step e = absurd cc
+
+-- nothing is asked or expected where a line is no step
+pub none_wanted : (n : ℕ) (line : List ℕ) (asked text : Option (List ℕ)) (call : Option CallLine) → step_by n line asked text call ≡ Ok None
+    → (asked ≡ None) × (text ≡ None)
+none_wanted n line (Some a) text call e = let alone = asks_alone n (question_of n a) None e in absurd cc
+none_wanted n line None (Some text) call e = absurd cc
+none_wanted n line None None call e = (refl, refl)
 
 -- nor where it makes a call
-call_expects : (line : List ℕ) (text : Option (List ℕ)) (call : Option CallLine) (c : CallLine) (said : List ℕ)
-    → step_by line text call ≡ Some (Makes c said) → text ≡ None
-call_expects line (Some text) call c said e = absurd cc
-call_expects line None call c said e = refl
+pub call_wanted : (n : ℕ) (line : List ℕ) (asked text : Option (List ℕ)) (call : Option CallLine) (c : CallLine) (said : List ℕ)
+    → step_by n line asked text call ≡ Ok (Some (Makes c said)) → (asked ≡ None) × (text ≡ None) × (call ≡ Some c)
+call_wanted n line (Some a) text call c said e = let alone = asks_alone n (question_of n a) (Some (Makes c said)) e in absurd cc
+call_wanted n line None (Some text) call c said e = absurd cc
+call_wanted n line None None (Some d) c said e = (refl, refl, cc)
+call_wanted n line None None None c said e = absurd cc
 
--- what is expected stands on the line
-line_expects : (line : List ℕ) (text : Option (List ℕ)) (call : Option CallLine) (wanted : List ℕ) → step_by line text call ≡ Some (Expects wanted)
-    → text ≡ Some wanted
-line_expects line (Some text) call wanted e = cc
-line_expects line None (Some c) wanted e = absurd cc
-line_expects line None None wanted e = absurd cc
+-- what is expected is on the line
+pub text_wanted : (n : ℕ) (line : List ℕ) (asked text : Option (List ℕ)) (call : Option CallLine) (wanted : List ℕ)
+    → step_by n line asked text call ≡ Ok (Some (Expects wanted)) → (asked ≡ None) × (text ≡ Some wanted)
+text_wanted n line (Some a) text call wanted e = let alone = asks_alone n (question_of n a) (Some (Expects wanted)) e in absurd cc
+text_wanted n line None (Some text) call wanted e = (refl, cc)
+text_wanted n line None None (Some d) wanted e = absurd cc
+text_wanted n line None None None wanted e = absurd cc
 
--- ---- steps behind a step
+-- so is what is asked
+pub rights_wanted : (n : ℕ) (line : List ℕ) (asked text : Option (List ℕ)) (call : Option CallLine) (q : Question)
+    → step_by n line asked text call ≡ Ok (Some (Asks q)) → (a : List ℕ) × (asked ≡ Some a) × (question_of n a ≡ Some q)
+rights_wanted n line (Some a) text call q e =
+    let alone = asks_alone n (question_of n a) (Some (Asks q)) e in
+    let same : alone.0 ≡ q = cc in
+    (a, refl, alone.2 ∙ ap (λ (x : Question). Some x) same)
+rights_wanted n line None (Some text) call q e = absurd cc
+rights_wanted n line None None (Some d) q e = absurd cc
+rights_wanted n line None None None q e = absurd cc
 
--- The step may stand there, and these are the steps behind it.
-pub record ReadOn (may : Bool) (step : Step) (later : Read) (steps : List Step) : Type 0 where
-  pub may_stand : may ≡ true
+-- ---- the steps of lines, one line after another
+
+-- a step that may be there, and what was read of the lines behind it
+read_on : (step : Step) (later : Read) (steps : List Step) → steps_before (step ∷ []) later ≡ Ok steps
+    → (rest : List Step) × (later ≡ Ok rest) × (steps ≡ step ∷ rest)
+read_on step (Ok rest) steps e = (rest, refl, cc)
+read_on step (Err m) steps e = absurd cc
+
+-- whether a call is open behind a line, by its step
+abbrev pub OpensTo : Bool → Option Step → Bool → Type 0
+OpensTo is_open None opened = opened ≡ is_open
+OpensTo is_open (Some step) opened = open_after is_open step ≡ Some opened
+
+-- The steps of lines are the step of the first, if it is one, and then those of the others.
+pub record IsOn (n : ℕ) (is_open : Bool) (line : List ℕ) (lines : List (List ℕ)) (steps : List Step) : Type 0 where
+  pub step : Option Step
+  pub is_step : step_of n line ≡ Ok step
+  pub opened : Bool
+  pub opens : OpensTo is_open step opened
   pub rest : List Step
-  pub is_rest : later ≡ Ok rest
-  pub parts : steps ≡ step ∷ rest
+  pub is_rest : steps_from (n + 1) opened lines ≡ Ok rest
+  pub parts : steps ≡ option_to_list step ++ rest
 
--- where steps were read, it may
-read_on : (n : ℕ) (may : Bool) (step : Step) (later : Read) (steps : List Step) → (if may then steps_before (step ∷ []) later else Err n) ≡ Ok steps
-    → ReadOn may step later steps
-read_on n true step (Ok rest) steps e = record { may_stand = refl; rest = rest; is_rest = refl; parts = cc }
-read_on n true step (Err m) steps e = absurd cc
-read_on n false step later steps e = absurd cc
+module _ (n : ℕ) (is_open : Bool) (line : List ℕ) (lines : List (List ℕ)) (steps : List Step) where
+  -- where the first line is this step
+  on_step : (step : Step) → step_of n line ≡ Ok (Some step) → (o : Option Bool) → open_after is_open step ≡ o
+      → step_then n step o (λ opened. steps_from (n + 1) opened lines) ≡ Ok steps → IsOn n is_open line lines steps
+  on_step step is None opens read = absurd cc
+  on_step step is (Some opened) opens read =
+      let on = read_on step (steps_from (n + 1) opened lines) steps read in
+      record { step = Some step; is_step = is; opened = opened; opens = opens; rest = on.0; is_rest = on.1; parts = on.2 }
 
--- ---- the steps of a line
+  -- or whatever it is
+  by_read : (step : Result (Option Step) ℕ) → step_of n line ≡ step
+      → steps_by n is_open step (λ opened. steps_from (n + 1) opened lines) ≡ Ok steps → IsOn n is_open line lines steps
+  by_read (Err m) is read = absurd cc
+  by_read (Ok None) is read = record { step = None; is_step = is; opened = is_open; opens = refl; rest = steps; is_rest = read; parts = refl }
+  by_read (Ok (Some step)) is read = on_step step is (open_after is_open step) refl read
 
--- what a step expects
-abbrev pub text_of_step : Step → Option (List ℕ)
-text_of_step (Makes c said) = None
-text_of_step (Expects text) = Some text
+  -- so they are
+  pub on_line : steps_from n is_open (line ∷ lines) ≡ Ok steps → IsOn n is_open line lines steps
+  on_line read = by_read (step_of n line) refl (sym (by_step n is_open line lines (step_of n line) refl) ∙ read)
 
--- what steps expect
-abbrev pub texts_in : List Step → List (List ℕ)
-texts_in steps = filter_map text_of_step steps
+-- ---- how many checks there are
 
 -- each expectation among steps has a call before it, where one is open before them or not
 abbrev pub is_in_order : Bool → List Step → Bool
 is_in_order is_open [] = true
-is_in_order is_open (Makes c said ∷ steps) = is_in_order true steps
-is_in_order is_open (Expects text ∷ steps) = is_open && is_in_order false steps
-
--- the call of a step, if there is one
-abbrev pub calls_by : Option Step → List CallLine
-calls_by None = []
-calls_by (Some step) = calls_in (step ∷ [])
-
--- The steps of lines are the step of the first, if it is one, and then those of the others.
-pub record IsOn (n : ℕ) (is_open : Bool) (line : List ℕ) (lines : List (List ℕ)) (steps : List Step) : Type 0 where
-  pub opened : Bool
-  pub rest : List Step
-  pub is_rest : steps_from (n + 1) opened lines ≡ Ok rest
-  pub texts : texts_in steps ≡ cons_option (expectation_of line) (texts_in rest)
-  pub ordered : is_in_order opened rest ≡ true → is_in_order is_open steps ≡ true
-  pub calls : calls_in steps ≡ calls_by (step_of n line) ++ calls_in rest
-
--- what is expected, by what a line expects
-texts_by : (line : List ℕ) (rest : List Step) (text : Option (List ℕ)) → expectation_of line ≡ text
-    → cons_option text (texts_in rest) ≡ cons_option (expectation_of line) (texts_in rest)
-texts_by line rest text is = ap (λ (o : Option (List ℕ)). cons_option o (texts_in rest)) (sym is)
-
--- so they are
-on_line : (n : ℕ) (is_open : Bool) (line : List ℕ) (lines : List (List ℕ)) (steps : List Step) (step : Option Step) → step_of n line ≡ step
-    → steps_from n is_open (line ∷ lines) ≡ Ok steps → IsOn n is_open line lines steps
-on_line n is_open line lines steps None is read = record {
-  opened = is_open;
-  rest = steps;
-  is_rest = sym (by_step n is_open line lines None is) ∙ read;
-  texts = texts_by line steps None (none_expects line (expectation_of line) (call_in n (item_of line)) is);
-  ordered = λ h. h;
-  calls = ap (λ (s : Option Step). calls_by s ++ calls_in steps) (sym is);
-}
-on_line n is_open line lines steps (Some (Makes c said)) is read =
-    let on = read_on n true (Makes c said) (steps_from (n + 1) true lines) steps
-    (sym (by_step n is_open line lines (Some (Makes c said)) is) ∙ read) in
-    record {
-      opened = true;
-      rest = on.rest;
-      is_rest = on.is_rest;
-      texts = ap texts_in on.parts ∙ texts_by line on.rest None (call_expects line (expectation_of line) (call_in n (item_of line)) c said is);
-      ordered = λ h. ap (is_in_order is_open) on.parts ∙ h;
-      calls = ap calls_in on.parts ∙ ap (λ (s : Option Step). calls_by s ++ calls_in on.rest) (sym is);
-    }
-on_line n is_open line lines steps (Some (Expects text)) is read =
-    let on = read_on n is_open (Expects text) (steps_from (n + 1) false lines) steps
-    (sym (by_step n is_open line lines (Some (Expects text)) is) ∙ read) in
-    record {
-      opened = false;
-      rest = on.rest;
-      is_rest = on.is_rest;
-      texts = ap texts_in on.parts ∙ texts_by line on.rest (Some text) (line_expects line (expectation_of line) (call_in n (item_of line)) text is);
-      ordered = λ h. ap (is_in_order is_open) on.parts ∙ ap (λ (b : Bool). b && is_in_order false on.rest) on.may_stand ∙ h;
-      calls = ap calls_in on.parts ∙ ap (λ (s : Option Step). calls_by s ++ calls_in on.rest) (sym is);
-    }
-
--- ---- each expectation is checked
-
--- Each expectation of the steps is checked, and there are as many checks.
-pub record AreChecked (session : Session) (f : Flat) (last : Option Made) (steps : List Step) : Type 0 where
-  pub wanted : map (λ (c : Check). c.wanted) (checks_from session f last steps) ≡ texts_in steps
-  pub count : length (checks_from session f last steps) ≡ expectation_count steps
+is_in_order is_open (step ∷ steps) = elim (open_after is_open step) [ None ↦ false | Some opened ↦ is_in_order opened steps ]
 
 -- how many expectations there are behind one step
 counted_on : (step : Step) (rest : List Step) → expectation_count (step ∷ rest) ≡ expectation_count (step ∷ []) + expectation_count rest
 counted_on step rest = sum_by-append _ (step ∷ []) rest
 
--- steps in their order are checked
-pub steps_checked : (session : Session) (f : Flat) (last : Option Made) (steps : List Step) → is_in_order (is_some last) steps ≡ true
-    → AreChecked session f last steps
-steps_checked session f last [] ordered = record { wanted = refl; count = refl }
-steps_checked session f last (Makes c said ∷ steps) ordered =
-    let on = steps_checked session (flat_after session f c.process c.call) (Some (made_of session f c said)) steps ordered in
+-- steps in their order have a check for each expectation
+pub steps_counted : (session : Session) (f : Flat) (last : Option Made) (steps : List Step) → is_in_order (is_some last) steps ≡ true
+    → length (checks_from session f last steps) ≡ expectation_count steps
+steps_counted session f last [] ordered = refl
+steps_counted session f last (Makes c said ∷ steps) ordered =
+    let on = steps_counted session (flat_after session f c.process c.call) (Some (made_of session f c said)) steps ordered in
     let one : expectation_count (Makes c said ∷ steps) ≡ expectation_count steps = counted_on (Makes c said) steps ∙ omega arith in
-    record { wanted = on.wanted; count = on.count ∙ sym one }
-steps_checked session f None (Expects text ∷ steps) ordered = absurd cc
-steps_checked session f (Some made) (Expects text ∷ steps) ordered =
-    let on = steps_checked session f None steps ordered in
+    on ∙ sym one
+steps_counted session f None (Expects text ∷ steps) ordered = absurd cc
+steps_counted session f (Some made) (Expects text ∷ steps) ordered =
+    let on = steps_counted session f None steps ordered in
     let one : expectation_count (Expects text ∷ steps) ≡ 1 + expectation_count steps = counted_on (Expects text) steps ∙ omega arith in
-    record { wanted = ap (λ (texts : List (List ℕ)). text ∷ texts) on.wanted; count = omega (arith, on.count, one) }
+    omega (arith, on, one)
+steps_counted session f last (Asks q ∷ steps) ordered =
+    let on = steps_counted session f last steps ordered in
+    let one : expectation_count (Asks q ∷ steps) ≡ 1 + expectation_count steps = counted_on (Asks q) steps ∙ omega arith in
+    omega (arith, on, one)
 
--- what lines expect is what their steps expect
-same_texts : (n : ℕ) (is_open : Bool) (lines : List (List ℕ)) (steps : List Step) → steps_from n is_open lines ≡ Ok steps
-    → texts_in steps ≡ filter_map expectation_of lines
-unfolding steps_from
-same_texts n is_open [] steps read = let none : steps ≡ [] = cc in ap texts_in none
-same_texts n is_open (line ∷ lines) steps read =
-    let on = on_line n is_open line lines steps (step_of n line) refl read in
-    on.texts ∙ ap (λ (texts : List (List ℕ)). cons_option (expectation_of line) texts) (same_texts (n + 1) on.opened lines on.rest on.is_rest)
+-- a step that opens so, and steps in their order behind it
+ordered_on : (is_open opened : Bool) (step : Option Step) (rest : List Step) → OpensTo is_open step opened → is_in_order opened rest ≡ true
+    → is_in_order is_open (option_to_list step ++ rest) ≡ true
+ordered_on is_open opened None rest opens ordered = ap (λ (b : Bool). is_in_order b rest) (sym opens) ∙ ordered
+ordered_on is_open opened (Some step) rest opens ordered =
+    ap (λ (o : Option Bool). elim o [ None ↦ false | Some b ↦ is_in_order b rest ]) opens ∙ ordered
 
 -- the steps of lines are in their order
 in_order : (n : ℕ) (is_open : Bool) (lines : List (List ℕ)) (steps : List Step) → steps_from n is_open lines ≡ Ok steps
@@ -177,34 +157,56 @@ in_order : (n : ℕ) (is_open : Bool) (lines : List (List ℕ)) (steps : List St
 unfolding steps_from
 in_order n is_open [] steps read = let none : steps ≡ [] = cc in ap (is_in_order is_open) none
 in_order n is_open (line ∷ lines) steps read =
-    let on = on_line n is_open line lines steps (step_of n line) refl read in
-    on.ordered (in_order (n + 1) on.opened lines on.rest on.is_rest)
+    let on = on_line n is_open line lines steps read in
+    ap (is_in_order is_open) on.parts
+    ∙ ordered_on is_open on.opened on.step on.rest on.opens (in_order (n + 1) on.opened lines on.rest on.is_rest)
 
 -- ---- the calls
 
--- no line with an expectation makes a call
-not_both : (line text : List ℕ) (p : ProcName) (c : UnixCall) → expectation_of line ≡ Some text → item_of line ≡ Some (items.Call p c) → ⊥
+-- the call of a step, if there is one
+abbrev pub calls_by : Option Step → List CallLine
+calls_by step = calls_in (option_to_list step)
+
+-- the calls of a step and of those behind it
+pub calls_on : (step : Option Step) (rest : List Step) → calls_in (option_to_list step ++ rest) ≡ calls_by step ++ calls_in rest
+calls_on step rest = filter_map-append call_of_step (option_to_list step) rest
+
+-- the line begins with `#`
+abbrev is_comment : List ℕ → Bool
+is_comment [] = false
+is_comment (b ∷ bs) = b == 35
+
+-- such a line makes no call
+call_says : (line : List ℕ) (p : ProcName) (c : UnixCall) → item_of line ≡ Some (items.Call p c) → is_comment line ≡ false
 unfolding item_of
-not_both [] text p c expects is = absurd cc
-not_both (b ∷ bs) text p c expects is =
-    by (b == 35) (is_plain (b ∷ bs)) (bytes_eq (take 2 bs) (codes "= ")) refl expects is
+call_says [] p c is = refl
+call_says (b ∷ bs) p c is = by (b == 35) (is_plain (b ∷ bs)) is
   where
-    by : (hash plain more : Bool) → (b == 35) ≡ hash → (if hash && more then Some (drop 2 bs) else None) ≡ Some text
-        → (if plain then (if hash then Some items.Comment else words_item (b ∷ bs)) else None) ≡ Some (items.Call p c) → ⊥
-    by true true more e h i = absurd cc
-    by true false more e h i = absurd cc
-    by false plain more e h i = absurd cc
+    by : (hash plain : Bool) → (if plain then (if hash then Some items.Comment else words_item (b ∷ bs)) else None) ≡ Some (items.Call p c) → hash ≡ false
+    by true true i = absurd cc
+    by true false i = absurd cc
+    by false plain i = refl
 
--- an expectation makes no call
-no_call : (line : List ℕ) (text : Option (List ℕ)) → calls_by (step_by line text None) ≡ []
-no_call line (Some text) = refl
-no_call line None = refl
+-- and any other asks and expects nothing
+no_comment : (line : List ℕ) → is_comment line ≡ false → (asked_of line ≡ None) × (expectation_of line ≡ None)
+no_comment [] is = (refl, refl)
+no_comment (b ∷ bs) is = (
+  ap (λ (hash : Bool). if hash && bytes_eq (take 2 bs) (codes "! ") then Some (drop 2 bs) else None) is,
+  ap (λ (hash : Bool). if hash && bytes_eq (take 2 bs) (codes "= ") then Some (drop 2 bs) else None) is,
+)
 
--- the call of a line that expects nothing
-own_call : (line : List ℕ) (text : Option (List ℕ)) (c : CallLine) → ((wanted : List ℕ) → text ≡ Some wanted → ⊥)
-    → calls_by (step_by line text (Some c)) ≡ c ∷ []
-own_call line (Some text) c none = absurd (none text refl)
-own_call line None c none = refl
+-- what asks or expects makes no call
+no_call : (n : ℕ) (line : List ℕ) (asked text : Option (List ℕ)) (step : Option Step) → step_by n line asked text None ≡ Ok step → calls_by step ≡ []
+no_call n line (Some a) text step e = let alone = asks_alone n (question_of n a) step e in ap calls_by alone.1
+no_call n line None (Some text) step e = let same : step ≡ Some (Expects text) = cc in ap calls_by same
+no_call n line None None step e = let same : step ≡ None = cc in ap calls_by same
+
+-- the call of a line that asks and expects nothing
+own_call : (n : ℕ) (line : List ℕ) (asked text : Option (List ℕ)) (c : CallLine) (step : Option Step) → asked ≡ None → text ≡ None
+    → step_by n line asked text (Some c) ≡ Ok step → calls_by step ≡ c ∷ []
+own_call n line (Some a) text c step none nothing e = absurd cc
+own_call n line None (Some text) c step none nothing e = absurd cc
+own_call n line None None c step none nothing e = let same : step ≡ Some (Makes c line) = cc in ap calls_by same
 
 -- what is read, if it may be
 abbrev read_if : Bool → Reading → Option Reading
@@ -216,34 +218,36 @@ is_read true t u e = cc
 is_read false t u e = absurd cc
 
 -- a line that makes no call leaves the calls as they were
-same_left : (s t : Reading) (line : List ℕ) → t.calls ≡ s.calls → t.calls ≡ s.calls ++ calls_by (step_by line (expectation_of line) None)
-same_left s t line same =
-    same ∙ sym (append-nil s.calls) ∙ ap (λ (cs : List CallLine). s.calls ++ cs) (sym (no_call line (expectation_of line)))
+same_left : (s t : Reading) (calls : List CallLine) → t.calls ≡ s.calls → calls ≡ [] → t.calls ≡ s.calls ++ calls
+same_left s t calls same none = same ∙ sym (append-nil s.calls) ∙ ap (λ (cs : List CallLine). s.calls ++ cs) (sym none)
 
 -- the calls after a line that says an item
-calls_at_item : (s t : Reading) (n : ℕ) (line : List ℕ) (item : Item) → item_of line ≡ Some item → with_item s n item ≡ Some t
-    → t.calls ≡ s.calls ++ calls_by (step_by line (expectation_of line) (call_in n (Some item)))
+calls_at_item : (s t : Reading) (n : ℕ) (line : List ℕ) (item : Item) (step : Option Step) → item_of line ≡ Some item → with_item s n item ≡ Some t
+    → step_by n line (asked_of line) (expectation_of line) (call_in n (Some item)) ≡ Ok step → t.calls ≡ s.calls ++ calls_by step
 unfolding with_item
-calls_at_item s t n line items.Comment says reads =
+calls_at_item s t n line items.Comment step says reads is =
     let same : t ≡ s = cc in
-    same_left s t line (ap (λ (r : Reading). r.calls) same)
-calls_at_item s t n line (items.User u) says reads =
-    same_left s t line (ap (λ (r : Reading). r.calls) (is_read (takes_user s u) _ t reads))
-calls_at_item s t n line (items.Group g) says reads =
-    same_left s t line (ap (λ (r : Reading). r.calls) (is_read (takes_group s g) _ t reads))
-calls_at_item s t n line (items.Call p c) says reads =
+    same_left s t (calls_by step) (ap (λ (r : Reading). r.calls) same) (no_call n line (asked_of line) (expectation_of line) step is)
+calls_at_item s t n line (items.User u) step says reads is =
+    same_left s t (calls_by step) (ap (λ (r : Reading). r.calls) (is_read (takes_user s u) _ t reads))
+    (no_call n line (asked_of line) (expectation_of line) step is)
+calls_at_item s t n line (items.Group g) step says reads is =
+    same_left s t (calls_by step) (ap (λ (r : Reading). r.calls) (is_read (takes_group s g) _ t reads))
+    (no_call n line (asked_of line) (expectation_of line) step is)
+calls_at_item s t n line (items.Call p c) step says reads is =
     let same = is_read (takes_call s c) _ t reads in
+    let plain = no_comment line (call_says line p c says) in
+    let call : CallLine = record { line = n; process = p; call = c } in
     ap (λ (r : Reading). r.calls) same
-    ∙ ap (λ (cs : List CallLine). s.calls ++ cs)
-    (sym (own_call line (expectation_of line) (record { line = n; process = p; call = c }) (λ wanted expects. not_both line wanted p c expects says)))
+    ∙ ap (λ (cs : List CallLine). s.calls ++ cs) (sym (own_call n line (asked_of line) (expectation_of line) call step plain.0 plain.1 is))
 
 -- the calls after a line
-calls_at : (s t : Reading) (n : ℕ) (line : List ℕ) (item : Option Item) → item_of line ≡ item → option_and_then (λ i. with_item s n i) item ≡ Some t
-    → t.calls ≡ s.calls ++ calls_by (step_of n line)
-calls_at s t n line None says reads = absurd cc
-calls_at s t n line (Some item) says reads =
-    calls_at_item s t n line item says reads
-    ∙ ap (λ (i : Option Item). s.calls ++ calls_by (step_by line (expectation_of line) (call_in n i))) (sym says)
+calls_at : (s t : Reading) (n : ℕ) (line : List ℕ) (item : Option Item) (step : Option Step) → item_of line ≡ item
+    → option_and_then (λ i. with_item s n i) item ≡ Some t → step_of n line ≡ Ok step → t.calls ≡ s.calls ++ calls_by step
+calls_at s t n line None step says reads is = absurd cc
+calls_at s t n line (Some item) step says reads is =
+    calls_at_item s t n line item step says reads
+    (sym (ap (λ (i : Option Item). step_by n line (asked_of line) (expectation_of line) (call_in n i)) says) ∙ is)
 
 -- what a script has read, if it has
 read_lines : (s : Reading) (n : ℕ) (lines : List (List ℕ)) (line : Option Reading) (script : Reading)
@@ -266,10 +270,11 @@ same_calls s script n is_open [] steps reads read =
     by false e = cc
 same_calls s script n is_open (line ∷ lines) steps reads read =
     let one = read_lines s n lines (with_line s (n + 1) line) script reads in
-    let on = on_line (n + 1) is_open line lines steps (step_of (n + 1) line) refl read in
+    let on = on_line (n + 1) is_open line lines steps read in
     let later = same_calls one.0 script (n + 1) on.opened lines on.rest one.2 on.is_rest in
-    later ∙ ap (λ (cs : List CallLine). cs ++ calls_in on.rest) (calls_at s one.0 (n + 1) line (item_of line) refl one.1)
-    ∙ append_assoc s.calls (calls_by (step_of (n + 1) line)) (calls_in on.rest) ∙ ap (λ (cs : List CallLine). s.calls ++ cs) (sym on.calls)
+    let own = ap calls_in on.parts ∙ calls_on on.step on.rest in
+    later ∙ ap (λ (cs : List CallLine). cs ++ calls_in on.rest) (calls_at s one.0 (n + 1) line (item_of line) on.step refl one.1 on.is_step)
+    ∙ append_assoc s.calls (calls_by on.step) (calls_in on.rest) ∙ ap (λ (cs : List CallLine). s.calls ++ cs) (sym own)
 
 -- ---- whole texts
 
@@ -322,13 +327,8 @@ tests_make_the_calls text script test is reads =
       sym (same_calls nothing_read script 0 false (lines_of text) test.steps (by_lines text script is) as_read.are_steps),
     )
 
--- the checks of a test
-pub test_checked : (text : List ℕ) (test : Test) → test_of text ≡ Ok test → AreChecked test.session (boot test.session) None test.steps
-test_checked text test reads =
+-- the checks of a test are as many as its expectations
+pub test_counted : (text : List ℕ) (test : Test) → test_of text ≡ Ok test → length (checks_of test) ≡ expectation_count test.steps
+test_counted text test reads =
     let is = read_as text test reads in
-    steps_checked test.session (boot test.session) None test.steps (in_order 1 false (lines_of text) test.steps is.are_steps)
-
--- each expectation is checked
-pub expectations_are_checked : ExpectationsAreChecked
-expectations_are_checked text test reads =
-    (test_checked text test reads).wanted ∙ same_texts 1 false (lines_of text) test.steps (read_as text test reads).are_steps
+    steps_counted test.session (boot test.session) None test.steps (in_order 1 false (lines_of text) test.steps is.are_steps)

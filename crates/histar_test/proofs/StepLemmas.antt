@@ -1,8 +1,7 @@
 -- The steps of lines, one line after another.
-use Rattle.std.proofs.Common.{◌≡◌, ℕ, ◌+◌, ◌<◌, ◌≤◌, Bool, true, false, ltb, List, [], ◌∷◌, ◌++◌, length, Option, Some, None, Result, Ok, Err, ◌||◌}
+use Rattle.std.proofs.Common.{◌≡◌, ℕ, ◌+◌, ◌<◌, ◌≤◌, Bool, true, false, ltb, List, [], ◌∷◌, ◌++◌, length, Option, Some, None, Result, Ok, Err}
 use Rattle.std.proofs.Common.{refl, sym, ap, ◌∙◌, append-nil, append_assoc, inl, inr, rules, tests}
 use Rattle.std.proofs.lemmas.Bool.{cases_lt}
-use Rattle.std.specs.Prelude.{if◌then◌else◌}
 use Rattle.histar_script.specs.declared.fault.Fault.{Fault}
 use Rattle.histar_script.specs.declared.fault.Fault.TheVariants.{BadScript, TooLong, OutOfMemory, ReadFailed, WriteFailed}
 use Rattle.histar_script.specs.Lines.{is_too_long, lines_of, most_script_bytes}
@@ -11,7 +10,8 @@ use Rattle.histar_script.specs.Reading.{script_of}
 use Rattle.histar_script.specs.Script.{Reading}
 use Rattle.histar_script.proofs.LineLemmas.{no_lines}
 use Rattle.histar_test.specs.declared.steps.Step.{Step}
-use Rattle.histar_test.specs.Steps.{AddsLine, GivesSteps, TakesLine, Test, is_call, step_of, steps_before, steps_by, steps_from, test_by}
+use Rattle.histar_test.specs.Steps.{AddsLine, GivesStep, GivesSteps, TakesLine, Test, open_after, step_of, step_then, steps_before, steps_by}
+use Rattle.histar_test.specs.Steps.{steps_from, test_by}
 
 -- what reading steps gives
 abbrev pub Read : Type 0
@@ -29,41 +29,52 @@ before_before front more (Err n) = refl
 
 module _ (n : ℕ) (is_open : Bool) (line : List ℕ) (lines : List (List ℕ)) where
   -- the steps of the line and of those behind it, by its own
-  pub by_step : (step : Option Step) → step_of n line ≡ step
+  pub by_step : (step : Result (Option Step) ℕ) → step_of n line ≡ step
       → steps_from n is_open (line ∷ lines) ≡ steps_by n is_open step (λ opened. steps_from (n + 1) opened lines)
   unfolding steps_from
-  by_step step is = ap (λ (s : Option Step). steps_by n is_open s (λ opened. steps_from (n + 1) opened lines)) is
+  by_step step is = ap (λ (s : Result (Option Step) ℕ). steps_by n is_open s (λ opened. steps_from (n + 1) opened lines)) is
 
-  -- a step that may stand there
-  pub step_more : (step : Step) → step_of n line ≡ Some step → (is_call step || is_open) ≡ true
-      → steps_from n is_open (line ∷ lines) ≡ steps_before (step ∷ []) (steps_from (n + 1) (is_call step) lines)
-  step_more step is may =
-      by_step (Some step) is
-      ∙ ap (λ (b : Bool). if b then steps_before (step ∷ []) (steps_from (n + 1) (is_call step) lines) else Err n) may
-
-  -- a step that may not
-  pub step_bad : (step : Step) → step_of n line ≡ Some step → (is_call step || is_open) ≡ false → steps_from n is_open (line ∷ lines) ≡ Err n
-  step_bad step is may =
-      by_step (Some step) is
-      ∙ ap (λ (b : Bool). if b then steps_before (step ∷ []) (steps_from (n + 1) (is_call step) lines) else Err n) may
+  -- by whether a call is open behind it
+  by_open : (step : Step) (opened : Option Bool) → step_of n line ≡ Ok (Some step) → open_after is_open step ≡ opened
+      → steps_from n is_open (line ∷ lines) ≡ step_then n step opened (λ o. steps_from (n + 1) o lines)
+  by_open step opened is may =
+      by_step (Ok (Some step)) is ∙ ap (λ (o : Option Bool). step_then n step o (λ o. steps_from (n + 1) o lines)) may
 
 module _ (n : ℕ) (is_open : Bool) (line : List ℕ) where
   -- a line that is no step was taken
-  pub nothing_added : (old : List Step) → step_of n line ≡ None → AddsLine n is_open line old old is_open
+  pub nothing_added : (old : List Step) → step_of n line ≡ Ok None → AddsLine n is_open line old old is_open
   nothing_added old none = record {
     added = [];
     steps = sym (append-nil old);
-    goes_on = λ lines. by_step n is_open line lines None none ∙ sym (none_before (steps_from (n + 1) is_open lines));
+    goes_on = λ lines. by_step n is_open line lines (Ok None) none ∙ sym (none_before (steps_from (n + 1) is_open lines));
   }
 
   -- a step was
-  pub step_added : (old : List Step) (step : Step) → step_of n line ≡ Some step → (is_call step || is_open) ≡ true
-      → AddsLine n is_open line old (old ++ step ∷ []) (is_call step)
-  step_added old step is may = record {
+  pub step_added : (old : List Step) (step : Step) (opened : Bool) → step_of n line ≡ Ok (Some step) → open_after is_open step ≡ Some opened
+      → AddsLine n is_open line old (old ++ step ∷ []) opened
+  step_added old step opened is may = record {
     added = step ∷ [];
     steps = refl;
-    goes_on = λ lines. step_more n is_open line lines step is may;
+    goes_on = λ lines. by_open n is_open line lines step (Some opened) is may;
   }
+
+  -- a step that may not be there was not
+  pub step_refused : (step : Step) → step_of n line ≡ Ok (Some step) → open_after is_open step ≡ None
+      → (lines : List (List ℕ)) → steps_from n is_open (line ∷ lines) ≡ Err n
+  step_refused step is may lines = by_open n is_open line lines step None is may
+
+  -- nor was a bad line
+  pub line_refused : (fault : Fault) → GivesStep n (Err fault) (step_of n line) → (old new : List Step)
+      → TakesLine n is_open line old new (Err fault)
+  line_refused (BadScript k) bad old new = (bad.0, λ lines. by_step n is_open line lines (Err n) bad.1)
+  line_refused TooLong bad old new = absurd bad
+  line_refused OutOfMemory bad old new = tt
+  line_refused ReadFailed bad old new = absurd bad
+  line_refused WriteFailed bad old new = absurd bad
+
+-- what was read of a line, where it is this
+pub read_as : {read : Result (Option Step) ℕ} {a b : Option Step} → read ≡ Ok a → a ≡ b → read ≡ Ok b
+read_as is same = is ∙ ap (λ (o : Option Step). let read : Result (Option Step) ℕ = Ok o in read) same
 
 -- The steps so far, before those of the lines that are left, are all.
 pub record IsSoFar (all : Read) (n : ℕ) (is_open : Bool) (lines : List (List ℕ)) (steps : List Step) : Type 0 where
@@ -131,7 +142,7 @@ script_fault OutOfMemory script steps given = tt
 script_fault ReadFailed script steps given = absurd given
 script_fault WriteFailed script steps given = absurd given
 
--- an expectation that has no call
+-- a line that is no step
 pub steps_fault : (f : Fault) (script : Reading) (read : Result Reading Fault) (steps : Read) → read ≡ Ok script → GivesSteps (Err f) steps
     → Gives {A = Test} (Err f) (test_by read steps)
 steps_fault (BadScript n) script read steps is bad = λ i. test_by (is i) (bad i)

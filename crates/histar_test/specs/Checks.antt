@@ -1,4 +1,5 @@
--- What a test finds: each expectation beside the reply to its call, and the text of that in the form of the Test Anything Protocol.
+-- What a test finds: each expectation beside the reply to its call, each question beside the rights that it asks for, and the text of that
+-- in the form of the Test Anything Protocol.
 use Rattle.std.specs.Prelude.{ℕ, ◌+◌, Bool, List, [], ◌∷◌, ◌++◌, codes, decimal, Option, None, Some, ◌==◌, ◌||◌, if◌then◌else◌}
 use Rattle.std.specs.List.{flat_map}
 use Rattle.std.specs.Str.{bytes_eq}
@@ -10,11 +11,14 @@ use Rattle.histar_flat.specs.Meaning.{boot}
 use Rattle.histar_flat.specs.Texts.{reply_text}
 use Rattle.histar_test.specs.declared.checks.Check.{Check}
 use Rattle.histar_test.specs.declared.checks.Made.{Made}
+use Rattle.histar_rights.specs.Rights.{rights_text}
+use Rattle.histar_diff.specs.Shown.{rights_of}
+use Rattle.histar_test.specs.declared.questions.Question.{Question}
 use Rattle.histar_test.specs.declared.steps.Step.{Step}
-use Rattle.histar_test.specs.declared.steps.Step.TheVariants.{Makes, Expects}
+use Rattle.histar_test.specs.declared.steps.Step.TheVariants.{Makes, Expects, Asks}
 use Rattle.histar_test.specs.Steps.{Test}
 
--- the expectation is met: the reply has the text that is wanted
+-- the check is met: the reply or the rights have the text that is wanted
 abbrev pub is_met : Check → Bool
 is_met c = bytes_eq c.made.reply c.wanted
 
@@ -22,15 +26,24 @@ is_met c = bytes_eq c.made.reply c.wanted
 abbrev pub made_of : Session → Flat → CallLine → List ℕ → Made
 made_of session f c said = record { line = c.line; said = said; reply = reply_text (reply_to session f c.process c.call) }
 
--- the checks of steps from a flat state on, where this is the call before them, if there is one
+-- a question in a flat state, beside the letters of the rights that it asks for
+abbrev pub asked_in : Session → Flat → Question → Made
+asked_in session f q = record { line = q.line; said = q.said; reply = rights_text (rights_of session f q.path q.process) }
+
+-- the check of a question in a flat state
+abbrev pub question_check : Session → Flat → Question → Check
+question_check session f q = record { made = asked_in session f q; wanted = rights_text q.wanted }
+
+-- the checks of steps from a flat state on, where this is the call that is open before them, if one is
 abbrev pub checks_from : Session → Flat → Option Made → List Step → List Check
 checks_from session f last [] = []
 checks_from session f last (Makes c said ∷ steps) =
     checks_from session (flat_after session f c.process c.call) (Some (made_of session f c said)) steps
 checks_from session f None (Expects text ∷ steps) = checks_from session f None steps
 checks_from session f (Some made) (Expects text ∷ steps) = record { made = made; wanted = text } ∷ checks_from session f None steps
+checks_from session f last (Asks q ∷ steps) = question_check session f q ∷ checks_from session f last steps
 
--- the checks of a test: the replies are those of the meaning of its calls
+-- the checks of a test: replies and rights are those of the meaning of its calls
 abbrev pub checks_of : Test → List Check
 checks_of test = checks_from test.session (boot test.session) None test.steps
 
@@ -38,11 +51,11 @@ checks_of test = checks_from test.session (boot test.session) None test.steps
 abbrev pub escaped_byte : ℕ → List ℕ
 escaped_byte b = if (b == 35) || (b == 92) then 92 ∷ b ∷ [] else b ∷ []
 
--- the place of a call: the file, the line of the call, and the text of that line
+-- the place of a call or a question: the file, its line, and the text of the call or of the question
 abbrev pub place_text : List ℕ → Made → List ℕ
 place_text file made = file ++ codes ":" ++ decimal made.line ++ codes ": " ++ made.said
 
--- a description: the place of the call
+-- a description: the place
 abbrev pub description : List ℕ → Made → List ℕ
 description file made = flat_map escaped_byte (place_text file made)
 
@@ -50,7 +63,7 @@ description file made = flat_map escaped_byte (place_text file made)
 abbrev pub result_line : List ℕ → List ℕ → ℕ → Made → List ℕ
 result_line word file k made = word ++ decimal k ++ codes " - " ++ description file made ++ codes "\n"
 
--- what was expected, and what the reply was
+-- what was expected, and what the reply was, or the rights
 abbrev pub difference_text : Check → List ℕ
 difference_text c = codes "# expected " ++ c.wanted ++ codes ", was " ++ c.made.reply ++ codes "\n"
 

@@ -1,31 +1,86 @@
 -- What a test amounts to.
-use Rattle.std.specs.Prelude.{◌≡◌, ℕ, Any, List, map, Ok}
-use Rattle.std.specs.List.{filter_map}
+use Rattle.std.specs.Prelude.{◌≡◌, ◌↔◌, ℕ, ◌+◌, ◌||◌, true, Bool, List, [], ◌∷◌, ◌++◌, Option, Some, Ok, MatchOption, is_some, if◌then◌else◌}
+use Rattle.std.specs.List.{AllZip}
+use Rattle.std.specs.Option.{IsSomeAnd}
 use Rattle.histar_flat.specs.Meaning.{Answered, meaning}
 use Rattle.histar_flat.specs.Texts.{reply_text}
 use Rattle.histar_script.specs.Lines.{lines_of}
 use Rattle.histar_script.specs.Script.{Reading}
 use Rattle.histar_script.specs.Reading.{script_of}
+use Rattle.histar_rights.specs.declared.rights.Rights.{Rights}
+use Rattle.histar_rights.specs.Rights.{rights_text}
+use Rattle.histar_diff.specs.Changes.{IsAnsweredBy}
+use Rattle.histar_access.specs.Session.{calls_before, state_before}
 use Rattle.histar_test.specs.declared.checks.Check.{Check}
 use Rattle.histar_test.specs.declared.checks.Made.{Made}
-use Rattle.histar_test.specs.Steps.{Test, test_of, calls_in, expectation_of}
-use Rattle.histar_test.specs.Checks.{checks_of}
+use Rattle.histar_test.specs.declared.questions.Question.{Question}
+use Rattle.histar_test.specs.Steps.{Test, asked_of, calls_in, expectation_of, question_of, test_of}
+use Rattle.histar_test.specs.Checks.{asked_in, checks_of, is_met, question_check}
 
 -- the calls of a test are those of its script, in their order
 abbrev pub TestsMakeTheCalls : Type 0
 TestsMakeTheCalls = (text : List ℕ) (script : Reading) (test : Test) → script_of text ≡ Ok script → test_of text ≡ Ok test
     → (test.session ≡ script.session) × (calls_in test.steps ≡ script.calls)
 
+-- a line of a text, with its number
+pub record NumberedLine : Type 0 where
+  pub number : ℕ
+  pub text : List ℕ
+
+-- the line expects a reply or asks for rights
+abbrev pub wants : List ℕ → Bool
+wants line = is_some (asked_of line) || is_some (expectation_of line)
+
+-- those of some lines that do, where the first has the number n
+abbrev pub wanting_from : ℕ → List (List ℕ) → List NumberedLine
+wanting_from n [] = []
+wanting_from n (line ∷ lines) = if wants line then record { number = n; text = line } ∷ wanting_from (n + 1) lines else wanting_from (n + 1) lines
+
+-- the lines of a text that expect a reply or ask for rights, in their order
+abbrev pub wanting_in : List ℕ → List NumberedLine
+wanting_in text = wanting_from 1 (lines_of text)
+
+-- the check wants what is on the line: of a reply this text, and of rights these letters
+abbrev pub IsExpectedOn : NumberedLine → Check → Type 0
+IsExpectedOn line check = MatchOption (asked_of line.text)
+    (expectation_of line.text ≡ Some check.wanted)
+    (λ asked. IsSomeAnd (question_of line.number asked) (λ q. check.wanted ≡ rights_text q.wanted))
+
+-- each line of the text that expects or asks is checked, once and in its order
+abbrev pub ExpectationsAreChecked : Type 0
+ExpectationsAreChecked = (text : List ℕ) (test : Test) → test_of text ≡ Ok test → AllZip IsExpectedOn (wanting_in text) (checks_of test)
+
 -- the call is on this line, and the reply has this text
 abbrev pub IsAnswer : Made → Answered → Type 0
 IsAnswer made a = (a.call.line ≡ made.line) × (reply_text a.reply ≡ made.reply)
 
--- the reply beside an expectation is that of the script's meaning to the call on its line
+-- the last of some calls with their replies has this line and this reply
+pub record IsLastAnswer (made : Made) (answers : List Answered) : Type 0 where
+  pub before : List Answered
+  pub last : Answered
+  pub parts : answers ≡ before ++ last ∷ []
+  pub is_answer : IsAnswer made last
+
+-- A check is of what the script means: on a line that expects, of the reply to the last call on the lines before it; and on a line that asks,
+-- of the rights in the flat state after the calls on the lines before it.
+abbrev pub IsOfTheMeaning : Reading → NumberedLine → Check → Type 0
+IsOfTheMeaning script line check = MatchOption (asked_of line.text)
+    (IsLastAnswer check.made (meaning script.session (calls_before (Some line.number) script.calls)))
+    (λ asked. IsSomeAnd (question_of line.number asked)
+    (λ q. check.made ≡ asked_in script.session (state_before (Some line.number) script) q))
+
+-- each check is, of its line
 abbrev pub ChecksAreOfTheMeaning : Type 0
 ChecksAreOfTheMeaning = (text : List ℕ) (script : Reading) (test : Test) → script_of text ≡ Ok script → test_of text ≡ Ok test
-    → (check : Check) → Any (λ c. c ≡ check) (checks_of test) → Any (IsAnswer check.made) (meaning script.session script.calls)
+    → AllZip (IsOfTheMeaning script) (wanting_in text) (checks_of test)
 
--- each expectation of the text is checked, once and in its order
-abbrev pub ExpectationsAreChecked : Type 0
-ExpectationsAreChecked = (text : List ℕ) (test : Test) → test_of text ≡ Ok test
-    → map (λ (c : Check). c.wanted) (checks_of test) ≡ filter_map expectation_of (lines_of text)
+-- These letters say what the process of a question is answered to the four questions at its path, after the calls on the lines before line n;
+-- and the question is met exactly where it wants them.
+pub record IsMetByReplies (script : Reading) (n : ℕ) (q : Question) : Type 0 where
+  pub letters : Rights
+  pub answered : IsAnsweredBy script.session (calls_before (Some n) script.calls) q.process q.path letters
+  pub met : (is_met (question_check script.session (state_before (Some n) script) q) ≡ true) ↔ (q.wanted ≡ letters)
+
+-- a question is met exactly where four lines more would be answered so
+abbrev pub QuestionsAreOfReplies : Type 0
+QuestionsAreOfReplies = (script : Reading) (n : ℕ) (q : Question) → IsMetByReplies script n q

@@ -15,9 +15,10 @@ use Rattle.histar_test.specs.declared.checks.Check.{Check}
 use Rattle.histar_test.specs.declared.checks.Made.{Made}
 use Rattle.histar_test.specs.declared.running.Run.{Run}
 use Rattle.histar_test.specs.declared.running.Tally.{Tally}
+use Rattle.histar_test.specs.declared.questions.Question.{Question}
 use Rattle.histar_test.specs.declared.steps.Step.{Step}
-use Rattle.histar_test.specs.declared.steps.Step.TheVariants.{Makes, Expects}
-use Rattle.histar_test.specs.Checks.{is_met, made_of, checks_from, checks_text}
+use Rattle.histar_test.specs.declared.steps.Step.TheVariants.{Makes, Expects, Asks}
+use Rattle.histar_test.specs.Checks.{is_met, made_of, checks_from, checks_text, question_check}
 
 -- so many checks more, and whether they are met too
 abbrev pub tally_with : Tally → List Check → Tally
@@ -27,21 +28,28 @@ tally_with tally checks = record { count = tally.count + length checks; are_met 
 abbrev pub flat_at : Session → Flat → Step → Flat
 flat_at session f (Makes c said) = flat_after session f c.process c.call
 flat_at session f (Expects text) = f
+flat_at session f (Asks q) = f
 
--- the call that is open after a step, if one is
-abbrev pub last_at : Session → Flat → Step → Option Made
-last_at session f (Makes c said) = Some (made_of session f c said)
-last_at session f (Expects text) = None
+-- the call that is open after a step, if one is, where this one is before it
+abbrev pub last_at : Session → Flat → Option Made → Step → Option Made
+last_at session f last (Makes c said) = Some (made_of session f c said)
+last_at session f last (Expects text) = None
+last_at session f last (Asks q) = last
 
--- the check of a step, if it is one, where this is the call before it, if there is one
-abbrev pub check_at : Option Made → Step → List Check
-check_at last (Makes c said) = []
-check_at None (Expects text) = []
-check_at (Some made) (Expects text) = record { made = made; wanted = text } ∷ []
+-- the check of an expectation, where this is the open call before it, if one is
+abbrev pub reply_check : Option Made → List ℕ → List Check
+reply_check None wanted = []
+reply_check (Some made) wanted = record { made = made; wanted = wanted } ∷ []
+
+-- the check of a step, if it is one, in a flat state, where this is the open call before it
+abbrev pub check_at : Session → Flat → Option Made → Step → List Check
+check_at session f last (Makes c said) = []
+check_at session f last (Expects text) = reply_check last text
+check_at session f last (Asks q) = question_check session f q ∷ []
 
 -- the lines of the check of a step, if it is one
-abbrev pub step_text : List ℕ → Run → Step → List ℕ
-step_text file run step = checks_text file (run.tally.count + 1) (check_at run.last step)
+abbrev pub step_text : List ℕ → Session → Flat → Run → Step → List ℕ
+step_text file session f run step = checks_text file (run.tally.count + 1) (check_at session f run.last step)
 
 -- memory ran out
 abbrev pub IsMemory : Fault → Type 0
@@ -62,15 +70,35 @@ pub record IsMade (session : Session) (f : Flat) (new : MachineModel) (call : Ca
 abbrev pub MakesCall : MachineModel → MachineModel → CallLine → List ℕ → Made → Type 0
 MakesCall old new call said made = (session : Session) (f : Flat) → Shows session old f → IsMade session f new call said made
 
--- a step was taken from a flat state
+-- whatever flat state the machine lays out, this is the check of the question in it
+abbrev pub AsksMachine : MachineModel → Question → Check → Type 0
+AsksMachine machine question check = (session : Session) (f : Flat) → Shows session machine f → check ≡ question_check session f question
+
+-- a check was counted, and nothing else was done
+pub record CountsCheck (old new : Run) (check : Check) : Type 0 where
+  pub machine : new.machine ≡ old.machine
+  pub last : new.last ≡ old.last
+  pub tally : new.tally ≡ tally_with old.tally (check ∷ [])
+
+-- a step was taken from a flat state, and its check was counted
 pub record IsTaken (session : Session) (f : Flat) (old new : Run) (step : Step) : Type 0 where
   pub shows : Shows session new.machine (flat_at session f step)
-  pub last : new.last ≡ last_at session f step
+  pub last : new.last ≡ last_at session f old.last step
+  pub tally : new.tally ≡ tally_with old.tally (check_at session f old.last step)
 
--- Whatever flat state the machine laid out, the step was taken from it, and its check was counted.
-pub record TakesStep (old new : Run) (step : Step) : Type 0 where
-  pub is_taken : (session : Session) (f : Flat) → Shows session old.machine f → IsTaken session f old new step
-  pub tally : new.tally ≡ tally_with old.tally (check_at old.last step)
+-- whatever flat state the machine laid out, the step was taken from it
+abbrev pub TakesStep : Run → Run → Step → Type 0
+TakesStep old new step = (session : Session) (f : Flat) → Shows session old.machine f → IsTaken session f old new step
+
+-- and its check was written
+abbrev pub WritesStep : List ℕ → Run → Step → Option (List ℕ) → Option (List ℕ) → Type 0
+WritesStep file old step before after =
+    (session : Session) (f : Flat) → Shows session old.machine f → Appends before after (step_text file session f old step)
+
+-- or a beginning of it was
+abbrev pub BeginsStep : List ℕ → Run → Step → Option (List ℕ) → Option (List ℕ) → Type 0
+BeginsStep file old step before after =
+    (session : Session) (f : Flat) → Shows session old.machine f → AppendsFront before after (step_text file session f old step)
 
 -- steps were taken from a flat state: their checks were written, and counted
 pub record AreTaken (session : Session) (f : Flat) (file : List ℕ) (old new : Run) (steps : List Step) (before after : Option (List ℕ)) : Type 0 where

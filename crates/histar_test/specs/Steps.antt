@@ -1,5 +1,5 @@
--- The steps of a script that says what it expects: its calls, and behind a call what it is to be answered.
-use Rattle.std.specs.Prelude.{◌≡◌, ℕ, ◌+◌, ◌||◌, Bool, true, false, List, [], ◌∷◌, ◌++◌}
+-- The steps of a script that says what it expects: its calls, behind a call what it is to be answered, and questions about rights.
+use Rattle.std.specs.Prelude.{◌≡◌, ℕ, ◌+◌, Bool, true, false, List, [], ◌∷◌, ◌++◌}
 use Rattle.std.specs.Prelude.{take, drop, codes, count_by, not, Option, None, Some, Result, Ok, Err, if◌then◌else◌}
 use Rattle.std.specs.List.{filter_map}
 use Rattle.std.specs.Str.{bytes_eq}
@@ -10,15 +10,39 @@ use Rattle.histar_script.specs.declared.fault.Fault.{Fault}
 use Rattle.histar_script.specs.declared.fault.Fault.TheVariants.{BadScript, TooLong, OutOfMemory, ReadFailed, WriteFailed}
 use Rattle.histar_script.specs.declared.items.Item.{Item}
 use Rattle.histar_script.specs.declared.items.Item.TheVariants as items
-use Rattle.histar_script.specs.Lines.{lines_of}
+use Rattle.histar_flat.specs.Words.{ProcName, path_of, process_of}
+use Rattle.histar_script.specs.Lines.{lines_of, split_word}
 use Rattle.histar_script.specs.Script.{Reading}
-use Rattle.histar_script.specs.Reading.{item_of, script_of}
+use Rattle.histar_script.specs.Reading.{◌>>=◌, item_of, script_of}
+use Rattle.histar_rights.specs.declared.rights.Rights.{Rights}
+use Rattle.histar_rights.specs.Rights.{rights_spelled}
+use Rattle.histar_test.specs.declared.questions.Question.{Question}
 use Rattle.histar_test.specs.declared.steps.Step.{Step}
-use Rattle.histar_test.specs.declared.steps.Step.TheVariants.{Makes, Expects}
+use Rattle.histar_test.specs.declared.steps.Step.TheVariants.{Makes, Expects, Asks}
 
 -- what a line expects of the call before it: the text behind `#= `
 abbrev pub expectation_of : List ℕ → Option (List ℕ)
 expectation_of line = if bytes_eq (take 3 line) (codes "#= ") then Some (drop 3 line) else None
+
+-- what a line asks: the text behind `#! `
+abbrev pub asked_of : List ℕ → Option (List ℕ)
+asked_of line = if bytes_eq (take 3 line) (codes "#! ") then Some (drop 3 line) else None
+
+-- a process and the letters of rights, with a space between them
+unfoldable pub process_and_rights_of : List ℕ → Option (ProcName × Rights)
+process_and_rights_of text = do
+  process ← process_of (split_word text).0
+  letters ← (split_word text).1
+  rights ← rights_spelled letters
+  Some (process, rights)
+
+-- the question that a text on line n is: a path, and behind a space a process and the letters of rights
+unfoldable pub question_of : ℕ → List ℕ → Option Question
+question_of n text = do
+  path ← path_of (split_word text).0
+  rest ← (split_word text).1
+  wanted ← process_and_rights_of rest
+  Some (record { line = n; said = text; path = path; process = wanted.0; wanted = wanted.1 })
 
 -- the call that an item is, on line n
 abbrev pub call_in : ℕ → Option Item → Option CallLine
@@ -28,7 +52,7 @@ call_in n (Some (items.Group g)) = None
 call_in n (Some items.Comment) = None
 call_in n None = None
 
--- these steps and then others, or the number of a line whose expectation has no call
+-- these steps and then others, or the number of a bad line
 abbrev pub steps_before : List Step → Result (List Step) ℕ → Result (List Step) ℕ
 steps_before front (Ok steps) = Ok (front ++ steps)
 steps_before front (Err n) = Err n
@@ -37,29 +61,49 @@ steps_before front (Err n) = Err n
 abbrev pub is_call : Step → Bool
 is_call (Makes call said) = true
 is_call (Expects text) = false
+is_call (Asks question) = false
+
+-- Whether a call is open behind a step, by whether one is before it; an expectation has to have an open call before it. A question leaves
+-- the call that is open, if one is.
+abbrev pub open_after : Bool → Step → Option Bool
+open_after is_open (Makes call said) = Some true
+open_after true (Expects text) = Some false
+open_after false (Expects text) = None
+open_after is_open (Asks question) = Some is_open
 
 -- the step that a call is, on a line with this text
 abbrev pub call_step : List ℕ → Option CallLine → Option Step
 call_step line (Some call) = Some (Makes call line)
 call_step line None = None
 
--- the step of a line that expects this, or else makes this call
-abbrev pub step_by : List ℕ → Option (List ℕ) → Option CallLine → Option Step
-step_by line (Some text) call = Some (Expects text)
-step_by line None call = call_step line call
+-- the step of line n that asks, or its number where it asks nothing that can be asked
+abbrev pub asking_step : ℕ → Option Question → Result (Option Step) ℕ
+asking_step n (Some question) = Ok (Some (Asks question))
+asking_step n None = Err n
 
--- the step that line n is, if it is one: what it expects, or else the call that it says
-abbrev pub step_of : ℕ → List ℕ → Option Step
-step_of n line = step_by line (expectation_of line) (call_in n (item_of line))
+-- the step of line n, which asks this, or else expects this, or else makes this call
+abbrev pub step_by : ℕ → List ℕ → Option (List ℕ) → Option (List ℕ) → Option CallLine → Result (Option Step) ℕ
+step_by n line (Some asked) text call = asking_step n (question_of n asked)
+step_by n line None (Some text) call = Ok (Some (Expects text))
+step_by n line None None call = Ok (call_step line call)
 
--- The step of line n, if it is one, and then those behind it, by whether a call is open there: it is after a call. An expectation has to
--- have an open call before it.
-abbrev pub steps_by : ℕ → Bool → Option Step → (Bool → Result (List Step) ℕ) → Result (List Step) ℕ
-steps_by n is_open None later = later is_open
-steps_by n is_open (Some step) later = if is_call step || is_open then steps_before (step ∷ []) (later (is_call step)) else Err n
+-- the step that line n is, if it is one: what it asks or expects, or else the call that it says; or its number, where it is bad
+abbrev pub step_of : ℕ → List ℕ → Result (Option Step) ℕ
+step_of n line = step_by n line (asked_of line) (expectation_of line) (call_in n (item_of line))
 
--- The steps of lines, of which the first is line n, or the number of the first line whose expectation has no call. A call is open
--- until an expectation follows it, and each expectation follows an open call.
+-- a step and those behind it, where a call is open behind the step or is not; or the number of the step's line, where it may not be there
+abbrev pub step_then : ℕ → Step → Option Bool → (Bool → Result (List Step) ℕ) → Result (List Step) ℕ
+step_then n step (Some opened) later = steps_before (step ∷ []) (later opened)
+step_then n step None later = Err n
+
+-- the step of line n, if it is one, and then those behind it, by whether a call is open there
+abbrev pub steps_by : ℕ → Bool → Result (Option Step) ℕ → (Bool → Result (List Step) ℕ) → Result (List Step) ℕ
+steps_by n is_open (Err bad) later = Err bad
+steps_by n is_open (Ok None) later = later is_open
+steps_by n is_open (Ok (Some step)) later = step_then n step (open_after is_open step) later
+
+-- The steps of lines, of which the first is line n, or the number of the first bad line: whose expectation has no call, or whose question
+-- is none. A call is open until an expectation follows it, and each expectation follows an open call.
 unfoldable pub steps_from : ℕ → Bool → List (List ℕ) → Result (List Step) ℕ
 steps_from n is_open [] = Ok []
 steps_from n is_open (line ∷ lines) = steps_by n is_open (step_of n line) (λ opened. steps_from (n + 1) opened lines)
@@ -75,7 +119,7 @@ test_by (Err fault) read = Err fault
 test_by (Ok script) (Ok steps) = Ok (record { session = script.session; steps = steps })
 test_by (Ok script) (Err line) = Err (BadScript line)
 
--- the test that a text is: a script, whose fault comes first, in which each expectation has its call
+-- the test that a text is: a script, whose fault comes first, in which each expectation has its call and each question is one
 abbrev pub test_of : List ℕ → Result Test Fault
 test_of text = test_by (script_of text) (steps_from 1 false (lines_of text))
 
@@ -83,6 +127,7 @@ test_of text = test_by (script_of text) (steps_from 1 false (lines_of text))
 abbrev pub call_of_step : Step → Option CallLine
 call_of_step (Makes call said) = Some call
 call_of_step (Expects text) = None
+call_of_step (Asks question) = None
 
 -- the calls of steps
 abbrev pub calls_in : List Step → List CallLine
@@ -90,7 +135,7 @@ calls_in steps = filter_map call_of_step steps
 
 -- ---- the parts
 
--- how many expectations there are among steps
+-- how many expectations there are among steps, of replies and of rights
 abbrev pub expectation_count : List Step → ℕ
 expectation_count steps = count_by (λ step. not (is_call step)) steps
 
@@ -103,13 +148,22 @@ GivesSteps (Err TooLong) read = ⊥
 GivesSteps (Err ReadFailed) read = ⊥
 GivesSteps (Err WriteFailed) read = ⊥
 
+-- the step of line n was read, or the line is bad, unless memory ran out
+abbrev pub GivesStep : ℕ → Result (Option Step) Fault → Result (Option Step) ℕ → Type 0
+GivesStep n (Ok step) read = read ≡ Ok step
+GivesStep n (Err (BadScript k)) read = (k ≡ n) × (read ≡ Err n)
+GivesStep n (Err OutOfMemory) read = Unit {0}
+GivesStep n (Err TooLong) read = ⊥
+GivesStep n (Err ReadFailed) read = ⊥
+GivesStep n (Err WriteFailed) read = ⊥
+
 -- Whatever lines follow line n, their steps stand behind those that it adds, and a call is open there or is not.
 pub record AddsLine (n : ℕ) (is_open : Bool) (line : List ℕ) (old new : List Step) (is_open_after : Bool) : Type 0 where
   pub added : List Step
   pub steps : new ≡ old ++ added
   pub goes_on : (lines : List (List ℕ)) → steps_from n is_open (line ∷ lines) ≡ steps_before added (steps_from (n + 1) is_open_after lines)
 
--- line n was taken, or has no call for what it expects, unless memory ran out
+-- line n was taken, or is bad, unless memory ran out
 abbrev pub TakesLine : ℕ → Bool → List ℕ → List Step → List Step → Result Bool Fault → Type 0
 TakesLine n is_open line old new (Ok is_open_after) = AddsLine n is_open line old new is_open_after
 TakesLine n is_open line old new (Err (BadScript k)) = (k ≡ n) × ((lines : List (List ℕ)) → steps_from n is_open (line ∷ lines) ≡ Err n)

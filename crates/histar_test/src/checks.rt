@@ -1,4 +1,5 @@
-//! A check: an expectation beside the reply to its call, and the text of that.
+//! A check: an expectation beside the reply to its call, or a question beside the rights that it asks for,
+//! and the text of that.
 ghost use Rattle.std.specs.Prelude.{◌≡◌, ◌++◌, IfOk, OnOk, decimal};
 ghost use Rattle.std.specs.List.{flat_map};
 ghost use Rattle.histar_test.specs.Checks.{check_text, difference_text, escaped_byte};
@@ -8,18 +9,18 @@ use histar_base::Bytes;
 use itoa::Buffer;
 use std::alloc::{AllocError, Global};
 
-/// A call that was made.
+/// A call that was made, or a question that was asked.
 #[derive(Drop)]
 pub struct Made {
     /// The number of its line.
     pub line: u32,
-    /// The text of that line.
+    /// The text of that line, of a question without `#! `.
     pub said: Bytes,
-    /// The text of the reply.
+    /// The text of the reply, or the letters of the rights.
     pub reply: Bytes,
 }
 
-/// What a call was to be answered, and what it was.
+/// What a call or a question was to be answered, and what it was.
 #[derive(Drop)]
 pub struct Check {
     pub made: Made,
@@ -27,7 +28,7 @@ pub struct Check {
 }
 
 impl Check {
-    /// Checks whether the reply has the text that is wanted.
+    /// Checks whether the reply or the rights have the text that is wanted.
     pub fn is_met(&self) -> bool
         ensures { result ≡ is_met self.now }
     {
@@ -64,7 +65,7 @@ fn push_escaped(text: &mut Vec<u8>, bytes: &[u8]) -> Result<(), AllocError>
     Ok(())
 }
 
-/// Returns the place of a call: the file, the line of the call, and the text of that line.
+/// Returns the place of a call or a question: the file, its line, and the text of the call or the question.
 fn place_text(alloc: Global, file: &[u8], made: &Made) -> Result<Vec<u8>, AllocError>
     ensures { IfOk result (λ text. text.items ≡ place_text file.now made.now) }
 {
@@ -95,7 +96,7 @@ fn result_line(
     Ok(text)
 }
 
-/// Adds a line with what a call was to be answered, and what it was.
+/// Adds a line with what was to be answered, and what was.
 fn push_difference(text: &mut Vec<u8>, check: &Check) -> Result<(), AllocError>
     ensures { OnOk result (text.new.items ≡ text.old.items ++ difference_text check.now) }
 {

@@ -5,11 +5,12 @@ ghost use Rattle.histar_devices.specs.Device.{CountsFailure};
 ghost use Rattle.histar_devices.specs.Writing.{AppendsFront};
 ghost use Rattle.histar_script.specs.Runs.{IsOutputFault, is_write_failed};
 ghost use Rattle.histar_script.specs.Script.{IsDeclared};
-ghost use Rattle.histar_test.specs.Checks.{check_text, checks_text};
-ghost use Rattle.histar_test.specs.Running.{BeginsSteps, IsMemory, MakesCall, Starts};
-ghost use Rattle.histar_test.specs.Running.{TakesStep, TakesSteps, step_text};
+ghost use Rattle.histar_test.specs.Checks.{check_text};
+ghost use Rattle.histar_test.specs.Running.{BeginsStep, BeginsSteps, CountsCheck, IsMemory, MakesCall};
+ghost use Rattle.histar_test.specs.Running.{Starts, TakesStep, TakesSteps, WritesStep};
 
 use crate::checks::{Check, Made, check_text};
+use crate::questions::{Question, ask};
 use crate::steps::Step;
 use histar_base::Bytes;
 use histar_devices::{Sink, write_bytes};
@@ -66,6 +67,34 @@ impl Run {
         Ok(())
     }
 
+    /// Writes whether a check is met, and counts it.
+    fn count_check<W: Sink>(
+        &mut self,
+        alloc: Global,
+        file: &[u8],
+        check: &Check,
+        writer: &mut W,
+    ) -> Result<(), Fault>
+        ensures ok { OnOk result (CountsCheck self.old self.new check.now) }
+        ensures written { OnOk result (Appends (W.written writer.old) (W.written writer.new)
+            (check_text file.now (self.old.tally.count + 1) check.now)) }
+        ensures err { OnErr result (AppendsFront (W.written writer.old) (W.written writer.new)
+            (check_text file.now (self.old.tally.count + 1) check.now)) }
+        ensures faults { IfErr result IsOutputFault }
+        ensures count { CountsFailure (W.failures writer.old) (W.failures writer.new)
+            (is_write_failed result) }
+    {
+        let Some(number) = self.tally.count.checked_add(1) else {
+            return Err(Fault::OutOfMemory);
+        };
+        write_check(alloc, file, number, check, writer)?;
+        self.tally = Tally {
+            count: number,
+            are_met: self.tally.are_met && check.is_met(),
+        };
+        Ok(())
+    }
+
     /// Writes whether the reply to the last call has this text, unless something was expected of that
     /// already.
     fn check_reply<W: Sink>(
@@ -76,10 +105,10 @@ impl Run {
         writer: &mut W,
     ) -> Result<(), Fault>
         ensures ok { OnOk result (TakesStep self.old self.new (Step.Expects wanted)) }
-        ensures written { OnOk result (Appends (W.written writer.old) (W.written writer.new)
-            (step_text file.now self.old (Step.Expects wanted))) }
-        ensures err { OnErr result (AppendsFront (W.written writer.old) (W.written writer.new)
-            (step_text file.now self.old (Step.Expects wanted))) }
+        ensures written { OnOk result (WritesStep file.now self.old (Step.Expects wanted)
+            (W.written writer.old) (W.written writer.new)) }
+        ensures err { OnErr result (BeginsStep file.now self.old (Step.Expects wanted)
+            (W.written writer.old) (W.written writer.new)) }
         ensures faults { IfErr result IsOutputFault }
         ensures count { CountsFailure (W.failures writer.old) (W.failures writer.new)
             (is_write_failed result) }
@@ -88,15 +117,28 @@ impl Run {
             return Ok(());
         };
         let check = Check { made, wanted };
-        let Some(number) = self.tally.count.checked_add(1) else {
-            return Err(Fault::OutOfMemory);
-        };
-        write_check(alloc, file, number, &check, writer)?;
-        self.tally = Tally {
-            count: number,
-            are_met: self.tally.are_met && check.is_met(),
-        };
-        Ok(())
+        self.count_check(alloc, file, &check, writer)
+    }
+
+    /// Writes whether a process has the rights that a question wants.
+    fn check_rights<W: Sink>(
+        &mut self,
+        alloc: Global,
+        file: &[u8],
+        question: Question,
+        writer: &mut W,
+    ) -> Result<(), Fault>
+        ensures ok { OnOk result (TakesStep self.old self.new (Step.Asks question)) }
+        ensures written { OnOk result (WritesStep file.now self.old (Step.Asks question)
+            (W.written writer.old) (W.written writer.new)) }
+        ensures err { OnErr result (BeginsStep file.now self.old (Step.Asks question)
+            (W.written writer.old) (W.written writer.new)) }
+        ensures faults { IfErr result IsOutputFault }
+        ensures count { CountsFailure (W.failures writer.old) (W.failures writer.new)
+            (is_write_failed result) }
+    {
+        let check = ask(alloc, &self.machine, question)?;
+        self.count_check(alloc, file, &check, writer)
     }
 
     /// Takes a step.
@@ -108,10 +150,10 @@ impl Run {
         writer: &mut W,
     ) -> Result<(), Fault>
         ensures ok { OnOk result (TakesStep self.old self.new step) }
-        ensures written { OnOk result (Appends (W.written writer.old) (W.written writer.new)
-            (step_text file.now self.old step)) }
-        ensures err { OnErr result (AppendsFront (W.written writer.old) (W.written writer.new)
-            (step_text file.now self.old step)) }
+        ensures written { OnOk result (WritesStep file.now self.old step
+            (W.written writer.old) (W.written writer.new)) }
+        ensures err { OnErr result (BeginsStep file.now self.old step
+            (W.written writer.old) (W.written writer.new)) }
         ensures faults { IfErr result IsOutputFault }
         ensures count { CountsFailure (W.failures writer.old) (W.failures writer.new)
             (is_write_failed result) }
@@ -119,11 +161,12 @@ impl Run {
         match step {
             Step::Makes(call, said) => self.make_call(alloc, call, said),
             Step::Expects(wanted) => self.check_reply(alloc, file, wanted, writer),
+            Step::Asks(question) => self.check_rights(alloc, file, question, writer),
         }
     }
 
-    /// Takes steps in their order, and writes of each expectation whether it is met, as soon as that is
-    /// known.
+    /// Takes steps in their order, and writes of each expectation and question whether it is met, as
+    /// soon as that is known.
     pub(crate) fn take_steps<W: Sink>(
         &mut self,
         alloc: Global,

@@ -32,9 +32,9 @@ struct NamedTest {
     test: TestScript,
 }
 
-/// Checks what files expect of the replies to their calls, and writes of each expectation whether it
-/// is met, in the form of the Test Anything Protocol, numbered on through all files. It answers whether
-/// each is met.
+/// Checks what files expect of the replies to their calls and of rights, and writes of each expectation
+/// whether it is met, in the form of the Test Anything Protocol, numbered on through all files. It
+/// answers whether each is met.
 ///
 /// All files are read before the first call of any is made. The lines of a check are written as soon as
 /// the call is done. Each file is run on a machine of its own. It doesn't flush the sink.
@@ -98,7 +98,7 @@ fn count_checks(tests: &[NamedTest]) -> Option<usize>
     Some(total)
 }
 
-/// Counts the expectations among steps.
+/// Counts the expectations among steps, of replies and of rights.
 fn count_expectations(steps: &[Step]) -> usize
     ensures { result ≡ expectation_count steps.now }
 {

@@ -1,16 +1,17 @@
 //! Reading the steps of a script that says what it expects.
-ghost use Rattle.std.specs.Prelude.{◌≡◌, ◌≤◌, IfOk, Some, false, length};
+ghost use Rattle.std.specs.Prelude.{◌≡◌, ◌≤◌, Some, false, length};
 ghost use Rattle.std.specs.Option.{option_copied};
 ghost use Rattle.histar_script.specs.Lines.{lines_of, most_script_bytes};
 ghost use Rattle.histar_script.specs.Outcome.{Gives};
 ghost use Rattle.histar_script.specs.Script.{IsDeclared};
-ghost use Rattle.histar_test.specs.Steps.{GivesSteps, TakesLine, call_in, expectation_of, is_call};
-ghost use Rattle.histar_test.specs.Steps.{step_of, steps_from, test_of};
+ghost use Rattle.histar_test.specs.Steps.{GivesStep, GivesSteps, TakesLine, call_in, expectation_of};
+ghost use Rattle.histar_test.specs.Steps.{is_call, open_after, step_of, steps_from, test_of};
 
+use crate::questions::{Question, asked_of, read_question};
 use histar_base::Bytes;
 use histar_flat::{CallLine, Session};
 use histar_script::{Fault, Item, read_item, read_script, split_line};
-use std::alloc::{AllocError, Global};
+use std::alloc::Global;
 use std::marker::Model;
 
 /// One step of a script that says what it expects.
@@ -20,6 +21,8 @@ pub enum Step {
     Makes(CallLine, Bytes),
     /// Expects that the call before it was answered so.
     Expects(Bytes),
+    /// Asks for the rights of a process at a path.
+    Asks(Question),
 }
 
 /// The session of a script, and its steps.
@@ -47,6 +50,19 @@ impl Step {
     {
         matches!(self, Step::Makes(_, _))
     }
+
+    /// Returns whether a call is open behind this step, by whether one is before it, unless the step may
+    /// not be there.
+    fn open_after(&self, is_open: bool) -> Option<bool>
+        ensures { result ≡ open_after is_open self.now }
+    {
+        match self {
+            Step::Makes(_, _) => Some(true),
+            Step::Expects(_) if is_open => Some(false),
+            Step::Expects(_) => None,
+            Step::Asks(_) => Some(is_open),
+        }
+    }
 }
 
 impl TestScript {
@@ -68,7 +84,7 @@ impl TestScript {
 }
 
 /// Reads the test that a text is: a script, whose fault comes first, in which each expectation has its
-/// call.
+/// call and each question is one.
 pub fn read_test(alloc: Global, text: &[u8]) -> Result<TestScript, Fault>
     ensures { Gives result (test_of text.now) }
 {
@@ -109,18 +125,23 @@ fn take_line(
     let Some(step) = read_step(alloc, number, line)? else {
         return Ok(is_open);
     };
-    let is_call = step.is_call();
-    if !is_call && !is_open {
+    let Some(is_open) = step.open_after(is_open) else {
         return Err(Fault::BadScript(number));
-    }
+    };
     steps.push(step)?;
-    Ok(is_call)
+    Ok(is_open)
 }
 
 /// Reads the step that a line is, if it is one.
-fn read_step(alloc: Global, number: u32, line: &[u8]) -> Result<Option<Step>, AllocError>
-    ensures { IfOk result (λ step. step ≡ step_of number line.now) }
+fn read_step(alloc: Global, number: u32, line: &[u8]) -> Result<Option<Step>, Fault>
+    ensures { GivesStep number result (step_of number line.now) }
 {
+    if let Some(asked) = asked_of(line) {
+        let Some(question) = read_question(alloc, number, asked)? else {
+            return Err(Fault::BadScript(number));
+        };
+        return Ok(Some(Step::Asks(question)));
+    }
     if let Some(text) = expectation_of(line) {
         let text = Bytes::copy_of(alloc, text)?;
         return Ok(Some(Step::Expects(text)));

@@ -14,9 +14,9 @@ loop-process-preserved g c =
     let places = c.args.machine.now.places in
     let more = kept_more (visitor_of s places) c.args.processes.now c.loop-process.process-index c.process-item.result (search rules)
     (search rules) in
-    elim c.match-visitor_of.branch [
-      | in-Some+in_ok-push w ↦ let is = sym c.visitor_of.ensures ∙ w.in-Some.is in ap (λ (v : Vec Cell). v.items) w.visitors-is
+    elim c.match-visitor_at.branch [
+      | in-Some+in_ok-push w ↦ let is = sym c.visitor_at.ensures ∙ w.in-Some.is in ap (λ (v : Vec Cell). v.items) w.visitors-is
           ∙ w.in_ok-push.ensures.items ∙ (λ i. c.loop-process.invariant i ++ cons_option (sym is i) []) ∙ sym more
-      | in_default w ↦ let is = sym c.visitor_of.ensures ∙ w.in_default.is in ap (λ (v : Vec Cell). v.items) w.visitors-is
+      | in_default w ↦ let is = sym c.visitor_at.ensures ∙ w.in_default.is in ap (λ (v : Vec Cell). v.items) w.visitors-is
           ∙ sym (append-nil c.loop-process.visitors.items) ∙ (λ i. c.loop-process.invariant i ++ cons_option (sym is i) []) ∙ sym more
     ]

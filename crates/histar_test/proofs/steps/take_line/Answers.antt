@@ -1,25 +1,29 @@
-use Rattle.std.proofs.Common.{◌≡◌, ◌||◌, true, false, Some, None, subst, sym, refl, rules, ◌∙◌, Bool, List}
+use Rattle.std.proofs.Common.{◌≡◌, Bool, List, None, Ok, Option, Result, Some, ap, refl, rules, subst, sym, ◌∙◌}
+use Rattle.std.proofs.lemmas.Result.{err_from_is_err_and}
 use Rattle.histar_test.specs.declared.steps.Step.{Step}
-use Rattle.histar_test.specs.Steps.{AddsLine, is_call, step_of}
-use Rattle.histar_test.proofs.StepLemmas.{nothing_added, step_added, step_bad}
+use Rattle.histar_test.specs.Steps.{AddsLine, open_after, step_of}
+use Rattle.histar_test.proofs.StepLemmas.{line_refused, nothing_added, read_as, step_added, step_refused}
 use Rattle.histar_test.proofs.steps.take_line.Goals as goal
+
+pub returns-in_err-step : goal.returns-in_err-step
+returns-in_err-step c =
+    let p = err_from_is_err_and c.from_residual.result c.from_residual.ensures.1 in
+    let items = c.args.steps.now.items in
+    rw (p.1, p.2) (line_refused c.args.number c.args.is_open c.args.line.now c.in_err-step.field-0.0 c.in_err-step.ensures items items)
 
 pub returns-in_default : goal.returns-in_default
 returns-in_default c =
-    let none : step_of c.args.number c.args.line.now ≡ None = search rules in
-    nothing_added c.args.number c.args.is_open c.args.line.now c.args.steps.now.items none
+    nothing_added c.args.number c.args.is_open c.args.line.now c.args.steps.now.items (read_as c.in_ok-step.ensures c.in_default.is)
 
-pub returns-then-not-is_open : goal.returns-then-not-is_open
-returns-then-not-is_open c =
-    let some : step_of c.args.number c.args.line.now ≡ Some c.in-Some.step = sym c.in_ok-step.ensures ∙ c.in-Some.is in
-    let may : (is_call c.in-Some.step || c.args.is_open) ≡ false = search rules in
-    (refl, λ lines. step_bad c.args.number c.args.is_open c.args.line.now lines c.in-Some.step some may)
+pub returns-in_default-open_after : goal.returns-in_default-open_after
+returns-in_default-open_after c =
+    let may : open_after c.args.is_open c.in-Some.step ≡ None = search rules in
+    (refl, step_refused c.args.number c.args.is_open c.args.line.now c.in-Some.step (read_as c.in_ok-step.ensures c.in-Some.is) may)
 
 pub returns : goal.returns
 returns c =
-    let some : step_of c.args.number c.args.line.now ≡ Some c.in-Some.step = sym c.in_ok-step.ensures ∙ c.in-Some.is in
-    let may : (is_call c.in-Some.step || c.args.is_open) ≡ true = search rules in
+    let may : open_after c.args.is_open c.in-Some.step ≡ Some c.in-Some-open_after.is_open = search rules in
     let old = c.args.steps.now.items in
-    let added = step_added c.args.number c.args.is_open c.args.line.now old c.in-Some.step some may in
-    subst (λ (after : List Step × Bool). AddsLine c.args.number c.args.is_open c.args.line.now old after.0 after.1)
-    (λ i. (sym c.in_ok-push.ensures.items i, sym c.is_call-is_call.ensures i)) added
+    let opened = c.in-Some-open_after.is_open in
+    let added = step_added c.args.number c.args.is_open c.args.line.now old c.in-Some.step opened (read_as c.in_ok-step.ensures c.in-Some.is) may in
+    subst (λ (after : List Step). AddsLine c.args.number c.args.is_open c.args.line.now old after opened) (sym c.in_ok-push.ensures.items) added

@@ -1,4 +1,4 @@
-use Rattle.histar_test.proofs.CheckLemmas.{checks_are_of_the_meaning}
+use Rattle.histar_test.proofs.LineLaws.{checks_are_of_the_meaning}
 use Rattle.histar_test.proofs.test_laws.checks_are_of_the_meaning.Goals as goal
 
 pub returns : goal.returns

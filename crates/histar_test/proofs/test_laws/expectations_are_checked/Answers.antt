@@ -1,4 +1,4 @@
-use Rattle.histar_test.proofs.StepLaws.{expectations_are_checked}
+use Rattle.histar_test.proofs.LineLaws.{expectations_are_checked}
 use Rattle.histar_test.proofs.test_laws.expectations_are_checked.Goals as goal
 
 pub returns : goal.returns
