@@ -215,10 +215,13 @@ pub(crate) fn test<'a>() -> Form<'a>
 {
     Form {
         name: "test",
-        about: "Run scripts and compare the replies with those that they expect",
+        about: "Run scripts and compare the replies and rights with those that they expect",
         after_help: "A comment that begins with `#= ` says what the call line before it is to be answered:
   0.1 read /tmp/diary
   #= EACCES
+
+A comment that begins with `#! ` says which rights a process is to have at a path there, as `access` prints them:
+  #! /tmp/diary 0.1 s---
 
 The output has the form of the Test Anything Protocol: the number of expectations, and a line for each.
 
