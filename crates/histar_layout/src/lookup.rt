@@ -27,11 +27,14 @@ pub fn look_up(bytes: &[u8], name: &Name) -> Option<Target>
     None
 }
 
-/// Whether two names are one. Names of one directory differ most often in their last bytes, so these are
-/// compared first.
+/// Whether two names are one. Names of one directory differ most often in their lengths or in their last bytes,
+/// so these are compared first.
 fn is_same(name: &[u8], other: &[u8]) -> bool
     ensures { result ≡ same name.now other.now }
 {
+    if name.len() != other.len() {
+        return false;
+    }
     match (name, other) {
         ([.., last], [.., other_last]) if *last != *other_last => false,
         _ => name == other,

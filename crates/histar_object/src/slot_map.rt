@@ -14,7 +14,7 @@ use std::marker::Model;
 /// Numbers that come in order are looked up in a list, by their place in it, where a number without a
 /// slot keeps its place; all others in a map.
 #[derive(Drop)]
-pub struct SlotMap {
+pub(crate) struct SlotMap {
     listed: Vec<Option<usize>>,
     others: HashMap<ObjId, usize>,
 }
@@ -38,7 +38,7 @@ impl Model for SlotMap {
 
 impl SlotMap {
     /// No number has a slot.
-    pub fn new(alloc: Global) -> Self
+    pub(crate) fn new(alloc: Global) -> Self
         ensures empty { result.entries ≡ [] }
         ensures once { IsDistinct nat_eq (keys_of result.entries) }
     {
@@ -49,7 +49,7 @@ impl SlotMap {
     }
 
     /// Returns the slot of a number.
-    pub fn get(&self, id: ObjId) -> Option<usize>
+    pub(crate) fn get(&self, id: ObjId) -> Option<usize>
         ensures { result ≡ lookup (nat_eq id) self.now.entries }
     {
         let Some(slot) = place(&self.listed, id) else {
@@ -59,7 +59,7 @@ impl SlotMap {
     }
 
     /// Makes room for one number more. No slot changes, whether or not there is memory.
-    pub fn reserve(&mut self) -> Result<(), AllocError>
+    pub(crate) fn reserve(&mut self) -> Result<(), AllocError>
         ensures room { OnOk result (0 < self.new.room) }
         ensures succeeds { 0 < self.old.room → IsOk result }
         ensures once { IsDistinct nat_eq (keys_of self.new.entries) }
@@ -71,7 +71,7 @@ impl SlotMap {
     }
 
     /// Gives a slot to a number that has none. There is room for it, so it needs no memory.
-    pub fn insert_reserved(&mut self, id: ObjId, slot: usize)
+    pub(crate) fn insert_reserved(&mut self, id: ObjId, slot: usize)
         requires absent { lookup (nat_eq id) self.old.entries ≡ None }
         requires room { 0 < self.old.room }
         ensures once { IsDistinct nat_eq (keys_of self.new.entries) }
@@ -90,7 +90,7 @@ impl SlotMap {
     }
 
     /// Takes the slot of a number from it.
-    pub fn remove(&mut self, id: ObjId) -> Option<usize>
+    pub(crate) fn remove(&mut self, id: ObjId) -> Option<usize>
         ensures value { result ≡ lookup (nat_eq id) self.old.entries }
         ensures unchanged { IfNone result (self.new.entries ≡ self.old.entries) }
         ensures once { IsDistinct nat_eq (keys_of self.new.entries) }
