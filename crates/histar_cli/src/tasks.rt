@@ -19,6 +19,7 @@ use histar_transcript::transcribe;
 use histar_trust::trust;
 use std::alloc::Global;
 use std::io::{self, Write};
+use std::mem::forget;
 use std::rt::Files;
 
 /// Runs the script in a file, and prints the replies and what else is asked for.
@@ -39,7 +40,8 @@ pub fn run_file<R: Files + Input + Print>(
     } else if flags.explain {
         explain_script(alloc, &mut reader, &mut writer, options)
     } else {
-        run(alloc, &mut reader, &mut writer, options).map(|_trace| ())
+        // The program ends soon, so it takes no time to free the trace.
+        run(alloc, &mut reader, &mut writer, options).map(|trace| forget(trace))
     };
     finish(done.map(|_| Outcome::Done), writer)
 }
