@@ -2,14 +2,13 @@
 ghost use Rattle.std.specs.Prelude.{◌≡◌, ◌++◌, [], IfOk, OnOk, map, option_map};
 ghost use Rattle.std.specs.Option.{option_copied, option_map_or};
 ghost use Rattle.histar_lint.specs.Lines.{first_sentence, rest_of};
-ghost use Rattle.histar_lint.specs.Calls.{argument_rules, bad_argument, call_word_rules, first_near, has_too_little, has_too_much, is_near, nearest, suggestion, unknown_text};
+ghost use Rattle.histar_lint.specs.Calls.{argument_rules, bad_argument, call_word_rules, has_too_little, has_too_much, suggestion, unknown_text};
 ghost use Rattle.histar_lint.specs.Rules.{call_place_rules, is_undeclared, read_so_far};
 
-use crate::shapes::{Kind, Shape, is_value, kind_text, shape_named, usage_text};
+use crate::shapes::{Kind, Shape, is_value, kind_text, nearest, shape_named, usage_text};
 use histar_flat::{CallLine, Session, UnixCall, read_process};
 use histar_script::{is_declared_call, read_call, split_word};
 use std::alloc::{AllocError, Global};
-use strsim::generic_levenshtein;
 
 /// Checks whether something follows the word of a call behind which nothing may be.
 fn has_too_much(text: &[u8], shape: Shape) -> bool
@@ -54,42 +53,6 @@ fn bad_argument(text: &[u8], shape: Shape) -> &'static str
             }
         }
     }
-}
-
-/// Checks whether one insertion, deletion or substitution leads from one word to another.
-fn is_near(alloc: Global, word: &[u8], other: &[u8]) -> Result<bool, AllocError>
-    ensures { IfOk result (λ near. near ≡ is_near word.now other.now) }
-{
-    let edits = generic_levenshtein(alloc, word, other)?;
-    Ok(edits == 1)
-}
-
-/// Returns the first of these calls whose word is near.
-#[tactic(auto, unfolding(crate::specs::Calls::first_near))]
-fn first_near<'a>(
-    alloc: Global,
-    word: &[u8],
-    calls: &[&'a str],
-) -> Result<Option<&'a str>, AllocError>
-    ensures { IfOk result (λ call. option_copied call ≡ first_near word.now (map (λ call. call.now) calls.now)) }
-{
-    'calls: for call in calls {
-        if is_near(alloc, word, call.as_bytes())? {
-            return Ok(Some(*call));
-        }
-    }
-    Ok(None)
-}
-
-/// Returns the first call whose word is near.
-fn nearest(alloc: Global, word: &[u8]) -> Result<Option<&'static str>, AllocError>
-    ensures { IfOk result (λ call. option_copied call ≡ nearest word.now) }
-{
-    let calls = [
-        "spawn", "whoami", "create", "mkdir", "write", "append", "read", "list", "stat", "unlink",
-        "rmdir", "rmtree", "rename", "wrap", "exit", "status", "kill", "login",
-    ];
-    first_near(alloc, word, calls.as_slice())
 }
 
 /// Adds a call that may be meant.

@@ -1,10 +1,12 @@
-//! The shapes of calls: which arguments follow the word of each.
-ghost use Rattle.std.specs.Prelude.{◌≡◌, ◌++◌, IfOk, OnOk, codes};
+//! The words of calls: which arguments follow each, and which is near to a word that is none.
+ghost use Rattle.std.specs.Prelude.{◌≡◌, ◌++◌, IfOk, OnOk, codes, map};
+ghost use Rattle.std.specs.Option.{option_copied};
 ghost use Rattle.histar_script.specs.CallForms.{call_forms, entry_calls, process_calls, reading_calls};
-ghost use Rattle.histar_lint.specs.Calls.{arguments_text, is_value, kind_name, kind_text, shape_among, shape_named, usage_text};
+ghost use Rattle.histar_lint.specs.Calls.{arguments_text, first_near, is_near, is_value, kind_name, kind_text, nearest, shape_among, shape_named, usage_text};
 
 use histar_flat::{read_mode, read_name, read_password, read_path, read_process, read_status};
 use std::alloc::{AllocError, Global};
+use strsim::generic_levenshtein;
 
 /// What an argument of a call is.
 #[derive(Clone, Copy)]
@@ -96,6 +98,42 @@ fn process_shape(word: &[u8]) -> Option<Shape>
     } else {
         None
     }
+}
+
+/// Checks whether one insertion, deletion or substitution leads from one word to another.
+fn is_near(alloc: Global, word: &[u8], other: &[u8]) -> Result<bool, AllocError>
+    ensures { IfOk result (λ near. near ≡ is_near word.now other.now) }
+{
+    let edits = generic_levenshtein(alloc, word, other)?;
+    Ok(edits == 1)
+}
+
+/// Returns the first of these calls whose word is near.
+#[tactic(auto, unfolding(crate::specs::Calls::first_near))]
+fn first_near<'a>(
+    alloc: Global,
+    word: &[u8],
+    calls: &[&'a str],
+) -> Result<Option<&'a str>, AllocError>
+    ensures { IfOk result (λ call. option_copied call ≡ first_near word.now (map (λ call. call.now) calls.now)) }
+{
+    'calls: for call in calls {
+        if is_near(alloc, word, call.as_bytes())? {
+            return Ok(Some(*call));
+        }
+    }
+    Ok(None)
+}
+
+/// Returns the first call whose word is near.
+pub(crate) fn nearest(alloc: Global, word: &[u8]) -> Result<Option<&'static str>, AllocError>
+    ensures { IfOk result (λ call. option_copied call ≡ nearest word.now) }
+{
+    let calls = [
+        "spawn", "whoami", "create", "mkdir", "write", "append", "read", "list", "stat", "unlink",
+        "rmdir", "rmtree", "rename", "wrap", "exit", "status", "kill", "login",
+    ];
+    first_near(alloc, word, calls.as_slice())
 }
 
 /// Returns how an argument is named where the form of a call is shown.

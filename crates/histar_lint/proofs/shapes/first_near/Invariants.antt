@@ -1,7 +1,7 @@
 use Rattle.std.proofs.Common.{◌≡◌, drop}
 use Rattle.std.specs.Prelude.{map}
 use Rattle.histar_lint.specs.Calls.{first_near}
-use Rattle.histar_lint.proofs.call_rules.first_near.Given as goal
+use Rattle.histar_lint.proofs.shapes.first_near.Given as goal
 
 abbrev pub invariant-calls : goal.invariant-calls
 invariant-calls l = first_near l.word (map (λ call. call.now) l.calls) ≡ first_near l.word (map (λ call. call.now) (drop l.call-index l.calls))

@@ -2,7 +2,7 @@ use Rattle.std.proofs.Common.{ap, ◌∙◌}
 use Rattle.std.specs.Prelude.{map}
 use Rattle.std.proofs.lemmas.Result.{IfOk-weaker}
 use Rattle.histar_lint.specs.Calls.{first_near}
-use Rattle.histar_lint.proofs.call_rules.nearest.Goals as goal
+use Rattle.histar_lint.proofs.shapes.nearest.Goals as goal
 
 pub returns : goal.returns
 returns c =
