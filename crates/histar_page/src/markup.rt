@@ -17,20 +17,21 @@ header p, nav { display: flex; flex-wrap: wrap; gap: .2rem 1.2rem; margin: 0 0 .
 header b { color: var(--ink) }
 code, small, td b, td i { font-family: ui-monospace, monospace; font-size: .85rem }
 code { white-space: pre-wrap; overflow-wrap: anywhere }
-summary, .bare { display: grid; grid-template-columns: 1rem 3rem minmax(0, 3fr) minmax(0, 2fr); gap: 0 .6rem; align-items: baseline; padding: .2rem 0; border-top: 1px solid var(--line) }
+summary, .bare { display: grid; grid-template-columns: 1rem 2.6rem minmax(0, 3fr) minmax(0, 2fr); gap: 0 .6rem; align-items: baseline; padding: .2rem 0; border-top: 1px solid var(--line) }
 summary { cursor: pointer; list-style: none }
 summary::-webkit-details-marker { display: none }
 summary::before { content: '+'; color: var(--dim); font-family: ui-monospace, monospace }
 details[open] > summary::before { content: '-' }
 .bare::before { content: '' }
 .other > summary { display: block; color: var(--dim) }
+.other > summary::before { margin-right: .6rem }
 .number { color: var(--dim); text-align: right; font-variant-numeric: tabular-nums }
 .reply { color: var(--good) }
 .refusal { color: var(--bad); background: var(--bad-panel); font-weight: bold; justify-self: start; padding: 0 .4rem; border-radius: .2rem }
-.behind { margin: 0 0 .5rem 4.6rem; padding: .4rem .6rem; background: var(--panel); border-radius: .3rem }
-.behind code { display: block; padding-left: 1.2rem; text-indent: -1.2rem }
-.denied { color: var(--bad); font-weight: bold }
-.why { color: var(--bad) }
+.behind { margin: 0 0 .5rem 4.8rem; padding: .4rem .6rem; background: var(--panel); border-radius: .3rem }
+.behind code { display: block; color: inherit; padding-left: 1.2rem; text-indent: -1.2rem }
+.behind .denied, .behind .why { color: var(--bad) }
+.denied { font-weight: bold }
 .wide { overflow-x: auto }
 table { border-collapse: collapse }
 th, td { padding: .2rem .6rem .2rem 0; border-top: 1px solid var(--line); text-align: left; vertical-align: top; white-space: nowrap }
@@ -40,7 +41,6 @@ tbody th { font: .85rem/1.7 ui-monospace, monospace; white-space: normal; overfl
 .rights small { display: none }
 .rights b, .rights i { display: inline-block; width: 1.25rem; margin-right: 1px; text-align: center; font-style: normal; font-weight: normal; color: var(--letter); background: var(--panel) }
 .rights i { color: var(--dim) }
-.rights b:nth-of-type(n) { background: var(--s) }
 .rights small + b { background: var(--s) }
 .rights small + * + b { background: var(--r) }
 .rights small + * + * + b { background: var(--w) }
@@ -53,7 +53,7 @@ tbody th { font: .85rem/1.7 ui-monospace, monospace; white-space: normal; overfl
   table, tbody, tr, tbody th { display: block }
   tr { padding: .3rem 0; border-top: 1px solid var(--line) }
   th, td { border: 0; padding: 0 .6rem 0 0 }
-  td { display: inline-block }
+  td { display: inline-block; white-space: nowrap }
   .rights { padding: .1rem .8rem .1rem 0 }
   .rights small { display: inline; margin-right: .3rem }
 }

@@ -1,6 +1,6 @@
 //! The whole page.
 ghost use Rattle.std.specs.Prelude.{IfOk};
-ghost use Rattle.histar_page.specs.Page.{IsPage};
+ghost use Rattle.histar_page.specs.Page.{IsPage, sources_of};
 
 use crate::files::files_pieces;
 use crate::head::head_pieces;
@@ -24,7 +24,7 @@ pub struct Texts<'a> {
 
 /// Returns the page of a session.
 pub fn page_text(alloc: Global, texts: &Texts) -> Result<Vec<u8>, AllocError>
-    ensures { IfOk result (λ page. IsPage texts.now page.items) }
+    ensures { IfOk result (λ page. IsPage (sources_of texts.now) page.items) }
 {
     let head = head_pieces(alloc, texts.name, texts.version, texts.output)?;
     let session = session_pieces(alloc, texts.script, texts.output)?;
