@@ -7,8 +7,8 @@ mod tasks;
 
 use crate::status::{Outcome, outcome_status, status};
 use crate::tasks::{
-    access_file, check_each_job, check_file, diff_files, lint_file, run_file, run_raw_file,
-    test_files, trust_file,
+    access_file, check_each_job, check_file, diff_files, lint_file, report_file, run_file,
+    run_raw_file, test_files, trust_file,
 };
 use histar_command_line::{Task, read_words};
 use histar_flat::{ProcName, read_path, read_process};
@@ -79,6 +79,7 @@ fn perform<R: Files + Input + Print>(
             Ok(trust_file(rt, alloc, &path, file, read_line(line)?))
         }
         Task::Lint(path, is_raw) => Ok(lint_file(rt, alloc, path, is_raw)),
+        Task::Report(path) => Ok(report_file(rt, alloc, path)),
         Task::Test(files) => Ok(test_files(rt, alloc, files.as_slice())),
     }
 }

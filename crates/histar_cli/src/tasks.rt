@@ -3,7 +3,7 @@
 use crate::files::{finish, open, output};
 use crate::status::Outcome;
 use histar_access::{access, diff};
-use histar_command_line::{CheckFlags, RunFlags};
+use histar_command_line::{CheckFlags, RunFlags, VERSION};
 use histar_comparison::{Verdict, compare, compare_all, explain_comparison};
 use histar_devices::read_input;
 use histar_flat::{Path, ProcName};
@@ -11,6 +11,7 @@ use histar_lint::lint;
 use histar_raw_explain::explain_raw_script;
 use histar_raw_lint::lint_raw;
 use histar_raw_session::run_raw_script;
+use histar_report::report;
 use histar_run_explain::explain_script;
 use histar_script::Fault;
 use histar_shell::{Options, run};
@@ -193,6 +194,28 @@ pub fn lint_file<R: Files + Input + Print>(
         }),
         writer,
     )
+}
+
+/// Prints the session of the script in a file as a page.
+pub fn report_file<R: Files + Input + Print>(
+    rt: &R,
+    alloc: Global,
+    path: &str,
+) -> Result<Outcome, Fault> {
+    let mut reader = open(rt, path)?;
+    let mut writer = output(rt, alloc)?;
+    let name = match path.rsplit_once('/') {
+        Some((_, name)) => name,
+        None => path,
+    };
+    let done = report(
+        alloc,
+        &mut reader,
+        &mut writer,
+        name.as_bytes(),
+        VERSION.as_bytes(),
+    );
+    finish(done.map(|_| Outcome::Done), writer)
 }
 
 /// Compares the replies to the scripts in files with those that they expect, and prints what is found.

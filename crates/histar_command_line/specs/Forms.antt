@@ -81,7 +81,11 @@ lint_app = subcommand_app (codes "lint") (flag_rule (codes "raw") ∷ word_rule 
 abbrev pub test_app : App
 test_app = subcommand_app (codes "test") (words_rule (codes "FILE") ∷ [])
 
+-- `report FILE`
+abbrev pub report_app : App
+report_app = subcommand_app (codes "report") (word_rule (codes "FILE") ∷ [])
+
 -- the program with its subcommands
 abbrev pub histar_app : App
 histar_app = fold with_subcommand named_app
-    (run_app.top ∷ raw_app.top ∷ check_app.top ∷ access_app.top ∷ diff_app.top ∷ trust_app.top ∷ lint_app.top ∷ test_app.top ∷ [])
+    (run_app.top ∷ raw_app.top ∷ check_app.top ∷ access_app.top ∷ diff_app.top ∷ trust_app.top ∷ lint_app.top ∷ report_app.top ∷ test_app.top ∷ [])

@@ -4,7 +4,7 @@ use Rattle.std.specs.Str.{bytes_eq}
 use Rattle.clap.specs.Words.{Row, Text, all_of, first_of}
 use Rattle.histar_command_line.specs.declared.task.CheckFlags.{CheckFlags}
 use Rattle.histar_command_line.specs.declared.task.Task.{Task}
-use Rattle.histar_command_line.specs.declared.task.Task.TheVariants.{Run, Raw, Check, CheckAll, Access, Diff, Trust, Lint, Test}
+use Rattle.histar_command_line.specs.declared.task.Task.TheVariants.{Run, Raw, Check, CheckAll, Access, Diff, Trust, Lint, Report, Test}
 
 -- the value of a flag that was given
 abbrev pub is_given : Option Text → Bool
@@ -25,6 +25,7 @@ subcommand (Access file at) = codes "access"
 subcommand (Diff old new at) = codes "diff"
 subcommand (Trust path file at) = codes "trust"
 subcommand (Lint file is_raw) = codes "lint"
+subcommand (Report file) = codes "report"
 subcommand (Test files) = codes "test"
 
 -- the flags of a comparison
@@ -66,6 +67,7 @@ HasArguments (Trust path file at) rows =
 HasArguments (Lint file is_raw) rows =
     (first_of (codes "FILE") rows ≡ Some file.now)
     × (is_raw ≡ is_set (codes "raw") rows)
+HasArguments (Report file) rows = first_of (codes "FILE") rows ≡ Some file.now
 HasArguments (Test files) rows = all_of (codes "FILE") rows ≡ Some (map (λ file. file.now) files.items)
 
 -- this is the task of the subcommand that was matched, with its words and its flags

@@ -9,7 +9,7 @@ use clap::{Arg, ArgAction, Command};
 use std::alloc::{AllocError, Global};
 
 /// The version of the program.
-const VERSION: &str = "0.1.0";
+pub const VERSION: &str = "0.1.0";
 
 /// What the program is for.
 const ABOUT: &str =
@@ -94,5 +94,6 @@ pub(crate) fn command<'a>(alloc: Global) -> Result<Command<'a>, AllocError>
     let histar = add(alloc, histar, &forms::diff())?;
     let histar = add(alloc, histar, &forms::trust())?;
     let histar = add(alloc, histar, &forms::lint())?;
+    let histar = add(alloc, histar, &forms::report())?;
     add(alloc, histar, &forms::test())
 }

@@ -1,6 +1,6 @@
 //! The forms of the subcommands: their names, their arguments and their help.
 ghost use Rattle.std.specs.Prelude.{◌≡◌};
-ghost use Rattle.histar_command_line.specs.Forms.{form_app, run_app, raw_app, check_app, access_app, diff_app, lint_app, test_app, trust_app};
+ghost use Rattle.histar_command_line.specs.Forms.{form_app, run_app, raw_app, check_app, access_app, diff_app, lint_app, report_app, test_app, trust_app};
 
 /// An argument of a subcommand.
 #[derive(Clone, Copy)]
@@ -206,6 +206,19 @@ prints
             Argument::Flag("raw", "FILE is a session of raw calls"),
             Argument::Word("FILE", "The script, or the session of raw calls"),
         ],
+    }
+}
+
+/// Returns `report FILE`.
+pub(crate) fn report<'a>() -> Form<'a>
+    ensures { form_app result ≡ report_app }
+{
+    Form {
+        name: "report",
+        about: "Run a script and print the session as one HTML page",
+        after_help: "Example:
+  histar report examples/scan.histar > scan.html",
+        arguments: &[Argument::Word("FILE", SCRIPT)],
     }
 }
 

@@ -7,4 +7,5 @@ mod command;
 mod forms;
 mod task;
 
+pub use command::VERSION;
 pub use task::{CheckFlags, RunFlags, Task, read_words};

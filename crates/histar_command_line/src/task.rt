@@ -48,6 +48,8 @@ pub enum Task<'a> {
     Trust(&'a str, &'a str, Option<&'a str>),
     /// Print why the script in this file is bad, where it is; or the session of raw calls, if it is one.
     Lint(&'a str, bool),
+    /// Print the session of the script in this file as a page.
+    Report(&'a str),
     /// Compare the replies to the scripts in these files with those that they expect.
     Test(Vec<&'a str>),
 }
@@ -126,6 +128,10 @@ fn state_task_of<'a>(matches: &ArgMatches<'a>) -> Option<Task<'a>>
         let file = trust.get_str("FILE")?;
         let at = trust.get_str("LINE");
         return Some(Task::Trust(path, file, at));
+    }
+    if let Some(report) = matches.subcommand_matches("report") {
+        let file = report.get_str("FILE")?;
+        return Some(Task::Report(file));
     }
     let lint = matches.subcommand_matches("lint")?;
     let file = lint.get_str("FILE")?;

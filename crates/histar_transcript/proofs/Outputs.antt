@@ -50,7 +50,7 @@ is_script options true text output h = h.faults
 is_script options false text output h = h.1.faults
 
 -- a text that is too long is none
-not_long : (text : List ℕ) → script_of text ≡ Err TooLong → IsOk (script_of text) → ⊥
+pub not_long : (text : List ℕ) → script_of text ≡ Err TooLong → IsOk (script_of text) → ⊥
 not_long text long is = let no : false ≡ true = subst (λ (read : Result Reading Fault). IsOk read) long is in absurd cc
 
 -- what is said of a text that is too long is said of another one

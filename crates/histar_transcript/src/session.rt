@@ -85,7 +85,7 @@ fn plain_output(alloc: Global, text: &[u8], options: Options) -> Result<Vec<u8>,
 }
 
 /// Returns the output of a run of the script that a text is, with the explanations of its denials.
-fn explained_output(alloc: Global, text: &[u8], options: Options) -> Result<Vec<u8>, Fault>
+pub fn explained_output(alloc: Global, text: &[u8], options: Options) -> Result<Vec<u8>, Fault>
     ensures { GivesOutput options true text.now result }
 {
     let mut reader = Counted::new(text);
@@ -97,7 +97,7 @@ fn explained_output(alloc: Global, text: &[u8], options: Options) -> Result<Vec<
 }
 
 /// Returns the fault of a run whose devices are memory, which fail only where that runs out.
-fn in_memory(fault: Fault) -> Fault
+pub fn in_memory(fault: Fault) -> Fault
     ensures { result ≡ in_memory fault }
 {
     match fault {

@@ -19,4 +19,5 @@ returns c =
     let with_diff = c.in_ok-histar-6.ensures ∙ ap₂ with_subcommand with_access (ap top c.diff.ensures) in
     let with_trust = c.in_ok-histar-7.ensures ∙ ap₂ with_subcommand with_diff (ap top c.trust.ensures) in
     let with_lint = c.in_ok-histar-8.ensures ∙ ap₂ with_subcommand with_trust (ap top c.lint.ensures) in
-    IfOk-weaker c.add-8.result _ _ (λ r added. added ∙ ap₂ with_subcommand with_lint (ap top c.test.ensures)) c.add-8.ensures
+    let with_report = c.in_ok-histar-9.ensures ∙ ap₂ with_subcommand with_lint (ap top c.report.ensures) in
+    IfOk-weaker c.add-9.result _ _ (λ r added. added ∙ ap₂ with_subcommand with_report (ap top c.test.ensures)) c.add-9.ensures

@@ -43,6 +43,15 @@ returns-in-Some-subcommand_matches-2 c =
       ),
     )
 
+pub returns-in-Some-subcommand_matches-3 : goal.returns-in-Some-subcommand_matches-3
+returns-in-Some-subcommand_matches-3 c =
+    let m = c.in-Some-subcommand_matches-3 in
+    let found = found_of m.report.now in (
+      rows_of found,
+      matched c.args.matches.now (codes "report") (rows_of found) (m.ensures.found.0 refl) m.ensures.rows,
+      sym (c.in_ok-file-3.ensures ∙ first_value-rows found (codes "FILE")),
+    )
+
 pub returns : goal.returns
 returns c =
     let m = c.in_ok-lint in
@@ -50,7 +59,7 @@ returns c =
       rows_of found,
       matched c.args.matches.now (codes "lint") (rows_of found) (m.ensures.found.0 refl) m.ensures.rows,
       (
-        sym (c.in_ok-file-3.ensures ∙ first_value-rows found (codes "FILE")),
+        sym (c.in_ok-file-4.ensures ∙ first_value-rows found (codes "FILE")),
         c.is_set-raw.ensures ∙ ap is_given (first_value-rows found (codes "raw")),
       ),
     )

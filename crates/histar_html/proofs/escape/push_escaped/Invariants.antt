@@ -1,0 +1,9 @@
+use Rattle.std.proofs.Common.{◌≡◌, ◌++◌, length}
+use Rattle.histar_html.specs.Escape.{escaped}
+use Rattle.histar_html.proofs.escape.push_escaped.Given as goal
+
+abbrev pub decreases-bytes : goal.decreases-bytes
+decreases-bytes l = length l.rest
+
+abbrev pub invariant-bytes : goal.invariant-bytes
+invariant-bytes l = l.page.items ++ escaped l.rest ≡ l.fn.page.items ++ escaped l.bytes

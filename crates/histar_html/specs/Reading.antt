@@ -1,0 +1,36 @@
+-- How the text of a page is read.
+use Rattle.std.specs.Prelude.{ℕ, zero, suc, ◌-◌, Bool, true, false, not, ◌&&◌, ◌||◌, List, [], ◌∷◌, ◌==◌, codes, length, find, Option, None, Some, is_some}
+
+-- the text begins with these bytes
+abbrev pub begins_with : List ℕ → List ℕ → Bool
+begins_with text [] = true
+begins_with [] (c ∷ cs) = false
+begins_with (b ∷ bs) (c ∷ cs) = (b == c) && begins_with bs cs
+
+-- the five references, each behind the byte that it is read as: `<`, `>`, `&`, `"` and `'`
+abbrev pub references : List (ℕ × List ℕ)
+references = (60, codes "&lt;") ∷ (62, codes "&gt;") ∷ (38, codes "&amp;") ∷ (34, codes "&quot;") ∷ (39, codes "&#39;") ∷ []
+
+-- the reference that a text begins with, if it begins with one
+abbrev pub reference_at : List ℕ → Option (ℕ × List ℕ)
+reference_at text = find (λ r. begins_with text r.1) references
+
+-- what a text is read as behind so many bytes: a byte in place of each reference, and the other bytes
+abbrev pub read_past : ℕ → List ℕ → List ℕ
+read_past zero [] = []
+read_past (suc n) [] = []
+read_past zero (b ∷ bs) = elim (reference_at (b ∷ bs)) [ None ↦ b ∷ read_past 0 bs | Some r ↦ r.0 ∷ read_past (length r.1 - 1) bs ]
+read_past (suc n) (b ∷ bs) = read_past n bs
+
+-- what a text of a page is read as
+abbrev pub unescaped : List ℕ → List ℕ
+unescaped text = read_past 0 text
+
+-- a byte that begins or ends markup or an attribute: `<`, `>`, `"` or `'`
+abbrev pub is_markup_byte : ℕ → Bool
+is_markup_byte b = b == 60 || b == 62 || b == 34 || b == 39
+
+-- the first byte of a text is none of these, and if it is `&`, it begins a reference
+abbrev pub begins_as_text : List ℕ → Bool
+begins_as_text [] = true
+begins_as_text (b ∷ bs) = not (is_markup_byte b) && (not (b == 38) || is_some (reference_at (b ∷ bs)))

@@ -1,0 +1,31 @@
+//! Bytes that are written as text of a page.
+ghost use Rattle.std.specs.Prelude.{◌≡◌, ◌++◌, OnOk};
+ghost use Rattle.histar_html.specs.Escape.{escaped, escaped_byte};
+
+use std::alloc::AllocError;
+
+/// Adds bytes to a page as text. Bytes that are no ASCII are added as they are.
+pub fn push_escaped(page: &mut Vec<u8>, bytes: &[u8]) -> Result<(), AllocError>
+    ensures { OnOk result (page.new.items ≡ page.old.items ++ escaped bytes.now) }
+{
+    let mut rest = bytes;
+    'bytes: while let [byte, more @ ..] = rest {
+        push_byte(page, *byte)?;
+        rest = more;
+    }
+    Ok(())
+}
+
+/// Adds a byte to a page as text.
+fn push_byte(page: &mut Vec<u8>, byte: u8) -> Result<(), AllocError>
+    ensures { OnOk result (page.new.items ≡ page.old.items ++ escaped_byte byte) }
+{
+    match byte {
+        b'<' => page.extend_from_slice(b"&lt;"),
+        b'>' => page.extend_from_slice(b"&gt;"),
+        b'&' => page.extend_from_slice(b"&amp;"),
+        b'"' => page.extend_from_slice(b"&quot;"),
+        b'\'' => page.extend_from_slice(b"&#39;"),
+        _ => page.extend_from_slice(&[byte]),
+    }
+}

@@ -1,0 +1,4 @@
+pub mod WordLemmas
+pub mod OwnLemmas
+pub mod SessionLemmas
+pub mod PageLemmas

@@ -1,0 +1,254 @@
+-- A session's items, one call after another.
+use Rattle.std.proofs.Common.{◌≡◌, ℕ, List, [], ◌∷◌, ◌++◌, refl, sym, ap, ap₂, ◌∙◌, true, false, append_assoc, append-nil, map, subst}
+use Rattle.std.specs.Prelude.{Bool, ◌||◌, codes, filter, if◌then◌else◌}
+use Rattle.std.specs.List.{flat_map, list_all}
+use Rattle.std.proofs.lemmas.Bool.{and_parts}
+use Rattle.std.proofs.lemmas.Slice.Eq.{bytes_eq-Decides}
+use Rattle.std.proofs.lemmas.List.{map-append}
+use Rattle.std.proofs.lemmas.List.Elements.{filter-append}
+use Rattle.std.proofs.lemmas.List.Concat.{flat_map-append}
+use Rattle.histar_script.specs.Lines.{split_word}
+use Rattle.histar_page.specs.declared.kind.Kind.{Kind}
+use Rattle.histar_page.specs.declared.kind.Kind.TheVariants.{Reply, Refusal, RawCall, DeniedCall}
+use Rattle.histar_page.specs.Items.{Item}
+use Rattle.histar_page.specs.Lines.{after_word, is_denied, is_explanation, is_own, is_raw_call, is_refused, is_reply, mark_number}
+use Rattle.histar_page.specs.Session.{AddsSession, AreOwn, IsSession, answer_items, boot_items, call_items, is_answer_kind, is_number_kind, is_raw_kind, is_why_kind, of_kinds, other_call_items, other_why_items, raw_item, raw_kind, reply_kind, why_item}
+
+-- ---- kinds
+
+-- a fact of both kinds of replies is one of the kind of each
+by_reply : (P : Kind → Type 0) → P Refusal → P Reply → (line : List ℕ) → P (reply_kind line)
+by_reply P refused granted line = elim (is_refused line) as (λ b. P (if b then Refusal else Reply)) [ true ↦ refused | false ↦ granted ]
+
+-- a fact of both kinds of raw calls is one of the kind of each
+by_raw : (P : Kind → Type 0) → P DeniedCall → P RawCall → (line : List ℕ) → P (raw_kind line)
+by_raw P denied made line = elim (is_denied line) as (λ b. P (if b then DeniedCall else RawCall)) [ true ↦ denied | false ↦ made ]
+
+-- those of two lists that are of these kinds
+of-append : (test : Kind → Bool) (xs ys : List Item) → of_kinds test (xs ++ ys) ≡ of_kinds test xs ++ of_kinds test ys
+of-append test xs ys = filter-append (λ (item : Item). test item.0) xs ys
+
+-- no item is of these kinds
+of_none : (test : Kind → Bool) (f : List ℕ → Item) → ((line : List ℕ) → test (f line).0 ≡ false) → (lines : List (List ℕ)) → of_kinds test (map f lines) ≡ []
+of_none test f fails [] = refl
+of_none test f fails (line ∷ lines) = rw (fails line) (of_none test f fails lines)
+
+-- each item is of these kinds
+of_all : (test : Kind → Bool) (f : List ℕ → Item) → ((line : List ℕ) → test (f line).0 ≡ true) → (lines : List (List ℕ)) → of_kinds test (map f lines) ≡ map f lines
+of_all test f passes [] = refl
+of_all test f passes (line ∷ lines) = rw (passes line) (ap (λ l. f line ∷ l) (of_all test f passes lines))
+
+-- a raw call's kind
+raw_none : (test : Kind → Bool) → test DeniedCall ≡ false → test RawCall ≡ false → (lines : List (List ℕ)) → of_kinds test (map raw_item lines) ≡ []
+raw_none test denied made lines = of_none test raw_item (by_raw (λ k. test k ≡ false) denied made) lines
+
+-- ---- what is behind a call
+
+-- what is behind a call has none of these kinds but those of raw calls
+behind_raw : (raw_calls explanations : List (List ℕ)) → of_kinds is_raw_kind (map raw_item raw_calls ++ map why_item explanations) ≡ map raw_item raw_calls
+behind_raw raw_calls explanations =
+    of-append is_raw_kind (map raw_item raw_calls) (map why_item explanations)
+    ∙ ap₂ (λ (a b : List Item). a ++ b) (of_all is_raw_kind raw_item (by_raw (λ k. is_raw_kind k ≡ true) refl refl) raw_calls) (of_none is_raw_kind why_item (λ line. refl) explanations)
+    ∙ append-nil (map raw_item raw_calls)
+
+behind_why : (raw_calls explanations : List (List ℕ)) → of_kinds is_why_kind (map raw_item raw_calls ++ map why_item explanations) ≡ map why_item explanations
+behind_why raw_calls explanations =
+    of-append is_why_kind (map raw_item raw_calls) (map why_item explanations)
+    ∙ ap₂ (λ (a b : List Item). a ++ b) (raw_none is_why_kind refl refl raw_calls) (of_all is_why_kind why_item (λ line. refl) explanations)
+
+behind_answers : (raw_calls explanations : List (List ℕ)) → of_kinds is_answer_kind (map raw_item raw_calls ++ map why_item explanations) ≡ []
+behind_answers raw_calls explanations =
+    of-append is_answer_kind (map raw_item raw_calls) (map why_item explanations)
+    ∙ ap₂ (λ (a b : List Item). a ++ b) (raw_none is_answer_kind refl refl raw_calls) (of_none is_answer_kind why_item (λ line. refl) explanations)
+
+-- ---- a call
+
+call_answers : (script : List (List ℕ)) (line : List ℕ) (raw_calls explanations : List (List ℕ))
+    → of_kinds is_answer_kind (call_items script line raw_calls explanations) ≡ flat_map (answer_items script) (line ∷ [])
+call_answers script line raw_calls explanations =
+    rw (by_reply (λ k. is_answer_kind k ≡ true) refl refl line) (rw (behind_answers raw_calls explanations) refl)
+
+call_raw : (script : List (List ℕ)) (line : List ℕ) (raw_calls explanations : List (List ℕ))
+    → of_kinds is_raw_kind (call_items script line raw_calls explanations) ≡ map raw_item raw_calls
+call_raw script line raw_calls explanations = rw (by_reply (λ k. is_raw_kind k ≡ false) refl refl line) (behind_raw raw_calls explanations)
+
+call_why : (script : List (List ℕ)) (line : List ℕ) (raw_calls explanations : List (List ℕ))
+    → of_kinds is_why_kind (call_items script line raw_calls explanations) ≡ map why_item explanations
+call_why script line raw_calls explanations = rw (by_reply (λ k. is_why_kind k ≡ false) refl refl line) (behind_why raw_calls explanations)
+
+-- ---- numbers
+
+-- no kind is this one
+never : {P : Type 0} → false ≡ true → P
+never h = absurd cc
+
+-- what is behind numbers of its own goes behind anything
+own-append : (number : List ℕ) (xs ys : List Item) → AreOwn number xs → ((n : List ℕ) → AreOwn n ys) → AreOwn number (xs ++ ys)
+own-append number [] ys h all = all number
+own-append number (x ∷ xs) ys h all = (h.0, own-append (if is_number_kind x.0 then x.1 else number) xs ys h.1 all)
+
+-- a line has the number that a test finds
+has_number : (number line : List ℕ) → is_own number line ≡ true → mark_number line ≡ number
+has_number number line h = (bytes_eq-Decides (mark_number line) number).0 h
+
+-- raw calls that have a number, and then what is behind it
+own_raw : (number : List ℕ) (lines : List (List ℕ)) (more : List Item) → list_all (is_own number) lines ≡ true → AreOwn number more
+    → AreOwn number (map raw_item lines ++ more)
+own_raw number [] more h rest = rest
+own_raw number (line ∷ lines) more h rest =
+    let parts = and_parts (is_own number line) (list_all (is_own number) lines) h in
+    (λ is. has_number number line parts.0, rw (by_raw (λ k. is_number_kind k ≡ false) refl refl line) (own_raw number lines more parts.1 rest))
+
+-- explanations that have a number
+own_why : (number : List ℕ) (lines : List (List ℕ)) → list_all (is_own number) lines ≡ true → AreOwn number (map why_item lines)
+own_why number [] h = tt
+own_why number (line ∷ lines) h =
+    let parts = and_parts (is_own number line) (list_all (is_own number) lines) h in
+    (λ is. has_number number line parts.0, own_why number lines parts.1)
+
+-- a call with what has its number
+own_call : (script : List (List ℕ)) (line : List ℕ) (raw_calls explanations : List (List ℕ))
+    → list_all (is_own (split_word line).0) raw_calls ≡ true → list_all (is_own (split_word line).0) explanations ≡ true
+    → (number : List ℕ) → AreOwn number (call_items script line raw_calls explanations)
+own_call script line raw_calls explanations raw why number =
+    let word = (split_word line).0 in
+    let behind = own_raw word raw_calls (map why_item explanations) raw (own_why word explanations why) in (
+      never,
+      (
+        never,
+        (
+          by_reply (λ k. (is_raw_kind k || is_why_kind k) ≡ true → mark_number (after_word line) ≡ word) never never line,
+          rw (by_reply (λ k. is_number_kind k ≡ false) refl refl line) behind,
+        ),
+      ),
+    )
+
+-- raw calls behind their own numbers
+own_other_calls : (lines : List (List ℕ)) (number : List ℕ) → AreOwn number (flat_map other_call_items lines)
+own_other_calls [] number = tt
+own_other_calls (line ∷ lines) number =
+    (never, (λ is. refl, rw (by_raw (λ k. is_number_kind k ≡ false) refl refl line) (own_other_calls lines (mark_number line))))
+
+-- explanations behind their own numbers
+own_other_why : (lines : List (List ℕ)) (number : List ℕ) → AreOwn number (flat_map other_why_items lines)
+own_other_why [] number = tt
+own_other_why (line ∷ lines) number = (never, (λ is. refl, own_other_why lines (mark_number line)))
+
+-- ---- lines of no reply
+
+other_answers : (lines : List (List ℕ)) → of_kinds is_answer_kind (flat_map other_call_items lines) ≡ []
+other_answers [] = refl
+other_answers (line ∷ lines) = rw (by_raw (λ k. is_answer_kind k ≡ false) refl refl line) (other_answers lines)
+
+other_raw : (lines : List (List ℕ)) → of_kinds is_raw_kind (flat_map other_call_items lines) ≡ map raw_item lines
+other_raw [] = refl
+other_raw (line ∷ lines) = rw (by_raw (λ k. is_raw_kind k ≡ true) refl refl line) (ap (λ l. raw_item line ∷ l) (other_raw lines))
+
+other_none : (lines : List (List ℕ)) → of_kinds is_why_kind (flat_map other_call_items lines) ≡ []
+other_none [] = refl
+other_none (line ∷ lines) = rw (by_raw (λ k. is_why_kind k ≡ false) refl refl line) (other_none lines)
+
+why_answers : (lines : List (List ℕ)) → of_kinds is_answer_kind (flat_map other_why_items lines) ≡ []
+why_answers [] = refl
+why_answers (line ∷ lines) = why_answers lines
+
+why_raw : (lines : List (List ℕ)) → of_kinds is_raw_kind (flat_map other_why_items lines) ≡ []
+why_raw [] = refl
+why_raw (line ∷ lines) = why_raw lines
+
+why_all : (lines : List (List ℕ)) → of_kinds is_why_kind (flat_map other_why_items lines) ≡ map why_item lines
+why_all [] = refl
+why_all (line ∷ lines) = ap (λ l. why_item line ∷ l) (why_all lines)
+
+-- ---- what is added
+
+-- one list was added behind another
+joined : (test : Kind → Bool) (xs ys a b : List Item) → of_kinds test xs ≡ a → of_kinds test ys ≡ b → of_kinds test (xs ++ ys) ≡ a ++ b
+joined test xs ys a b x y = of-append test xs ys ∙ ap₂ (λ (a b : List Item). a ++ b) x y
+
+-- nothing was added
+pub adds_none : (script : List (List ℕ)) (old : List Item) → AddsSession script [] [] [] old old
+adds_none script old = record { added = []; is_added = sym (append-nil old); answers = refl; raw = refl; why = refl; own = λ number. tt }
+
+-- a call was added
+pub adds_call : {script done raw why : List (List ℕ)} {old mid new : List Item} (line : List ℕ) (raw_calls explanations : List (List ℕ))
+    → AddsSession script done raw why old mid → new ≡ mid ++ call_items script line raw_calls explanations
+    → list_all (is_own (split_word line).0) raw_calls ≡ true → list_all (is_own (split_word line).0) explanations ≡ true
+    → AddsSession script (done ++ line ∷ []) (raw ++ raw_calls) (why ++ explanations) old new
+adds_call {script} {done} {raw} {why} {old} line raw_calls explanations h e own_calls own_explanations =
+    let call = call_items script line raw_calls explanations in
+    record {
+      added = h.added ++ call;
+      is_added = e ∙ ap (λ l. l ++ call) h.is_added ∙ append_assoc old h.added call;
+      answers = joined is_answer_kind h.added call _ _ h.answers (call_answers script line raw_calls explanations) ∙ sym (flat_map-append (answer_items script) done (line ∷ []));
+      raw = joined is_raw_kind h.added call _ _ h.raw (call_raw script line raw_calls explanations) ∙ sym (map-append raw_item raw raw_calls);
+      why = joined is_why_kind h.added call _ _ h.why (call_why script line raw_calls explanations) ∙ sym (map-append why_item why explanations);
+      own = λ number. own-append number h.added call (h.own number) (own_call script line raw_calls explanations own_calls own_explanations);
+    }
+
+-- raw calls of no reply were added
+pub adds_calls : {script done raw why : List (List ℕ)} {old mid new : List Item} (raw_calls : List (List ℕ))
+    → AddsSession script done raw why old mid → new ≡ mid ++ flat_map other_call_items raw_calls
+    → AddsSession script done (raw ++ raw_calls) why old new
+adds_calls {script} {done} {raw} {why} {old} raw_calls h e =
+    let others = flat_map other_call_items raw_calls in
+    record {
+      added = h.added ++ others;
+      is_added = e ∙ ap (λ l. l ++ others) h.is_added ∙ append_assoc old h.added others;
+      answers = joined is_answer_kind h.added others _ _ h.answers (other_answers raw_calls) ∙ append-nil _;
+      raw = joined is_raw_kind h.added others _ _ h.raw (other_raw raw_calls) ∙ sym (map-append raw_item raw raw_calls);
+      why = joined is_why_kind h.added others _ _ h.why (other_none raw_calls) ∙ append-nil _;
+      own = λ number. own-append number h.added others (h.own number) (own_other_calls raw_calls);
+    }
+
+-- explanations of no reply were added
+pub adds_whys : {script done raw why : List (List ℕ)} {old mid new : List Item} (explanations : List (List ℕ))
+    → AddsSession script done raw why old mid → new ≡ mid ++ flat_map other_why_items explanations
+    → AddsSession script done raw (why ++ explanations) old new
+adds_whys {script} {done} {raw} {why} {old} explanations h e =
+    let others = flat_map other_why_items explanations in
+    record {
+      added = h.added ++ others;
+      is_added = e ∙ ap (λ l. l ++ others) h.is_added ∙ append_assoc old h.added others;
+      answers = joined is_answer_kind h.added others _ _ h.answers (why_answers explanations) ∙ append-nil _;
+      raw = joined is_raw_kind h.added others _ _ h.raw (why_raw explanations) ∙ append-nil _;
+      why = joined is_why_kind h.added others _ _ h.why (why_all explanations) ∙ sym (map-append why_item why explanations);
+      own = λ number. own-append number h.added others (h.own number) (own_other_why explanations);
+    }
+
+-- what was added behind the raw calls of boot
+pub adds_boot : {script done raw why : List (List ℕ)} {old mid new : List Item} (boot : List (List ℕ))
+    → mid ≡ old ++ boot_items boot → list_all (is_own (codes "0")) boot ≡ true → AddsSession script done raw why mid new
+    → AddsSession script done (boot ++ raw) why old new
+adds_boot {script} {done} {raw} {why} {old} boot e is_boot h =
+    let items = boot_items boot in
+    record {
+      added = items ++ h.added;
+      is_added = h.is_added ∙ ap (λ l. l ++ h.added) e ∙ append_assoc old items h.added;
+      answers = joined is_answer_kind items h.added _ _ (raw_none is_answer_kind refl refl boot) h.answers;
+      raw = joined is_raw_kind items h.added _ _ (of_all is_raw_kind raw_item (by_raw (λ k. is_raw_kind k ≡ true) refl refl) boot) h.raw ∙ sym (map-append raw_item boot raw);
+      why = joined is_why_kind items h.added _ _ (raw_none is_why_kind refl refl boot) h.why;
+      own = λ number. own-append number items h.added
+          (never, subst_nil (codes "0") boot is_boot) h.own;
+    }
+  where
+    subst_nil : (number : List ℕ) (lines : List (List ℕ)) → list_all (is_own number) lines ≡ true → AreOwn number (map raw_item lines)
+    subst_nil number lines is = let P : List Item → Type 0 = AreOwn number in rw (← append-nil (map raw_item lines)) (own_raw number lines [] is tt)
+
+-- what was added of equal lists
+pub adds_as : {script done raw why all raws whys : List (List ℕ)} {old new : List Item} → all ≡ done → raws ≡ raw → whys ≡ why
+    → AddsSession script done raw why old new → AddsSession script all raws whys old new
+adds_as is_all are_raws are_whys h = rw (is_all, are_raws, are_whys) h
+
+-- a session that was added to nothing
+pub session_is : {script replies raw why lines output : List (List ℕ)} {old new : List Item}
+    → script ≡ lines → replies ≡ filter is_reply output → raw ≡ filter is_raw_call output → why ≡ filter is_explanation output → old ≡ []
+    → AddsSession script replies raw why old new → IsSession lines output new
+session_is is_script are_replies are_raw are_why is_empty h =
+    let all = h.is_added ∙ ap (λ l. l ++ h.added) is_empty in
+    record {
+      answers = ap (of_kinds is_answer_kind) all ∙ h.answers ∙ ap₂ (λ (s r : List (List ℕ)). flat_map (answer_items s) r) is_script are_replies;
+      raw_calls = ap (of_kinds is_raw_kind) all ∙ h.raw ∙ ap (map raw_item) are_raw;
+      explanations = ap (of_kinds is_why_kind) all ∙ h.why ∙ ap (map why_item) are_why;
+      own = let P : List Item → Type 0 = AreOwn [] in subst P (sym all) (h.own []);
+    }

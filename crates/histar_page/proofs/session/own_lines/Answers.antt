@@ -1,0 +1,47 @@
+use Rattle.std.proofs.Common.{ℕ, List, ◌++◌, length, take, arith, ◌∙◌, ap, sym}
+use Rattle.std.specs.Borrow.{Bor}
+use Rattle.std.specs.List.{list_all}
+use Rattle.std.proofs.lemmas.List.{length-map, take-map}
+use Rattle.std.proofs.lemmas.List.Sums.{prefix_len-le-length}
+use Rattle.histar_page.specs.Texts.{texts}
+use Rattle.histar_page.specs.Lines.{is_own}
+use Rattle.histar_page.proofs.OwnLemmas.{own_pass, taken_texts}
+use Rattle.histar_page.proofs.session.own_lines.Goals as goal
+
+pub split_at-requires-2 : goal.split_at-requires-2
+split_at-requires-2 c =
+    let later = c.split_at.result.1.now in
+    let now : Bor (List ℕ) → List ℕ = λ line. line.now in
+    omega (arith, c.own_count.ensures, prefix_len-le-length (is_own c.args.word.now) (texts later), length-map later now)
+
+pub returns-clause-fits : goal.returns-clause-fits
+returns-clause-fits c =
+    let later = c.split_at.result.1.now in
+    let now : Bor (List ℕ) → List ℕ = λ line. line.now in
+    omega (
+      arith,
+      c.own_count.ensures,
+      prefix_len-le-length (is_own c.args.word.now) (texts later),
+      length-map later now,
+      c.split_at.ensures.back_len,
+      c.split_at-2.ensures.front_len,
+    )
+
+pub returns-clause-taken : goal.returns-clause-taken
+returns-clause-taken c =
+    let lines = c.args.lines.now in
+    let from = c.args.from in
+    let now : Bor (List ℕ) → List ℕ = λ line. line.now in
+    let own = c.split_at-2.ensures.front ∙ ap (take c.own_count.result) c.split_at.ensures.back in
+    taken_texts now lines from c.own_count.result (length c.split_at-2.result.0.now) c.split_at-2.ensures.front_len
+    ∙ ap (λ l. take from (texts lines) ++ texts l) (sym own)
+
+pub returns-clause-own : goal.returns-clause-own
+returns-clause-own c =
+    let later = c.split_at.result.1.now in
+    let own = is_own c.args.word.now in
+    let now : Bor (List ℕ) → List ℕ = λ line. line.now in
+    ap (λ l. list_all own (texts l)) c.split_at-2.ensures.front
+    ∙ ap (list_all own) (sym (take-map now c.own_count.result later))
+    ∙ ap (λ k. list_all own (take k (texts later))) c.own_count.ensures
+    ∙ own_pass own (texts later)

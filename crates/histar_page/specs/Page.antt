@@ -1,0 +1,34 @@
+-- The page of a session.
+use Rattle.std.specs.Prelude.{◌≡◌, ℕ, List, ◌++◌}
+use Rattle.histar_script.specs.Lines.{lines_of}
+use Rattle.histar_page.specs.declared.piece.Piece.{Piece}
+use Rattle.histar_page.specs.declared.page.Texts.{Texts}
+use Rattle.histar_page.specs.Items.{Item, items_of}
+use Rattle.histar_page.specs.Rendering.{rendered}
+use Rattle.histar_page.specs.Head.{head_items}
+use Rattle.histar_page.specs.Session.{IsSession}
+use Rattle.histar_page.specs.Files.{files_items}
+
+-- the texts that a page is made of
+pub record Sources : Type 0 where
+  pub name : List ℕ
+  pub version : List ℕ
+  pub script : List ℕ
+  pub output : List ℕ
+  pub table : List ℕ
+
+-- the texts that references point to
+abbrev pub sources_of : Texts → Sources
+sources_of texts = record { name = texts.name.now; version = texts.version.now; script = texts.script.now; output = texts.output.now; table = texts.table.now }
+
+-- What a page shows: its head, the session, and the files.
+pub record IsReport (sources : Sources) (items : List Item) : Type 0 where
+  pub session : List Item
+  pub parts : items ≡ head_items sources.name sources.version (lines_of sources.output) ++ session ++ files_items (lines_of sources.table)
+  pub is_session : IsSession (lines_of sources.script) (lines_of sources.output) session
+
+-- The page is written of pieces that show the session. All else in it is fixed text of the program.
+pub record IsPage (sources : Sources) (page : List ℕ) : Type 0 where
+  pub pieces : List Piece
+  pub written : page ≡ rendered pieces
+  pub shows : IsReport sources (items_of pieces)

@@ -1,0 +1,95 @@
+-- What is written of the pieces of a page.
+use Rattle.std.specs.Prelude.{ℕ, List, [], ◌∷◌, ◌++◌, codes, decimal}
+use Rattle.std.specs.List.{flat_map}
+use Rattle.histar_html.specs.Escape.{escaped}
+use Rattle.histar_page.specs.declared.markup.TheConstants.{STYLE}
+use Rattle.histar_page.specs.declared.kind.Kind.{Kind}
+use Rattle.histar_page.specs.declared.kind.Kind.TheVariants.{Title, FileName, Calls, Refusals, Denials, Version, LineNumber, OtherLine, Call, Reply, Refusal, RawCall, DeniedCall, Explanation, Column, Path, Stat, Process, Granted, Withheld}
+use Rattle.histar_page.specs.declared.markup.Markup.{Markup}
+use Rattle.histar_page.specs.declared.markup.Markup.TheVariants.{Begin, Style, BeginCounts, EndHead, BeginSession, BeginBoot, BeginOther, BeginCall, BeginBehind, EndCall, BeginBare, EndBare, EndSession, BeginFiles, EndColumns, BeginRow, BeginCell, EndCell, EndRow, End}
+use Rattle.histar_page.specs.declared.piece.Piece.{Piece}
+use Rattle.histar_page.specs.declared.piece.Piece.TheVariants.{Fixed, Shown, Counted, Letter}
+
+-- the markup before a text of a kind
+abbrev pub opening : Kind → List ℕ
+opening Title = codes "<title>"
+opening FileName = codes "<h1>"
+opening Calls = codes "<span>calls: <b>"
+opening Refusals = codes "<span>refusals: <b>"
+opening Denials = codes "<span>denied raw calls: <b>"
+opening Version = codes "<span>histar <b>"
+opening LineNumber = codes "<span class=\"number\">"
+opening OtherLine = codes "<b>"
+opening Call = codes "<code class=\"call\">"
+opening Reply = codes "<code class=\"reply\">"
+opening Refusal = codes "<code class=\"refusal\">"
+opening RawCall = codes "<code class=\"raw\">"
+opening DeniedCall = codes "<code class=\"raw denied\">"
+opening Explanation = codes "<code class=\"why\">"
+opening Column = codes "<th scope=\"col\">"
+opening Path = codes "<th scope=\"row\">"
+opening Stat = codes "<td class=\"stat\">"
+opening Process = codes "<small>"
+opening Granted = codes "<b>"
+opening Withheld = codes "<i>"
+
+-- the markup behind a text of a kind
+abbrev pub closing : Kind → List ℕ
+closing Title = codes "</title>\n"
+closing FileName = codes "</h1>\n"
+closing Calls = codes "</b></span>\n"
+closing Refusals = codes "</b></span>\n"
+closing Denials = codes "</b></span>\n"
+closing Version = codes "</b></span>\n"
+closing LineNumber = codes "</span>\n"
+closing OtherLine = codes "</b>"
+closing Call = codes "</code>\n"
+closing Reply = codes "</code>\n"
+closing Refusal = codes "</code>\n"
+closing RawCall = codes "</code>\n"
+closing DeniedCall = codes "</code>\n"
+closing Explanation = codes "</code>\n"
+closing Column = codes "</th>"
+closing Path = codes "</th>"
+closing Stat = codes "</td>"
+closing Process = codes "</small>"
+closing Granted = codes "</b>"
+closing Withheld = codes "</i>"
+
+-- a fixed text
+abbrev pub markup_text : Markup → List ℕ
+markup_text Begin = codes "<!DOCTYPE html>\n<html lang=\"en\">\n<head>\n<meta charset=\"utf-8\">\n<meta name=\"viewport\" content=\"width=device-width, initial-scale=1\">\n"
+markup_text Style = STYLE.now
+markup_text BeginCounts = codes "<p>\n"
+markup_text EndHead = codes "</p>\n<nav><a href=\"#session\">Session</a> <a href=\"#files\">Files</a></nav>\n</header>\n<main>\n"
+markup_text BeginSession = codes "<section id=\"session\">\n<h2>Session</h2>\n"
+markup_text BeginBoot = codes "<details class=\"other\">\n<summary>Boot, line "
+markup_text BeginOther = codes "<details class=\"other\">\n<summary>Raw calls of line "
+markup_text BeginCall = codes "<details>\n<summary>"
+markup_text BeginBehind = codes "</summary>\n<div class=\"behind\">\n"
+markup_text EndCall = codes "</div>\n</details>\n"
+markup_text BeginBare = codes "<div class=\"bare\">"
+markup_text EndBare = codes "</div>\n"
+markup_text EndSession = codes "</section>\n"
+markup_text BeginFiles = codes "<section id=\"files\">\n<h2>Files</h2>\n<p>Who may do what at the end: s to see it, r to read it, w to write it, d to take it away.</p>\n<div class=\"wide\">\n<table>\n<thead>\n<tr><th scope=\"col\">Path</th><th scope=\"col\">Kind</th><th scope=\"col\">Owner</th><th scope=\"col\">Mode</th>"
+markup_text EndColumns = codes "</tr>\n</thead>\n<tbody>\n"
+markup_text BeginRow = codes "<tr>"
+markup_text BeginCell = codes "<td class=\"rights\">"
+markup_text EndCell = codes "</td>"
+markup_text EndRow = codes "</tr>\n"
+markup_text End = codes "</tbody>\n</table>\n</div>\n</section>\n</main>\n</body>\n</html>\n"
+
+-- what is written of a text of a kind: the text, escaped, between its tags
+abbrev pub shown_text : Kind → List ℕ → List ℕ
+shown_text kind text = opening kind ++ escaped text ++ closing kind
+
+-- what is written of a piece
+abbrev pub piece_text : Piece → List ℕ
+piece_text (Fixed markup) = markup_text markup
+piece_text (Shown kind text) = shown_text kind text.now
+piece_text (Counted kind number) = shown_text kind (decimal number)
+piece_text (Letter kind letter) = shown_text kind (letter ∷ [])
+
+-- what is written of pieces
+abbrev pub rendered : List Piece → List ℕ
+rendered pieces = flat_map piece_text pieces

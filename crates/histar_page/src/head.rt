@@ -1,0 +1,86 @@
+//! The head of a page.
+ghost use Rattle.std.specs.Prelude.{◌≡◌, ◌≤◌, length, filter, IfOk, count_by};
+ghost use Rattle.histar_script.specs.Lines.{lines_of};
+ghost use Rattle.histar_page.specs.Texts.{texts};
+ghost use Rattle.histar_page.specs.Items.{items_of};
+ghost use Rattle.histar_page.specs.Lines.{is_denied, is_refused};
+ghost use Rattle.histar_page.specs.Head.{head_items};
+
+use crate::kind::Kind;
+use crate::lines::{after_word, is_denied, lines_in, marked_among, replies_among};
+use crate::markup::Markup;
+use crate::piece::{Piece, count, fix, show};
+use std::alloc::{AllocError, Global};
+
+/// The mark of a raw call in the output of a run.
+pub(crate) const RAW_MARK: u8 = b'@';
+
+/// The mark of an explanation in the output of a run.
+pub(crate) const WHY_MARK: u8 = b'?';
+
+/// Returns the pieces of the head of a page.
+pub(crate) fn head_pieces<'a>(
+    alloc: Global,
+    name: &'a [u8],
+    version: &'a [u8],
+    output: &'a [u8],
+) -> Result<Vec<Piece<'a>>, AllocError>
+    ensures { IfOk result (λ pieces. items_of pieces.items
+        ≡ head_items name.entry.now version.entry.now (lines_of output.entry.now)) }
+{
+    let lines = lines_in(alloc, output)?;
+    let replies = replies_among(alloc, lines.as_slice())?;
+    let raw_calls = marked_among(alloc, lines.as_slice(), RAW_MARK)?;
+    let mut pieces = Vec::new(alloc);
+    fix(&mut pieces, Markup::Begin)?;
+    show(&mut pieces, Kind::Title, name)?;
+    fix(&mut pieces, Markup::Style)?;
+    show(&mut pieces, Kind::FileName, name)?;
+    fix(&mut pieces, Markup::BeginCounts)?;
+    count(&mut pieces, Kind::Calls, replies.len() as u64)?;
+    count(&mut pieces, Kind::Refusals, refusals(replies.as_slice()))?;
+    count(&mut pieces, Kind::Denials, denials(raw_calls.as_slice()))?;
+    show(&mut pieces, Kind::Version, version)?;
+    fix(&mut pieces, Markup::EndHead)?;
+    Ok(pieces)
+}
+
+/// Checks whether a reply is a refusal: it is neither `ok`, with or without more, nor bytes that were read.
+pub(crate) fn is_refused(line: &[u8]) -> bool
+    ensures { result ≡ is_refused line.now }
+{
+    match after_word(line) {
+        [b'o' | b'=', ..] => false,
+        _ => true,
+    }
+}
+
+/// Returns how many replies are refusals.
+fn refusals(replies: &[&[u8]]) -> u64
+    ensures { result ≡ length (filter is_refused (texts replies.now)) }
+{
+    let mut rest = replies;
+    let mut number = 0;
+    'replies: while let [reply, more @ ..] = rest {
+        if is_refused(reply) {
+            number += 1;
+        }
+        rest = more;
+    }
+    number
+}
+
+/// Returns how many raw calls were denied.
+fn denials(raw_calls: &[&[u8]]) -> u64
+    ensures { result ≡ length (filter is_denied (texts raw_calls.now)) }
+{
+    let mut rest = raw_calls;
+    let mut number = 0;
+    'calls: while let [call, more @ ..] = rest {
+        if is_denied(call) {
+            number += 1;
+        }
+        rest = more;
+    }
+    number
+}

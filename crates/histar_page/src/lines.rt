@@ -1,0 +1,171 @@
+//! The lines of a run's output, by what they begin with.
+ghost use Rattle.std.specs.Prelude.{◌≡◌, ◌<◌, ◌∷◌, filter, length, map, IfOk, unwrap_or, []};
+ghost use Rattle.std.specs.List.{prefix_len};
+ghost use Rattle.std.specs.Option.{option_copied};
+ghost use Rattle.histar_script.specs.Lines.{lines_of};
+ghost use Rattle.histar_page.specs.Texts.{texts};
+ghost use Rattle.histar_page.specs.Lines.{after_word, front_number, has_mark, is_denied, is_own, is_reply, mark_number, words_of};
+
+use histar_flat::read_number;
+use histar_script::{split_line, split_word};
+use std::alloc::{AllocError, Global};
+
+/// The most lines of a script.
+const MOST_SCRIPT_LINES: u64 = 16_384;
+
+/// Returns the lines of a text.
+pub(crate) fn lines_in<'a>(alloc: Global, text: &'a [u8]) -> Result<Vec<&'a [u8]>, AllocError>
+    ensures { IfOk result (λ lines. texts lines.items ≡ lines_of text.entry.now) }
+{
+    let mut lines = Vec::new(alloc);
+    let mut rest = text;
+    'lines: while !rest.is_empty() {
+        let (line, after) = split_line(rest);
+        lines.push(line)?;
+        rest = after;
+    }
+    Ok(lines)
+}
+
+/// Returns the number that a line begins with, if it is that of a line of a script.
+pub(crate) fn front_number(line: &[u8]) -> Option<u64>
+    ensures { result ≡ front_number line.now }
+{
+    let (word, _) = split_word(line);
+    read_number(word, MOST_SCRIPT_LINES)
+}
+
+/// Checks whether a line is a reply.
+fn is_reply(line: &[u8]) -> bool
+    ensures { result ≡ is_reply line.now }
+{
+    front_number(line).is_some()
+}
+
+/// Checks whether a line begins with a mark.
+fn has_mark(mark: u8, line: &[u8]) -> bool
+    ensures { result ≡ has_mark mark line.now }
+{
+    match line {
+        [] => false,
+        [first, ..] => *first == mark,
+    }
+}
+
+/// Returns the lines that are replies.
+pub(crate) fn replies_among<'a>(
+    alloc: Global,
+    lines: &[&'a [u8]],
+) -> Result<Vec<&'a [u8]>, AllocError>
+    ensures { IfOk result (λ found. texts found.items ≡ filter is_reply (texts lines.now)) }
+{
+    let mut found = Vec::new(alloc);
+    let mut rest = lines;
+    'lines: while let [line, more @ ..] = rest {
+        if is_reply(line) {
+            found.push(*line)?;
+        }
+        rest = more;
+    }
+    Ok(found)
+}
+
+/// Returns the lines that begin with a mark.
+pub(crate) fn marked_among<'a>(
+    alloc: Global,
+    lines: &[&'a [u8]],
+    mark: u8,
+) -> Result<Vec<&'a [u8]>, AllocError>
+    ensures { IfOk result (λ found. texts found.items ≡ filter (has_mark mark) (texts lines.now)) }
+{
+    let mut found = Vec::new(alloc);
+    let mut rest = lines;
+    'lines: while let [line, more @ ..] = rest {
+        if has_mark(mark, line) {
+            found.push(*line)?;
+        }
+        rest = more;
+    }
+    Ok(found)
+}
+
+/// Returns the word behind a mark.
+pub(crate) fn mark_number<'a>(line: &'a [u8]) -> &'a [u8]
+    ensures { result.now ≡ mark_number line.entry.now }
+{
+    match line {
+        [] => line,
+        [_, rest @ ..] => split_word(rest).0,
+    }
+}
+
+/// Checks whether the word behind the mark of a line is this one.
+fn is_own(word: &[u8], line: &[u8]) -> bool
+    ensures { result ≡ is_own word.now line.now }
+{
+    mark_number(line) == word
+}
+
+/// Returns how many lines at the front have this word behind their mark.
+pub(crate) fn own_count(lines: &[&[u8]], word: &[u8]) -> usize
+    ensures { result ≡ prefix_len (is_own word.now) (texts lines.now) }
+{
+    let mut rest = lines;
+    let mut count = 0;
+    'lines: while let [line, more @ ..] = rest {
+        if !is_own(word, line) {
+            return count;
+        }
+        count += 1;
+        rest = more;
+    }
+    count
+}
+
+/// Returns what is behind the first word of a line.
+pub(crate) fn after_word<'a>(line: &'a [u8]) -> &'a [u8]
+    ensures { result.now ≡ after_word line.entry.now }
+{
+    or_nothing(split_word(line).1)
+}
+
+/// Returns a text, or nothing where there is none.
+pub(crate) fn or_nothing<'a>(text: Option<&'a [u8]>) -> &'a [u8]
+    ensures { result.now ≡ unwrap_or (option_copied text.entry) [] }
+{
+    match text {
+        Some(text) => text,
+        None => &[],
+    }
+}
+
+/// Checks whether a raw call was denied.
+pub(crate) fn is_denied(line: &[u8]) -> bool
+    ensures { result ≡ is_denied line.now }
+{
+    !line.ends_with(b" = ok")
+}
+
+/// Returns the words of a line.
+pub(crate) fn words_in<'a>(alloc: Global, line: &'a [u8]) -> Result<Vec<&'a [u8]>, AllocError>
+    ensures { IfOk result (λ words. texts words.items ≡ words_of line.entry.now) }
+{
+    let mut words = Vec::new(alloc);
+    let mut rest = line;
+    'words: while !rest.is_empty() {
+        let (word, after) = next_word(rest);
+        words.push(word)?;
+        rest = after;
+    }
+    Ok(words)
+}
+
+/// Returns the first word of a line that is not empty, and what follows it.
+fn next_word(line: &[u8]) -> (&[u8], &[u8])
+    requires { 0 < length line.now }
+    ensures first { words_of line.now ≡ result.0.now ∷ words_of result.1.now }
+    ensures shorter { length result.1.now < length line.now }
+{
+    let (word, after) = split_word(line);
+    (word, or_nothing(after))
+}

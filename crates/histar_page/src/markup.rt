@@ -1,0 +1,148 @@
+//! The fixed texts of a page.
+ghost use Rattle.std.specs.Prelude.{◌≡◌};
+ghost use Rattle.histar_page.specs.Rendering.{markup_text};
+
+/// How the page looks: in light and dark, on small screens, and on paper.
+const STYLE: &[u8] = b"<style>
+:root { color-scheme: light dark; --ink: #1b1f24; --dim: #59636e; --page: #fff; --panel: #f3f5f8; --line: #d5dae0;
+  --good: #17652f; --bad: #a40e1f; --bad-panel: #fdeaec; --s: #cfe3ff; --r: #cdefd6; --w: #ffe2b8; --d: #ffd1d6; --letter: #1b1f24 }
+@media (prefers-color-scheme: dark) { :root { --ink: #e6e9ed; --dim: #a0a9b4; --page: #14171b; --panel: #1e2329; --line: #39414b;
+  --good: #7fd69a; --bad: #ff9aa2; --bad-panel: #3d1d22; --s: #234a7a; --r: #22583a; --w: #6b4a12; --d: #74303a; --letter: #f4f6f8 } }
+* { box-sizing: border-box }
+body { margin: 0 auto; max-width: 76rem; padding: 1rem; background: var(--page); color: var(--ink); font: 16px/1.5 system-ui, sans-serif }
+h1 { margin: 0 0 .3rem; font-size: 1.5rem; overflow-wrap: anywhere }
+h2 { margin: 2rem 0 .6rem; font-size: 1.15rem }
+a { color: inherit }
+header p, nav { display: flex; flex-wrap: wrap; gap: .2rem 1.2rem; margin: 0 0 .3rem; color: var(--dim) }
+header b { color: var(--ink) }
+code, small, td b, td i { font-family: ui-monospace, monospace; font-size: .85rem }
+code { white-space: pre-wrap; overflow-wrap: anywhere }
+summary, .bare { display: grid; grid-template-columns: 1rem 2.6rem minmax(0, 3fr) minmax(0, 2fr); gap: 0 .6rem; align-items: baseline; padding: .2rem 0; border-top: 1px solid var(--line) }
+summary { cursor: pointer; list-style: none }
+summary::-webkit-details-marker { display: none }
+summary::before { content: '+'; color: var(--dim); font-family: ui-monospace, monospace }
+details[open] > summary::before { content: '-' }
+.bare::before { content: '' }
+.other > summary { display: block; color: var(--dim) }
+.other > summary::before { margin-right: .6rem }
+.number { color: var(--dim); text-align: right; font-variant-numeric: tabular-nums }
+.reply { color: var(--good) }
+.refusal { color: var(--bad); background: var(--bad-panel); font-weight: bold; justify-self: start; padding: 0 .4rem; border-radius: .2rem }
+.behind { margin: 0 0 .5rem 4.8rem; padding: .4rem .6rem; background: var(--panel); border-radius: .3rem }
+.behind code { display: block; color: inherit; padding-left: 1.2rem; text-indent: -1.2rem }
+.behind .denied, .behind .why { color: var(--bad) }
+.denied { font-weight: bold }
+.wide { overflow-x: auto }
+table { border-collapse: collapse }
+th, td { padding: .2rem .6rem .2rem 0; border-top: 1px solid var(--line); text-align: left; vertical-align: top; white-space: nowrap }
+thead th { border: 0; color: var(--dim); font-weight: normal; font-size: .85rem }
+tbody th { font: .85rem/1.7 ui-monospace, monospace; white-space: normal; overflow-wrap: anywhere }
+.stat, small { color: var(--dim) }
+.rights small { display: none }
+.rights b, .rights i { display: inline-block; width: 1.25rem; margin-right: 1px; text-align: center; font-style: normal; font-weight: normal; color: var(--letter); background: var(--panel) }
+.rights i { color: var(--dim) }
+.rights small + b { background: var(--s) }
+.rights small + * + b { background: var(--r) }
+.rights small + * + * + b { background: var(--w) }
+.rights small + * + * + * + b { background: var(--d) }
+@media (max-width: 40rem) {
+  summary, .bare { grid-template-columns: 1rem 2rem minmax(0, 1fr) }
+  summary .reply, summary .refusal, .bare .reply, .bare .refusal { grid-column: 3 }
+  .behind { margin-left: 1rem }
+  thead { display: none }
+  table, tbody, tr, tbody th { display: block }
+  tr { padding: .3rem 0; border-top: 1px solid var(--line) }
+  th, td { border: 0; padding: 0 .6rem 0 0 }
+  td { display: inline-block; white-space: nowrap }
+  .rights { padding: .1rem .8rem .1rem 0 }
+  .rights small { display: inline; margin-right: .3rem }
+}
+@media print {
+  :root { --page: #fff; --ink: #000; --dim: #444; --good: #17652f; --bad: #a40e1f; --letter: #000 }
+  body { max-width: none; padding: 0; font-size: 10pt }
+  nav { display: none }
+  tr, summary, .bare { break-inside: avoid }
+  .rights b, .refusal, .behind { print-color-adjust: exact; -webkit-print-color-adjust: exact }
+}
+</style>
+</head>
+<body>
+<header>
+";
+
+/// A fixed text of a page.
+#[derive(Clone, Copy)]
+pub enum Markup {
+    Begin,
+    Style,
+    BeginCounts,
+    EndHead,
+    BeginSession,
+    BeginBoot,
+    BeginOther,
+    BeginCall,
+    BeginBehind,
+    EndCall,
+    BeginBare,
+    EndBare,
+    EndSession,
+    BeginFiles,
+    EndColumns,
+    BeginRow,
+    BeginCell,
+    EndCell,
+    EndRow,
+    End,
+}
+
+impl Markup {
+    /// Returns the text.
+    pub(crate) fn text(self) -> &'static [u8]
+        ensures { result.now ≡ markup_text self }
+    {
+        match self {
+            Markup::Begin => b"<!DOCTYPE html>
+<html lang=\"en\">
+<head>
+<meta charset=\"utf-8\">
+<meta name=\"viewport\" content=\"width=device-width, initial-scale=1\">
+",
+            Markup::Style => STYLE,
+            Markup::BeginCounts => b"<p>\n",
+            Markup::EndHead => b"</p>
+<nav><a href=\"#session\">Session</a> <a href=\"#files\">Files</a></nav>
+</header>
+<main>
+",
+            Markup::BeginSession => b"<section id=\"session\">\n<h2>Session</h2>\n",
+            Markup::BeginBoot => b"<details class=\"other\">\n<summary>Boot, line ",
+            Markup::BeginOther => b"<details class=\"other\">\n<summary>Raw calls of line ",
+            Markup::BeginCall => b"<details>\n<summary>",
+            Markup::BeginBehind => b"</summary>\n<div class=\"behind\">\n",
+            Markup::EndCall => b"</div>\n</details>\n",
+            Markup::BeginBare => b"<div class=\"bare\">",
+            Markup::EndBare => b"</div>\n",
+            Markup::EndSession => b"</section>\n",
+            Markup::BeginFiles => b"<section id=\"files\">
+<h2>Files</h2>
+<p>Who may do what at the end: s to see it, r to read it, w to write it, d to take it away.</p>
+<div class=\"wide\">
+<table>
+<thead>
+<tr><th scope=\"col\">Path</th><th scope=\"col\">Kind</th><th scope=\"col\">Owner</th><th scope=\"col\">Mode</th>",
+            Markup::EndColumns => b"</tr>\n</thead>\n<tbody>\n",
+            Markup::BeginRow => b"<tr>",
+            Markup::BeginCell => b"<td class=\"rights\">",
+            Markup::EndCell => b"</td>",
+            Markup::EndRow => b"</tr>\n",
+            Markup::End => b"</tbody>
+</table>
+</div>
+</section>
+</main>
+</body>
+</html>
+",
+        }
+    }
+}

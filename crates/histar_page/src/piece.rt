@@ -1,0 +1,93 @@
+//! The pieces of a page.
+ghost use Rattle.std.specs.Prelude.{◌≡◌, ◌++◌, ◌∷◌, [], decimal, IfOk, OnOk};
+ghost use Rattle.histar_page.specs.Items.{items_of};
+ghost use Rattle.histar_page.specs.Rendering.{piece_text, rendered, shown_text};
+
+use crate::kind::Kind;
+use crate::markup::Markup;
+use histar_html::push_escaped;
+use itoa::Buffer;
+use std::alloc::AllocError;
+
+/// A piece of a page: markup, which no session has a say in, or a text.
+#[derive(Clone, Copy)]
+pub enum Piece<'a> {
+    Fixed(Markup),
+    Shown(Kind, &'a [u8]),
+    Counted(Kind, u64),
+    Letter(Kind, u8),
+}
+
+/// Adds a fixed text.
+pub(crate) fn fix(pieces: &mut Vec<Piece>, markup: Markup) -> Result<(), AllocError>
+    ensures { OnOk result (items_of pieces.new.items ≡ items_of pieces.old.items) }
+{
+    pieces.push(Piece::Fixed(markup))?;
+    Ok(())
+}
+
+/// Adds a text of this kind.
+pub(crate) fn show<'a>(
+    pieces: &mut Vec<Piece<'a>>,
+    kind: Kind,
+    text: &'a [u8],
+) -> Result<(), AllocError>
+    ensures { OnOk result (items_of pieces.new.items
+        ≡ items_of pieces.old.items ++ (kind, text.now) ∷ []) }
+{
+    pieces.push(Piece::Shown(kind, text))?;
+    Ok(())
+}
+
+/// Adds a number of this kind.
+pub(crate) fn count(pieces: &mut Vec<Piece>, kind: Kind, number: u64) -> Result<(), AllocError>
+    ensures { OnOk result (items_of pieces.new.items
+        ≡ items_of pieces.old.items ++ (kind, decimal number) ∷ []) }
+{
+    pieces.push(Piece::Counted(kind, number))?;
+    Ok(())
+}
+
+/// Adds a letter of this kind.
+pub(crate) fn spell(pieces: &mut Vec<Piece>, kind: Kind, letter: u8) -> Result<(), AllocError>
+    ensures { OnOk result (items_of pieces.new.items
+        ≡ items_of pieces.old.items ++ (kind, letter ∷ []) ∷ []) }
+{
+    pieces.push(Piece::Letter(kind, letter))?;
+    Ok(())
+}
+
+/// Adds what is written of pieces to a page.
+pub(crate) fn render(page: &mut Vec<u8>, pieces: &[Piece]) -> Result<(), AllocError>
+    ensures { OnOk result (page.new.items ≡ page.old.items ++ rendered pieces.now) }
+{
+    let mut rest = pieces;
+    'pieces: while let [piece, more @ ..] = rest {
+        render_piece(page, piece)?;
+        rest = more;
+    }
+    Ok(())
+}
+
+/// Adds what is written of a piece.
+fn render_piece(page: &mut Vec<u8>, piece: &Piece) -> Result<(), AllocError>
+    ensures { OnOk result (page.new.items ≡ page.old.items ++ piece_text piece.now) }
+{
+    match piece {
+        Piece::Fixed(markup) => page.extend_from_slice(markup.text()),
+        Piece::Shown(kind, text) => render_text(page, *kind, text),
+        Piece::Counted(kind, number) => {
+            render_text(page, *kind, Buffer::new().format(*number).as_bytes())
+        }
+        Piece::Letter(kind, letter) => render_text(page, *kind, &[*letter]),
+    }
+}
+
+/// Adds a text of this kind between its tags.
+fn render_text(page: &mut Vec<u8>, kind: Kind, text: &[u8]) -> Result<(), AllocError>
+    ensures { OnOk result (page.new.items ≡ page.old.items ++ shown_text kind text.now) }
+{
+    page.extend_from_slice(kind.opening())?;
+    push_escaped(page, text)?;
+    page.extend_from_slice(kind.closing())
+}

@@ -1,0 +1,259 @@
+//! The session on a page: each call with its reply, and behind it its raw calls.
+ghost use Rattle.std.specs.Prelude.{◌≡◌, ◌≤◌, ◌+◌, ◌++◌, ◌∷◌, [], length, map, take, true, IfOk, OnOk};
+ghost use Rattle.std.specs.List.{flat_map, list_all};
+ghost use Rattle.histar_script.specs.Lines.{lines_of};
+ghost use Rattle.histar_page.specs.Texts.{texts};
+ghost use Rattle.histar_page.specs.Items.{items_of};
+ghost use Rattle.histar_page.specs.Session.{AddsSession, answer_items, boot_items, call_items, call_on, IsSession};
+ghost use Rattle.histar_page.specs.Session.{other_call_items, other_why_items, raw_item, raw_kind, reply_kind, why_item};
+ghost use Rattle.histar_page.specs.Lines.{is_own, mark_number};
+ghost use Rattle.histar_page.specs.declared.kind.Kind.TheVariants.{OtherLine};
+
+use crate::head::{RAW_MARK, WHY_MARK, is_refused};
+use crate::kind::Kind;
+use crate::lines::{
+    after_word, front_number, is_denied, lines_in, mark_number, marked_among, own_count,
+    replies_among,
+};
+use crate::markup::Markup;
+use crate::piece::{Piece, fix, show};
+use histar_script::split_word;
+use std::alloc::{AllocError, Global};
+
+/// Returns the pieces of the part of a page that shows a session.
+pub(crate) fn session_pieces<'a>(
+    alloc: Global,
+    script: &'a [u8],
+    output: &'a [u8],
+) -> Result<Vec<Piece<'a>>, AllocError>
+    ensures { IfOk result (λ pieces.
+        IsSession (lines_of script.entry.now) (lines_of output.entry.now) (items_of pieces.items)) }
+{
+    let script = lines_in(alloc, script)?;
+    let output = lines_in(alloc, output)?;
+    let replies = replies_among(alloc, output.as_slice())?;
+    let raw_calls = marked_among(alloc, output.as_slice(), RAW_MARK)?;
+    let explanations = marked_among(alloc, output.as_slice(), WHY_MARK)?;
+    let mut pieces = Vec::new(alloc);
+    push_session(
+        &mut pieces,
+        script.as_slice(),
+        replies.as_slice(),
+        raw_calls.as_slice(),
+        explanations.as_slice(),
+    )?;
+    Ok(pieces)
+}
+
+/// Adds the calls with their replies, each with what is behind it.
+fn push_session<'a>(
+    pieces: &mut Vec<Piece<'a>>,
+    script: &[&'a [u8]],
+    replies: &[&'a [u8]],
+    raw_calls: &[&'a [u8]],
+    explanations: &[&'a [u8]],
+) -> Result<(), AllocError>
+    ensures { OnOk result (AddsSession (texts script.now) (texts replies.now)
+        (texts raw_calls.now) (texts explanations.now)
+        (items_of pieces.old.items) (items_of pieces.new.items)) }
+{
+    let boot = own_lines(raw_calls, 0, b"0");
+    let (_, later) = raw_calls.split_at(boot.len());
+    fix(pieces, Markup::BeginSession)?;
+    push_boot(pieces, boot)?;
+    push_calls(pieces, script, replies, later, explanations)?;
+    fix(pieces, Markup::EndSession)
+}
+
+/// Adds the calls with their replies, each with those of these lines that are its own, and then the others.
+fn push_calls<'a>(
+    pieces: &mut Vec<Piece<'a>>,
+    script: &[&'a [u8]],
+    replies: &[&'a [u8]],
+    raw_calls: &[&'a [u8]],
+    explanations: &[&'a [u8]],
+) -> Result<(), AllocError>
+    ensures { OnOk result (AddsSession (texts script.now) (texts replies.now)
+        (texts raw_calls.now) (texts explanations.now)
+        (items_of pieces.old.items) (items_of pieces.new.items)) }
+{
+    let mut raw_at = 0;
+    let mut why_at = 0;
+    'replies: for reply in replies {
+        let word = split_word(reply).0;
+        let own = own_lines(raw_calls, raw_at, word);
+        let why = own_lines(explanations, why_at, word);
+        push_call(pieces, script, reply, own, why)?;
+        raw_at += own.len();
+        why_at += why.len();
+    }
+    let (_, other_calls) = raw_calls.split_at(raw_at);
+    let (_, other_explanations) = explanations.split_at(why_at);
+    push_other_calls(pieces, other_calls)?;
+    push_other_explanations(pieces, other_explanations)
+}
+
+/// Returns the lines from a place on that have this word behind their mark, up to the first that hasn't.
+fn own_lines<'b, 'a>(lines: &'b [&'a [u8]], from: usize, word: &[u8]) -> &'b [&'a [u8]]
+    requires { from ≤ length lines.now }
+    ensures fits { from + length result.now ≤ length lines.entry.now }
+    ensures taken { take (from + length result.now) (texts lines.entry.now)
+        ≡ take from (texts lines.entry.now) ++ texts result.now }
+    ensures own { list_all (is_own word.now) (texts result.now) ≡ true }
+{
+    let (_, later) = lines.split_at(from);
+    let (own, _) = later.split_at(own_count(later, word));
+    own
+}
+
+/// Adds the raw calls of boot.
+fn push_boot<'a>(pieces: &mut Vec<Piece<'a>>, boot: &[&'a [u8]]) -> Result<(), AllocError>
+    ensures { OnOk result (items_of pieces.new.items
+        ≡ items_of pieces.old.items ++ boot_items (texts boot.now)) }
+{
+    fix(pieces, Markup::BeginBoot)?;
+    show(pieces, Kind::OtherLine, b"0")?;
+    fix(pieces, Markup::BeginBehind)?;
+    push_raw_calls(pieces, boot)?;
+    fix(pieces, Markup::EndCall)
+}
+
+/// Adds a call with its reply, and what is behind it.
+fn push_call<'a>(
+    pieces: &mut Vec<Piece<'a>>,
+    script: &[&'a [u8]],
+    reply: &'a [u8],
+    raw_calls: &[&'a [u8]],
+    explanations: &[&'a [u8]],
+) -> Result<(), AllocError>
+    ensures { OnOk result (items_of pieces.new.items ≡ items_of pieces.old.items
+        ++ call_items (texts script.now) reply.now (texts raw_calls.now) (texts explanations.now)) }
+{
+    if raw_calls.is_empty() && explanations.is_empty() {
+        fix(pieces, Markup::BeginBare)?;
+        push_answer(pieces, script, reply)?;
+        return fix(pieces, Markup::EndBare);
+    }
+    fix(pieces, Markup::BeginCall)?;
+    push_answer(pieces, script, reply)?;
+    fix(pieces, Markup::BeginBehind)?;
+    push_raw_calls(pieces, raw_calls)?;
+    push_explanations(pieces, explanations)?;
+    fix(pieces, Markup::EndCall)
+}
+
+/// Adds the number of a line, its call and the reply.
+fn push_answer<'a>(
+    pieces: &mut Vec<Piece<'a>>,
+    script: &[&'a [u8]],
+    line: &'a [u8],
+) -> Result<(), AllocError>
+    ensures { OnOk result (items_of pieces.new.items
+        ≡ items_of pieces.old.items ++ answer_items (texts script.now) line.now) }
+{
+    show(pieces, Kind::LineNumber, split_word(line).0)?;
+    show(pieces, Kind::Call, call_on(script, line))?;
+    show(pieces, reply_kind(line), after_word(line))
+}
+
+/// Returns whether a line is a reply of a call that was made or a refusal.
+fn reply_kind(line: &[u8]) -> Kind
+    ensures { result ≡ reply_kind line.now }
+{
+    if is_refused(line) {
+        Kind::Refusal
+    } else {
+        Kind::Reply
+    }
+}
+
+/// Returns the line of a script that a reply answers.
+fn call_on<'a>(script: &[&'a [u8]], reply: &[u8]) -> &'a [u8]
+    ensures { result.now ≡ call_on (texts script.now) reply.now }
+{
+    let Some(number) = front_number(reply) else {
+        return &[];
+    };
+    match script.get((number as usize).saturating_sub(1)) {
+        Some(line) => line,
+        None => &[],
+    }
+}
+
+/// Adds raw calls.
+fn push_raw_calls<'a>(pieces: &mut Vec<Piece<'a>>, lines: &[&'a [u8]]) -> Result<(), AllocError>
+    ensures { OnOk result (items_of pieces.new.items
+        ≡ items_of pieces.old.items ++ map raw_item (texts lines.now)) }
+{
+    let mut rest = lines;
+    'lines: while let [line, more @ ..] = rest {
+        show(pieces, raw_kind(line), line)?;
+        rest = more;
+    }
+    Ok(())
+}
+
+/// Returns whether a raw call was made or denied.
+fn raw_kind(line: &[u8]) -> Kind
+    ensures { result ≡ raw_kind line.now }
+{
+    if is_denied(line) {
+        Kind::DeniedCall
+    } else {
+        Kind::RawCall
+    }
+}
+
+/// Adds explanations.
+fn push_explanations<'a>(pieces: &mut Vec<Piece<'a>>, lines: &[&'a [u8]]) -> Result<(), AllocError>
+    ensures { OnOk result (items_of pieces.new.items
+        ≡ items_of pieces.old.items ++ map why_item (texts lines.now)) }
+{
+    let mut rest = lines;
+    'lines: while let [line, more @ ..] = rest {
+        show(pieces, Kind::Explanation, line)?;
+        rest = more;
+    }
+    Ok(())
+}
+
+/// Adds raw calls that belong to no reply, each behind its own number.
+fn push_other_calls<'a>(pieces: &mut Vec<Piece<'a>>, lines: &[&'a [u8]]) -> Result<(), AllocError>
+    ensures { OnOk result (items_of pieces.new.items
+        ≡ items_of pieces.old.items ++ flat_map other_call_items (texts lines.now)) }
+{
+    let mut rest = lines;
+    'lines: while let [line, more @ ..] = rest {
+        push_other(pieces, line, raw_kind(line))?;
+        rest = more;
+    }
+    Ok(())
+}
+
+/// Adds explanations that belong to no reply, each behind its own number.
+fn push_other_explanations<'a>(
+    pieces: &mut Vec<Piece<'a>>,
+    lines: &[&'a [u8]],
+) -> Result<(), AllocError>
+    ensures { OnOk result (items_of pieces.new.items
+        ≡ items_of pieces.old.items ++ flat_map other_why_items (texts lines.now)) }
+{
+    let mut rest = lines;
+    'lines: while let [line, more @ ..] = rest {
+        push_other(pieces, line, Kind::Explanation)?;
+        rest = more;
+    }
+    Ok(())
+}
+
+/// Adds a line of this kind behind its own number.
+fn push_other<'a>(pieces: &mut Vec<Piece<'a>>, line: &'a [u8], kind: Kind) -> Result<(), AllocError>
+    ensures { OnOk result (items_of pieces.new.items ≡ items_of pieces.old.items
+        ++ (OtherLine, mark_number line.now) ∷ (kind, line.now) ∷ []) }
+{
+    fix(pieces, Markup::BeginOther)?;
+    show(pieces, Kind::OtherLine, mark_number(line))?;
+    fix(pieces, Markup::BeginBehind)?;
+    show(pieces, kind, line)?;
+    fix(pieces, Markup::EndCall)
+}

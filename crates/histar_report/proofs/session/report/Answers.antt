@@ -1,0 +1,15 @@
+use Rattle.std.proofs.Common.{rules}
+use Rattle.histar_report.proofs.Pages.{page_known}
+use Rattle.histar_report.proofs.session.report.Goals as goal
+
+pub returns-in_err-input-clause-runs : goal.returns-in_err-input-clause-runs
+returns-in_err-input-clause-runs g c = search rules
+
+pub returns-in_err-input-clause-known : goal.returns-in_err-input-clause-known
+returns-in_err-input-clause-known g c = page_known c.args.name.now c.args.version.now _ _ _ _ _ (returns-in_err-input-clause-runs g c)
+
+pub returns-clause-runs : goal.returns-clause-runs
+returns-clause-runs g c = search rules
+
+pub returns-clause-known : goal.returns-clause-known
+returns-clause-known g c = page_known c.args.name.now c.args.version.now _ _ _ _ _ (returns-clause-runs g c)

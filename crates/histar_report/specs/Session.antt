@@ -1,0 +1,53 @@
+-- A session that is written as a page, from bytes to bytes.
+use Rattle.std.specs.Prelude.{◌≡◌, ℕ, true, false, List, [], Option, None, Some, Result, Ok, Err}
+use Rattle.std.specs.Global.{Vec}
+use Rattle.std.specs.Io.KnownBytes.{Appends, Keeps}
+use Rattle.histar_devices.specs.Writing.{AppendsFront}
+use Rattle.histar_script.specs.declared.fault.Fault.{Fault}
+use Rattle.histar_script.specs.declared.fault.Fault.TheVariants.{BadScript, TooLong, OutOfMemory, ReadFailed, WriteFailed}
+use Rattle.histar_script.specs.Reading.{script_of}
+use Rattle.histar_shell.specs.declared.session.Options.{Options}
+use Rattle.histar_run_explain.specs.Run.{ExplainsText}
+use Rattle.histar_access.specs.Session.{AccessText}
+use Rattle.histar_page.specs.Page.{IsPage, Sources}
+
+-- a run is asked for its raw calls
+abbrev pub with_trace : Options
+with_trace = record { tree = false; trace = true }
+
+-- this is the output of a run of the script that a text is, with its trace and its explanations
+abbrev pub IsExplainedOutput : List ℕ → List ℕ → Type 0
+IsExplainedOutput text output = ExplainsText with_trace text (Some []) (Some output) (Ok tt)
+
+-- this is the table of rights after the script that a text is
+abbrev pub IsTable : List ℕ → List ℕ → Type 0
+IsTable text table = AccessText None text (Some []) (Some table) (Ok tt)
+
+-- A page was written as far as `Writes` says: one that shows the output of the run of the script that a text is, and its table of rights.
+pub record WritesPageAs (Writes : List ℕ → Type 0) (name version text : List ℕ) : Type 0 where
+  pub output : List ℕ
+  pub is_output : IsExplainedOutput text output
+  pub table : List ℕ
+  pub is_table : IsTable text table
+  pub page : List ℕ
+  pub is_page : IsPage (record { name = name; version = version; script = text; output = output; table = table }) page
+  pub written : Writes page
+
+-- A page of the run was written; or the fault of the script is answered, and nothing was written. At a failed write a beginning was written,
+-- and where memory runs out nothing.
+abbrev pub WritesPage : List ℕ → List ℕ → List ℕ → Option (List ℕ) → Option (List ℕ) → Result (Unit {0}) Fault → Type 0
+WritesPage name version text old new (Ok u) = WritesPageAs (Appends old new) name version text
+WritesPage name version text old new (Err WriteFailed) = WritesPageAs (AppendsFront old new) name version text
+WritesPage name version text old new (Err OutOfMemory) = Keeps old new
+WritesPage name version text old new (Err (BadScript n)) = (script_of text ≡ Err (BadScript n)) × Keeps old new
+WritesPage name version text old new (Err TooLong) = (script_of text ≡ Err TooLong) × Keeps old new
+WritesPage name version text old new (Err ReadFailed) = Keeps old new
+
+-- the table of rights after the script that a text is, or the fault of the script, or that memory ran out
+abbrev pub GivesTable : List ℕ → Result (Vec ℕ) Fault → Type 0
+GivesTable text (Ok table) = IsTable text table.items
+GivesTable text (Err (BadScript n)) = script_of text ≡ Err (BadScript n)
+GivesTable text (Err TooLong) = script_of text ≡ Err TooLong
+GivesTable text (Err OutOfMemory) = Unit {0}
+GivesTable text (Err ReadFailed) = ⊥
+GivesTable text (Err WriteFailed) = ⊥

@@ -1,0 +1,6 @@
+//! The page of a session, from bytes to bytes.
+#![tactic(auto)]
+
+mod session;
+
+pub use session::report;

@@ -1,0 +1,91 @@
+//! A session that is written as a page, from bytes to bytes.
+ghost use Rattle.std.specs.Prelude.{◌≡◌, false, None, IfErr, IfSome};
+ghost use Rattle.histar_devices.specs.Device.{CountsFailure};
+ghost use Rattle.histar_script.specs.Runs.{LeavesSink, RunsInput, is_read_failed, is_write_failed};
+ghost use Rattle.histar_report.specs.Session.{GivesTable, WritesPage};
+
+use histar_access::access;
+use histar_devices::{Sink, Source, read_input, write_bytes};
+use histar_page::{Texts, page_text};
+use histar_script::Fault;
+use histar_shell::{Counted, Options};
+use histar_transcript::{explained_output, in_memory};
+use std::alloc::Global;
+
+/// What a run is asked for: its raw calls. The files are in the table of rights.
+const OPTIONS: Options = Options {
+    tree: false,
+    trace: true,
+};
+
+/// Reads a script, runs it with explanations, and writes one page that shows the session, and who may do what
+/// at its end. The name is that of the script's file.
+///
+/// All is written once the script has run. It doesn't flush the sink.
+pub fn report<R: Source, W: Sink>(
+    alloc: Global,
+    reader: &mut R,
+    writer: &mut W,
+    name: &[u8],
+    version: &[u8],
+) -> Result<(), Fault>
+    // After a bad script, one that is too long and a failed read the sink is as it was.
+    ensures nothing { IfErr result (LeavesSink writer.old writer.new) }
+
+    // A device has failed exactly where its fault is the answer.
+    ensures reads { CountsFailure (R.failures reader.old) (R.failures reader.new) (is_read_failed result) }
+    ensures writes { CountsFailure (W.failures writer.old) (W.failures writer.new) (is_write_failed result) }
+
+    // Whatever the source gives, bytes of it were taken, to its end but never more than 1,048,577, and run: the fault of the script
+    // that they are is answered, or a page of its run is written.
+    ensures runs { RunsInput (WritesPage name.now version.now) (R.left reader.old) (R.left reader.new)
+        (W.written writer.old) (W.written writer.new) result }
+
+    // So where the input is known, it is a page of the script of the whole input.
+    ensures known { IfSome (R.left reader.old) (λ input. WritesPage name.now version.now input
+        (W.written writer.old) (W.written writer.new) result) }
+{
+    let input = read_input(alloc, reader)?;
+    report_text(alloc, input.as_slice(), writer, name, version)
+}
+
+/// Runs the script that a text is, and writes its page.
+fn report_text<W: Sink>(
+    alloc: Global,
+    text: &[u8],
+    writer: &mut W,
+    name: &[u8],
+    version: &[u8],
+) -> Result<(), Fault>
+    ensures nothing { IfErr result (LeavesSink writer.old writer.new) }
+    ensures reads { is_read_failed result ≡ false }
+    ensures writes { CountsFailure (W.failures writer.old) (W.failures writer.new) (is_write_failed result) }
+    ensures runs { WritesPage name.now version.now text.now (W.written writer.old) (W.written writer.new) result }
+{
+    let output = explained_output(alloc, text, OPTIONS)?;
+    let table = table_of(alloc, text)?;
+    let page = page_text(
+        alloc,
+        &Texts {
+            name,
+            version,
+            script: text,
+            output: output.as_slice(),
+            table: table.as_slice(),
+        },
+    )?;
+    write_bytes(writer, page.as_slice())?;
+    Ok(())
+}
+
+/// Returns what `access` writes of the script that a text is.
+fn table_of(alloc: Global, text: &[u8]) -> Result<Vec<u8>, Fault>
+    ensures { GivesTable text.now result }
+{
+    let mut reader = Counted::new(text);
+    let mut writer = Counted::new(Vec::new(alloc));
+    match access(alloc, &mut reader, &mut writer, None) {
+        Ok(()) => Ok(writer.into_inner()),
+        Err(fault) => Err(in_memory(fault)),
+    }
+}
