@@ -98,7 +98,8 @@ pub(crate) fn ask(
         process,
         wanted,
     } = question;
-    let rights = rights_of(machine, &path.path(), &process);
+    let asked = path.path();
+    let rights = rights_of(machine, &asked, &process);
     let reply = letters(alloc, rights)?;
     let wanted = letters(alloc, wanted)?;
     let made = Made { line, said, reply };

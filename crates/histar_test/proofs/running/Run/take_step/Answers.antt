@@ -1,0 +1,30 @@
+use Rattle.std.proofs.Common.{OnErr, OnOk, subst, sym}
+use Rattle.histar_test.specs.declared.steps.Step.{Step}
+use Rattle.histar_test.specs.Running.{BeginsStep, TakesStep, WritesStep}
+use Rattle.histar_test.proofs.running.Run.take_step.Goals as goal
+
+pub returns-in-Expects-clause-ok : goal.returns-in-Expects-clause-ok
+returns-in-Expects-clause-ok g c =
+    subst (λ (s : Step). OnOk c.check_reply.result (TakesStep c.args.self.now c.check_reply.new.self s)) (sym c.in-Expects.is) c.check_reply.ensures.ok
+
+pub returns-in-Expects-clause-written : goal.returns-in-Expects-clause-written
+returns-in-Expects-clause-written g c =
+    let Written : Step → Type 0 = λ s. OnOk c.check_reply.result
+        (WritesStep c.args.file.now c.args.self.now s (g.W.Sink.written c.args.writer.now) (g.W.Sink.written c.check_reply.new.writer)) in
+    subst Written (sym c.in-Expects.is) c.check_reply.ensures.written
+
+pub returns-in-Expects-clause-err : goal.returns-in-Expects-clause-err
+returns-in-Expects-clause-err g c =
+    let Begun : Step → Type 0 = λ s. OnErr c.check_reply.result
+        (BeginsStep c.args.file.now c.args.self.now s (g.W.Sink.written c.args.writer.now) (g.W.Sink.written c.check_reply.new.writer)) in
+    subst Begun (sym c.in-Expects.is) c.check_reply.ensures.err
+
+pub returns-in-Asks-clause-ok : goal.returns-in-Asks-clause-ok
+returns-in-Asks-clause-ok g c =
+    subst (λ (s : Step). OnOk c.check_rights.result (TakesStep c.args.self.now c.check_rights.new.self s)) (sym c.in-Asks.is) c.check_rights.ensures.ok
+
+pub returns-in-Asks-clause-err : goal.returns-in-Asks-clause-err
+returns-in-Asks-clause-err g c =
+    let Begun : Step → Type 0 = λ s. OnErr c.check_rights.result
+        (BeginsStep c.args.file.now c.args.self.now s (g.W.Sink.written c.args.writer.now) (g.W.Sink.written c.check_rights.new.writer)) in
+    subst Begun (sym c.in-Asks.is) c.check_rights.ensures.err
