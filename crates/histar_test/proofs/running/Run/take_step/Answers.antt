@@ -10,13 +10,13 @@ returns-in-Expects-clause-ok g c =
 pub returns-in-Expects-clause-written : goal.returns-in-Expects-clause-written
 returns-in-Expects-clause-written g c =
     let Written : Step → Type 0 = λ s. OnOk c.check_reply.result
-        (WritesStep c.args.file.now c.args.self.now s (g.W.Sink.written c.args.writer.now) (g.W.Sink.written c.check_reply.new.writer)) in
+    (WritesStep c.args.file.now c.args.self.now s (g.W.Sink.written c.args.writer.now) (g.W.Sink.written c.check_reply.new.writer)) in
     subst Written (sym c.in-Expects.is) c.check_reply.ensures.written
 
 pub returns-in-Expects-clause-err : goal.returns-in-Expects-clause-err
 returns-in-Expects-clause-err g c =
     let Begun : Step → Type 0 = λ s. OnErr c.check_reply.result
-        (BeginsStep c.args.file.now c.args.self.now s (g.W.Sink.written c.args.writer.now) (g.W.Sink.written c.check_reply.new.writer)) in
+    (BeginsStep c.args.file.now c.args.self.now s (g.W.Sink.written c.args.writer.now) (g.W.Sink.written c.check_reply.new.writer)) in
     subst Begun (sym c.in-Expects.is) c.check_reply.ensures.err
 
 pub returns-in-Asks-clause-ok : goal.returns-in-Asks-clause-ok
@@ -26,5 +26,5 @@ returns-in-Asks-clause-ok g c =
 pub returns-in-Asks-clause-err : goal.returns-in-Asks-clause-err
 returns-in-Asks-clause-err g c =
     let Begun : Step → Type 0 = λ s. OnErr c.check_rights.result
-        (BeginsStep c.args.file.now c.args.self.now s (g.W.Sink.written c.args.writer.now) (g.W.Sink.written c.check_rights.new.writer)) in
+    (BeginsStep c.args.file.now c.args.self.now s (g.W.Sink.written c.args.writer.now) (g.W.Sink.written c.check_rights.new.writer)) in
     subst Begun (sym c.in-Asks.is) c.check_rights.ensures.err
