@@ -1,5 +1,6 @@
 pub mod StepLemmas
 pub mod StepLaws
+pub mod LineLaws
 pub mod CheckLemmas
 pub mod RunLemmas
 pub mod FileLemmas

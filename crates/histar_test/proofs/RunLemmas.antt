@@ -1,9 +1,12 @@
 -- Steps are taken one after another, and their checks are written.
-use Rattle.std.proofs.Common.{◌≡◌, ℕ, ◌+◌, ◌<◌, List, [], ◌∷◌, ◌++◌, length, take, drop, get_or, Option, Some, None, Ok}
+use Rattle.std.proofs.Common.{◌≡◌, ℕ, ◌+◌, ◌<◌, List, [], ◌∷◌, ◌++◌, length, take, drop, get_or, Option, Some, None, Result, Ok, Err}
 use Rattle.std.proofs.Common.{refl, sym, ap, ap₂, ◌∙◌, subst, append-nil, append_assoc, arith, take-append-drop}
 use Rattle.std.proofs.KnownBytes.{Appends-nil, Appends-trans}
 use Rattle.std.proofs.lemmas.List.{drop_more}
 use Rattle.std.specs.Io.KnownBytes.{Appends}
+use Rattle.std.specs.Result.{OnErr, OnOk}
+use Rattle.histar_devices.proofs.WritingLemmas.{sent_none}
+use Rattle.histar_script.specs.declared.fault.Fault.{Fault}
 use Rattle.histar_devices.specs.Writing.{AppendsFront}
 use Rattle.histar_flat.specs.declared.calls.CallLine.{CallLine}
 use Rattle.histar_flat.specs.declared.replies.Reply.{Reply}
@@ -11,6 +14,11 @@ use Rattle.histar_flat.specs.FlatState.{Flat}
 use Rattle.histar_flat.specs.Meaning.{boot}
 use Rattle.histar_flat.specs.Sessions.{Session}
 use Rattle.histar_flat.specs.Texts.{reply_text}
+use Rattle.histar_flat.specs.Words.{Path}
+use Rattle.histar_rights.specs.declared.rights.Rights.{Rights}
+use Rattle.histar_rights.specs.Rights.{rights_text}
+use Rattle.histar_diff.specs.Shown.{rights_of}
+use Rattle.histar_access.specs.OnePath.{AreRightsOf}
 use Rattle.histar_shell.specs.Machine.{MachineModel}
 use Rattle.histar_shell.specs.Meaning.{FollowsMeaning, Shows}
 use Rattle.histar_shell.proofs.AnswerLemmas.{front_after}
@@ -62,6 +70,14 @@ rights_taken old new q check asks counts session f shows = record {
   tally = counts.tally ∙ ap (λ (c : Check). tally_with old.tally (c ∷ [])) (asks session f shows);
 }
 
+-- the check of a question, by the rights that were found
+pub asked_so : (machine : MachineModel) (q : Question) (rights : Rights) (path : Path) (reply wanted : List ℕ) → path ≡ q.path
+    → AreRightsOf machine path q.process rights → reply ≡ rights_text rights → wanted ≡ rights_text q.wanted
+    → AsksMachine machine q (record { made = record { line = q.line; said = q.said; reply = reply }; wanted = wanted })
+asked_so machine q rights path reply wanted same are is wants session f shows =
+    let replied = is ∙ ap rights_text (are session f shows ∙ ap (λ (p : Path). rights_of session f p q.process) same) in
+    λ i. record { made = record { line = q.line; said = q.said; reply = replied i }; wanted = wants i }
+
 -- the lines of the check of an expectation
 pub reply_lines : (file : List ℕ) (k : ℕ) (last : Option Made) (made : Made) (wanted : List ℕ) → last ≡ Some made
     → check_text file k (record { made = made; wanted = wanted }) ≡ checks_text file k (reply_check last wanted)
@@ -86,6 +102,66 @@ pub rights_begun : {a b : Option (List ℕ)} → (file : List ℕ) (old : Run) (
     → AppendsFront a b (check_text file (old.tally.count + 1) check) → BeginsStep file old (Asks q) a b
 rights_begun {a = a} {b = b} file old q check asks begun session f shows =
     subst (AppendsFront a b) (rights_lines session f file (old.tally.count + 1) q check (asks session f shows)) begun
+
+-- an expectation is a step that was taken, where the open call has its check counted
+pub text_counted : (old new : Run) (made : Made) (wanted : List ℕ) (left : Option Made) → old.last ≡ Some made → left ≡ None
+    → CountsCheck (record { machine = old.machine; last = left; tally = old.tally }) new (record { made = made; wanted = wanted })
+    → TakesStep old new (Expects wanted)
+text_counted old new made wanted left is none counts =
+    text_taken old new wanted counts.machine (counts.last ∙ none)
+    (counts.tally ∙ ap (λ (last : Option Made). tally_with old.tally (reply_check last wanted)) (sym is))
+
+-- what was written of an expectation
+pub text_written : {a b : Option (List ℕ)} → (file : List ℕ) (old : Run) (made : Made) (wanted : List ℕ) → old.last ≡ Some made
+    → Appends a b (check_text file (old.tally.count + 1) (record { made = made; wanted = wanted })) → WritesStep file old (Expects wanted) a b
+text_written {a = a} {b = b} file old made wanted is written session f shows =
+    subst (Appends a b) (reply_lines file (old.tally.count + 1) old.last made wanted is) written
+
+-- or begun
+pub text_begun : {a b : Option (List ℕ)} → (file : List ℕ) (old : Run) (made : Made) (wanted : List ℕ) → old.last ≡ Some made
+    → AppendsFront a b (check_text file (old.tally.count + 1) (record { made = made; wanted = wanted })) → BeginsStep file old (Expects wanted) a b
+text_begun {a = a} {b = b} file old made wanted is begun session f shows =
+    subst (AppendsFront a b) (reply_lines file (old.tally.count + 1) old.last made wanted is) begun
+
+-- where no call is open nothing is checked
+pub nothing_written : (file : List ℕ) (old : Run) (wanted : List ℕ) (w : Option (List ℕ)) → old.last ≡ None → WritesStep file old (Expects wanted) w w
+nothing_written file old wanted w none session f shows =
+    subst (λ (last : Option Made). Appends w w (checks_text file (old.tally.count + 1) (reply_check last wanted))) (sym none) (Appends-nil w)
+
+pub nothing_counted : (old new : Run) (wanted : List ℕ) → old.last ≡ None → new.machine ≡ old.machine → new.last ≡ None → new.tally ≡ old.tally
+    → TakesStep old new (Expects wanted)
+nothing_counted old new wanted none machine last tally =
+    text_taken old new wanted machine last
+    (tally ∙ tally_none old.tally ∙ ap (λ (l : Option Made). tally_with old.tally (reply_check l wanted)) (sym none))
+
+-- a call writes nothing
+pub call_written : (file : List ℕ) (old : Run) (call : CallLine) (said : List ℕ) (w : Option (List ℕ)) → WritesStep file old (Makes call said) w w
+call_written file old call said w session f shows = Appends-nil w
+
+pub call_begun : (file : List ℕ) (old : Run) (call : CallLine) (said : List ℕ) (w : Option (List ℕ)) → BeginsStep file old (Makes call said) w w
+call_begun file old call said w session f shows = (_, sent_none w [])
+
+-- nor is anything of a question, before it is asked
+pub rights_unwritten : (file : List ℕ) (old : Run) (q : Question) (w : Option (List ℕ)) → BeginsStep file old (Asks q) w w
+rights_unwritten file old q w session f shows = (_, sent_none w _)
+
+-- what holds after an answer, where more does
+pub after_ok : {P Q : Type 0} → (r : Result (Unit {0}) Fault) → (P → Q) → OnOk r P → OnOk r Q
+after_ok (Ok done) holds p = holds p
+after_ok (Err fault) holds p = tt
+
+pub after_err : {P Q : Type 0} → (r : Result (Unit {0}) Fault) → (P → Q) → OnErr r P → OnErr r Q
+after_err (Ok done) holds p = tt
+after_err (Err fault) holds p = holds p
+
+-- what always holds
+pub always_ok : {Q : Type 0} → (r : Result (Unit {0}) Fault) → Q → OnOk r Q
+always_ok (Ok done) q = q
+always_ok (Err fault) q = tt
+
+pub always_err : {Q : Type 0} → (r : Result (Unit {0}) Fault) → Q → OnErr r Q
+always_err (Ok done) q = tt
+always_err (Err fault) q = q
 
 -- ---- steps one after another
 

@@ -1,27 +1,30 @@
-use Rattle.std.proofs.Common.{◌≡◌, ◌+◌, sym, subst, rules, ◌∙◌}
-use Rattle.std.specs.Io.KnownBytes.{Appends}
-use Rattle.std.proofs.lemmas.Result.{err_from_is_err_and}
-use Rattle.histar_devices.specs.Writing.{AppendsFront}
-use Rattle.histar_devices.proofs.WritingLemmas.{sent_none}
-use Rattle.histar_test.proofs.RunLemmas.{check_lines}
+use Rattle.std.proofs.Common.{refl, sym, ◌∙◌}
+use Rattle.histar_test.specs.declared.running.Run.{Run}
+use Rattle.histar_test.proofs.RunLemmas.{after_err, after_ok, nothing_counted, nothing_written, text_begun, text_counted, text_written}
 use Rattle.histar_test.proofs.running.Run.check_reply.Goals as goal
 
-pub returns-in_default-checked_add-clause-err : goal.returns-in_default-checked_add-clause-err
-returns-in_default-checked_add-clause-err g c = (_, sent_none (g.W.Sink.written c.args.writer.now) _)
+pub returns-in_default-clause-ok : goal.returns-in_default-clause-ok
+returns-in_default-clause-ok g c =
+    let old = c.args.self.now in
+    let new : Run = record { machine = old.machine; last = c.take.new.self; tally = old.tally } in
+    nothing_counted old new c.args.wanted (sym c.take.ensures.value ∙ c.in_default.is) refl c.take.ensures.after refl
 
-pub returns-in_err-write_check-clause-err : goal.returns-in_err-write_check-clause-err
-returns-in_err-write_check-clause-err g c =
-    let p = err_from_is_err_and c.from_residual.result c.from_residual.ensures.1 in
-    let run = c.args.self.now in
-    let number : c.in-Some-checked_add.number ≡ run.tally.count + 1 = search rules in
-    rw p.1 (subst (AppendsFront (g.W.Sink.written c.args.writer.now) (g.W.Sink.written c.write_check.new.writer))
-    (check_lines c.args.file.now (run.tally.count + 1) c.in-Some-checked_add.number run.last c.in-Some.made c.args.wanted
-    (sym c.take.ensures.value ∙ c.in-Some.is) number) c.in_err-write_check.ensures.err)
+pub returns-in_default-clause-written : goal.returns-in_default-clause-written
+returns-in_default-clause-written g c =
+    nothing_written c.args.file.now c.args.self.now c.args.wanted (g.W.Sink.written c.args.writer.now) (sym c.take.ensures.value ∙ c.in_default.is)
+
+pub returns-clause-ok : goal.returns-clause-ok
+returns-clause-ok g c =
+    after_ok c.count_check.result
+    (text_counted c.args.self.now c.count_check.new.self c.in-Some.made c.args.wanted c.take.new.self (sym c.take.ensures.value ∙ c.in-Some.is)
+    c.take.ensures.after) c.count_check.ensures.ok
 
 pub returns-clause-written : goal.returns-clause-written
 returns-clause-written g c =
-    let run = c.args.self.now in
-    let number : c.in-Some-checked_add.number ≡ run.tally.count + 1 = search rules in
-    subst (Appends (g.W.Sink.written c.args.writer.now) (g.W.Sink.written c.write_check.new.writer))
-    (check_lines c.args.file.now (run.tally.count + 1) c.in-Some-checked_add.number run.last c.in-Some.made c.args.wanted
-    (sym c.take.ensures.value ∙ c.in-Some.is) number) c.in_ok-write_check.ensures.ok
+    after_ok c.count_check.result
+    (text_written c.args.file.now c.args.self.now c.in-Some.made c.args.wanted (sym c.take.ensures.value ∙ c.in-Some.is)) c.count_check.ensures.written
+
+pub returns-clause-err : goal.returns-clause-err
+returns-clause-err g c =
+    after_err c.count_check.result
+    (text_begun c.args.file.now c.args.self.now c.in-Some.made c.args.wanted (sym c.take.ensures.value ∙ c.in-Some.is)) c.count_check.ensures.err
