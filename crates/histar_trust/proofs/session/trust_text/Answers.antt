@@ -7,6 +7,16 @@ use Rattle.histar_trust.proofs.session.trust_text.Goals as goal
 pub trust_lines-requires : goal.trust_lines-requires
 trust_lines-requires g c = has_state c.args.at c.args.text.now c.in_ok-machine.machine c.in_ok-machine.ensures
 
+pub returns-in_err-lines-clause-nothing : goal.returns-in_err-lines-clause-nothing
+returns-in_err-lines-clause-nothing g c =
+    let p = err_from_is_err_and c.from_residual-in_err-lines.result c.from_residual-in_err-lines.ensures.1 in
+    rw (p.1, p.2) tt
+
+pub returns-in_err-lines-clause-reads : goal.returns-in_err-lines-clause-reads
+returns-in_err-lines-clause-reads g c =
+    let p = err_from_is_err_and c.from_residual-in_err-lines.result c.from_residual-in_err-lines.ensures.1 in
+    rw (p.1, p.2) refl
+
 pub returns-in_err-lines-clause-writes : goal.returns-in_err-lines-clause-writes
 returns-in_err-lines-clause-writes g c =
     let p = err_from_is_err_and c.from_residual-in_err-lines.result c.from_residual-in_err-lines.ensures.1 in
@@ -16,6 +26,16 @@ pub returns-in_err-lines-clause-runs : goal.returns-in_err-lines-clause-runs
 returns-in_err-lines-clause-runs g c =
     let p = err_from_is_err_and c.from_residual-in_err-lines.result c.from_residual-in_err-lines.ensures.1 in
     rw (p.1, p.2) (unwritten_text c.args.at c.args.path.now c.args.text.now _)
+
+pub returns-in_err-write_bytes-clause-nothing : goal.returns-in_err-write_bytes-clause-nothing
+returns-in_err-write_bytes-clause-nothing g c =
+    let p = err_from_is_err_and c.from_residual-in_err-write_bytes.result c.from_residual-in_err-write_bytes.ensures.1 in
+    rw (p.1, p.2) tt
+
+pub returns-in_err-write_bytes-clause-reads : goal.returns-in_err-write_bytes-clause-reads
+returns-in_err-write_bytes-clause-reads g c =
+    let p = err_from_is_err_and c.from_residual-in_err-write_bytes.result c.from_residual-in_err-write_bytes.ensures.1 in
+    rw (p.1, p.2) refl
 
 pub returns-in_err-write_bytes-clause-writes : goal.returns-in_err-write_bytes-clause-writes
 returns-in_err-write_bytes-clause-writes g c =
