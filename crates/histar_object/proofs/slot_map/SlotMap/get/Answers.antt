@@ -1,6 +1,6 @@
 use Rattle.std.proofs.Common.{◌≡◌, sym, ap, ◌∙◌}
 use Rattle.histar_object.specs.Slots.{in_place}
-use Rattle.histar_object.proofs.Numbering.{told_in_place, told_in_map}
+use Rattle.histar_object.proofs.Numbering.{found_in_place, found_in_map}
 use Rattle.histar_object.proofs.slot_map.SlotMap.get.Goals as goal
 
 pub returns-in_default : goal.returns-in_default
@@ -8,11 +8,11 @@ returns-in_default c =
     let xs = c.self.inside.listed.items in
     let fs = c.self.inside.others.entries in
     let at_place : in_place xs c.args.id ≡ c.place.result = ap (λ l. in_place l c.args.id) (sym c.deref.ensures.value) ∙ sym c.place.ensures in
-    rw (← c.self.view_is) (c.copied.ensures ∙ c.get.ensures.value ∙ sym (told_in_map xs fs c.args.id (at_place ∙ c.in_default.is)))
+    rw (← c.self.view_is) (c.copied.ensures ∙ c.get.ensures.value ∙ sym (found_in_map xs fs c.args.id (at_place ∙ c.in_default.is)))
 
 pub returns : goal.returns
 returns c =
     let xs = c.self.inside.listed.items in
     let fs = c.self.inside.others.entries in
     let at_place : in_place xs c.args.id ≡ c.place.result = ap (λ l. in_place l c.args.id) (sym c.deref.ensures.value) ∙ sym c.place.ensures in
-    rw (← c.self.view_is) (sym (told_in_place xs fs c.args.id c.in-Some.slot (at_place ∙ c.in-Some.is)))
+    rw (← c.self.view_is) (sym (found_in_place xs fs c.args.id c.in-Some.slot (at_place ∙ c.in-Some.is)))

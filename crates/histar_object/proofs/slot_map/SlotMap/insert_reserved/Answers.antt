@@ -1,5 +1,5 @@
 use Rattle.std.proofs.Common.{Some, rules}
-use Rattle.histar_object.proofs.Numbering.{none_in_place, none_in_map, told_pushed, told_put, distinct_in_both, AreApart-pushed, AreApart-put}
+use Rattle.histar_object.proofs.Numbering.{none_in_place, none_in_map, found_pushed, found_put, distinct_in_both, AreApart-pushed, AreApart-put}
 use Rattle.histar_object.proofs.slot_map.SlotMap.insert_reserved.Goals as goal
 
 pub invariant_of-self : goal.invariant_of-self
@@ -15,7 +15,7 @@ pub returns-in-Ok-clause-updates : goal.returns-in-Ok-clause-updates
 returns-in-Ok-clause-updates c =
     let xs = c.self.inside.listed.items in
     let fs = c.self.inside.others.entries in
-    rw (c.in-Ok.ensures.items, ← c.self.view_is) (told_pushed xs fs c.args.id c.args.slot (search (rules, c.number.ensures, c.if-number-len.true, c.len.ensures)))
+    rw (c.in-Ok.ensures.items, ← c.self.view_is) (found_pushed xs fs c.args.id c.args.slot (search (rules, c.number.ensures, c.if-number-len.true, c.len.ensures)))
 
 pub invariant_of-self-in-Ok-insert : goal.invariant_of-self-in-Ok-insert
 invariant_of-self-in-Ok-insert c =
@@ -31,4 +31,4 @@ returns-in-Ok-insert-clause-updates c q =
     let xs = c.self.inside.listed.items in
     let fs = c.self.inside.others.entries in
     let none = none_in_place xs fs c.args.id (rw (← c.self.view_is) at c.requires.absent) in
-    rw (← c.self.view_is) (told_put xs fs c.args.id c.insert.new.self.entries (Some c.args.slot) none q (c.in-Ok-insert.ensures.updates.0 q))
+    rw (← c.self.view_is) (found_put xs fs c.args.id c.insert.new.self.entries (Some c.args.slot) none q (c.in-Ok-insert.ensures.updates.0 q))
