@@ -1,12 +1,12 @@
 //! What the command line asks for.
 ghost use Rattle.std.specs.Prelude.{◌≡◌, IfOk, IfSome, map};
-ghost use Rattle.clap.specs.Words.{first_value, found_of, rows_of, subcommand_of, subcommand_rows_of};
+ghost use Rattle.clap.specs.Words.{app_of, first_value, found_of, rows_of, subcommand_of, subcommand_rows_of};
 ghost use Rattle.histar_command_line.specs.Forms.{histar_app};
 ghost use Rattle.histar_command_line.specs.Tasks.{IsCheckOf, IsTaskOf, is_given};
 
 use crate::command::command;
 use clap::error::ErrorKind;
-use clap::{ArgMatches, Error};
+use clap::{ArgMatches, Command, Error};
 use std::alloc::{AllocError, Global};
 
 /// What a run is asked for beside the replies.
@@ -108,7 +108,7 @@ fn check_task_of<'a>(check: &ArgMatches<'a>) -> Option<Task<'a>>
     }
 }
 
-/// Returns the task of a subcommand that was matched which looks at a script or at a state.
+/// Returns the task of a subcommand that was matched which looks at a state.
 fn state_task_of<'a>(matches: &ArgMatches<'a>) -> Option<Task<'a>>
     ensures { IfSome result (λ task. IsTaskOf task (subcommand_rows_of matches.now)) }
 {
@@ -129,6 +129,13 @@ fn state_task_of<'a>(matches: &ArgMatches<'a>) -> Option<Task<'a>>
         let at = trust.get_str("LINE");
         return Some(Task::Trust(path, file, at));
     }
+    text_task_of(matches)
+}
+
+/// Returns the task of a subcommand that was matched which looks at a script alone, or shows all of a session.
+fn text_task_of<'a>(matches: &ArgMatches<'a>) -> Option<Task<'a>>
+    ensures { IfSome result (λ task. IsTaskOf task (subcommand_rows_of matches.now)) }
+{
     if let Some(report) = matches.subcommand_matches("report") {
         let file = report.get_str("FILE")?;
         return Some(Task::Report(file));
@@ -153,6 +160,35 @@ fn test_task_of<'a>(alloc: Global, matches: &ArgMatches<'a>) -> Result<Option<Ta
     Ok(Some(Task::Test(files)))
 }
 
+/// Returns the task that was matched, and none where the words don't fit together.
+fn matched_task<'a>(alloc: Global, matches: &ArgMatches<'a>) -> Result<Option<Task<'a>>, AllocError>
+    ensures { IfOk result (λ found. IfSome found (λ task. IsTaskOf task (subcommand_rows_of matches.now))) }
+{
+    if let Some(task) = test_task_of(alloc, matches)? {
+        return Ok(Some(task));
+    }
+    Ok(task_of(matches))
+}
+
+/// Returns the task that the words name, as this command reads them.
+fn task_by<'a>(
+    alloc: Global,
+    command: &mut Command<'a>,
+    words: &'a [&'a str],
+) -> Result<Task<'a>, Error>
+    requires { app_of command.old ≡ histar_app }
+    ensures { IfOk result (λ task. IsTaskOf task (subcommand_of histar_app (map (λ word. word.now) words.entry.now))) }
+{
+    let matches = command.try_get_matches_from_mut(words)?;
+    let Some(task) = matched_task(alloc, &matches)? else {
+        return Err(command.error(
+            ErrorKind::MissingRequiredArgument,
+            "words that don't fit together",
+        )?);
+    };
+    Ok(task)
+}
+
 /// Returns the task that the words name, the program's own name first.
 ///
 /// An error is `clap`'s own: a wish for help or for the version, a refused command line, or want of
@@ -161,15 +197,5 @@ pub fn read_words<'a>(alloc: Global, words: &'a [&'a str]) -> Result<Task<'a>, E
     ensures { IfOk result (λ task. IsTaskOf task (subcommand_of histar_app (map (λ word. word.now) words.entry.now))) }
 {
     let mut command = command(alloc)?;
-    let matches = command.try_get_matches_from_mut(words)?;
-    if let Some(task) = test_task_of(alloc, &matches)? {
-        return Ok(task);
-    }
-    let Some(task) = task_of(&matches) else {
-        return Err(command.error(
-            ErrorKind::MissingRequiredArgument,
-            "words that don't fit together",
-        )?);
-    };
-    Ok(task)
+    task_by(alloc, &mut command, words)
 }

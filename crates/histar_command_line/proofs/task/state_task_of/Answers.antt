@@ -1,7 +1,6 @@
-use Rattle.std.proofs.Common.{refl, sym, ap, ◌∙◌, codes}
+use Rattle.std.proofs.Common.{refl, sym, ◌∙◌, codes}
 use Rattle.clap.specs.Words.{rows_of, found_of}
 use Rattle.clap.proofs.WalkLemmas.{first_value-rows}
-use Rattle.histar_command_line.specs.Tasks.{is_given}
 use Rattle.histar_command_line.proofs.Matches.{matched}
 use Rattle.histar_command_line.proofs.task.state_task_of.Goals as goal
 
@@ -40,26 +39,5 @@ returns-in-Some-subcommand_matches-2 c =
         sym (c.in_ok-path.ensures ∙ first_value-rows found (codes "PATH")),
         sym (c.in_ok-file-2.ensures ∙ first_value-rows found (codes "FILE")),
         c.get_str-at-in-Some-subcommand_matches-2.ensures ∙ first_value-rows found (codes "LINE"),
-      ),
-    )
-
-pub returns-in-Some-subcommand_matches-3 : goal.returns-in-Some-subcommand_matches-3
-returns-in-Some-subcommand_matches-3 c =
-    let m = c.in-Some-subcommand_matches-3 in
-    let found = found_of m.report.now in (
-      rows_of found,
-      matched c.args.matches.now (codes "report") (rows_of found) (m.ensures.found.0 refl) m.ensures.rows,
-      sym (c.in_ok-file-3.ensures ∙ first_value-rows found (codes "FILE")),
-    )
-
-pub returns : goal.returns
-returns c =
-    let m = c.in_ok-lint in
-    let found = found_of m.lint.now in (
-      rows_of found,
-      matched c.args.matches.now (codes "lint") (rows_of found) (m.ensures.found.0 refl) m.ensures.rows,
-      (
-        sym (c.in_ok-file-4.ensures ∙ first_value-rows found (codes "FILE")),
-        c.is_set-raw.ensures ∙ ap is_given (first_value-rows found (codes "raw")),
       ),
     )

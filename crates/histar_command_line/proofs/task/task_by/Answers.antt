@@ -1,0 +1,11 @@
+use Rattle.std.proofs.Common.{refl, ap, ap₂, subst, ◌∙◌, rules}
+use Rattle.clap.specs.Words.{is_simple, subcommand_of}
+use Rattle.histar_command_line.specs.Tasks.{IsTaskOf}
+use Rattle.histar_command_line.proofs.Matches.{histar_is_simple}
+use Rattle.histar_command_line.proofs.task.task_by.Goals as goal
+
+pub returns : goal.returns
+returns c =
+    let simple = ap is_simple c.requires ∙ histar_is_simple in
+    let whole = (c.in_ok-matches.ensures.ok.2 simple).1 in
+    subst (IsTaskOf c.in-Some.task) (whole ∙ ap₂ subcommand_of c.requires refl) (search rules)

@@ -1,0 +1,27 @@
+use Rattle.std.proofs.Common.{refl, sym, ap, ◌∙◌, codes}
+use Rattle.clap.specs.Words.{rows_of, found_of}
+use Rattle.clap.proofs.WalkLemmas.{first_value-rows}
+use Rattle.histar_command_line.specs.Tasks.{is_given}
+use Rattle.histar_command_line.proofs.Matches.{matched}
+use Rattle.histar_command_line.proofs.task.text_task_of.Goals as goal
+
+pub returns-in-Some : goal.returns-in-Some
+returns-in-Some c =
+    let m = c.in-Some in
+    let found = found_of m.report.now in (
+      rows_of found,
+      matched c.args.matches.now (codes "report") (rows_of found) (m.ensures.found.0 refl) m.ensures.rows,
+      sym (c.in_ok-file.ensures ∙ first_value-rows found (codes "FILE")),
+    )
+
+pub returns : goal.returns
+returns c =
+    let m = c.in_ok-lint in
+    let found = found_of m.lint.now in (
+      rows_of found,
+      matched c.args.matches.now (codes "lint") (rows_of found) (m.ensures.found.0 refl) m.ensures.rows,
+      (
+        sym (c.in_ok-file-2.ensures ∙ first_value-rows found (codes "FILE")),
+        c.is_set-raw.ensures ∙ ap is_given (first_value-rows found (codes "raw")),
+      ),
+    )
