@@ -6,3 +6,4 @@ pub mod Making
 pub mod DenialReplies
 pub mod RepliesOfPrograms
 pub mod MakingDirectories
+pub mod MakingFiles

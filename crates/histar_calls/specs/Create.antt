@@ -5,20 +5,27 @@ use Rattle.histar_flat.specs.Words.{Path}
 use Rattle.histar_flat.specs.Sessions.{Session}
 use Rattle.histar_flat.specs.declared.calls.Mode.{Mode}
 use Rattle.histar_flat.specs.declared.replies.Reply.TheVariants.{Done}
+use Rattle.histar_label.specs.Levels.{Levels}
 use Rattle.histar_rules.specs.declared.raw.RawCall.TheVariants.{OwnLabel, MakeSegment}
 use Rattle.histar_layout.specs.declared.entry.Target.TheVariants.{File}
+use Rattle.histar_calls.specs.declared.find.Room.{Room}
 use Rattle.histar_calls.specs.declared.places.Places.{Places}
 use Rattle.histar_layout.specs.Categories.{label_made}
-use Rattle.histar_calls.specs.Programs.{Program}
+use Rattle.histar_calls.specs.Programs.{Part, Program}
 use Rattle.histar_calls.specs.Programs.Program.{Answers}
 use Rattle.histar_calls.specs.Parts.{◌>>=◌, ◌>>◌, ask, find_room, write_entries}
 
--- Room for the entry is found. The thread asks for its own label, makes an empty segment with the label of what it makes in this mode,
--- and writes the directory with the new entry.
+-- An empty segment is made with this label, and the directory is written with the new entry.
+abbrev pub add_file : Levels → Room → Part (Unit {0})
+add_file label room rest = do
+  file ← ask (MakeSegment room.place.container label [])
+  write_entries room.place (map.insert room.entries room.name (File file))
+  rest tt
+
+-- Room for the entry is found. The thread asks for its own label, and adds a file with the label of what it makes in this mode.
 unfoldable pub create_program : Session → Places → Path → Mode → Program
 create_program session places path mode = do
   room ← find_room places path
   own ← ask OwnLabel
-  file ← ask (MakeSegment room.place.container (label_made session own.0 mode) [])
-  write_entries room.place (map.insert room.entries room.name (File file))
+  add_file (label_made session own.0 mode) room
   Answers Done

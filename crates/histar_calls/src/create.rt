@@ -1,6 +1,9 @@
 //! Making a file.
-ghost use Rattle.histar_calls.specs.Programs.{Runs};
-ghost use Rattle.histar_calls.specs.Create.{create_program};
+ghost use Rattle.std.specs.Prelude.{◌<◌};
+ghost use Rattle.std.specs.FinMap as map;
+ghost use Rattle.histar_flat.specs.FlatCalls.{most_entries};
+ghost use Rattle.histar_calls.specs.Programs.{Runs, RunsPart};
+ghost use Rattle.histar_calls.specs.Create.{add_file, create_program};
 ghost use Rattle.histar_calls.specs.Refusals.{settled};
 
 use crate::directory::write_entries;
@@ -9,7 +12,7 @@ use crate::find::{Room, find_room};
 use crate::places::Places;
 use histar_base::Bytes;
 use histar_flat::{Mode, Name, Reply};
-use histar_label::LabelStore;
+use histar_label::{Label, LabelStore};
 use histar_layout::{Target, UserTable, label_made};
 use histar_object::ObjId;
 use histar_syscall::Kernel;
@@ -44,16 +47,31 @@ fn create_file<S: LabelStore + Drop>(
 ) -> Result<Reply, Ending>
     ensures { Runs (create_program users.now places.now path.now mode) kernel.old kernel.new thread (settled result) }
 {
+    let room = find_room(alloc, kernel, places, thread, path)?;
+    let (own, _) = kernel.own_label(thread)?;
+    let label = label_made(alloc, &own, users, mode)?;
+    add_file(alloc, kernel, thread, room, label)?;
+    Ok(Reply::Done)
+}
+
+/// Makes an empty segment with this label, and the entry.
+fn add_file<S: LabelStore + Drop>(
+    alloc: Global,
+    kernel: &mut Kernel<S>,
+    thread: ObjId,
+    room: Room,
+    label: Label,
+) -> Result<(), Ending>
+    requires { map.len room.entries < most_entries }
+    ensures { RunsPart (add_file label room) kernel.old kernel.new thread result }
+{
     let Room {
         place,
         mut entries,
         name,
-    } = find_room(alloc, kernel, places, thread, path)?;
-    let (own, _) = kernel.own_label(thread)?;
-    let label = label_made(alloc, &own, users, mode)?;
+    } = room;
     let empty = Bytes::new(alloc);
     let file = kernel.make_segment(alloc, thread, place.container, label, empty)?;
     entries.insert(alloc, &name, Target::File(file))?;
-    write_entries(alloc, kernel, thread, place, entries)?;
-    Ok(Reply::Done)
+    write_entries(alloc, kernel, thread, place, entries)
 }

@@ -1,31 +1,89 @@
--- How the code of a login runs its program.
-use Rattle.std.proofs.Common.{◌≡◌, ℕ, List, Result, ap, ◌∙◌, subst}
+-- How the code of a login runs its program, from one part to the next.
+use Rattle.std.proofs.Common.{◌≡◌, ℕ, Bool, List, Result, Ok, Err, sym, ap, ◌∙◌, subst}
+use Rattle.std.specs.Str.{bytes_eq}
 use Rattle.histar_label.specs.Levels.{Levels}
-use Rattle.histar_label.specs.Floors.{join_of, floor_of}
 use Rattle.histar_object.specs.declared.objects.Entry.{Entry}
-use Rattle.histar_rules.specs.declared.raw.RawCall.TheVariants.{Enter, Read, SetLabel, SetClearance}
+use Rattle.histar_rules.specs.declared.raw.RawCall.TheVariants.{Enter, OwnLabel, Read, SetLabel, SetClearance}
 use Rattle.histar_rules.specs.Sound.{root_number}
 use Rattle.histar_syscall.specs.KernelModel.{KernelModel}
 use Rattle.histar_calls.specs.declared.ending.Ending.{Ending}
-use Rattle.histar_calls.specs.Programs.{Part, RunsPart}
+use Rattle.histar_calls.specs.Programs.{Part, Program, RunsPart}
+use Rattle.histar_calls.specs.Programs.Program.{Answers}
 use Rattle.histar_calls.specs.Parts.{ask}
-use Rattle.histar_login.specs.Start.{owners_label, owners_clearance}
-use Rattle.histar_login.specs.Login.{password_of, gate_of, entering}
+use Rattle.histar_calls.proofs.Exits.{Leaves}
+use Rattle.histar_calls.proofs.Running.{hands, part_fails, then_part}
+use Rattle.histar_process.specs.declared.caller.Caller.{Caller}
+use Rattle.histar_login.specs.declared.login.EntryLabels.{EntryLabels}
+use Rattle.histar_login.specs.Login.{AreEntryLabels, ask_password, clearance_if, entering, gate_of, label_if, login_as_program, password_of, reply_if, take_due}
 
--- a gate that is entered by labels that were made is this one
-pub enters : (t : ℕ) (old new : KernelModel) (result : Result Entry Ending) (d o : ℕ) (wanted clearance shown : Levels) (owners : List ℕ) (i : ℕ) (own most given limit : Levels)
-    → d ≡ root_number → o ≡ gate_of i → given ≡ owners_label owners → limit ≡ owners_clearance owners
-    → wanted ≡ floor_of own given → clearance ≡ join_of most limit → shown ≡ own → RunsPart {A = Entry} (ask (Enter d o wanted clearance shown)) old new t result → RunsPart {A = Entry} (ask (entering owners i own most)) old new t result
-enters t old new result d o wanted clearance shown owners i own most given limit root gate g l w c s runs =
-    subst (λ (p : Part Entry). RunsPart {A = Entry} p old new t result) (λ j. ask (Enter (root j) (gate j) ((w ∙ ap (floor_of own) g) j) ((c ∙ ap (join_of most) l) j) (s j))) runs
+-- a gate that is entered by the labels that were made is the user's
+pub enters : (t : ℕ) (old new : KernelModel) (result : Result Entry Ending) (owners : List ℕ) (i : ℕ) (own : Levels × Levels)
+    → (d gate : ℕ) (labels : EntryLabels) → d ≡ root_number → gate ≡ gate_of i → AreEntryLabels owners own.0 own.1 labels
+    → RunsPart {A = Entry} (ask (Enter d gate labels.wanted labels.clearance labels.verify)) old new t result
+    → RunsPart {A = Entry} (ask (entering owners i own.0 own.1)) old new t result
+enters t old new result owners i own d gate labels root_is gate_is are runs =
+    subst (λ (p : Part Entry). RunsPart {A = Entry} p old new t result)
+    (λ j. ask (Enter (root_is j) (gate_is j) (are.wanted_is j) (are.clearance_is j) (are.verify_is j))) runs
 
--- the password's segment is read
-pub reads : (t : ℕ) (old new : KernelModel) (result : Result (List ℕ) Ending) (d o i : ℕ) → d ≡ root_number → o ≡ password_of i → RunsPart {A = List ℕ} (ask (Read d o)) old new t result → RunsPart {A = List ℕ} (ask (Read root_number (password_of i))) old new t result
+-- the password of a user is asked for
+module _ (t i : ℕ) (password : List ℕ) (old new : KernelModel) where
+  abbrev compared : List ℕ → Part Bool
+  compared kept rest = rest (bytes_eq kept password)
+
+  -- its segment isn't read
+  pub asks_none : (ending : Ending) → RunsPart {A = List ℕ} (ask (Read root_number (password_of i))) old new t (Err ending) → RunsPart (ask_password i password) old new t (Err ending)
+  asks_none ending first = part_fails t (ask (Read root_number (password_of i))) old new compared ending first
+
+  -- it is
+  pub asks_password : (kept : List ℕ) (right : Bool) → RunsPart {A = List ℕ} (ask (Read root_number (password_of i))) old new t (Ok kept) → right ≡ bytes_eq kept password → RunsPart (ask_password i password) old new t (Ok right)
+  asks_password kept right first is =
+      subst (λ (b : Bool). RunsPart (ask_password i password) old new t (Ok b)) (sym is)
+      (then_part t (ask (Read root_number (password_of i))) old new compared new kept first (Ok (bytes_eq kept password)) (hands t new (bytes_eq kept password)))
+
+-- the segment that is read is that of the password
+pub reads : (t : ℕ) (old new : KernelModel) (result : Result (List ℕ) Ending) (d o i : ℕ) → d ≡ root_number → o ≡ password_of i
+    → RunsPart {A = List ℕ} (ask (Read d o)) old new t result → RunsPart {A = List ℕ} (ask (Read root_number (password_of i))) old new t result
 reads t old new result d o i root segment runs = subst (λ (p : Part (List ℕ)). RunsPart {A = List ℕ} p old new t result) (λ j. ask (Read (root j) (segment j))) runs
 
 -- labels that are taken are those that are due
-pub takes_label : (t : ℕ) (old new : KernelModel) (result : Result (Unit {0}) Ending) (label due : Levels) → label ≡ due → RunsPart {A = Unit {0}} (ask (SetLabel label)) old new t result → RunsPart {A = Unit {0}} (ask (SetLabel due)) old new t result
-takes_label t old new result label due same runs = subst (λ (p : Part (Unit {0})). RunsPart {A = Unit {0}} p old new t result) (λ j. ask (SetLabel (same j))) runs
+module _ (t : ℕ) (old new : KernelModel) (result : Result (Unit {0}) Ending) (label due : Levels) (same : label ≡ due) where
+  pub takes_label : RunsPart {A = Unit {0}} (ask (SetLabel label)) old new t result → RunsPart {A = Unit {0}} (ask (SetLabel due)) old new t result
+  takes_label runs = subst (λ (p : Part (Unit {0})). RunsPart {A = Unit {0}} p old new t result) (λ j. ask (SetLabel (same j))) runs
 
-pub takes_clearance : (t : ℕ) (old new : KernelModel) (result : Result (Unit {0}) Ending) (clearance due : Levels) → clearance ≡ due → RunsPart {A = Unit {0}} (ask (SetClearance clearance)) old new t result → RunsPart {A = Unit {0}} (ask (SetClearance due)) old new t result
-takes_clearance t old new result clearance due same runs = subst (λ (p : Part (Unit {0})). RunsPart {A = Unit {0}} p old new t result) (λ j. ask (SetClearance (same j))) runs
+  pub takes_clearance : RunsPart {A = Unit {0}} (ask (SetClearance label)) old new t result → RunsPart {A = Unit {0}} (ask (SetClearance due)) old new t result
+  takes_clearance runs = subst (λ (p : Part (Unit {0})). RunsPart {A = Unit {0}} p old new t result) (λ j. ask (SetClearance (same j))) runs
+
+-- what is due is taken, the label first
+module _ (t : ℕ) (right : Bool) (caller : Caller) (owners : List ℕ) (own : Levels × Levels) (old new : KernelModel) where
+  abbrev due_label : Levels
+  due_label = label_if right caller owners own.0
+
+  abbrev after_label : Unit {0} → Part (Unit {0})
+  after_label done = ask (SetClearance (clearance_if right caller owners own.1))
+
+  -- the label isn't taken
+  pub takes_none : (ending : Ending) → RunsPart {A = Unit {0}} (ask (SetLabel due_label)) old new t (Err ending) → RunsPart (take_due right caller owners own) old new t (Err ending)
+  takes_none ending first = part_fails t (ask (SetLabel due_label)) old new after_label ending first
+
+  -- it is, and the clearance too, or not
+  pub takes_due : (mid : KernelModel) → RunsPart {A = Unit {0}} (ask (SetLabel due_label)) old mid t (Ok tt) → (result : Result (Unit {0}) Ending)
+      → RunsPart {A = Unit {0}} (ask (SetClearance (clearance_if right caller owners own.1))) mid new t result → RunsPart (take_due right caller owners own) old new t result
+  takes_due mid first result second = then_part t (ask (SetLabel due_label)) old new after_label mid tt first result second
+
+-- what is left of a login, from one part to the next
+module _ (caller : Caller) (i : ℕ) (owners password : List ℕ) where
+  abbrev pub after_due : Bool → Program
+  after_due right = Answers (reply_if right)
+
+  abbrev pub after_password : Levels × Levels → Bool → Program
+  after_password own right = take_due right caller owners own (λ (done : Unit {0}). after_due right)
+
+  abbrev pub after_gate : Levels × Levels → Entry → Program
+  after_gate own entry = ask_password i password (after_password own)
+
+  abbrev pub after_own : Levels × Levels → Program
+  after_own own = ask (entering owners i own.0 own.1) (after_gate own)
+
+  pub begun : (t : ℕ) (old : KernelModel) → Leaves t (login_as_program caller i owners password) old (ask OwnLabel after_own) old
+  unfolding login_as_program
+  begun t old = record { leads = λ new result on. on }

@@ -1,5 +1,5 @@
 -- Logging in: the program of a login, and the labels that it asks for.
-use Rattle.std.specs.Prelude.{ℕ, ◌+◌, ◌*◌, Bool, true, false, List, [], ◌∷◌, Option, None, Some, position}
+use Rattle.std.specs.Prelude.{◌≡◌, ℕ, ◌+◌, ◌*◌, Bool, true, false, List, [], ◌∷◌, Option, None, Some, position}
 use Rattle.std.specs.Str.{bytes_eq}
 use Rattle.histar_flat.specs.declared.calls.User.{User}
 use Rattle.histar_flat.specs.declared.replies.Errno.TheVariants.{ENOENT, EAUTH}
@@ -15,12 +15,13 @@ use Rattle.histar_rules.specs.Sound.{root_number}
 use Rattle.histar_layout.specs.Categories.{owners_of}
 use Rattle.histar_layout.specs.Labelling.{owner_label, cleared_at}
 use Rattle.histar_calls.specs.Laws.{RepliesToRefusals}
-use Rattle.histar_calls.specs.Programs.{Program}
+use Rattle.histar_calls.specs.Programs.{Part, Program}
 use Rattle.histar_calls.specs.Programs.Program.{Answers}
 use Rattle.histar_calls.specs.Parts.{◌>>=◌, ◌>>◌, ask}
 use Rattle.histar_process.specs.declared.caller.Caller.{Caller}
 use Rattle.histar_process.specs.Kin.{categories_of}
 use Rattle.histar_login.specs.Start.{owners_label, owners_clearance}
+use Rattle.histar_login.specs.declared.login.EntryLabels.{EntryLabels}
 
 -- the place of the user with this name
 abbrev pub place_of : List User → Name → Option ℕ
@@ -45,10 +46,22 @@ user_label caller owners = owner_label (owned_as_user caller owners) []
 abbrev pub user_clearance : Caller → List ℕ → Levels
 user_clearance caller owners = cleared_at (owned_as_user caller owners)
 
--- a thread that has this label and this clearance enters the gate of user i, who owns the categories of these users and groups, and
--- shows its own label: it wants all that it owns and all that the gate gives
+-- a thread that has this label and this clearance enters the gate of user i, who owns the categories of these users and groups: it
+-- wants all that it owns and all that the gate gives, and its verify label is its own label
 abbrev pub entering : List ℕ → ℕ → Levels → Levels → RawCall
-entering owners i own most = Enter root_number (gate_of i) (floor_of own (owners_label owners)) (join_of most (owners_clearance owners)) own
+entering owners i own clearance = Enter root_number (gate_of i) (floor_of own (owners_label owners)) (join_of clearance (owners_clearance owners)) own
+
+-- these are the labels that it hands over
+pub record AreEntryLabels (owners : List ℕ) (own clearance : Levels) (labels : EntryLabels) : Type 0 where
+  pub wanted_is : labels.wanted ≡ floor_of own (owners_label owners)
+  pub clearance_is : labels.clearance ≡ join_of clearance (owners_clearance owners)
+  pub verify_is : labels.verify ≡ own
+
+-- the thread reads the password of user i, and compares it with this one
+abbrev pub ask_password : ℕ → List ℕ → Part Bool
+ask_password i password rest = do
+  kept ← ask (Read root_number (password_of i))
+  rest (bytes_eq kept password)
 
 -- the label that the thread takes behind the gate: that of the user where the password is right, and else its own again
 abbrev pub label_if : Bool → Caller → List ℕ → Levels → Levels
@@ -59,6 +72,13 @@ label_if false caller owners own = own
 abbrev pub clearance_if : Bool → Caller → List ℕ → Levels → Levels
 clearance_if true caller owners most = user_clearance caller owners
 clearance_if false caller owners most = most
+
+-- the thread takes the label and the clearance that are its due
+abbrev pub take_due : Bool → Caller → List ℕ → Levels × Levels → Part (Unit {0})
+take_due right caller owners own rest = do
+  ask (SetLabel (label_if right caller owners own.0))
+  ask (SetClearance (clearance_if right caller owners own.1))
+  rest tt
 
 -- what is replied behind the gate
 abbrev pub reply_if : Bool → Reply
@@ -71,11 +91,9 @@ unfoldable pub login_as_program : Caller → ℕ → List ℕ → List ℕ → P
 login_as_program caller i owners password = do
   own ← ask OwnLabel
   entry ← ask (entering owners i own.0 own.1)
-  kept ← ask (Read root_number (password_of i))
-  let right = bytes_eq kept password in do
-    ask (SetLabel (label_if right caller owners own.0))
-    ask (SetClearance (clearance_if right caller owners own.1))
-    Answers (reply_if right)
+  right ← ask_password i password
+  take_due right caller owners own
+  Answers (reply_if right)
 
 -- a login as the user of this name at a place, if there is one
 abbrev pub login_at : Session → Caller → Name → List ℕ → Option ℕ → Program

@@ -5,7 +5,7 @@ ghost use Rattle.histar_rules.specs.Sound.{root_number};
 ghost use Rattle.histar_calls.specs.Parts.{ask};
 ghost use Rattle.histar_calls.specs.Programs.{Runs, RunsPart};
 ghost use Rattle.histar_calls.specs.Refusals.{settled};
-ghost use Rattle.histar_login.specs.Login.{user_label, user_clearance, gate_of, password_of, entering, label_if, clearance_if, reply_if, login_program, login_as_program};
+ghost use Rattle.histar_login.specs.Login.{AreEntryLabels, user_label, user_clearance, gate_of, password_of, ask_password, entering, label_if, clearance_if, take_due, reply_if, login_program, login_as_program};
 
 use crate::gates::gate_labels;
 use histar_base::Bytes;
@@ -31,11 +31,40 @@ fn user_labels(alloc: Global, caller: &Caller, owners: &[u8]) -> Result<(Label, 
     Ok((label, clearance))
 }
 
-/// The segment with a user's password.
+/// Returns the segment with a user's password.
 fn password_segment(number: u8) -> ObjId
     ensures { result ≡ password_of number }
 {
     ObjId::new(1 + 2 * u64::from(number))
+}
+
+/// The labels that a thread hands over to enter a gate.
+#[derive(Drop)]
+struct EntryLabels {
+    /// The label that it wants.
+    wanted: Label,
+    /// The clearance that it wants.
+    clearance: Label,
+    /// The verify label, by which the gate decides.
+    verify: Label,
+}
+
+/// Makes the labels with which a thread enters the gate of a user: it wants all that it owns and all that the
+/// gate gives.
+fn entry_labels(
+    alloc: Global,
+    owners: &[u8],
+    own: &Label,
+    clearance: &Label,
+) -> Result<EntryLabels, AllocError>
+    ensures { IfOk result (AreEntryLabels owners.now own.now clearance.now) }
+{
+    let (given, limit) = gate_labels(alloc, owners)?;
+    Ok(EntryLabels {
+        wanted: own.floor(&given)?,
+        clearance: clearance.join(&limit)?,
+        verify: own.copy()?,
+    })
 }
 
 /// Enters the gate of a user with all that the thread owns and all that the gate gives. EACCES where
@@ -46,40 +75,70 @@ fn enter_gate<S: LabelStore + Drop>(
     thread: ObjId,
     number: u8,
     owners: &[u8],
-    own: &Label,
-    most: &Label,
+    own: &(Label, Label),
 ) -> Result<Entry, Ending>
-    ensures { RunsPart (ask (entering owners.now number own.now most.now)) kernel.old kernel.new thread result }
+    ensures { RunsPart (ask (entering owners.now number own.now.0 own.now.1)) kernel.old kernel.new thread result }
 {
-    let (given, limit) = gate_labels(alloc, owners)?;
-    let wanted = own.floor(&given)?;
-    let clearance = most.join(&limit)?;
-    let root = ObjId::new(1);
+    let EntryLabels {
+        wanted,
+        clearance,
+        verify,
+    } = entry_labels(alloc, owners, &own.0, &own.1)?;
     let gate = ObjId::new(2 + 2 * u64::from(number));
-    let entry = kernel.enter(thread, root, gate, wanted, clearance, own.copy()?)?;
+    let entry = kernel.enter(thread, ObjId::new(1), gate, wanted, clearance, verify)?;
     Ok(entry)
 }
 
-/// The labels that a thread takes behind the gate: the user's where the password is right, and else its
-/// own again.
+/// Checks whether this is the password of a user, by reading it.
+fn ask_password<S: LabelStore + Drop>(
+    alloc: Global,
+    kernel: &mut Kernel<S>,
+    thread: ObjId,
+    number: u8,
+    password: Password,
+) -> Result<bool, Ending>
+    ensures { RunsPart (ask_password number password) kernel.old kernel.new thread result }
+{
+    let kept = kernel.read_copy(alloc, thread, ObjId::new(1), password_segment(number))?;
+    Ok(is_password(&kept, password))
+}
+
+/// Returns the label and the clearance that a thread takes behind the gate: the user's where the password is
+/// right, and else its own again.
 fn due_labels(
     alloc: Global,
     right: bool,
     caller: &Caller,
     owners: &[u8],
-    own: Label,
-    most: Label,
+    own: (Label, Label),
 ) -> Result<(Label, Label), AllocError>
-    ensures { IfOk result (λ due. (due.0 ≡ label_if right caller.now owners.now own)
-        × (due.1 ≡ clearance_if right caller.now owners.now most)) }
+    ensures { IfOk result (λ due. (due.0 ≡ label_if right caller.now owners.now own.0)
+        × (due.1 ≡ clearance_if right caller.now owners.now own.1)) }
 {
     if right {
         return user_labels(alloc, caller, owners);
     }
-    Ok((own, most))
+    Ok(own)
 }
 
-/// What is answered behind the gate.
+/// Gives the thread the label and the clearance that are its due.
+fn take_due<S: LabelStore + Drop>(
+    alloc: Global,
+    kernel: &mut Kernel<S>,
+    right: bool,
+    caller: &Caller,
+    owners: &[u8],
+    own: (Label, Label),
+) -> Result<(), Ending>
+    ensures { RunsPart (take_due right caller.now owners.now own) kernel.old kernel.new caller.now.thread result }
+{
+    let (label, clearance) = due_labels(alloc, right, caller, owners, own)?;
+    kernel.set_label(caller.thread, label)?;
+    kernel.set_clearance(caller.thread, clearance)?;
+    Ok(())
+}
+
+/// Returns the reply behind the gate.
 fn reply_if(right: bool) -> Reply
     ensures { result ≡ reply_if right }
 {
@@ -89,7 +148,7 @@ fn reply_if(right: bool) -> Reply
     Reply::Refused(Errno::EAUTH)
 }
 
-/// Whether these bytes are the password.
+/// Checks whether these bytes are the password.
 fn is_password(kept: &Bytes, password: Password) -> bool
     ensures { result ≡ bytes_eq kept.now password }
 {
@@ -130,12 +189,9 @@ fn login_as<S: LabelStore + Drop>(
         caller.now.thread (settled result) }
 {
     let thread = caller.thread;
-    let (own, most) = kernel.own_label(thread)?;
-    enter_gate(alloc, kernel, thread, number, owners, &own, &most)?;
-    let kept = kernel.read_copy(alloc, thread, ObjId::new(1), password_segment(number))?;
-    let right = is_password(&kept, password);
-    let (label, clearance) = due_labels(alloc, right, caller, owners, own, most)?;
-    kernel.set_label(thread, label)?;
-    kernel.set_clearance(thread, clearance)?;
+    let own = kernel.own_label(thread)?;
+    enter_gate(alloc, kernel, thread, number, owners, &own)?;
+    let right = ask_password(alloc, kernel, thread, number, password)?;
+    take_due(alloc, kernel, right, caller, owners, own)?;
     Ok(reply_if(right))
 }

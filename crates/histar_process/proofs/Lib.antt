@@ -5,3 +5,4 @@ pub mod Births
 pub mod Rooms
 pub mod Calling
 pub mod Spawning
+pub mod Killing

@@ -1,18 +1,36 @@
 -- The program of `kill PROC`.
-use Rattle.std.specs.Prelude.{[], ◌∷◌}
+use Rattle.std.specs.Prelude.{◌≡◌, ℕ, List, [], ◌∷◌, Option, Some, Result}
 use Rattle.histar_flat.specs.Words.{ProcName}
 use Rattle.histar_flat.specs.declared.replies.Reply.TheVariants.{Done}
 use Rattle.histar_rules.specs.Sound.{root_number}
 use Rattle.histar_rules.specs.declared.raw.RawCall.TheVariants.{Unlink}
-use Rattle.histar_layout.specs.Status.{child_at, without_child}
+use Rattle.histar_syscall.specs.KernelModel.{KernelModel}
+use Rattle.histar_layout.specs.Status.{ProcessStatus, child_at, status_in, without_child}
+use Rattle.histar_calls.specs.declared.ending.Ending.{Ending}
+use Rattle.histar_calls.specs.declared.places.Home.{Home}
 use Rattle.histar_calls.specs.declared.places.Places.{Places}
-use Rattle.histar_calls.specs.Programs.{Program}
+use Rattle.histar_calls.specs.Programs.{Part, Program, RunsPart}
 use Rattle.histar_calls.specs.Programs.Program.{Answers}
 use Rattle.histar_calls.specs.Parts.{◌>>=◌, ◌>>◌, ask, given}
 use Rattle.histar_process.specs.Parts.{find_home, home_of, must_be_there, read_status, write_status}
 
--- The process is found and its segment read, as for its status. Its container is taken out of the one above it, with all that it
--- holds, and the segment above is written without it. Above process 0 is the root container, and no segment.
+-- The child of this number is looked up in the status of the process at this home, and its own segment read. Its container is taken out
+-- of the one above it, with all that it holds, and the segment above is written without it.
+abbrev pub kill_known : Home → ProcessStatus → ℕ → Part (Unit {0})
+kill_known home status n rest = do
+  child ← given (must_be_there (child_at status.children n))
+  _ ← read_status (home_of child)
+  ask (Unlink home.container child.container)
+  write_status home (without_child n status)
+  rest tt
+
+-- a child of the process whose segment has these bytes is killed, whatever status they show
+abbrev pub KillsKnown : Home → List ℕ → ℕ → KernelModel → KernelModel → ℕ → Result (Unit {0}) Ending → Type 0
+KillsKnown home bytes n old new thread result =
+    (status : ProcessStatus) → status_in bytes ≡ Some status → RunsPart (kill_known home status n) old new thread result
+
+-- The process above is found and its segment read, as for its status, and the child is killed. Above process 0 is the root container, and
+-- no segment.
 unfoldable pub kill_program : Places → ProcName → Program
 kill_program places [] = do
   status ← read_status places.home
@@ -21,8 +39,5 @@ kill_program places [] = do
 kill_program places (n ∷ above) = do
   home ← find_home places.home above
   status ← read_status home
-  child ← given (must_be_there (child_at status.children n))
-  _ ← read_status (home_of child)
-  ask (Unlink home.container child.container)
-  write_status home (without_child n status)
+  kill_known home status n
   Answers Done

@@ -2,12 +2,12 @@
 ghost use Rattle.std.specs.Prelude.{[], ◌∷◌};
 ghost use Rattle.histar_calls.specs.Programs.{Runs};
 ghost use Rattle.histar_calls.specs.Refusals.{settled};
-ghost use Rattle.histar_process.specs.KillCall.{kill_program};
+ghost use Rattle.histar_process.specs.KillCall.{KillsKnown, kill_program};
 
 use crate::find::{
     Segment, find_home, home_of, must_be_there, read_head, read_segment, write_segment,
 };
-use histar_calls::{Ending, Places, Stopped, settle};
+use histar_calls::{Ending, Home, Places, Stopped, settle};
 use histar_flat::{ProcName, Reply};
 use histar_label::LabelStore;
 use histar_layout::{find_child, remove_child};
@@ -74,13 +74,27 @@ fn kill_child<S: LabelStore + Drop>(
     ensures { Runs (kill_program places.now (number ∷ above.now)) kernel.old kernel.new thread (settled result) }
 {
     let home = find_home(kernel, places.home, thread, above)?;
-    let Segment { bytes: old, .. } = read_segment(alloc, kernel, thread, &home)?;
-    let found = find_child(old.as_slice(), number)?;
+    let Segment { bytes, .. } = read_segment(alloc, kernel, thread, &home)?;
+    kill_known(alloc, kernel, thread, &home, bytes.as_slice(), number)?;
+    Ok(Reply::Done)
+}
+
+/// Kills the child of this number of the process at this home, whose segment has these bytes.
+fn kill_known<S: LabelStore + Drop>(
+    alloc: Global,
+    kernel: &mut Kernel<S>,
+    thread: ObjId,
+    home: &Home,
+    bytes: &[u8],
+    number: u8,
+) -> Result<(), Ending>
+    ensures { KillsKnown home.now bytes.now number kernel.old kernel.new thread result }
+{
+    let found = find_child(bytes, number)?;
     let child = must_be_there(found)?;
     let its = home_of(child);
     read_head(kernel, thread, &its)?;
-    let bytes = remove_child(alloc, old.as_slice(), number)?;
+    let without = remove_child(alloc, bytes, number)?;
     kernel.unlink(alloc, thread, home.container, its.container)?;
-    write_segment(alloc, kernel, thread, &home, bytes)?;
-    Ok(Reply::Done)
+    write_segment(alloc, kernel, thread, home, without)
 }

@@ -1,82 +1,91 @@
-use Rattle.std.proofs.Common.{Bool, Ok, ap, sym, subst, ◌∙◌}
-use Rattle.std.specs.Str.{bytes_eq}
-use Rattle.histar_flat.specs.declared.replies.Reply.{Reply}
-use Rattle.histar_rules.specs.declared.raw.RawCall.TheVariants.{OwnLabel, SetLabel, SetClearance, Read}
-use Rattle.histar_rules.specs.Sound.{root_number}
-use Rattle.histar_calls.specs.declared.ending.Ending.TheVariants.{Stopped}
-use Rattle.histar_calls.specs.Programs.{Runs}
-use Rattle.histar_calls.specs.Programs.Program.{Answers}
+use Rattle.std.proofs.Common.{Bool, Ok, ap}
+use Rattle.histar_label.specs.Levels.{Levels}
+use Rattle.histar_rules.specs.declared.raw.RawCall.TheVariants.{OwnLabel}
 use Rattle.histar_calls.specs.Parts.{ask}
-use Rattle.histar_calls.proofs.Running.{grants, refuses, before_ask, then_call, call_fails, call_fails_so, says}
-use Rattle.histar_login.specs.Login.{password_of, entering, label_if, clearance_if, reply_if, login_as_program}
-use Rattle.histar_login.proofs.LoginRuns.{reads, takes_label, takes_clearance}
+use Rattle.histar_calls.proofs.Exits.{ends, further}
+use Rattle.histar_calls.proofs.Running.{call_fails_so, grants, refuses, replies_so}
+use Rattle.histar_login.specs.Login.{ask_password, entering, login_as_program, reply_if, take_due}
+use Rattle.histar_login.proofs.LoginRuns.{after_due, after_gate, after_own, after_password, begun}
 use Rattle.histar_login.proofs.login.login_as.Goals as goal
 
 pub returns-in_err-own : goal.returns-in_err-own
-unfolding login_as_program
 returns-in_err-own g c =
-    call_fails_so c.args.caller.now.thread (login_as_program c.args.caller.now c.args.number c.args.owners.now c.args.password) c.args.kernel.now c.own_label.new.self _ _ c.from_residual.ensures.1
-    (call_fails c.args.caller.now.thread (ask OwnLabel) c.args.kernel.now c.own_label.new.self _ _ (refuses c.args.caller.now.thread OwnLabel c.args.kernel.now c.own_label.new.self _ c.in_err-own.field-0.0 c.in_err-own.ensures))
+    let t = c.args.caller.now.thread in
+    let caller = c.args.caller.now in
+    let owners = c.args.owners.now in
+    let old = c.args.kernel.now in
+    let k1 = c.own_label.new.self in
+    let whole = login_as_program caller c.args.number owners c.args.password in
+    call_fails_so t whole old k1 _ _ c.from_residual.ensures.1
+    (ends (ask OwnLabel) (after_own caller c.args.number owners c.args.password) (begun caller c.args.number owners c.args.password t old) k1 _
+    (refuses t OwnLabel old k1 _ c.in_err-own.field-0.0 c.in_err-own.ensures))
 
 pub returns-in_err-enter_gate : goal.returns-in_err-enter_gate
-unfolding login_as_program
 returns-in_err-enter_gate g c =
-    call_fails_so c.args.caller.now.thread (login_as_program c.args.caller.now c.args.number c.args.owners.now c.args.password) c.args.kernel.now c.enter_gate.new.kernel c.in_err-enter_gate.field-0.0 _ c.from_residual-in_err-enter_gate.ensures.1
-    (then_call c.args.caller.now.thread (ask OwnLabel) c.args.kernel.now c.enter_gate.new.kernel _ c.own_label.new.self (c.in_ok-own.own, c.in_ok-own.most) (grants c.args.caller.now.thread OwnLabel c.args.kernel.now c.own_label.new.self (c.in_ok-own.own, c.in_ok-own.most) c.in_ok-own.ensures.0 c.in_ok-own.ensures.1) _
-    (call_fails c.args.caller.now.thread (ask (entering c.args.owners.now c.args.number c.in_ok-own.own c.in_ok-own.most)) c.own_label.new.self c.enter_gate.new.kernel _ c.in_err-enter_gate.field-0.0 c.in_err-enter_gate.ensures))
+    let t = c.args.caller.now.thread in
+    let caller = c.args.caller.now in
+    let owners = c.args.owners.now in
+    let old = c.args.kernel.now in
+    let k1 = c.own_label.new.self in
+    let k2 = c.enter_gate.new.kernel in
+    let own : Levels × Levels = c.in_ok-own.own in
+    let whole = login_as_program caller c.args.number owners c.args.password in
+    let at_gate = further (ask OwnLabel) (after_own caller c.args.number owners c.args.password) (begun caller c.args.number owners c.args.password t old) k1 own (grants t OwnLabel old k1 own c.in_ok-own.ensures.0 c.in_ok-own.ensures.1) in
+    let ending = c.in_err-enter_gate.field-0.0 in
+    call_fails_so t whole old k2 ending _ c.from_residual-in_err-enter_gate.ensures.1
+    (ends (ask (entering owners c.args.number own.0 own.1)) (after_gate caller c.args.number owners c.args.password own) at_gate k2 ending c.in_err-enter_gate.ensures)
 
-pub returns-in_err-kept : goal.returns-in_err-kept
-unfolding login_as_program
-returns-in_err-kept g c =
-    call_fails_so c.args.caller.now.thread (login_as_program c.args.caller.now c.args.number c.args.owners.now c.args.password) c.args.kernel.now c.read_copy.new.self _ _ c.from_residual-in_err-kept.ensures.1
-    (then_call c.args.caller.now.thread (ask OwnLabel) c.args.kernel.now c.read_copy.new.self _ c.own_label.new.self (c.in_ok-own.own, c.in_ok-own.most) (grants c.args.caller.now.thread OwnLabel c.args.kernel.now c.own_label.new.self (c.in_ok-own.own, c.in_ok-own.most) c.in_ok-own.ensures.0 c.in_ok-own.ensures.1) _
-    (then_call c.args.caller.now.thread (ask (entering c.args.owners.now c.args.number c.in_ok-own.own c.in_ok-own.most)) c.own_label.new.self c.read_copy.new.self _ c.enter_gate.new.kernel c.in_ok-enter_gate.field-0 c.in_ok-enter_gate.ensures _
-    (call_fails c.args.caller.now.thread (ask (Read root_number (password_of c.args.number))) c.enter_gate.new.kernel c.read_copy.new.self _ _
-    (reads c.args.caller.now.thread c.enter_gate.new.kernel c.read_copy.new.self _ c.new.result c.password_segment.result c.args.number c.new.ensures c.password_segment.ensures (refuses c.args.caller.now.thread (Read c.new.result c.password_segment.result) c.enter_gate.new.kernel c.read_copy.new.self _ c.in_err-kept.field-0.0 c.in_err-kept.ensures)))))
+pub returns-in_err-right : goal.returns-in_err-right
+returns-in_err-right g c =
+    let t = c.args.caller.now.thread in
+    let caller = c.args.caller.now in
+    let owners = c.args.owners.now in
+    let old = c.args.kernel.now in
+    let k1 = c.own_label.new.self in
+    let k2 = c.enter_gate.new.kernel in
+    let k3 = c.ask_password.new.kernel in
+    let own : Levels × Levels = c.in_ok-own.own in
+    let whole = login_as_program caller c.args.number owners c.args.password in
+    let at_gate = further (ask OwnLabel) (after_own caller c.args.number owners c.args.password) (begun caller c.args.number owners c.args.password t old) k1 own (grants t OwnLabel old k1 own c.in_ok-own.ensures.0 c.in_ok-own.ensures.1) in
+    let at_password = further (ask (entering owners c.args.number own.0 own.1)) (after_gate caller c.args.number owners c.args.password own) at_gate k2 c.in_ok-enter_gate.field-0 c.in_ok-enter_gate.ensures in
+    let ending = c.in_err-right.field-0.0 in
+    call_fails_so t whole old k3 ending _ c.from_residual-in_err-right.ensures.1
+    (ends (ask_password c.args.number c.args.password) (after_password caller c.args.number owners c.args.password own) at_password k3 ending c.in_err-right.ensures)
 
-pub returns-in_err-label : goal.returns-in_err-label
-unfolding login_as_program
-returns-in_err-label g c =
-    call_fails_so c.args.caller.now.thread (login_as_program c.args.caller.now c.args.number c.args.owners.now c.args.password) c.args.kernel.now c.read_copy.new.self Stopped _ c.from_residual-in_err-label.ensures.1
-    (then_call c.args.caller.now.thread (ask OwnLabel) c.args.kernel.now c.read_copy.new.self _ c.own_label.new.self (c.in_ok-own.own, c.in_ok-own.most) (grants c.args.caller.now.thread OwnLabel c.args.kernel.now c.own_label.new.self (c.in_ok-own.own, c.in_ok-own.most) c.in_ok-own.ensures.0 c.in_ok-own.ensures.1) _
-    (then_call c.args.caller.now.thread (ask (entering c.args.owners.now c.args.number c.in_ok-own.own c.in_ok-own.most)) c.own_label.new.self c.read_copy.new.self _ c.enter_gate.new.kernel c.in_ok-enter_gate.field-0 c.in_ok-enter_gate.ensures _
-    (then_call c.args.caller.now.thread (ask (Read root_number (password_of c.args.number))) c.enter_gate.new.kernel c.read_copy.new.self _ c.read_copy.new.self c.in_ok-kept.kept
-    (reads c.args.caller.now.thread c.enter_gate.new.kernel c.read_copy.new.self _ c.new.result c.password_segment.result c.args.number c.new.ensures c.password_segment.ensures (grants c.args.caller.now.thread (Read c.new.result c.password_segment.result) c.enter_gate.new.kernel c.read_copy.new.self c.in_ok-kept.kept c.in_ok-kept.ensures.0 c.in_ok-kept.ensures.1)) _
-    (call_fails c.args.caller.now.thread (ask (SetLabel (label_if (bytes_eq c.in_ok-kept.kept c.args.password) c.args.caller.now c.args.owners.now c.in_ok-own.own))) c.read_copy.new.self c.read_copy.new.self _ Stopped (before_ask c.args.caller.now.thread (SetLabel (label_if (bytes_eq c.in_ok-kept.kept c.args.password) c.args.caller.now c.args.owners.now c.in_ok-own.own)) c.read_copy.new.self)))))
-
-pub returns-in_err-set_label : goal.returns-in_err-set_label
-unfolding login_as_program
-returns-in_err-set_label g c =
-    call_fails_so c.args.caller.now.thread (login_as_program c.args.caller.now c.args.number c.args.owners.now c.args.password) c.args.kernel.now c.set_label.new.self _ _ c.from_residual-in_err-set_label.ensures.1
-    (then_call c.args.caller.now.thread (ask OwnLabel) c.args.kernel.now c.set_label.new.self _ c.own_label.new.self (c.in_ok-own.own, c.in_ok-own.most) (grants c.args.caller.now.thread OwnLabel c.args.kernel.now c.own_label.new.self (c.in_ok-own.own, c.in_ok-own.most) c.in_ok-own.ensures.0 c.in_ok-own.ensures.1) _
-    (then_call c.args.caller.now.thread (ask (entering c.args.owners.now c.args.number c.in_ok-own.own c.in_ok-own.most)) c.own_label.new.self c.set_label.new.self _ c.enter_gate.new.kernel c.in_ok-enter_gate.field-0 c.in_ok-enter_gate.ensures _
-    (then_call c.args.caller.now.thread (ask (Read root_number (password_of c.args.number))) c.enter_gate.new.kernel c.set_label.new.self _ c.read_copy.new.self c.in_ok-kept.kept
-    (reads c.args.caller.now.thread c.enter_gate.new.kernel c.read_copy.new.self _ c.new.result c.password_segment.result c.args.number c.new.ensures c.password_segment.ensures (grants c.args.caller.now.thread (Read c.new.result c.password_segment.result) c.enter_gate.new.kernel c.read_copy.new.self c.in_ok-kept.kept c.in_ok-kept.ensures.0 c.in_ok-kept.ensures.1)) _
-    (call_fails c.args.caller.now.thread (ask (SetLabel (label_if (bytes_eq c.in_ok-kept.kept c.args.password) c.args.caller.now c.args.owners.now c.in_ok-own.own))) c.read_copy.new.self c.set_label.new.self _ _
-    (takes_label c.args.caller.now.thread c.read_copy.new.self c.set_label.new.self _ c.in_ok-label.label _ (c.in_ok-label.ensures.0 ∙ ap (λ (b : Bool). label_if b c.args.caller.now c.args.owners.now c.in_ok-own.own) c.is_password-right.ensures) (refuses c.args.caller.now.thread (SetLabel c.in_ok-label.label) c.read_copy.new.self c.set_label.new.self _ c.in_err-set_label.field-0.0 c.in_err-set_label.ensures))))))
-
-pub returns-in_err-set_clearance : goal.returns-in_err-set_clearance
-unfolding login_as_program
-returns-in_err-set_clearance g c =
-    call_fails_so c.args.caller.now.thread (login_as_program c.args.caller.now c.args.number c.args.owners.now c.args.password) c.args.kernel.now c.set_clearance.new.self _ _ c.from_residual-in_err-set_clearance.ensures.1
-    (then_call c.args.caller.now.thread (ask OwnLabel) c.args.kernel.now c.set_clearance.new.self _ c.own_label.new.self (c.in_ok-own.own, c.in_ok-own.most) (grants c.args.caller.now.thread OwnLabel c.args.kernel.now c.own_label.new.self (c.in_ok-own.own, c.in_ok-own.most) c.in_ok-own.ensures.0 c.in_ok-own.ensures.1) _
-    (then_call c.args.caller.now.thread (ask (entering c.args.owners.now c.args.number c.in_ok-own.own c.in_ok-own.most)) c.own_label.new.self c.set_clearance.new.self _ c.enter_gate.new.kernel c.in_ok-enter_gate.field-0 c.in_ok-enter_gate.ensures _
-    (then_call c.args.caller.now.thread (ask (Read root_number (password_of c.args.number))) c.enter_gate.new.kernel c.set_clearance.new.self _ c.read_copy.new.self c.in_ok-kept.kept
-    (reads c.args.caller.now.thread c.enter_gate.new.kernel c.read_copy.new.self _ c.new.result c.password_segment.result c.args.number c.new.ensures c.password_segment.ensures (grants c.args.caller.now.thread (Read c.new.result c.password_segment.result) c.enter_gate.new.kernel c.read_copy.new.self c.in_ok-kept.kept c.in_ok-kept.ensures.0 c.in_ok-kept.ensures.1)) _
-    (then_call c.args.caller.now.thread (ask (SetLabel (label_if (bytes_eq c.in_ok-kept.kept c.args.password) c.args.caller.now c.args.owners.now c.in_ok-own.own))) c.read_copy.new.self c.set_clearance.new.self _ c.set_label.new.self tt
-    (takes_label c.args.caller.now.thread c.read_copy.new.self c.set_label.new.self _ c.in_ok-label.label _ (c.in_ok-label.ensures.0 ∙ ap (λ (b : Bool). label_if b c.args.caller.now c.args.owners.now c.in_ok-own.own) c.is_password-right.ensures) (grants c.args.caller.now.thread (SetLabel c.in_ok-label.label) c.read_copy.new.self c.set_label.new.self tt c.in_ok-set_label.ensures.0 tt)) _
-    (call_fails c.args.caller.now.thread (ask (SetClearance (clearance_if (bytes_eq c.in_ok-kept.kept c.args.password) c.args.caller.now c.args.owners.now c.in_ok-own.most))) c.set_label.new.self c.set_clearance.new.self _ _
-    (takes_clearance c.args.caller.now.thread c.set_label.new.self c.set_clearance.new.self _ c.in_ok-label.clearance _ (c.in_ok-label.ensures.1 ∙ ap (λ (b : Bool). clearance_if b c.args.caller.now c.args.owners.now c.in_ok-own.most) c.is_password-right.ensures) (refuses c.args.caller.now.thread (SetClearance c.in_ok-label.clearance) c.set_label.new.self c.set_clearance.new.self _ c.in_err-set_clearance.field-0.0 c.in_err-set_clearance.ensures)))))))
+pub returns-in_err-take_due : goal.returns-in_err-take_due
+returns-in_err-take_due g c =
+    let t = c.args.caller.now.thread in
+    let caller = c.args.caller.now in
+    let owners = c.args.owners.now in
+    let old = c.args.kernel.now in
+    let k1 = c.own_label.new.self in
+    let k2 = c.enter_gate.new.kernel in
+    let k3 = c.ask_password.new.kernel in
+    let k4 = c.take_due.new.kernel in
+    let own : Levels × Levels = c.in_ok-own.own in
+    let right = c.in_ok-right.right in
+    let whole = login_as_program caller c.args.number owners c.args.password in
+    let at_gate = further (ask OwnLabel) (after_own caller c.args.number owners c.args.password) (begun caller c.args.number owners c.args.password t old) k1 own (grants t OwnLabel old k1 own c.in_ok-own.ensures.0 c.in_ok-own.ensures.1) in
+    let at_password = further (ask (entering owners c.args.number own.0 own.1)) (after_gate caller c.args.number owners c.args.password own) at_gate k2 c.in_ok-enter_gate.field-0 c.in_ok-enter_gate.ensures in
+    let at_due = further (ask_password c.args.number c.args.password) (after_password caller c.args.number owners c.args.password own) at_password k3 right c.in_ok-right.ensures in
+    let ending = c.in_err-take_due.field-0.0 in
+    call_fails_so t whole old k4 ending _ c.from_residual-in_err-take_due.ensures.1
+    (ends (take_due right caller owners own) (λ (done : Unit {0}). after_due caller c.args.number owners c.args.password right) at_due k4 ending c.in_err-take_due.ensures)
 
 pub returns : goal.returns
-unfolding login_as_program
 returns g c =
-    then_call c.args.caller.now.thread (ask OwnLabel) c.args.kernel.now c.set_clearance.new.self _ c.own_label.new.self (c.in_ok-own.own, c.in_ok-own.most) (grants c.args.caller.now.thread OwnLabel c.args.kernel.now c.own_label.new.self (c.in_ok-own.own, c.in_ok-own.most) c.in_ok-own.ensures.0 c.in_ok-own.ensures.1) _
-    (then_call c.args.caller.now.thread (ask (entering c.args.owners.now c.args.number c.in_ok-own.own c.in_ok-own.most)) c.own_label.new.self c.set_clearance.new.self _ c.enter_gate.new.kernel c.in_ok-enter_gate.field-0 c.in_ok-enter_gate.ensures _
-    (then_call c.args.caller.now.thread (ask (Read root_number (password_of c.args.number))) c.enter_gate.new.kernel c.set_clearance.new.self _ c.read_copy.new.self c.in_ok-kept.kept
-    (reads c.args.caller.now.thread c.enter_gate.new.kernel c.read_copy.new.self _ c.new.result c.password_segment.result c.args.number c.new.ensures c.password_segment.ensures (grants c.args.caller.now.thread (Read c.new.result c.password_segment.result) c.enter_gate.new.kernel c.read_copy.new.self c.in_ok-kept.kept c.in_ok-kept.ensures.0 c.in_ok-kept.ensures.1)) _
-    (then_call c.args.caller.now.thread (ask (SetLabel (label_if (bytes_eq c.in_ok-kept.kept c.args.password) c.args.caller.now c.args.owners.now c.in_ok-own.own))) c.read_copy.new.self c.set_clearance.new.self _ c.set_label.new.self tt
-    (takes_label c.args.caller.now.thread c.read_copy.new.self c.set_label.new.self _ c.in_ok-label.label _ (c.in_ok-label.ensures.0 ∙ ap (λ (b : Bool). label_if b c.args.caller.now c.args.owners.now c.in_ok-own.own) c.is_password-right.ensures) (grants c.args.caller.now.thread (SetLabel c.in_ok-label.label) c.read_copy.new.self c.set_label.new.self tt c.in_ok-set_label.ensures.0 tt)) _
-    (then_call c.args.caller.now.thread (ask (SetClearance (clearance_if (bytes_eq c.in_ok-kept.kept c.args.password) c.args.caller.now c.args.owners.now c.in_ok-own.most))) c.set_label.new.self c.set_clearance.new.self (λ _. Answers (reply_if (bytes_eq c.in_ok-kept.kept c.args.password))) c.set_clearance.new.self tt
-    (takes_clearance c.args.caller.now.thread c.set_label.new.self c.set_clearance.new.self _ c.in_ok-label.clearance _ (c.in_ok-label.ensures.1 ∙ ap (λ (b : Bool). clearance_if b c.args.caller.now c.args.owners.now c.in_ok-own.most) c.is_password-right.ensures) (grants c.args.caller.now.thread (SetClearance c.in_ok-label.clearance) c.set_label.new.self c.set_clearance.new.self tt c.in_ok-set_clearance.ensures.0 tt)) _
-    (subst (λ (reply : Reply). Runs (Answers (reply_if (bytes_eq c.in_ok-kept.kept c.args.password))) c.set_clearance.new.self c.set_clearance.new.self c.args.caller.now.thread (Ok reply)) (sym (c.reply_if.ensures ∙ ap reply_if c.is_password-right.ensures)) (says c.args.caller.now.thread c.set_clearance.new.self (reply_if (bytes_eq c.in_ok-kept.kept c.args.password))))))))
+    let t = c.args.caller.now.thread in
+    let caller = c.args.caller.now in
+    let owners = c.args.owners.now in
+    let old = c.args.kernel.now in
+    let k1 = c.own_label.new.self in
+    let k2 = c.enter_gate.new.kernel in
+    let k3 = c.ask_password.new.kernel in
+    let k4 = c.take_due.new.kernel in
+    let own : Levels × Levels = c.in_ok-own.own in
+    let right = c.in_ok-right.right in
+    let at_gate = further (ask OwnLabel) (after_own caller c.args.number owners c.args.password) (begun caller c.args.number owners c.args.password t old) k1 own (grants t OwnLabel old k1 own c.in_ok-own.ensures.0 c.in_ok-own.ensures.1) in
+    let at_password = further (ask (entering owners c.args.number own.0 own.1)) (after_gate caller c.args.number owners c.args.password own) at_gate k2 c.in_ok-enter_gate.field-0 c.in_ok-enter_gate.ensures in
+    let at_due = further (ask_password c.args.number c.args.password) (after_password caller c.args.number owners c.args.password own) at_password k3 right c.in_ok-right.ensures in
+    let at_end = further (take_due right caller owners own) (λ (done : Unit {0}). after_due caller c.args.number owners c.args.password right) at_due k4 tt c.in_ok-take_due.ensures in
+    at_end.leads k4 (Ok c.reply_if.result) (replies_so t k4 (reply_if right) c.reply_if.result c.reply_if.ensures)

@@ -1,0 +1,61 @@
+-- How the code that kills a child runs its program, from one part to the next.
+use Rattle.std.proofs.Common.{◌≡◌, ℕ, Result, Ok, Err}
+use Rattle.histar_flat.specs.declared.replies.Errno.{Errno}
+use Rattle.histar_rules.specs.declared.raw.RawCall.TheVariants.{Unlink}
+use Rattle.histar_syscall.specs.KernelModel.{KernelModel}
+use Rattle.histar_layout.specs.Status.{ProcessStatus, child_at, without_child}
+use Rattle.histar_layout.specs.declared.status.Child.{Child}
+use Rattle.histar_layout.specs.declared.status.StatusHead.{StatusHead}
+use Rattle.histar_calls.specs.Parts.{ask, given}
+use Rattle.histar_calls.specs.Programs.{Part, RunsPart}
+use Rattle.histar_calls.specs.declared.ending.Ending.{Ending}
+use Rattle.histar_calls.specs.declared.ending.Ending.TheVariants.{Refused}
+use Rattle.histar_calls.specs.declared.places.Home.{Home}
+use Rattle.histar_calls.proofs.Running.{part_fails, then_part}
+use Rattle.histar_process.specs.KillCall.{kill_known}
+use Rattle.histar_process.specs.Parts.{home_of, must_be_there, write_status}
+use Rattle.histar_process.specs.Reading.{read_head}
+use Rattle.histar_process.proofs.Segments.{decided, decided_not}
+
+module _ (t : ℕ) (home : Home) (status : ProcessStatus) (n : ℕ) (old new : KernelModel) where
+  abbrev pub there : Result Child Errno
+  there = must_be_there (child_at status.children n)
+
+  -- what comes after the container is taken out
+  abbrev after_unlink : Unit {0} → Part (Unit {0})
+  after_unlink done = write_status home (without_child n status)
+
+  -- after the child's own segment was read
+  abbrev after_head : Child → StatusHead → Part (Unit {0})
+  after_head child head rest = ask (Unlink home.container child.container) (λ done. after_unlink done rest)
+
+  -- and after the child was found
+  abbrev after_child : Child → Part (Unit {0})
+  after_child child rest = read_head (home_of child) (λ head. after_head child head rest)
+
+  -- no child has the number
+  pub no_child : (errno : Errno) → Err errno ≡ there → RunsPart (kill_known home status n) old old t (Err (Refused errno))
+  unfolding read_head
+  no_child errno is = part_fails t (given there) old old after_child (Refused errno) (decided_not t old there errno is)
+
+  module _ (child : Child) (is : Ok child ≡ there) where
+    with_child : (result : Result (Unit {0}) Ending) → RunsPart (after_child child) old new t result → RunsPart (kill_known home status n) old new t result
+    unfolding read_head
+    with_child result second = then_part t (given there) old new after_child old child (decided t old there child is) result second
+
+    -- its segment isn't read
+    pub not_read : (ending : Ending) → RunsPart (read_head (home_of child)) old new t (Err ending) → RunsPart (kill_known home status n) old new t (Err ending)
+    not_read ending second = with_child (Err ending) (part_fails t (read_head (home_of child)) old new (after_head child) ending second)
+
+    module _ (mid : KernelModel) (head : StatusHead) (second : RunsPart (read_head (home_of child)) old mid t (Ok head)) where
+      with_head : (result : Result (Unit {0}) Ending) → RunsPart (after_head child head) mid new t result → RunsPart (kill_known home status n) old new t result
+      with_head result third = with_child result (then_part t (read_head (home_of child)) old new (after_head child) mid head second result third)
+
+      -- its container isn't taken out
+      pub not_unlinked : (ending : Ending) → RunsPart (ask (Unlink home.container child.container)) mid new t (Err ending) → RunsPart (kill_known home status n) old new t (Err ending)
+      not_unlinked ending third = with_head (Err ending) (part_fails t (ask (Unlink home.container child.container)) mid new after_unlink ending third)
+
+      -- it is, and the segment is written without it, or not
+      pub unlinked : (late : KernelModel) → RunsPart (ask (Unlink home.container child.container)) mid late t (Ok tt) → (result : Result (Unit {0}) Ending)
+          → RunsPart (write_status home (without_child n status)) late new t result → RunsPart (kill_known home status n) old new t result
+      unlinked late third result fourth = with_head result (then_part t (ask (Unlink home.container child.container)) mid new after_unlink late tt third result fourth)

@@ -1,0 +1,95 @@
+use Rattle.std.proofs.Common.{ℕ, Ok, Err, refl, ap, ◌∙◌, subst}
+use Rattle.histar_rules.specs.declared.raw.RawCall.TheVariants.{Unlink}
+use Rattle.histar_layout.specs.Status.{status_bytes, without_child}
+use Rattle.histar_calls.specs.Programs.{RunsPart}
+use Rattle.histar_calls.specs.declared.ending.Ending.TheVariants.{Refused, Stopped}
+use Rattle.histar_calls.specs.declared.places.Home.{Home}
+use Rattle.histar_calls.proofs.Running.{before_ask, fails_so, grants, refuses}
+use Rattle.histar_process.specs.KillCall.{kill_known}
+use Rattle.histar_process.specs.Parts.{must_be_there}
+use Rattle.histar_process.specs.Reading.{read_head}
+use Rattle.histar_process.proofs.Births.{written_so}
+use Rattle.histar_process.proofs.Calling.{found_is, no_fault, unlinked_so}
+use Rattle.histar_process.proofs.Killing.{no_child, not_read, not_unlinked, unlinked}
+use Rattle.histar_process.proofs.kill.kill_known.Goals as goal
+
+pub returns-in_err-found : goal.returns-in_err-found
+returns-in_err-found g c status is = absurd (no_fault c.args.bytes.now status c.args.number c.in_err-found.field-0.0 is c.in_err-found.ensures)
+
+pub returns-in_err-child : goal.returns-in_err-child
+returns-in_err-child g c status is =
+    let t = c.args.thread in
+    let home = c.args.home.now in
+    let n = c.args.number in
+    let old = c.args.kernel.now in
+    let errno = c.in_err-child.field-0.0 in
+    let child_is = c.in_err-child.ensures ∙ ap must_be_there (found_is c.args.bytes.now status n c.in_ok-found.found is c.in_ok-found.ensures) in
+    fails_so t (kill_known home status n) old old (Refused errno) _ c.from_residual-in_err-child.ensures.1 (no_child t home status n old old errno child_is)
+
+pub returns-in_err-read_head : goal.returns-in_err-read_head
+returns-in_err-read_head g c status is =
+    let t = c.args.thread in
+    let home = c.args.home.now in
+    let n = c.args.number in
+    let old = c.args.kernel.now in
+    let child = c.in_ok-child.child in
+    let child_is = c.in_ok-child.ensures ∙ ap must_be_there (found_is c.args.bytes.now status n c.in_ok-found.found is c.in_ok-found.ensures) in
+    let its_is = c.home_of-its.ensures in
+    let k1 = c.read_head.new.kernel in
+    let ending = c.in_err-read_head.field-0.0 in
+    fails_so t (kill_known home status n) old k1 ending _ c.from_residual-in_err-read_head.ensures.1
+    (not_read t home status n old k1 child child_is ending (subst (λ (h : Home). RunsPart (read_head h) old k1 t (Err ending)) its_is c.in_err-read_head.ensures))
+
+pub returns-in_err-without : goal.returns-in_err-without
+returns-in_err-without g c status is =
+    let t = c.args.thread in
+    let home = c.args.home.now in
+    let n = c.args.number in
+    let old = c.args.kernel.now in
+    let child = c.in_ok-child.child in
+    let child_is = c.in_ok-child.ensures ∙ ap must_be_there (found_is c.args.bytes.now status n c.in_ok-found.found is c.in_ok-found.ensures) in
+    let its_is = c.home_of-its.ensures in
+    let k1 = c.read_head.new.kernel in
+    let head = c.in_ok-read_head.field-0 in
+    let head_read = subst (λ (h : Home). RunsPart (read_head h) old k1 t (Ok head)) its_is c.in_ok-read_head.ensures in
+    fails_so t (kill_known home status n) old k1 Stopped _ c.from_residual-in_err-without.ensures.1
+    (not_unlinked t home status n old k1 child child_is k1 head head_read Stopped (before_ask t (Unlink home.container child.container) k1))
+
+pub returns-in_err-unlink : goal.returns-in_err-unlink
+returns-in_err-unlink g c status is =
+    let t = c.args.thread in
+    let home = c.args.home.now in
+    let n = c.args.number in
+    let old = c.args.kernel.now in
+    let child = c.in_ok-child.child in
+    let child_is = c.in_ok-child.ensures ∙ ap must_be_there (found_is c.args.bytes.now status n c.in_ok-found.found is c.in_ok-found.ensures) in
+    let its_is = c.home_of-its.ensures in
+    let k1 = c.read_head.new.kernel in
+    let head = c.in_ok-read_head.field-0 in
+    let head_read = subst (λ (h : Home). RunsPart (read_head h) old k1 t (Ok head)) its_is c.in_ok-read_head.ensures in
+    let k2 = c.unlink.new.self in
+    let gone_is = ap (λ (h : Home). h.container) its_is in
+    fails_so t (kill_known home status n) old k2 _ _ c.from_residual-in_err-unlink.ensures.1
+    (not_unlinked t home status n old k2 child child_is k1 head head_read _
+    (unlinked_so t k1 k2 home.container home.container _ child.container refl gone_is _
+    (refuses t (Unlink home.container c.home_of-its.result.container) k1 k2 _ c.in_err-unlink.field-0.0 c.in_err-unlink.ensures)))
+
+pub returns : goal.returns
+returns g c status is =
+    let t = c.args.thread in
+    let home = c.args.home.now in
+    let n = c.args.number in
+    let old = c.args.kernel.now in
+    let child = c.in_ok-child.child in
+    let child_is = c.in_ok-child.ensures ∙ ap must_be_there (found_is c.args.bytes.now status n c.in_ok-found.found is c.in_ok-found.ensures) in
+    let its_is = c.home_of-its.ensures in
+    let k1 = c.read_head.new.kernel in
+    let head = c.in_ok-read_head.field-0 in
+    let head_read = subst (λ (h : Home). RunsPart (read_head h) old k1 t (Ok head)) its_is c.in_ok-read_head.ensures in
+    let k2 = c.unlink.new.self in
+    let gone_is = ap (λ (h : Home). h.container) its_is in
+    let k3 = c.write_segment.new.kernel in
+    let gone = unlinked_so t k1 k2 home.container home.container _ child.container refl gone_is (Ok tt)
+    (grants t (Unlink home.container c.home_of-its.result.container) k1 k2 tt c.in_ok-unlink.ensures.0 tt) in
+    unlinked t home status n old k3 child child_is k1 head head_read k2 gone c.write_segment.result
+    (written_so t k2 k3 home c.in_ok-without.without (status_bytes (without_child n status)) (c.in_ok-without.ensures status is) c.write_segment.result c.write_segment.ensures)
