@@ -1,4 +1,4 @@
-use Rattle.std.proofs.Common.{ℕ, ◌+◌, ◌*◌, ap, ◌∙◌, subst, sym}
+use Rattle.std.proofs.Common.{ℕ, ◌+◌, ◌*◌, ap, ◌∙◌}
 use Rattle.histar_rules.specs.declared.raw.RawCall.TheVariants.{Enter}
 use Rattle.histar_calls.specs.declared.ending.Ending.TheVariants.{Stopped}
 use Rattle.histar_calls.specs.Parts.{ask}
@@ -21,10 +21,10 @@ returns-in_err-entry g c =
     let new = c.enter.new.self in
     let own = c.args.own.now in
     let call = entering c.args.owners.now c.args.number own.0 own.1 in
-    let labels = record { wanted = c.in_ok-wanted.wanted; clearance = c.in_ok-wanted.clearance; verify = c.in_ok-wanted.verify } in
-    let raw = Enter c.new-2.result c.new-gate.result c.in_ok-wanted.wanted c.in_ok-wanted.clearance c.in_ok-wanted.verify in
+    let labels = c.in_ok-wanted.field-0 in
+    let raw = Enter c.new.result c.new-gate.result labels.wanted labels.clearance labels.verify in
     fails_so t (ask call) old new _ _ c.from_residual-in_err-entry.ensures.1
-    (enters t old new _ c.args.owners.now c.args.number own c.new-2.result c.new-gate.result labels c.new-2.ensures
+    (enters t old new _ c.args.owners.now c.args.number own c.new.result c.new-gate.result labels c.new.ensures
     (c.new-gate.ensures ∙ ap (λ (n : ℕ). 2 + 2 * n) c.from.ensures) c.in_ok-wanted.ensures (refuses t raw old new _ c.in_err-entry.field-0.0 c.in_err-entry.ensures))
 
 pub returns : goal.returns
@@ -33,8 +33,8 @@ returns g c =
     let old = c.args.kernel.now in
     let new = c.enter.new.self in
     let own = c.args.own.now in
-    let labels = record { wanted = c.in_ok-wanted.wanted; clearance = c.in_ok-wanted.clearance; verify = c.in_ok-wanted.verify } in
-    let raw = Enter c.new-2.result c.new-gate.result c.in_ok-wanted.wanted c.in_ok-wanted.clearance c.in_ok-wanted.verify in
-    enters t old new _ c.args.owners.now c.args.number own c.new-2.result c.new-gate.result labels c.new-2.ensures
+    let labels = c.in_ok-wanted.field-0 in
+    let raw = Enter c.new.result c.new-gate.result labels.wanted labels.clearance labels.verify in
+    enters t old new _ c.args.owners.now c.args.number own c.new.result c.new-gate.result labels c.new.ensures
     (c.new-gate.ensures ∙ ap (λ (n : ℕ). 2 + 2 * n) c.from.ensures) c.in_ok-wanted.ensures
     (grants t raw old new c.in_ok-entry.entry c.in_ok-entry.ensures.0 c.in_ok-entry.ensures.1)
