@@ -1,10 +1,12 @@
 -- Looking a name up: what one entry at the front leaves to be looked up, and what is found in a directory.
-use Rattle.std.proofs.Common.{◌≡◌, ℕ, zero, suc, ◌<◌, ◌≤◌, Bool, true, false, refl, cond, leb, List, [], ◌∷◌, ◌++◌, length, take, drop, Some, None, sym, ap, ◌∙◌, append_assoc, append-nil, arith}
+use Rattle.std.proofs.Common.{◌≡◌, ℕ, zero, suc, ◌+◌, ◌-◌, ◌<◌, ◌≤◌, Bool, true, false, refl, cond, leb, List, [], ◌∷◌, ◌++◌, length, take, drop, Some, None, sym, ap, ◌∙◌, append_assoc, append-nil, inl, inr, arith}
+use Rattle.std.specs.Prelude.{slice_get}
 use Rattle.std.specs.List.{flat_map, AllByRecursion}
 use Rattle.std.specs.Cmp.Lexicographic.{texts_ties}
 use Rattle.std.specs.FinMap as map
-use Rattle.std.proofs.lemmas.List.{length-drop}
-use Rattle.std.proofs.lemmas.Option.{cond_some, same_Some}
+use Rattle.std.proofs.lemmas.List.{length-drop, drop-drop, drop_more, drop_all}
+use Rattle.std.proofs.lemmas.Bool.{cases_lt, le-leb, lt-leb}
+use Rattle.std.proofs.lemmas.Option.{cond_some, same_Some, slice_get_within, get_or_from_slice_get}
 use Rattle.histar_flat.specs.Words.{Name}
 use Rattle.histar_flat.specs.PathOrder.{same}
 use Rattle.histar_flat.proofs.Options.{bind_some}
@@ -12,7 +14,7 @@ use Rattle.histar_layout.specs.declared.entry.Target.{Target}
 use Rattle.histar_layout.specs.declared.entry.Target.TheVariants.{File, Directory}
 use Rattle.histar_layout.specs.Directory.{Entries, target_bytes, entry_bytes, IsTarget, IsEntry, IsDirectory}
 use Rattle.histar_layout.specs.Reading.{◌>>=◌, front_at, target_at}
-use Rattle.histar_layout.specs.Found.{slot_at, target_from, found_among, found_in}
+use Rattle.histar_layout.specs.Found.{entry_between, slot_at, target_from, found_among, found_in}
 use Rattle.histar_layout.proofs.EntryLemmas.{bind_at, front_again, target_again}
 use Rattle.histar_layout.proofs.MapLemmas.{by_bytes}
 use Rattle.histar_layout.proofs.DirectoryLemmas.{Entry}
@@ -60,6 +62,59 @@ slot_shorter (len ∷ bytes) x e =
     let b = bind_some (front_at 17 a.0.1) (λ told. Some ((a.0.0, told.0), told.1)) x a.2 in
     let same_rest : b.0.1 ≡ x.1 = ap (λ (y : (List ℕ × List ℕ) × List ℕ). y.1) (same_Some ((a.0.0, b.0.0), b.0.1) x b.2) in
     omega (arith, ap length same_rest, front_shorter len bytes a.0 a.1, front_shorter 17 a.0.1 b.0 b.1)
+
+-- the first n bytes are there, where there are as many
+front_there : (n : ℕ) (bytes : List ℕ) → n ≤ length bytes → front_at n bytes ≡ Some (take n bytes, drop n bytes)
+unfolding front_at
+front_there n bytes long = rw (le-leb n (length bytes) long) refl
+
+-- and are not, where there are fewer
+front_short : (n : ℕ) (bytes : List ℕ) → length bytes < n → front_at n bytes ≡ None
+unfolding front_at
+front_short n bytes short = rw (lt-leb n (length bytes) short) refl
+
+module _ (bytes : List ℕ) (start len : ℕ) (read : slice_get bytes start ≡ Some len) where
+  -- from its length on an entry is read so
+  begun : slot_at (drop start bytes) ≡ (front_at len (drop (start + 1) bytes) >>= λ text. front_at 17 text.1 >>= λ told. Some ((text.0, told.0), told.1))
+  unfolding slot_at
+  begun = ap slot_at (drop_more bytes start 0 (slice_get_within bytes start len read) ∙ ap (λ b. b ∷ drop (start + 1) bytes) (get_or_from_slice_get bytes start len 0 read))
+
+  -- an entry of which there are all bytes lies between its two ends
+  pub entry_there : start + len + 18 ≤ length bytes → slot_at (drop start bytes) ≡ Some (entry_between bytes start (start + len + 18))
+  entry_there fits =
+      let rest = drop (start + 1) bytes in
+      let left : length rest ≡ length bytes - (start + 1) = length-drop (start + 1) bytes in
+      let behind : length (drop len rest) ≡ length rest - len = length-drop len rest in
+      begun
+      ∙ bind_at (front_at len rest) (λ text. front_at 17 text.1 >>= λ told. Some ((text.0, told.0), told.1)) (take len rest, drop len rest) (front_there len rest (omega arith))
+      ∙ bind_at (front_at 17 (drop len rest)) (λ told. Some ((take len rest, told.0), told.1)) (take 17 (drop len rest), drop 17 (drop len rest)) (front_there 17 (drop len rest) (omega arith))
+      ∙ (λ i. Some ((take (name_is i) rest, take (target_is i) (target i)), after i))
+    where
+      name_is : len ≡ start + len + 18 - 17 - (start + 1)
+      name_is = omega arith
+
+      target_is : 17 ≡ start + len + 18 - (start + len + 18 - 17)
+      target_is = omega arith
+
+      target : drop len (drop (start + 1) bytes) ≡ drop (start + len + 18 - 17) bytes
+      target = drop-drop len (start + 1) bytes ∙ ap (λ n. drop n bytes) (omega arith)
+
+      after : drop 17 (drop len (drop (start + 1) bytes)) ≡ drop (start + len + 18) bytes
+      after = ap (drop 17) target ∙ drop-drop 17 (start + len + 18 - 17) bytes ∙ ap (λ n. drop n bytes) (omega arith)
+
+  -- an entry that breaks off is none
+  pub entry_broken : length bytes < start + len + 18 → slot_at (drop start bytes) ≡ None
+  entry_broken short = begun ∙ elim (cases_lt (length (drop (start + 1) bytes)) len) [
+    | inl less ↦ ap (λ o. o >>= λ text. front_at 17 text.1 >>= λ told. Some ((text.0, told.0), told.1)) (front_short len (drop (start + 1) bytes) less)
+    | inr long ↦
+        let rest = drop (start + 1) bytes in
+        bind_at (front_at len rest) (λ text. front_at 17 text.1 >>= λ told. Some ((text.0, told.0), told.1)) (take len rest, drop len rest) (front_there len rest long)
+        ∙ ap (λ o. o >>= λ told. Some ((take len rest, told.0), told.1)) (front_short 17 (drop len rest) (omega (arith, length-drop len rest, length-drop (start + 1) bytes)))
+  ]
+
+-- behind the bytes there is no entry
+pub entry_past : (bytes : List ℕ) (start : ℕ) → length bytes ≤ start → slot_at (drop start bytes) ≡ None
+entry_past bytes start past = ap slot_at (drop_all start bytes past) ∙ none_at_end
 
 module _ (rest : List ℕ) (name : Name) (x : (List ℕ × List ℕ) × List ℕ) (is : slot_at rest ≡ Some x) where
   -- one entry is gone over

@@ -1,5 +1,5 @@
 -- Looking a name up in bytes, from the front.
-use Rattle.std.specs.Prelude.{ℕ, zero, suc, List, [], ◌∷◌, length, Option, Some, None, if◌then◌else◌}
+use Rattle.std.specs.Prelude.{ℕ, zero, suc, ◌+◌, ◌-◌, List, [], ◌∷◌, length, drop, slice_range, Option, Some, None, if◌then◌else◌}
 use Rattle.histar_flat.specs.Words.{Name}
 use Rattle.histar_flat.specs.PathOrder.{same}
 use Rattle.histar_layout.specs.Reading.{◌>>=◌, front_at, target_at}
@@ -16,6 +16,11 @@ slot_at (len ∷ bytes) = do
   text ← front_at len bytes
   target ← front_at target_length text.1
   Some ((text.0, target.0), target.1)
+
+-- an entry that lies between two positions: its name, the bytes that tell where it leads, and the bytes after it
+abbrev pub entry_between : List ℕ → ℕ → ℕ → (List ℕ × List ℕ) × List ℕ
+entry_between bytes start end =
+    ((slice_range bytes (start + 1) (end - target_length), slice_range bytes (end - target_length) end), drop end bytes)
 
 -- where these bytes tell that an entry leads
 unfoldable pub target_from : List ℕ → Option Target

@@ -19,7 +19,7 @@ pub fn label_of(
 ) -> Result<Label, AllocError>
     ensures { IfOk result (λ v. v ≡ labelled exceptions.now default) }
 {
-    let mut label = Label::new(alloc, default);
+    let mut label = Label::with_room(alloc, default, exceptions.len())?;
     for &(category, level) in exceptions {
         label.set(category, level)?;
     }
@@ -34,7 +34,8 @@ pub fn guarded_by(
 ) -> Result<Label, AllocError>
     ensures { IfOk result (λ label. label ≡ guarded_by secret.now written.now) }
 {
-    let label = with_each(Label::new(alloc, Level::L1), Level::L3, secret)?;
+    let empty = Label::with_room(alloc, Level::L1, secret.len() + written.len())?;
+    let label = with_each(empty, Level::L3, secret)?;
     with_each(label, Level::L0, written)
 }
 
@@ -46,7 +47,8 @@ pub fn owner_label(
 ) -> Result<Label, AllocError>
     ensures { IfOk result (λ label. label ≡ owner_label owned.now tainted.now) }
 {
-    let label = with_each(Label::new(alloc, Level::L1), Level::Star, owned)?;
+    let empty = Label::with_room(alloc, Level::L1, owned.len() + tainted.len())?;
+    let label = with_each(empty, Level::Star, owned)?;
     with_each(label, Level::L3, tainted)
 }
 
@@ -54,7 +56,8 @@ pub fn owner_label(
 pub fn cleared_at(alloc: Global, categories: &[Category]) -> Result<Label, AllocError>
     ensures { IfOk result (λ label. label ≡ cleared_at categories.now) }
 {
-    with_each(Label::new(alloc, Level::L2), Level::L3, categories)
+    let empty = Label::with_room(alloc, Level::L2, categories.len())?;
+    with_each(empty, Level::L3, categories)
 }
 
 // A label with one level at each of these categories, and at all others as before.

@@ -1,13 +1,17 @@
 //! Looking a name up in the bytes of a directory.
-ghost use Rattle.std.specs.Prelude.{◌≡◌};
+ghost use Rattle.std.specs.Prelude.{◌≡◌, ◌+◌, ◌≤◌, IfSome, drop, length, slice_range};
 ghost use Rattle.std.specs.FinMap as map;
 ghost use Rattle.histar_flat.specs.PathOrder.{same};
 ghost use Rattle.histar_layout.specs.Directory.{Entries, IsDirectory};
-ghost use Rattle.histar_layout.specs.Found.{found_in};
+ghost use Rattle.histar_layout.specs.Found.{entry_between, found_in, slot_at};
+ghost use Rattle.histar_layout.specs.Reading.{Gives};
 
 use crate::entry::Target;
-use crate::read_entry::{read_slot, target_from};
+use crate::read_entry::{TARGET_LENGTH, target_from};
 use histar_flat::Name;
+
+/// How many bytes an entry has beside its name: its length, and those that tell where it leads.
+const BESIDE_NAME: usize = 1 + TARGET_LENGTH;
 
 /// Where the entry of this name leads. It goes from entry to entry, up to the one that has the name and no
 /// further, and looks at no byte of where the others lead. Where the bytes end or break off before one that has
@@ -17,24 +21,42 @@ pub fn look_up(bytes: &[u8], name: &Name) -> Option<Target>
     ensures entry { (dir : Entries) → IsDirectory bytes.now dir → result ≡ map.get dir name.now }
 {
     let wanted = name.as_bytes();
-    let mut rest = bytes;
-    'entries: while let Some((text, target, after)) = read_slot(rest) {
-        if is_same(wanted, text) {
-            return target_from(target);
+    let mut start = 0;
+    'entries: while let Some((len, end)) = measure_entry(bytes, start) {
+        if is_same_at(wanted, bytes, start + 1, len) {
+            return target_from(&bytes[end - TARGET_LENGTH..end]);
         }
-        rest = after;
+        start = end;
     }
     None
 }
 
-/// Whether two names are one. Names of one directory differ most often in their lengths or in their last bytes,
-/// so these are compared first.
-fn is_same(name: &[u8], other: &[u8]) -> bool
-    ensures { result ≡ same name.now other.now }
+/// Returns how long the name is of the entry that begins at a position, and where the entry ends.
+#[inline]
+fn measure_entry(bytes: &[u8], start: usize) -> Option<(usize, usize)>
+    requires { start ≤ length bytes.now }
+    ensures entry { Gives (λ found. entry_between bytes.now start found.1) result (slot_at (drop start bytes.now)) }
+    ensures measured { IfSome result (λ found. (found.1 ≡ start + found.0 + 18) × (found.1 ≤ length bytes.now)) }
 {
-    if name.len() != other.len() {
+    let len = *bytes.get(start)? as usize;
+    let end = start + len + BESIDE_NAME;
+    if end > bytes.len() {
+        return None;
+    }
+    Some((len, end))
+}
+
+/// Whether a name lies at a position, where one of this length does. Names of one directory differ most often in
+/// their lengths or in their last bytes, so these are compared first.
+#[inline]
+fn is_same_at(name: &[u8], bytes: &[u8], start: usize, len: usize) -> bool
+    requires { start + len ≤ length bytes.now }
+    ensures { result ≡ same name.now (slice_range bytes.now start (start + len)) }
+{
+    if name.len() != len {
         return false;
     }
+    let other = &bytes[start..start + len];
     match (name, other) {
         ([.., last], [.., other_last]) if *last != *other_last => false,
         _ => name == other,

@@ -9,7 +9,7 @@ use histar_flat::{Name, is_name, read_name};
 use histar_object::ObjId;
 
 /// How many bytes tell where an entry leads: a letter and two numbers.
-const TARGET_LENGTH: usize = 17;
+pub const TARGET_LENGTH: usize = 17;
 
 /// The entry at the front, and the bytes after it.
 pub fn read_entry(bytes: &[u8]) -> Option<(Name, Target, &[u8])>

@@ -10,9 +10,6 @@ use histar_flat::{FileMode, Name, Path, ProcName, Reply, Stat};
 use itoa::Buffer;
 use std::alloc::{AllocError, Global};
 
-/// The room that the line of a reply is given at first, in bytes: few are longer.
-const USUAL_LINE: usize = 64;
-
 /// Adds a number, in decimal digits.
 fn push_number(line: &mut Vec<u8>, number: u32) -> Result<(), AllocError>
     ensures { OnOk result (line.new.items ≡ line.old.items ++ decimal number) }
@@ -140,16 +137,15 @@ pub fn reply_text(alloc: Global, reply: &Reply) -> Result<Vec<u8>, AllocError>
     Ok(text)
 }
 
-/// The line that answers a call line: its number, a space, the text of the reply, and a line end.
-pub fn reply_line(alloc: Global, number: u32, reply: &Reply) -> Result<Vec<u8>, AllocError>
-    ensures { IfOk result (λ line. line.items ≡ line_text number reply.now) }
+/// Makes a buffer the line that answers a call line: its number, a space, the text of the reply, and a line end.
+pub fn set_reply_line(line: &mut Vec<u8>, number: u32, reply: &Reply) -> Result<(), AllocError>
+    ensures { OnOk result (line.new.items ≡ line_text number reply.now) }
 {
-    let mut line = Vec::with_capacity(alloc, USUAL_LINE)?;
-    push_number(&mut line, number)?;
+    line.clear();
+    push_number(line, number)?;
     line.extend_from_slice(b" ")?;
-    push_reply(&mut line, reply)?;
-    line.extend_from_slice(b"\n")?;
-    Ok(line)
+    push_reply(line, reply)?;
+    line.extend_from_slice(b"\n")
 }
 
 /// Adds the names of a path, of which the last stands first, each after a slash.

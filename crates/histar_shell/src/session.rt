@@ -7,7 +7,7 @@ ghost use Rattle.histar_shell.specs.Run.{RunsText};
 
 use crate::ending::write_ending;
 use crate::machine::{Machine, Trace};
-use crate::output::reply_line;
+use crate::output::set_reply_line;
 use histar_devices::{Sink, Source, read_input, write_bytes};
 use histar_flat::CallLine;
 use histar_label::{InternStore, LabelStore};
@@ -115,8 +115,9 @@ fn answer_calls<S: LabelStore + Drop, W: Sink>(
     ensures faults { IfErr result IsOutputFault }
     ensures count { CountsFailure (W.failures writer.old) (W.failures writer.new) (is_write_failed result) }
 {
+    let mut line = Vec::new(alloc);
     'calls: for call in calls {
-        answer_call(alloc, machine, call, writer)?;
+        answer_by(alloc, machine, call, &mut line, writer)?;
     }
     Ok(())
 }
@@ -134,6 +135,24 @@ pub fn answer_call<S: LabelStore + Drop, W: Sink>(
     ensures faults { IfErr result IsOutputFault }
     ensures count { CountsFailure (W.failures writer.old) (W.failures writer.new) (is_write_failed result) }
 {
+    let mut line = Vec::new(alloc);
+    answer_by(alloc, machine, call, &mut line, writer)
+}
+
+/// The same, where the line is made in a buffer, whatever this holds.
+fn answer_by<S: LabelStore + Drop, W: Sink>(
+    alloc: Global,
+    machine: &mut Machine<S>,
+    call: CallLine,
+    line: &mut Vec<u8>,
+    writer: &mut W,
+) -> Result<(), Fault>
+    ensures ok { OnOk result (AnswersCall machine.old machine.new (W.written writer.old) (W.written writer.new) call) }
+    ensures err { OnErr result (BeginsAnswer machine.old machine.new (W.written writer.old)
+        (W.written writer.new) call) }
+    ensures faults { IfErr result IsOutputFault }
+    ensures count { CountsFailure (W.failures writer.old) (W.failures writer.new) (is_write_failed result) }
+{
     let CallLine {
         line: number,
         process,
@@ -142,7 +161,7 @@ pub fn answer_call<S: LabelStore + Drop, W: Sink>(
     let Ok(reply) = machine.step(alloc, number, &process, call) else {
         return Err(Fault::OutOfMemory);
     };
-    let line = reply_line(alloc, number, &reply)?;
+    set_reply_line(line, number, &reply)?;
     write_bytes(writer, line.as_slice())?;
     Ok(())
 }

@@ -1,5 +1,4 @@
-use Rattle.std.proofs.Common.{◌≡◌, Some, sym, ap, ◌∙◌, rules}
-use Rattle.histar_label.specs.declared.intern_store.Comparison.{Comparison}
+use Rattle.std.proofs.Common.{◌≡◌, Some, sym, ◌∙◌, rules}
 use Rattle.histar_label.proofs.Remembered.{same_comparison}
 use Rattle.histar_label.proofs.intern_store.found_at.Goals as goal
 

@@ -1,39 +1,45 @@
-use Rattle.std.proofs.Common.{◌≡◌, ℕ, List, Bool, ap, sym, ◌∙◌}
+use Rattle.std.proofs.Common.{◌≡◌, ℕ, ◌+◌, ◌-◌, List, Bool, drop, sym, ◌∙◌, arith}
+use Rattle.std.specs.Prelude.{slice_range}
 use Rattle.histar_flat.specs.PathOrder.{same}
-use Rattle.histar_layout.proofs.LookingUp.{all_left, leads_nowhere, slot_shorter, found_here, left_behind, found_in_directory}
+use Rattle.histar_layout.specs.Found.{entry_between}
+use Rattle.histar_layout.proofs.LookingUp.{all_left, leads_nowhere, found_here, left_behind, found_in_directory}
 use Rattle.histar_layout.proofs.lookup.look_up.Goals as goal
 
--- a name whose bytes were taken is the same as another where these are
-same_test : (name wanted text : List ℕ) (result : Bool) → wanted ≡ name → result ≡ same wanted text → same name text ≡ result
-same_test name wanted text result is test = ap (λ (bs : List ℕ). same bs text) (sym is) ∙ sym test
+-- a name whose bytes were taken is the same as that of an entry where they are the same as the bytes that lie there
+same_test : (name wanted bytes : List ℕ) (start len end : ℕ) (result : Bool) → wanted ≡ name → end ≡ start + len + 18 → result ≡ same wanted (slice_range bytes (start + 1) (start + 1 + len)) → same name (entry_between bytes start end).0.0 ≡ result
+same_test name wanted bytes start len end result is ends test =
+    let to : end - 17 ≡ start + 1 + len = omega arith in
+    (λ i. same (sym is i) (slice_range bytes (start + 1) (to i))) ∙ sym test
 
 pub entries-init : goal.entries-init
-entries-init c = all_left c.args.bytes.now c.args.name.now
-
-pub entries-smaller : goal.entries-smaller
-entries-smaller c = slot_shorter _ _ c.in-Some.ensures
+entries-init c = (omega arith, all_left c.args.bytes.now c.args.name.now)
 
 pub entries-preserved : goal.entries-preserved
 entries-preserved c =
-    left_behind c.entries.rest.now c.args.name.now _ c.in-Some.ensures c.args.bytes.now c.entries.invariant
-    (same_test c.args.name.now c.as_bytes-wanted.result.now c.in-Some.text.now c.is_same.result c.as_bytes-wanted.ensures.value c.is_same.ensures ∙ c.if-is_same.false)
+    let bytes = c.args.bytes.now in
+    let entry = entry_between bytes c.entries.start c.in-Some.end in (
+      c.in-Some.ensures.measured.1,
+      left_behind (drop c.entries.start bytes) c.args.name.now entry c.in-Some.ensures.entry bytes c.entries.invariant.1
+          (same_test c.args.name.now c.as_bytes-wanted.result.now bytes c.entries.start c.in-Some.len c.in-Some.end c.is_same_at.result c.as_bytes-wanted.ensures.value c.in-Some.ensures.measured.0 c.is_same_at.ensures
+          ∙ c.if-is_same_at.false),
+    )
 
-pub returns-then-is_same-clause-found : goal.returns-then-is_same-clause-found
-returns-then-is_same-clause-found c =
+pub returns-then-is_same_at-clause-found : goal.returns-then-is_same_at-clause-found
+returns-then-is_same_at-clause-found c =
+    let bytes = c.args.bytes.now in
+    let entry = entry_between bytes c.entries.start c.in-Some.end in
     c.target_from.ensures
-    ∙ sym (found_here c.entries.rest.now c.args.name.now _ c.in-Some.ensures c.args.bytes.now c.entries.invariant
-    (same_test c.args.name.now c.as_bytes-wanted.result.now c.in-Some.text.now c.is_same.result c.as_bytes-wanted.ensures.value c.is_same.ensures ∙ c.if-is_same.true))
+    ∙ sym (found_here (drop c.entries.start bytes) c.args.name.now entry c.in-Some.ensures.entry bytes c.entries.invariant.1
+    (same_test c.args.name.now c.as_bytes-wanted.result.now bytes c.entries.start c.in-Some.len c.in-Some.end c.is_same_at.result c.as_bytes-wanted.ensures.value c.in-Some.ensures.measured.0 c.is_same_at.ensures
+    ∙ c.if-is_same_at.true))
 
-pub returns-then-is_same-clause-entry : goal.returns-then-is_same-clause-entry
-returns-then-is_same-clause-entry c dir is =
-    c.target_from.ensures
-    ∙ sym (found_here c.entries.rest.now c.args.name.now _ c.in-Some.ensures c.args.bytes.now c.entries.invariant
-    (same_test c.args.name.now c.as_bytes-wanted.result.now c.in-Some.text.now c.is_same.result c.as_bytes-wanted.ensures.value c.is_same.ensures ∙ c.if-is_same.true))
-    ∙ found_in_directory c.args.bytes.now dir c.args.name.now is
+pub returns-then-is_same_at-clause-entry : goal.returns-then-is_same_at-clause-entry
+returns-then-is_same_at-clause-entry c dir is =
+    returns-then-is_same_at-clause-found c ∙ found_in_directory c.args.bytes.now dir c.args.name.now is
 
 pub returns-clause-found : goal.returns-clause-found
-returns-clause-found c = sym (leads_nowhere c.args.bytes.now c.entries.rest.now c.args.name.now c.entries.invariant c.in_default.ensures)
+returns-clause-found c =
+    sym (leads_nowhere c.args.bytes.now (drop c.entries.start c.args.bytes.now) c.args.name.now c.entries.invariant.1 c.in_default.ensures.entry)
 
 pub returns-clause-entry : goal.returns-clause-entry
-returns-clause-entry c dir is =
-    sym (leads_nowhere c.args.bytes.now c.entries.rest.now c.args.name.now c.entries.invariant c.in_default.ensures) ∙ found_in_directory c.args.bytes.now dir c.args.name.now is
+returns-clause-entry c dir is = returns-clause-found c ∙ found_in_directory c.args.bytes.now dir c.args.name.now is

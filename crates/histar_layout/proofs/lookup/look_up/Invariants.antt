@@ -1,9 +1,9 @@
-use Rattle.std.proofs.Common.{length}
+use Rattle.std.proofs.Common.{◌-◌, ◌≤◌, drop, length}
 use Rattle.histar_layout.proofs.LookingUp.{IsLeft}
 use Rattle.histar_layout.proofs.lookup.look_up.Given as goal
 
 abbrev pub invariant-entries : goal.invariant-entries
-invariant-entries l = IsLeft l.bytes l.rest l.name
+invariant-entries l = (l.start ≤ length l.bytes) × IsLeft l.bytes (drop l.start l.bytes) l.name
 
 abbrev pub decreases-entries : goal.decreases-entries
-decreases-entries l = length l.rest
+decreases-entries l = length l.bytes - l.start

@@ -16,24 +16,24 @@ categories-init c = left_at_first (BelowJoin c.args.reading) _ _ _ _ _ _ c.excep
 pub returns-then-not-fits-2 : goal.returns-then-not-fits-2
 returns-then-not-fits-2 c =
     let unfit : ((q : ℕ) → Fits c.args.self.now c.args.other.now c.args.other.now (BelowJoin c.args.reading) q) → ⊥ = λ all. false≢true (sym c.if-not-fits-2.true ∙ c.fits-in-Some.ensures.1
-    (rw (c.level_at-own_level.ensures, c.level_at-other_level.ensures, c.default_level-own_default.ensures.value, c.default_level-other_default.ensures.value)
-    (front_fits (BelowJoin c.args.reading) _ _ _ _ _ _ c.categories.invariant _ (lower_is_lowest _ _ ∙ sym c.lower.ensures ∙ c.in-Some.is) all))) in
+    (rw (c.in-Some.ensures.first, c.in-Some.ensures.second, c.default_level-own_default.ensures.value, c.default_level-other_default.ensures.value)
+    (front_fits (BelowJoin c.args.reading) _ _ _ _ _ _ c.categories.invariant _ (lower_is_lowest _ _ ∙ sym c.in-Some.ensures.category) all))) in
     record { order = (λ t. absurd (false≢true t), λ all. absurd (unfit all)); value = refused _ _ _ (BelowJoin c.args.reading) unfit }
 
 pub categories-preserved : goal.categories-preserved
 categories-preserved c =
     let default_fits = c.fits.ensures.0 c.if-not-fits.false in
     let fits = c.fits-in-Some.ensures.0 c.if-not-fits-2.false in
-    rw (c.after-own.ensures, c.after-others.ensures)
-    (left_after (BelowJoin c.args.reading) _ _ _ _ _ _ c.categories.invariant _ (lower_is_lowest _ _ ∙ sym c.lower.ensures ∙ c.in-Some.is)
+    rw (c.in-Some.ensures.first_left, c.in-Some.ensures.second_left)
+    (left_after (BelowJoin c.args.reading) _ _ _ _ _ _ c.categories.invariant _ (lower_is_lowest _ _ ∙ sym c.in-Some.ensures.category)
     (rw (sym c.default_level-own_default.ensures.value, sym c.default_level-other_default.ensures.value) default_fits)
-    (rw (sym c.default_level-own_default.ensures.value, sym c.default_level-other_default.ensures.value, sym c.level_at-own_level.ensures, sym c.level_at-other_level.ensures) fits))
+    (rw (sym c.default_level-own_default.ensures.value, sym c.default_level-other_default.ensures.value, sym c.in-Some.ensures.first, sym c.in-Some.ensures.second) fits))
 
 pub returns-clause-value : goal.returns-clause-value
 returns-clause-value c =
     let default_fits = c.fits.ensures.0 c.if-not-fits.false in
     answer_is _ _ _ (BelowJoin c.args.reading) _ (
-      λ t. all_fit (BelowJoin c.args.reading) _ _ _ _ _ _ c.categories.invariant (lower_is_lowest _ _ ∙ sym c.lower.ensures ∙ c.in_default.is)
+      λ t. all_fit (BelowJoin c.args.reading) _ _ _ _ _ _ c.categories.invariant (lower_is_lowest _ _ ∙ sym c.in_default.ensures.category)
           (rw (sym c.default_level-own_default.ensures.value, sym c.default_level-other_default.ensures.value) default_fits),
       λ all. refl,
     )
