@@ -2,9 +2,9 @@
 ghost use Rattle.histar_rules.specs.Rules.{Decides, IsNextNumber, IsEntryOf};
 ghost use Rattle.histar_rules.specs.declared.raw.RawCall.TheVariants as calls;
 
-use histar_label::{Label, LabelStore};
+use histar_label::LabelStore;
 use histar_object::{Entry, Kind, ObjId};
-use histar_rules::{LabelledObjects, Refusal};
+use histar_rules::{HandedLabel, LabelledObjects, Refusal};
 
 /// Makes a gate in a container, and answers its number. The gate gives its label to who enters it, so
 /// its maker must own what the gate is to own.
@@ -12,36 +12,41 @@ pub fn make_gate<S: LabelStore + Drop>(
     objects: &mut LabelledObjects<S>,
     thread: ObjId,
     container: ObjId,
-    label: &Label,
-    clearance: &Label,
+    label: &HandedLabel,
+    clearance: &HandedLabel,
     entry: Entry,
 ) -> Result<ObjId, Refusal>
     ensures { Decides objects.old objects.new thread
         (calls.MakeGate container label.now clearance.now entry) result (IsNextNumber objects.old) }
 {
+    let label = label.label();
+    let clearance = clearance.label();
     objects.check_new_owner(thread, container, label, clearance)?;
     let number = objects.next_object();
-    let most = clearance.copy()?;
-    objects.add(container, label.copy()?, Kind::Gate(most, entry))?;
+    let clearance = clearance.copy()?;
+    objects.add(container, label.copy()?, Kind::Gate(clearance, entry))?;
     Ok(number)
 }
 
 /// Enters a gate: the thread gets the label and the clearance that it wants, within what the gate and
-/// its own labels allow, and is answered the gate's entry. It shows a label that its own is below, as
-/// a proof of what it owns. `Gate` where the gate's clearance or the shown label doesn't let it in.
+/// its own labels allow, and is answered the gate's entry. Its own label is below the verify label, as
+/// a proof of what it owns. `Gate` where the gate's clearance or the verify label doesn't let it in.
 pub fn enter<S: LabelStore + Drop>(
     objects: &mut LabelledObjects<S>,
     thread: ObjId,
     container: ObjId,
     gate: ObjId,
-    wanted: &Label,
-    clearance: &Label,
-    shown: &Label,
+    wanted: &HandedLabel,
+    clearance: &HandedLabel,
+    verify: &HandedLabel,
 ) -> Result<Entry, Refusal>
     ensures { Decides objects.old objects.new thread
-        (calls.Enter container gate wanted.now clearance.now shown.now) result (IsEntryOf objects.old gate) }
+        (calls.Enter container gate wanted.now clearance.now verify.now) result (IsEntryOf objects.old gate) }
 {
-    let entry = objects.check_enter(thread, container, gate, wanted, clearance, shown)?;
+    let wanted = wanted.label();
+    let clearance = clearance.label();
+    let verify = verify.label();
+    let entry = objects.check_enter(thread, container, gate, wanted, clearance, verify)?;
     objects.set_own(thread, wanted.copy()?, clearance.copy()?)?;
     Ok(entry)
 }

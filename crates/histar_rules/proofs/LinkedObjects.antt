@@ -119,21 +119,21 @@ module _ {Id : Type 0} (labels : Id → Option Levels) (es : TableModel Id) wher
           ∙ making_found labels es t d own own_clearance label links below none thread container is
 
       -- of entering a gate, the labels of both
-      pub enter_found : (next : Next) (wanted clearance shown_label : Levels) (gate_label gate_clearance : Id) (entry : Entry) (O M G L : Levels) → objects_of es o ≡ Some (gate_of gate_label gate_clearance entry)
+      pub enter_found : (next : Next) (wanted clearance verify : Levels) (gate_label gate_clearance : Id) (entry : Entry) (O M G L : Levels) → objects_of es o ≡ Some (gate_of gate_label gate_clearance entry)
           → O ≡ label_at labels own → M ≡ label_at labels own_clearance → G ≡ label_at labels gate_label → L ≡ label_at labels gate_clearance
-          → check (state_with labels es next) t (calls.Enter d o wanted clearance shown_label)
-          ≡ (unless (is_below O L) NoWay orelse unless (is_below O shown_label) NoWay orelse unless (lies_between O G wanted clearance M L) Range
-          orelse unless (is_made next.category wanted) Range orelse unless (is_made next.category clearance) Range orelse unless (is_made next.category shown_label) Range)
-      enter_found next wanted clearance shown_label gate_label gate_clearance entry O M G L gate own_is most_is given_is limit_is =
+          → check (state_with labels es next) t (calls.Enter d o wanted clearance verify)
+          ≡ (unless (is_below O L) NoWay orelse unless (is_below O verify) NoWay orelse unless (lies_between O G wanted clearance M L) Range
+          orelse unless (is_made next.category wanted) Range orelse unless (is_made next.category clearance) Range orelse unless (is_made next.category verify) Range)
+      enter_found next wanted clearance verify gate_label gate_clearance entry O M G L gate own_is most_is given_is limit_is =
           let T = object_shown labels es t (thread_of own own_clearance) thread in
           let E = object_shown labels es o (gate_of gate_label gate_clearance entry) gate in
-          let made = unless (is_made next.category wanted) Range orelse unless (is_made next.category clearance) Range orelse unless (is_made next.category shown_label) Range in
+          let made = unless (is_made next.category wanted) Range orelse unless (is_made next.category clearance) Range orelse unless (is_made next.category verify) Range in
           ap (λ (f : Option Denied). (f orelse unless (is_gate (objects_of (shown labels es) o)) BadKind)
           orelse unless (is_let_in (objects_of (shown labels es) t) (objects_of (shown labels es) o)) NoWay
-          orelse unless (is_own_below (objects_of (shown labels es) t) shown_label) NoWay
+          orelse unless (is_own_below (objects_of (shown labels es) t) verify) NoWay
           orelse unless (in_gate (objects_of (shown labels es) t) (objects_of (shown labels es) o) wanted clearance) Range orelse made) linked
-          ∙ (λ i. unless (is_gate (E i)) BadKind orelse unless (is_let_in (T i) (E i)) NoWay orelse unless (is_own_below (T i) shown_label) NoWay orelse unless (in_gate (T i) (E i) wanted clearance) Range orelse made)
-          ∙ (λ i. unless (is_below (sym own_is i) (sym limit_is i)) NoWay orelse unless (is_below (sym own_is i) shown_label) NoWay
+          ∙ (λ i. unless (is_gate (E i)) BadKind orelse unless (is_let_in (T i) (E i)) NoWay orelse unless (is_own_below (T i) verify) NoWay orelse unless (in_gate (T i) (E i) wanted clearance) Range orelse made)
+          ∙ (λ i. unless (is_below (sym own_is i) (sym limit_is i)) NoWay orelse unless (is_below (sym own_is i) verify) NoWay
           orelse unless (lies_between (sym own_is i) (sym given_is i) wanted clearance (sym most_is i) (sym limit_is i)) Range orelse made)
 
   module _ (t d : ℕ) (own own_clearance : Id) (made : no_making (state_shown labels es) t d ≡ None) (thread : objects_of es t ≡ Some (thread_of own own_clearance)) where

@@ -143,10 +143,10 @@ module _ (s : State) (t : ℕ) (sound : IsSound s) where
       sound_added s sound d o (making_container s t d (first (no_making s t d) _ e)) leaf (well_cleared s.next_category o clearance made.0 has cleared.0 alone)
 
   -- the caller enters a gate
-  entered : (d o : ℕ) (wanted clearance shown : Levels) → check s t (Enter d o wanted clearance shown) ≡ None → IsSound (with_own s t wanted clearance)
-  entered d o wanted clearance shown e =
+  entered : (d o : ℕ) (wanted clearance verify : Levels) → check s t (Enter d o wanted clearance verify) ≡ None → IsSound (with_own s t wanted clearance)
+  entered d o wanted clearance verify e =
       let let_in = passes (is_let_in (s.objects t) (s.objects o)) Gate _ (rest (no_gate s t d o) _ e) in
-      let under = passes (is_own_below (s.objects t) shown) Gate _ let_in.1 in
+      let under = passes (is_own_below (s.objects t) verify) Gate _ let_in.1 in
       let ranged = passes (in_gate (s.objects t) (s.objects o) wanted clearance) Range _ under.1 in
       let made = passes (known s wanted) Range _ ranged.1 in
       let cleared = passes (known s clearance) Range _ made.1 in
@@ -166,7 +166,7 @@ sound_changes s new t (MakeSegment d label bytes) sound e is = subst IsSound (sy
 sound_changes s new t (MakeContainer d label) sound e is = subst IsSound (sym is) (made_plain s t sound d (record { label = label; kind = Container set.empty }) _ refl no_links e)
 sound_changes s new t (MakeThread d label clearance) sound e is = subst IsSound (sym is) (made_cleared s t sound d (thread_of label clearance) clearance _ refl refl no_links e)
 sound_changes s new t (MakeGate d label clearance entry) sound e is = subst IsSound (sym is) (made_cleared s t sound d (record { label = label; kind = gates.Gate clearance entry }) clearance _ refl refl no_links e)
-sound_changes s new t (Enter d o wanted clearance shown) sound e is = subst IsSound (sym is) (entered s t sound d o wanted clearance shown e)
+sound_changes s new t (Enter d o wanted clearance verify) sound e is = subst IsSound (sym is) (entered s t sound d o wanted clearance verify e)
 sound_changes s new t (Read d o) sound e is = subst IsSound (sym is) sound
 sound_changes s new t (Write d o keep bytes) sound e is = subst IsSound (sym is) (sound_bytes s sound o (take keep (bytes_in (s.objects o)) ++ bytes))
 sound_changes s new t (Unlink d o) sound e is = unlinked s t sound d o new e is

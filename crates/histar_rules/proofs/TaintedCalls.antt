@@ -218,13 +218,13 @@ module _ (v : ℕ) where
     gate_closed : (o : ℕ) → is_gate (s.objects o) ≡ true → (p : Object Levels) → s.objects o ≡ Some p → level_of p.label v ≢ Star
     gate_closed o gate p i = closed o p i (sym (ap is_gate i) ∙ gate)
 
-    enter_moves : (d o : ℕ) (wanted clearance shown : Levels) → check s t (Enter d o wanted clearance shown) ≡ None → (q : ℕ) → Moved v s.objects (with_own s t wanted clearance).objects q
-    enter_moves d o wanted clearance shown e =
+    enter_moves : (d o : ℕ) (wanted clearance verify : Levels) → check s t (Enter d o wanted clearance verify) ≡ None → (q : ℕ) → Moved v s.objects (with_own s t wanted clearance).objects q
+    enter_moves d o wanted clearance verify e =
         let gate = first (no_gate s t d o) _ e in
         let h = link_caller d o (first (no_link s t d o) _ gate) in
         let is = unless_none (is_gate (s.objects o)) BadKind (rest (no_link s t d o) _ gate) in
         let let_in = passes (is_let_in (s.objects t) (s.objects o)) Gate _ (rest (no_gate s t d o) _ e) in
-        let under = passes (is_own_below (s.objects t) shown) Gate _ let_in.1 in
+        let under = passes (is_own_below (s.objects t) verify) Gate _ let_in.1 in
         let ranged = passes (in_gate (s.objects t) (s.objects o) wanted clearance) Range _ under.1 in
         put_moves s.objects t (thread_of wanted clearance) h (gate_tainted (s.objects t) (s.objects o) wanted clearance h (gate_closed o is) ranged.0)
 
@@ -261,7 +261,7 @@ module _ (v : ℕ) where
         to new (with_object s d (thread_of label clearance)) is (making_moves d (thread_of label clearance) (in_span (s.objects t) label clearance) _ (span_tainted (s.objects t) label clearance) e)
     granted_moves (MakeGate d label clearance entry) new e is =
         to new (with_object s d (record { label = label; kind = gates.Gate clearance entry })) is (making_moves d (record { label = label; kind = gates.Gate clearance entry }) (in_span (s.objects t) label clearance) _ (span_tainted (s.objects t) label clearance) e)
-    granted_moves (Enter d o wanted clearance shown) new e is = to new (with_own s t wanted clearance) is (enter_moves d o wanted clearance shown e)
+    granted_moves (Enter d o wanted clearance verify) new e is = to new (with_own s t wanted clearance) is (enter_moves d o wanted clearance verify e)
     granted_moves (Read d o) new e is = to new s is (λ q. stays refl)
     granted_moves (Write d o keep bytes) new e is = to new (with_segment_bytes s o (take keep (bytes_in (s.objects o)) ++ bytes)) is (write_moves d o keep bytes (take keep (bytes_in (s.objects o)) ++ bytes) e)
     granted_moves (Unlink d o) new e is = unlink_moves d o new e is
@@ -277,7 +277,7 @@ later_category s new t (MakeSegment d label bytes) is = subst (λ (x : State). s
 later_category s new t (MakeContainer d label) is = subst (λ (x : State). s.next_category ≤ x.next_category) (sym is) (omega arith)
 later_category s new t (MakeThread d label clearance) is = subst (λ (x : State). s.next_category ≤ x.next_category) (sym is) (omega arith)
 later_category s new t (MakeGate d label clearance entry) is = subst (λ (x : State). s.next_category ≤ x.next_category) (sym is) (omega arith)
-later_category s new t (Enter d o wanted clearance shown) is = subst (λ (x : State). s.next_category ≤ x.next_category) (sym is) (omega arith)
+later_category s new t (Enter d o wanted clearance verify) is = subst (λ (x : State). s.next_category ≤ x.next_category) (sym is) (omega arith)
 later_category s new t (Read d o) is = subst (λ (x : State). s.next_category ≤ x.next_category) (sym is) (omega arith)
 later_category s new t (Write d o keep bytes) is = subst (λ (x : State). s.next_category ≤ x.next_category) (sym is) (omega arith)
 later_category s new t (Unlink d o) is = omega (arith, is.next_category)

@@ -101,14 +101,14 @@ check s t (MakeSegment d label bytes) = no_new s t d label (length bytes)
 check s t (MakeContainer d label) = no_new s t d label 0
 check s t (MakeThread d label clearance) = no_new_owner s t d label clearance
 check s t (MakeGate d label clearance entry) = no_new_owner s t d label clearance
-check s t (Enter d o wanted clearance shown) =
+check s t (Enter d o wanted clearance verify) =
     no_gate s t d o
     orelse unless (is_let_in (s.objects t) (s.objects o)) Gate
-    orelse unless (is_own_below (s.objects t) shown) Gate
+    orelse unless (is_own_below (s.objects t) verify) Gate
     orelse unless (in_gate (s.objects t) (s.objects o) wanted clearance) Range
     orelse unless (known s wanted) Range
     orelse unless (known s clearance) Range
-    orelse unless (known s shown) Range
+    orelse unless (known s verify) Range
 check s t (Read d o) =
     no_segment s t d o
     orelse unless (observes (s.objects t) (s.objects o)) Observe
@@ -145,7 +145,7 @@ Changes s t (MakeSegment d label bytes) new = new ≡ with_object s d (record { 
 Changes s t (MakeContainer d label) new = new ≡ with_object s d (record { label = label; kind = Container set.empty })
 Changes s t (MakeThread d label clearance) new = new ≡ with_object s d (thread_of label clearance)
 Changes s t (MakeGate d label clearance entry) new = new ≡ with_object s d (record { label = label; kind = gates.Gate clearance entry })
-Changes s t (Enter d o wanted clearance shown) new = new ≡ with_own s t wanted clearance
+Changes s t (Enter d o wanted clearance verify) new = new ≡ with_own s t wanted clearance
 Changes s t (Read d o) new = new ≡ s
 Changes s t (Write d o keep bytes) new = new ≡ with_segment_bytes s o (take keep (bytes_in (s.objects o)) ++ bytes)
 Changes s t (Unlink d o) new = CutsOff s d o new

@@ -32,6 +32,21 @@ impl HandedLabel {
         })
     }
 
+    /// Hands a label and a clearance over.
+    // Inlined, so that each is moved once, into its place.
+    #[inline(always)]
+    pub fn pair(
+        alloc: Global,
+        label: Label,
+        clearance: Label,
+    ) -> Result<(HandedLabel, HandedLabel), AllocError>
+        ensures { IfOk result (λ handed. (handed.0 ≡ label) × (handed.1 ≡ clearance)) }
+    {
+        let label = HandedLabel::new(alloc, label)?;
+        let clearance = HandedLabel::new(alloc, clearance)?;
+        Ok((label, clearance))
+    }
+
     /// The label itself.
     pub fn label(&self) -> &Label
         ensures { result.now ≡ self.now }
@@ -44,5 +59,33 @@ impl HandedLabel {
         ensures { IfOk result (λ handed. handed ≡ self.now) }
     {
         HandedLabel::new(alloc, self.label.copy()?)
+    }
+
+    /// The same label once more, and the same clearance.
+    pub(crate) fn copy_pair(
+        alloc: Global,
+        label: &HandedLabel,
+        clearance: &HandedLabel,
+    ) -> Result<(HandedLabel, HandedLabel), AllocError>
+        ensures { IfOk result (λ handed. (handed.0 ≡ label.now) × (handed.1 ≡ clearance.now)) }
+    {
+        let label = label.copy(alloc)?;
+        let clearance = clearance.copy(alloc)?;
+        Ok((label, clearance))
+    }
+
+    /// The same wanted label, clearance and verify label once more.
+    pub(crate) fn copy_three(
+        alloc: Global,
+        wanted: &HandedLabel,
+        clearance: &HandedLabel,
+        verify: &HandedLabel,
+    ) -> Result<(HandedLabel, (HandedLabel, HandedLabel)), AllocError>
+        ensures { IfOk result (λ handed. (handed.0 ≡ wanted.now) × (handed.1.0 ≡ clearance.now)
+            × (handed.1.1 ≡ verify.now)) }
+    {
+        let wanted = wanted.copy(alloc)?;
+        let others = HandedLabel::copy_pair(alloc, clearance, verify)?;
+        Ok((wanted, others))
     }
 }

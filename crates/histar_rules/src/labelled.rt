@@ -246,10 +246,10 @@ impl<S: LabelStore + Drop> LabelledObjects<S> {
         gate: ObjId,
         wanted: &Label,
         clearance: &Label,
-        shown: &Label,
+        verify: &Label,
     ) -> Result<Entry, Denied>
         ensures answer { FailsAt
-            (check (state_of self.old) thread (calls.Enter container gate wanted.now clearance.now shown.now)) result }
+            (check (state_of self.old) thread (calls.Enter container gate wanted.now clearance.now verify.now)) result }
         ensures entry { IfOk result (IsEntryOf self.old gate) }
         ensures unchanged { self.new ≡ self.old }
     {
@@ -263,7 +263,7 @@ impl<S: LabelStore + Drop> LabelledObjects<S> {
             gate,
             wanted,
             clearance,
-            shown,
+            verify,
         )
     }
 

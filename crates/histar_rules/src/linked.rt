@@ -25,13 +25,13 @@ fn segment_in<L: Copy>(table: &Table<L>, segment: ObjId) -> Result<(L, &Bytes), 
     ensures answer { FailsAt (unless (is_segment (objects_of table.now segment)) BadKind) result }
     ensures found { IfOk result (λ found. objects_of table.now segment ≡ Some (segment_of found.0 found.1.now)) }
 {
-    match table.get(segment) {
-        Some(object) => match &object.kind {
-            Kind::Segment(bytes) => Ok((object.label, bytes)),
-            _ => Err(Denied::BadKind),
-        },
-        None => Err(Denied::BadKind),
-    }
+    let Some(object) = table.get(segment) else {
+        return Err(Denied::BadKind);
+    };
+    let Kind::Segment(bytes) = &object.kind else {
+        return Err(Denied::BadKind);
+    };
+    Ok((object.label, bytes))
 }
 
 // The label of a gate, its clearance, and what it gives to those who enter it.
@@ -39,13 +39,13 @@ fn gate_in<L: Copy>(table: &Table<L>, gate: ObjId) -> Result<(L, L, Entry), Deni
     ensures answer { FailsAt (unless (is_gate (objects_of table.now gate)) BadKind) result }
     ensures found { IfOk result (λ found. objects_of table.now gate ≡ Some (gate_of found.0 found.1 found.2)) }
 {
-    match table.get(gate) {
-        Some(object) => match &object.kind {
-            Kind::Gate(clearance, entry) => Ok((object.label, *clearance, *entry)),
-            _ => Err(Denied::BadKind),
-        },
-        None => Err(Denied::BadKind),
-    }
+    let Some(object) = table.get(gate) else {
+        return Err(Denied::BadKind);
+    };
+    let Kind::Gate(clearance, entry) = &object.kind else {
+        return Err(Denied::BadKind);
+    };
+    Ok((object.label, *clearance, *entry))
 }
 
 /// The checks of a read: where they pass, the bytes of the segment.
@@ -174,11 +174,11 @@ pub(crate) fn enter_in<S: LabelStore>(
     gate: ObjId,
     wanted: &Label,
     clearance: &Label,
-    shown: &Label,
+    verify: &Label,
 ) -> Result<Entry, Denied>
     requires { AllStand (S.labels store.old) (objects_of table.now) }
     ensures answer { FailsAt
-        (check (state_with (S.labels store.old) table.now next) thread (calls.Enter container gate wanted.now clearance.now shown.now)) result }
+        (check (state_with (S.labels store.old) table.now next) thread (calls.Enter container gate wanted.now clearance.now verify.now)) result }
     ensures entry { IfOk result (λ entry. Some entry ≡ entry_there (objects_of table.now gate)) }
     ensures unchanged { S.labels store.new ≡ S.labels store.old }
 {
@@ -192,6 +192,6 @@ pub(crate) fn enter_in<S: LabelStore>(
         gate_label,
         gate_clearance,
     };
-    check_opening(opening, wanted, clearance, shown, next)?;
+    check_opening(opening, wanted, clearance, verify, next)?;
     Ok(entry)
 }

@@ -31,13 +31,11 @@ pub(crate) struct Observed<'t, L> {
 pub(crate) fn thread_in<L: Copy>(table: &Table<L>, thread: ObjId) -> Option<(L, L)>
     ensures { FindsThread (objects_of table.now thread) result }
 {
-    match table.get(thread) {
-        Some(object) => match object.kind {
-            Kind::Thread(clearance) => Some((object.label, clearance)),
-            _ => None,
-        },
-        None => None,
-    }
+    let object = table.get(thread)?;
+    let Kind::Thread(clearance) = object.kind else {
+        return None;
+    };
+    Some((object.label, clearance))
 }
 
 /// The label of a container, and what it links.
@@ -49,13 +47,13 @@ pub(crate) fn container_in<L: Copy>(
         orelse unless (is_container (objects_of table.now container)) BadKind) result }
     ensures found { IfOk result (λ found. objects_of table.now container ≡ Some (container_of found.0 found.1.now)) }
 {
-    match table.get(container) {
-        Some(object) => match &object.kind {
-            Kind::Container(links) => Ok((object.label, links)),
-            _ => Err(Denied::BadKind),
-        },
-        None => Err(Denied::NoEntry),
-    }
+    let Some(object) = table.get(container) else {
+        return Err(Denied::NoEntry);
+    };
+    let Kind::Container(links) = &object.kind else {
+        return Err(Denied::BadKind);
+    };
+    Ok((object.label, links))
 }
 
 /// The checks of every call that names a container.

@@ -92,7 +92,7 @@ pub(crate) fn check_new_owner(
     require(next.object < u64::MAX, Denied::TooBig)
 }
 
-/// The last checks of entering a gate: whether the gate lets a thread in that shows a label, and gives
+/// The last checks of entering a gate: whether the gate lets a thread with this verify label in, and gives
 /// it the label and the clearance that it wants. What the thread or the gate owns it may own;
 /// elsewhere the label is at least both labels, so that no taint is lost, and the clearance is at
 /// most the greater of both clearances.
@@ -100,21 +100,21 @@ pub(crate) fn check_opening(
     opening: Opening,
     wanted: &Label,
     clearance: &Label,
-    shown: &Label,
+    verify: &Label,
     next: Next,
 ) -> Result<(), Denied>
     ensures { FailsAt (unless (is_below opening.entry.own.now opening.entry.gate_clearance.now) Gate
-        orelse unless (is_below opening.entry.own.now shown.now) Gate
+        orelse unless (is_below opening.entry.own.now verify.now) Gate
         orelse unless (lies_between opening.entry.own.now opening.entry.gate_label.now wanted.now clearance.now
         opening.entry.own_clearance.now opening.entry.gate_clearance.now) Range
         orelse unless (is_made next.category wanted.now) Range
         orelse unless (is_made next.category clearance.now) Range
-        orelse unless (is_made next.category shown.now) Range) result }
+        orelse unless (is_made next.category verify.now) Range) result }
 {
     require(opening.own.below(opening.gate_clearance), Denied::Gate)?;
-    require(opening.own.below(shown), Denied::Gate)?;
+    require(opening.own.below(verify), Denied::Gate)?;
     require(lies_between(opening, wanted, clearance), Denied::Range)?;
     require(wanted.names_only_made(next.category), Denied::Range)?;
     require(clearance.names_only_made(next.category), Denied::Range)?;
-    require(shown.names_only_made(next.category), Denied::Range)
+    require(verify.names_only_made(next.category), Denied::Range)
 }

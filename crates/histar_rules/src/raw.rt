@@ -49,8 +49,8 @@ pub enum RawCall {
     MakeThread(ObjId, HandedLabel, HandedLabel),
     /// Makes a gate in a container, with a label, a clearance and what it gives to those who enter.
     MakeGate(ObjId, HandedLabel, HandedLabel, Entry),
-    /// Enters a gate that a container links: the label and the clearance that the thread wants, and a
-    /// label that it shows.
+    /// Enters a gate that a container links: the label and the clearance that the thread wants, and its
+    /// verify label.
     Enter(ObjId, ObjId, HandedLabel, HandedLabel, HandedLabel),
     /// Reads a segment that a container links.
     Read(ObjId, ObjId),
@@ -70,41 +70,34 @@ impl RawCall {
         match self {
             RawCall::MakeCategory => Ok(RawCall::MakeCategory),
             RawCall::OwnLabel => Ok(RawCall::OwnLabel),
-            RawCall::SetLabel(label) => Ok(RawCall::SetLabel(label.copy(alloc)?)),
-            RawCall::SetClearance(clearance) => Ok(RawCall::SetClearance(clearance.copy(alloc)?)),
-            RawCall::MakeSegment(container, label, bytes) => Ok(RawCall::MakeSegment(
-                *container,
-                label.copy(alloc)?,
-                bytes.copy(alloc)?,
-            )),
+            RawCall::SetLabel(label) => label.copy(alloc).map(RawCall::SetLabel),
+            RawCall::SetClearance(clearance) => clearance.copy(alloc).map(RawCall::SetClearance),
+            RawCall::MakeSegment(container, label, bytes) => {
+                let label = label.copy(alloc)?;
+                Ok(RawCall::MakeSegment(*container, label, bytes.copy(alloc)?))
+            }
             RawCall::MakeContainer(container, label) => {
                 Ok(RawCall::MakeContainer(*container, label.copy(alloc)?))
             }
-            RawCall::MakeThread(container, label, clearance) => Ok(RawCall::MakeThread(
-                *container,
-                label.copy(alloc)?,
-                clearance.copy(alloc)?,
-            )),
-            RawCall::MakeGate(container, label, clearance, entry) => Ok(RawCall::MakeGate(
-                *container,
-                label.copy(alloc)?,
-                clearance.copy(alloc)?,
-                *entry,
-            )),
-            RawCall::Enter(container, gate, wanted, clearance, shown) => Ok(RawCall::Enter(
-                *container,
-                *gate,
-                wanted.copy(alloc)?,
-                clearance.copy(alloc)?,
-                shown.copy(alloc)?,
-            )),
+            RawCall::MakeThread(container, label, clearance) => {
+                let (label, clearance) = HandedLabel::copy_pair(alloc, label, clearance)?;
+                Ok(RawCall::MakeThread(*container, label, clearance))
+            }
+            RawCall::MakeGate(container, label, clearance, entry) => {
+                let (label, clearance) = HandedLabel::copy_pair(alloc, label, clearance)?;
+                Ok(RawCall::MakeGate(*container, label, clearance, *entry))
+            }
+            RawCall::Enter(container, gate, wanted, clearance, verify) => {
+                let (wanted, (clearance, verify)) = HandedLabel::copy_three(
+                    alloc, wanted, clearance, verify,
+                )?;
+                Ok(RawCall::Enter(*container, *gate, wanted, clearance, verify))
+            }
             RawCall::Read(container, segment) => Ok(RawCall::Read(*container, *segment)),
-            RawCall::Write(container, segment, keep, bytes) => Ok(RawCall::Write(
-                *container,
-                *segment,
-                *keep,
-                bytes.copy(alloc)?,
-            )),
+            RawCall::Write(container, segment, keep, bytes) => {
+                let bytes = bytes.copy(alloc)?;
+                Ok(RawCall::Write(*container, *segment, *keep, bytes))
+            }
             RawCall::Unlink(container, object) => Ok(RawCall::Unlink(*container, *object)),
             RawCall::LabelOf(container, object) => Ok(RawCall::LabelOf(*container, *object)),
         }

@@ -1,5 +1,4 @@
 pub mod Rooms
-pub mod Tellings
 pub mod Runs
 pub mod Sessions
 pub mod Beginnings

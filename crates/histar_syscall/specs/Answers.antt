@@ -7,8 +7,6 @@ use Rattle.histar_rules.specs.declared.raw.RawCall.{RawCall}
 use Rattle.histar_rules.specs.declared.raw.RawCall.TheVariants.{MakeCategory, OwnLabel, SetLabel, SetClearance, MakeSegment, MakeContainer, MakeThread, MakeGate, Enter, Read, Write, Unlink, LabelOf}
 use Rattle.histar_syscall.specs.declared.answers.Answer.{Answer}
 use Rattle.histar_syscall.specs.declared.answers.Answer.TheVariants as answers
-use Rattle.histar_syscall.specs.declared.answers.Reading.{Reading}
-use Rattle.histar_syscall.specs.declared.answers.Reading.TheVariants.{Copied, Lent}
 
 -- a label and a clearance, where both are there
 abbrev pub own_labels : Option Levels → Option Levels → Option Answer
@@ -27,18 +25,8 @@ raw_answer s t (MakeSegment d label bytes) = Some (answers.Object s.next_object)
 raw_answer s t (MakeContainer d label) = Some (answers.Object s.next_object)
 raw_answer s t (MakeThread d label clearance) = Some (answers.Object s.next_object)
 raw_answer s t (MakeGate d label clearance entry) = Some (answers.Object s.next_object)
-raw_answer s t (Enter d o wanted clearance shown) = option_map answers.Entry (entry_there (s.objects o))
+raw_answer s t (Enter d o wanted clearance verify) = option_map answers.Entry (entry_there (s.objects o))
 raw_answer s t (Read d o) = Some (answers.Bytes (bytes_in (s.objects o)))
 raw_answer s t (Write d o keep bytes) = Some answers.Done
 raw_answer s t (Unlink d o) = Some answers.Done
 raw_answer s t (LabelOf d o) = option_map answers.Label (label_there (s.objects o))
-
--- the same, where the bytes of a segment are lent after the call and its answer has none
-abbrev pub answer_before_lending : State → ℕ → RawCall → Option Answer
-answer_before_lending s t (Read d o) = Some answers.Done
-answer_before_lending s t call = raw_answer s t call
-
--- the answer is the one that the state gives, by how a read tells its bytes
-abbrev pub IsRightAnswer : Reading → State → ℕ → RawCall → Answer → Type 0
-IsRightAnswer Copied s t call answered = raw_answer s t call ≡ Some answered
-IsRightAnswer Lent s t call answered = answer_before_lending s t call ≡ Some answered

@@ -1,11 +1,14 @@
-//! How a raw call is decided: each by the function of its kind.
+//! How a raw call that comes as data is decided: by the function of its kind.
+ghost use Rattle.std.specs.Prelude.{◌≡◌, Some, Ok, Err};
+ghost use Rattle.std.specs.Result.{MatchResult};
 ghost use Rattle.histar_object.specs.Objects.{objects_of};
 ghost use Rattle.histar_container.specs.ObjectsModel.{state_of};
 ghost use Rattle.histar_container.specs.Tree.{AreTree};
 ghost use Rattle.histar_rules.specs.Rules.{Decides};
-ghost use Rattle.histar_syscall.specs.Answers.{IsRightAnswer};
+ghost use Rattle.histar_syscall.specs.Answers.{raw_answer};
+ghost use Rattle.histar_syscall.specs.declared.answers.Answer.TheVariants as answers;
 
-use crate::answers::{Answer, Reading};
+use crate::answers::Answer;
 use crate::containers::{label_of, make_container, unlink};
 use crate::segments::{make_segment, read, write};
 use histar_gate::{enter, make_gate};
@@ -16,84 +19,64 @@ use histar_thread::{make_category, make_thread, own_label, set_clearance, set_la
 use std::alloc::Global;
 
 /// Decides a raw call on the objects, and answers it where it is granted.
-#[inline(always)]
-pub fn decide<S: LabelStore + Drop>(
+pub(crate) fn decide<S: LabelStore + Drop>(
     objects: &mut LabelledObjects<S>,
     alloc: Global,
     thread: ObjId,
     call: &RawCall,
-    reading: Reading,
 ) -> Result<Answer, Refusal>
     requires { AreTree (objects_of objects.old.objects) }
     ensures { Decides objects.old objects.new thread call.now result
-        (IsRightAnswer reading (state_of objects.old) thread call.now) }
+        (λ a. raw_answer (state_of objects.old) thread call.now ≡ Some a) }
 {
     match call {
-        RawCall::MakeCategory => Ok(Answer::Category(make_category(objects, thread)?)),
-        RawCall::OwnLabel => {
-            let (label, clearance) = own_label(objects, thread)?;
-            Ok(Answer::OwnLabel(label, clearance))
-        }
-        RawCall::SetLabel(label) => {
-            set_label(objects, thread, label.label()).map(|()| Answer::Done)
-        }
-        RawCall::SetClearance(clearance) => {
-            set_clearance(objects, thread, clearance.label()).map(|()| Answer::Done)
-        }
+        RawCall::MakeCategory => make_category(objects, thread).map(Answer::Category),
+        RawCall::OwnLabel => own_label(objects, thread).map(|own| Answer::OwnLabel(own.0, own.1)),
+        RawCall::SetLabel(label) => done(set_label(objects, thread, label)),
+        RawCall::SetClearance(clearance) => done(set_clearance(objects, thread, clearance)),
         RawCall::MakeSegment(container, label, bytes) => {
-            Ok(Answer::Object(make_segment(
-                objects,
-                alloc,
-                thread,
-                *container,
-                label.label(),
-                bytes,
-            )?))
+            made(make_segment(objects, alloc, thread, *container, label, bytes))
         }
         RawCall::MakeContainer(container, label) => {
-            Ok(Answer::Object(make_container(objects, alloc, thread, *container, label.label())?))
+            made(make_container(objects, alloc, thread, *container, label))
         }
         RawCall::MakeThread(container, label, clearance) => {
-            Ok(Answer::Object(make_thread(
-                objects,
-                thread,
-                *container,
-                label.label(),
-                clearance.label(),
-            )?))
+            made(make_thread(objects, thread, *container, label, clearance))
         }
         RawCall::MakeGate(container, label, clearance, entry) => {
-            Ok(Answer::Object(make_gate(
-                objects,
-                thread,
-                *container,
-                label.label(),
-                clearance.label(),
-                *entry,
-            )?))
+            made(make_gate(objects, thread, *container, label, clearance, *entry))
         }
-        RawCall::Enter(container, gate, wanted, clearance, shown) => {
-            Ok(Answer::Entry(enter(
-                objects,
-                thread,
-                *container,
-                *gate,
-                wanted.label(),
-                clearance.label(),
-                shown.label(),
-            )?))
+        RawCall::Enter(container, gate, wanted, clearance, verify) => {
+            enter(
+                objects, thread, *container, *gate, wanted, clearance, verify,
+            )
+            .map(Answer::Entry)
         }
         RawCall::Read(container, segment) => {
-            read(objects, alloc, thread, *container, *segment, reading)
+            read(objects, alloc, thread, *container, *segment).map(Answer::Bytes)
         }
         RawCall::Write(container, segment, keep, bytes) => {
-            write(objects, alloc, thread, *container, *segment, *keep, bytes).map(|()| Answer::Done)
+            done(write(objects, alloc, thread, *container, *segment, *keep, bytes))
         }
         RawCall::Unlink(container, object) => {
-            unlink(objects, alloc, thread, *container, *object).map(|()| Answer::Done)
+            done(unlink(objects, alloc, thread, *container, *object))
         }
         RawCall::LabelOf(container, object) => {
-            Ok(Answer::Label(label_of(objects, thread, *container, *object)?))
+            label_of(objects, thread, *container, *object).map(Answer::Label)
         }
     }
+}
+
+/// Answers that a call was done, where it was.
+fn done(outcome: Result<(), Refusal>) -> Result<Answer, Refusal>
+    ensures { MatchResult outcome (λ _. result ≡ Ok answers.Done) (λ refusal. result ≡ Err refusal) }
+{
+    outcome.map(|()| Answer::Done)
+}
+
+/// Answers the number of an object, where it was made.
+fn made(outcome: Result<ObjId, Refusal>) -> Result<Answer, Refusal>
+    ensures { MatchResult outcome (λ number. result ≡ Ok (answers.Object number)) (λ refusal. result ≡ Err refusal) }
+{
+    outcome.map(Answer::Object)
 }

@@ -7,31 +7,36 @@ ghost use Rattle.histar_rules.specs.Kinds.{kind_there};
 ghost use Rattle.histar_rules.specs.Rules.{IsNextNumber, AreBytesOf, AreLabelsOf, IsLabelOf, IsEntryOf};
 ghost use Rattle.histar_rules.specs.Sound.{IsSound};
 ghost use Rattle.histar_rules.specs.declared.raw.RawCall.TheVariants as calls;
-ghost use Rattle.histar_syscall.specs.Answers.{raw_answer, IsRightAnswer};
+ghost use Rattle.histar_syscall.specs.Answers.{raw_answer};
 ghost use Rattle.histar_syscall.specs.KernelModel.{Answered, ReadsLent, EndsAs, state};
 
-use crate::answers::{Answer, Reading};
+use crate::answers::Answer;
+use crate::containers::{label_of, make_container, unlink};
 use crate::decide::decide;
 use crate::empty_objects::empty_objects;
-use crate::trace::{TraceEntry, log};
+use crate::segments::{check_read, make_segment, read, write};
+use crate::trace::{Trace, TraceEntry};
 use histar_base::Bytes;
+use histar_gate::{enter, make_gate};
 use histar_label::{Category, Label, LabelStore, OutOfMemory};
 use histar_object::{Entry, ObjId};
 use histar_rules::{HandedLabel, LabelledObjects, ObjectKind, RawCall, Refusal};
+use histar_thread::{make_category, make_thread, own_label, set_clearance, set_label};
 use std::alloc::Global;
 use std::marker::Model;
 
-/// A labelled kernel over any store of labels: its objects, the line that was begun last, and the
-/// trace of all its calls. A raw call that finds no memory leaves objects, links, counters and trace as
-/// they were: it makes its growths before its first change. Its store may keep a label that no object has.
+/// A labelled kernel over any store of labels: its objects, and the trace of all its calls with the
+/// line that was begun last. Each raw call makes room in the trace, is decided on the objects by the
+/// function of its kind, and is recorded with its outcome. A raw call that finds no memory leaves
+/// objects, links, counters and trace as they were: it makes its growths before its first change. Its
+/// store may keep a label that no object has.
 ///
 /// Its objects are always a tree that hangs on the root container, so that nothing outlives the
 /// container that held it.
 #[derive(Drop)]
 pub struct Kernel<S: LabelStore + Drop> {
     objects: LabelledObjects<S>,
-    line: u32,
-    trace: Vec<TraceEntry>,
+    trace: Trace,
     // The memory of calls that are handed none.
     alloc: Global,
 }
@@ -45,7 +50,7 @@ impl<S: LabelStore + Drop> Model for Kernel<S> {
 
     ghost coded = { coded_kernel_model };
 
-    ghost view = { λ k. record { kept = k.objects; line = k.line; trace = k.trace.items } };
+    ghost view = { λ k. record { kept = k.objects; line = k.trace.line; trace = k.trace.entries.items } };
 
     ghost invariant = { λ k. IsSound (state_of k.objects) };
 }
@@ -65,8 +70,7 @@ impl<S: LabelStore + Drop> Kernel<S> {
         let objects = empty_objects(alloc, store)?;
         Ok(Kernel {
             objects,
-            line: 0,
-            trace: Vec::new(alloc),
+            trace: Trace::new(alloc),
             alloc,
         })
     }
@@ -75,25 +79,24 @@ impl<S: LabelStore + Drop> Kernel<S> {
     pub fn begin(&mut self, line: u32)
         ensures { self.new ≡ record self.old { line = line } }
     {
-        self.line = line;
+        self.trace.line = line;
     }
 
     /// The calls so far, in their order.
     pub fn trace(&self) -> &[TraceEntry]
         ensures { result.now ≡ self.now.trace }
     {
-        self.trace.as_slice()
+        self.trace.entries.as_slice()
     }
 
     /// The calls so far, moved out.
     pub fn into_trace(self) -> Vec<TraceEntry>
         ensures { result.items ≡ self.trace }
     {
-        self.trace
+        self.trace.entries
     }
 
     /// Makes one raw call of any kind.
-    #[inline(always)]
     pub fn call(&mut self, alloc: Global, thread: ObjId, call: RawCall) -> Result<Answer, Refusal>
         ensures answered { Answered self.old self.new thread call result
             (λ a. raw_answer (state self.old) thread call ≡ Some a) }
@@ -101,26 +104,9 @@ impl<S: LabelStore + Drop> Kernel<S> {
         // The objects of every kernel are sound.
         ensures sound { IsSound (state self.old) × IsSound (state self.new) }
     {
-        self.carry_out(alloc, thread, call, Reading::Copied)
-    }
-
-    // The one door to the trace: makes room in it, has the call decided, and writes its entry.
-    #[inline(always)]
-    fn carry_out(
-        &mut self,
-        alloc: Global,
-        thread: ObjId,
-        call: RawCall,
-        reading: Reading,
-    ) -> Result<Answer, Refusal>
-        ensures answered { Answered self.old self.new thread call result
-            (IsRightAnswer reading (state self.old) thread call) }
-        ensures sound { IsSound (state self.old) × IsSound (state self.new) }
-    {
-        self.trace.reserve(1)?;
-        let answer = decide(&mut self.objects, alloc, thread, &call, reading);
-        log(&mut self.trace, self.line, thread, call, &answer);
-        answer
+        self.trace.make_room()?;
+        let answer = decide(&mut self.objects, alloc, thread, &call);
+        self.trace.record(thread, call, answer)
     }
 
     /// Makes a category. The thread owns it from then on, and may give anyone level 3 there.
@@ -128,16 +114,18 @@ impl<S: LabelStore + Drop> Kernel<S> {
         ensures { Answered self.old self.new thread calls.MakeCategory result
             (λ category. category ≡ self.old.kept.next_category) }
     {
-        let answer = self.call(self.alloc, thread, RawCall::MakeCategory)?;
-        Ok(answer.into_category())
+        self.trace.make_room()?;
+        let answer = make_category(&mut self.objects, thread);
+        self.trace.record(thread, RawCall::MakeCategory, answer)
     }
 
     /// The thread's own label and clearance.
     pub fn own_label(&mut self, thread: ObjId) -> Result<(Label, Label), Refusal>
         ensures { Answered self.old self.new thread calls.OwnLabel result (AreLabelsOf self.old.kept thread) }
     {
-        let answer = self.call(self.alloc, thread, RawCall::OwnLabel)?;
-        Ok(answer.into_own_label())
+        self.trace.make_room()?;
+        let answer = own_label(&self.objects, thread);
+        self.trace.record(thread, RawCall::OwnLabel, answer)
     }
 
     /// Gives the thread another label, which lies between its own label and its clearance.
@@ -145,8 +133,9 @@ impl<S: LabelStore + Drop> Kernel<S> {
         ensures { Answered self.old self.new thread (calls.SetLabel label) result (λ _. Unit {0}) }
     {
         let label = HandedLabel::new(self.alloc, label)?;
-        self.call(self.alloc, thread, RawCall::SetLabel(label))?;
-        Ok(())
+        self.trace.make_room()?;
+        let answer = set_label(&mut self.objects, thread, &label);
+        self.trace.record(thread, RawCall::SetLabel(label), answer)
     }
 
     /// Gives the thread another clearance, which is above its own label, and above its old clearance
@@ -155,8 +144,10 @@ impl<S: LabelStore + Drop> Kernel<S> {
         ensures { Answered self.old self.new thread (calls.SetClearance clearance) result (λ _. Unit {0}) }
     {
         let clearance = HandedLabel::new(self.alloc, clearance)?;
-        self.call(self.alloc, thread, RawCall::SetClearance(clearance))?;
-        Ok(())
+        self.trace.make_room()?;
+        let answer = set_clearance(&mut self.objects, thread, &clearance);
+        self.trace
+            .record(thread, RawCall::SetClearance(clearance), answer)
     }
 
     /// Makes a segment in a container, and answers its number.
@@ -172,8 +163,13 @@ impl<S: LabelStore + Drop> Kernel<S> {
             (IsNextNumber self.old.kept) }
     {
         let label = HandedLabel::new(alloc, label)?;
-        let call = RawCall::MakeSegment(container, label, bytes);
-        Ok(self.call(alloc, thread, call)?.into_object())
+        self.trace.make_room()?;
+        let answer = make_segment(&mut self.objects, alloc, thread, container, &label, &bytes);
+        self.trace.record(
+            thread,
+            RawCall::MakeSegment(container, label, bytes),
+            answer,
+        )
     }
 
     /// Makes a container in a container, and answers its number.
@@ -188,8 +184,10 @@ impl<S: LabelStore + Drop> Kernel<S> {
             (IsNextNumber self.old.kept) }
     {
         let label = HandedLabel::new(alloc, label)?;
-        let call = RawCall::MakeContainer(container, label);
-        Ok(self.call(alloc, thread, call)?.into_object())
+        self.trace.make_room()?;
+        let answer = make_container(&mut self.objects, alloc, thread, container, &label);
+        self.trace
+            .record(thread, RawCall::MakeContainer(container, label), answer)
     }
 
     /// Makes a thread in a container, and answers its number. The new thread owns no more than its
@@ -204,10 +202,11 @@ impl<S: LabelStore + Drop> Kernel<S> {
         ensures { Answered self.old self.new thread (calls.MakeThread container label clearance)
             result (IsNextNumber self.old.kept) }
     {
-        let label = HandedLabel::new(self.alloc, label)?;
-        let clearance = HandedLabel::new(self.alloc, clearance)?;
+        let (label, clearance) = HandedLabel::pair(self.alloc, label, clearance)?;
+        self.trace.make_room()?;
+        let answer = make_thread(&mut self.objects, thread, container, &label, &clearance);
         let call = RawCall::MakeThread(container, label, clearance);
-        Ok(self.call(self.alloc, thread, call)?.into_object())
+        self.trace.record(thread, call, answer)
     }
 
     /// Makes a gate in a container, and answers its number. The gate gives its label to who enters it,
@@ -223,10 +222,18 @@ impl<S: LabelStore + Drop> Kernel<S> {
         ensures { Answered self.old self.new thread (calls.MakeGate container label clearance entry)
             result (IsNextNumber self.old.kept) }
     {
-        let label = HandedLabel::new(self.alloc, label)?;
-        let clearance = HandedLabel::new(self.alloc, clearance)?;
+        let (label, clearance) = HandedLabel::pair(self.alloc, label, clearance)?;
+        self.trace.make_room()?;
+        let answer = make_gate(
+            &mut self.objects,
+            thread,
+            container,
+            &label,
+            &clearance,
+            entry,
+        );
         let call = RawCall::MakeGate(container, label, clearance, entry);
-        Ok(self.call(self.alloc, thread, call)?.into_object())
+        self.trace.record(thread, call, answer)
     }
 
     /// Enters a gate that a container links: the thread gets the label and the clearance that it wants,
@@ -238,16 +245,25 @@ impl<S: LabelStore + Drop> Kernel<S> {
         gate: ObjId,
         wanted: Label,
         clearance: Label,
-        shown: Label,
+        verify: Label,
     ) -> Result<Entry, Refusal>
         ensures { Answered self.old self.new thread
-            (calls.Enter container gate wanted clearance shown) result (IsEntryOf self.old.kept gate) }
+            (calls.Enter container gate wanted clearance verify) result (IsEntryOf self.old.kept gate) }
     {
-        let wanted = HandedLabel::new(self.alloc, wanted)?;
-        let clearance = HandedLabel::new(self.alloc, clearance)?;
-        let shown = HandedLabel::new(self.alloc, shown)?;
-        let call = RawCall::Enter(container, gate, wanted, clearance, shown);
-        Ok(self.call(self.alloc, thread, call)?.into_entry())
+        let (wanted, clearance) = HandedLabel::pair(self.alloc, wanted, clearance)?;
+        let verify = HandedLabel::new(self.alloc, verify)?;
+        self.trace.make_room()?;
+        let answer = enter(
+            &mut self.objects,
+            thread,
+            container,
+            gate,
+            &wanted,
+            &clearance,
+            &verify,
+        );
+        let call = RawCall::Enter(container, gate, wanted, clearance, verify);
+        self.trace.record(thread, call, answer)
     }
 
     /// The bytes of a segment that the container links, lent by the kernel, which is free again when they
@@ -261,9 +277,18 @@ impl<S: LabelStore + Drop> Kernel<S> {
         ensures* { sem 𝓛 (EndsAs (the_row S.row S.Id.row S.LabelStore S.Id.PartialEq) self.entry
             (ReadsLent self.old thread container segment result)) }
     {
-        let call = RawCall::Read(container, segment);
-        self.carry_out(self.alloc, thread, call, Reading::Lent)?;
+        self.make_read(thread, container, segment)?;
         Ok(self.bytes(segment))
+    }
+
+    // Makes a read that answers no bytes: they are lent once it is recorded.
+    fn make_read(&mut self, thread: ObjId, container: ObjId, segment: ObjId) -> Result<(), Refusal>
+        ensures { Answered self.old self.new thread (calls.Read container segment) result (λ _. Unit {0}) }
+    {
+        self.trace.make_room()?;
+        let answer = check_read(&mut self.objects, thread, container, segment);
+        self.trace
+            .record(thread, RawCall::Read(container, segment), answer)
     }
 
     /// The bytes of a segment, and none of anything else. This is no raw call, and leaves no entry: the
@@ -331,8 +356,10 @@ impl<S: LabelStore + Drop> Kernel<S> {
         ensures { Answered self.old self.new thread (calls.Read container segment) result
             (AreBytesOf self.old.kept segment) }
     {
-        let call = RawCall::Read(container, segment);
-        Ok(self.call(alloc, thread, call)?.into_bytes())
+        self.trace.make_room()?;
+        let answer = read(&mut self.objects, alloc, thread, container, segment);
+        self.trace
+            .record(thread, RawCall::Read(container, segment), answer)
     }
 
     /// Keeps at most so many bytes of a segment that the container links, and puts these behind them.
@@ -347,9 +374,21 @@ impl<S: LabelStore + Drop> Kernel<S> {
     ) -> Result<(), Refusal>
         ensures { Answered self.old self.new thread (calls.Write container segment keep bytes) result (λ _. Unit {0}) }
     {
-        let call = RawCall::Write(container, segment, keep, bytes);
-        self.call(alloc, thread, call)?;
-        Ok(())
+        self.trace.make_room()?;
+        let answer = write(
+            &mut self.objects,
+            alloc,
+            thread,
+            container,
+            segment,
+            keep,
+            &bytes,
+        );
+        self.trace.record(
+            thread,
+            RawCall::Write(container, segment, keep, bytes),
+            answer,
+        )
     }
 
     /// Takes an object that the container links away, with all that hangs below it, its threads too.
@@ -362,8 +401,10 @@ impl<S: LabelStore + Drop> Kernel<S> {
     ) -> Result<(), Refusal>
         ensures { Answered self.old self.new thread (calls.Unlink container object) result (λ _. Unit {0}) }
     {
-        self.call(alloc, thread, RawCall::Unlink(container, object))?;
-        Ok(())
+        self.trace.make_room()?;
+        let answer = unlink(&mut self.objects, alloc, thread, container, object);
+        self.trace
+            .record(thread, RawCall::Unlink(container, object), answer)
     }
 
     /// The label of an object that the container links and that is no thread.
@@ -376,7 +417,9 @@ impl<S: LabelStore + Drop> Kernel<S> {
         ensures { Answered self.old self.new thread (calls.LabelOf container object) result
             (IsLabelOf self.old.kept object) }
     {
-        let call = RawCall::LabelOf(container, object);
-        Ok(self.call(self.alloc, thread, call)?.into_label())
+        self.trace.make_room()?;
+        let answer = label_of(&mut self.objects, thread, container, object);
+        self.trace
+            .record(thread, RawCall::LabelOf(container, object), answer)
     }
 }

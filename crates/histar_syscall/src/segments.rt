@@ -1,14 +1,11 @@
 //! The raw calls on segments.
-ghost use Rattle.histar_container.specs.ObjectsModel.{state_of};
-ghost use Rattle.histar_rules.specs.Rules.{Decides, IsNextNumber};
+ghost use Rattle.histar_rules.specs.Rules.{Decides, AreBytesOf, IsNextNumber};
 ghost use Rattle.histar_rules.specs.declared.raw.RawCall.TheVariants as calls;
-ghost use Rattle.histar_syscall.specs.Answers.{IsRightAnswer};
 
-use crate::answers::{Answer, Reading};
 use histar_base::Bytes;
-use histar_label::{Label, LabelStore};
+use histar_label::LabelStore;
 use histar_object::{Kind, ObjId};
-use histar_rules::{LabelledObjects, Refusal};
+use histar_rules::{HandedLabel, LabelledObjects, Refusal};
 use std::alloc::Global;
 
 /// Makes a segment in a container, and answers its number.
@@ -17,12 +14,13 @@ pub fn make_segment<S: LabelStore + Drop>(
     alloc: Global,
     thread: ObjId,
     container: ObjId,
-    label: &Label,
+    label: &HandedLabel,
     bytes: &Bytes,
 ) -> Result<ObjId, Refusal>
     ensures { Decides objects.old objects.new thread
         (calls.MakeSegment container label.now bytes.now) result (IsNextNumber objects.old) }
 {
+    let label = label.label();
     objects.check_new(thread, container, label, bytes.len())?;
     let number = objects.next_object();
     let content = bytes.copy(alloc)?;
@@ -30,26 +28,30 @@ pub fn make_segment<S: LabelStore + Drop>(
     Ok(number)
 }
 
-/// Reads a segment that the container links: its bytes are copied, or lent after the call.
-#[inline(always)]
+/// Checks a read of a segment that the container links, whose bytes are lent after it.
+pub fn check_read<S: LabelStore + Drop>(
+    objects: &mut LabelledObjects<S>,
+    thread: ObjId,
+    container: ObjId,
+    segment: ObjId,
+) -> Result<(), Refusal>
+    ensures { Decides objects.old objects.new thread (calls.Read container segment) result (λ _. Unit {0}) }
+{
+    Ok(objects.check_read(thread, container, segment)?)
+}
+
+/// Reads a segment that the container links, and answers a copy of its bytes.
 pub fn read<S: LabelStore + Drop>(
     objects: &mut LabelledObjects<S>,
     alloc: Global,
     thread: ObjId,
     container: ObjId,
     segment: ObjId,
-    reading: Reading,
-) -> Result<Answer, Refusal>
+) -> Result<Bytes, Refusal>
     ensures { Decides objects.old objects.new thread (calls.Read container segment) result
-        (IsRightAnswer reading (state_of objects.old) thread (calls.Read container segment)) }
+        (AreBytesOf objects.old segment) }
 {
-    match reading {
-        Reading::Copied => Ok(Answer::Bytes(objects.read(alloc, thread, container, segment)?)),
-        Reading::Lent => {
-            objects.check_read(thread, container, segment)?;
-            Ok(Answer::Done)
-        }
-    }
+    objects.read(alloc, thread, container, segment)
 }
 
 /// Keeps at most so many bytes of a segment that the container links, and puts these behind them.

@@ -1,11 +1,11 @@
 //! The trace of raw calls.
-ghost use Rattle.std.specs.Prelude.{◌≡◌, ◌<◌};
+ghost use Rattle.std.specs.Prelude.{◌≡◌, ◌<◌, [], OnOk};
 ghost use Rattle.std.specs.Vec.{vec_len, vec_capacity};
 ghost use Rattle.histar_syscall.specs.KernelModel.{logged};
 
-use crate::answers::Answer;
 use histar_object::ObjId;
 use histar_rules::{Denied, RawCall, Refusal};
+use std::alloc::{AllocError, Global};
 
 /// One raw call in the trace: on which line, by which thread, and why it was refused, if it was.
 #[derive(Drop)]
@@ -16,29 +16,61 @@ pub struct TraceEntry {
     pub denied: Option<Denied>,
 }
 
-/// Adds the entry of a call to the trace, which has room. A call that found no memory has none.
-#[inline(always)]
-pub(crate) fn log(
-    trace: &mut Vec<TraceEntry>,
-    line: u32,
-    thread: ObjId,
-    call: RawCall,
-    answer: &Result<Answer, Refusal>,
-)
-    requires { vec_len trace.old < vec_capacity trace.old }
-    ensures { trace.new.items ≡ logged trace.old.items line thread call answer.now }
-{
-    let denied = match answer {
-        Ok(_) => None,
-        Err(refusal) => match refusal {
-            Refusal::Denied(denied) => Some(*denied),
-            Refusal::OutOfMemory => return,
-        },
-    };
-    trace.push_reserved(TraceEntry {
-        line,
-        thread,
-        call,
-        denied,
-    });
+/// The one door to the trace: the entries of the calls so far, and the line of the next ones. A call
+/// makes room here before it is decided, and has its outcome recorded after.
+#[derive(Drop)]
+pub(crate) struct Trace {
+    pub(crate) line: u32,
+    pub(crate) entries: Vec<TraceEntry>,
+}
+
+impl Trace {
+    /// Makes a trace of no calls, on line 0.
+    pub(crate) fn new(alloc: Global) -> Trace
+        ensures line { result.line ≡ 0 }
+        ensures entries { result.entries.items ≡ [] }
+    {
+        Trace {
+            line: 0,
+            entries: Vec::new(alloc),
+        }
+    }
+
+    /// Makes room for the entry of a call.
+    pub(crate) fn make_room(&mut self) -> Result<(), AllocError>
+        ensures line { self.new.line ≡ self.old.line }
+        ensures entries { self.new.entries.items ≡ self.old.entries.items }
+        ensures room { OnOk result (vec_len self.new.entries < vec_capacity self.new.entries) }
+    {
+        self.entries.reserve(1)
+    }
+
+    /// Writes the entry of a call with its outcome, which is handed on. A call that found no memory has
+    /// no entry.
+    // Inlined, so that the call is moved once, into its entry.
+    #[inline(always)]
+    pub(crate) fn record<A>(
+        &mut self,
+        thread: ObjId,
+        call: RawCall,
+        outcome: Result<A, Refusal>,
+    ) -> Result<A, Refusal>
+        requires { vec_len self.old.entries < vec_capacity self.old.entries }
+        ensures outcome { result ≡ outcome }
+        ensures line { self.new.line ≡ self.old.line }
+        ensures entries { self.new.entries.items ≡ logged self.old.entries.items self.old.line thread call outcome }
+    {
+        let denied = match &outcome {
+            Ok(_) => None,
+            Err(Refusal::Denied(denied)) => Some(*denied),
+            Err(Refusal::OutOfMemory) => return outcome,
+        };
+        self.entries.push_reserved(TraceEntry {
+            line: self.line,
+            thread,
+            call,
+            denied,
+        });
+        outcome
+    }
 }

@@ -5,8 +5,8 @@ ghost use Rattle.histar_label.specs.Levels.{is_below, is_below_join_raised};
 use histar_label::Label;
 
 /// Whether a clearance is above a thread's own label, and above its clearance only where it owns.
-pub(crate) fn may_clear(own: &Label, most: &Label, clearance: &Label) -> bool
-    ensures { result ≡ (is_below own.now clearance.now && is_below_join_raised clearance.now most.now own.now) }
+pub(crate) fn may_clear(own: &Label, own_clearance: &Label, clearance: &Label) -> bool
+    ensures { result ≡ (is_below own.now clearance.now && is_below_join_raised clearance.now own_clearance.now own.now) }
 {
-    own.below(clearance) && clearance.below_join_raised(most, own)
+    own.below(clearance) && clearance.below_join_raised(own_clearance, own)
 }

@@ -8,7 +8,7 @@ ghost use Rattle.histar_rules.specs.declared.raw.RawCall.TheVariants as calls;
 use crate::ranges::may_clear;
 use histar_label::{Category, Label, LabelStore, Level};
 use histar_object::{Kind, ObjId};
-use histar_rules::{Denied, LabelledObjects, Refusal, in_range, require};
+use histar_rules::{Denied, HandedLabel, LabelledObjects, Refusal, in_range, require};
 
 /// The thread's own label and clearance.
 pub fn own_label<S: LabelStore + Drop>(
@@ -65,10 +65,10 @@ fn check_set_label<S: LabelStore + Drop>(
 ) -> Result<(), Denied>
     ensures { FailsAt (check (state_of objects.now) thread (calls.SetLabel label.now)) result }
 {
-    let Some((own, most)) = objects.own(thread) else {
+    let Some((own, own_clearance)) = objects.own(thread) else {
         return Err(Denied::NoThread);
     };
-    require(in_range(own, most, label), Denied::Range)?;
+    require(in_range(own, own_clearance, label), Denied::Range)?;
     require(
         label.names_only_made(objects.next_category()),
         Denied::Range,
@@ -80,10 +80,11 @@ fn check_set_label<S: LabelStore + Drop>(
 pub fn set_label<S: LabelStore + Drop>(
     objects: &mut LabelledObjects<S>,
     thread: ObjId,
-    label: &Label,
+    label: &HandedLabel,
 ) -> Result<(), Refusal>
     ensures { Decides objects.old objects.new thread (calls.SetLabel label.now) result (λ _. Unit {0}) }
 {
+    let label = label.label();
     check_set_label(objects, thread, label)?;
     objects.set_label(thread, label.copy()?)?;
     Ok(())
@@ -97,10 +98,10 @@ fn check_set_clearance<S: LabelStore + Drop>(
 ) -> Result<(), Denied>
     ensures { FailsAt (check (state_of objects.now) thread (calls.SetClearance clearance.now)) result }
 {
-    let Some((own, most)) = objects.own(thread) else {
+    let Some((own, own_clearance)) = objects.own(thread) else {
         return Err(Denied::NoThread);
     };
-    require(may_clear(own, most, clearance), Denied::Range)?;
+    require(may_clear(own, own_clearance, clearance), Denied::Range)?;
     require(
         clearance.names_only_made(objects.next_category()),
         Denied::Range,
@@ -112,10 +113,11 @@ fn check_set_clearance<S: LabelStore + Drop>(
 pub fn set_clearance<S: LabelStore + Drop>(
     objects: &mut LabelledObjects<S>,
     thread: ObjId,
-    clearance: &Label,
+    clearance: &HandedLabel,
 ) -> Result<(), Refusal>
     ensures { Decides objects.old objects.new thread (calls.SetClearance clearance.now) result (λ _. Unit {0}) }
 {
+    let clearance = clearance.label();
     check_set_clearance(objects, thread, clearance)?;
     objects.set_clearance(thread, clearance.copy()?)?;
     Ok(())
@@ -127,15 +129,17 @@ pub fn make_thread<S: LabelStore + Drop>(
     objects: &mut LabelledObjects<S>,
     thread: ObjId,
     container: ObjId,
-    label: &Label,
-    clearance: &Label,
+    label: &HandedLabel,
+    clearance: &HandedLabel,
 ) -> Result<ObjId, Refusal>
     ensures { Decides objects.old objects.new thread
         (calls.MakeThread container label.now clearance.now) result (IsNextNumber objects.old) }
 {
+    let label = label.label();
+    let clearance = clearance.label();
     objects.check_new_owner(thread, container, label, clearance)?;
     let number = objects.next_object();
-    let most = clearance.copy()?;
-    objects.add(container, label.copy()?, Kind::Thread(most))?;
+    let clearance = clearance.copy()?;
+    objects.add(container, label.copy()?, Kind::Thread(clearance))?;
     Ok(number)
 }

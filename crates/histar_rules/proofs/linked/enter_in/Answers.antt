@@ -40,7 +40,7 @@ returns-in_err-check_opening-clause-answer g c =
     let gate = c.in_ok-gate_label in
     let same = c.in_ok-found.ensures.unchanged in
     subst (λ (f : Option Denied). FailsAt f c.from_residual-in_err-check_opening.result) (sym
-    (enter_found (g.S.LabelStore.labels c.args.store.now) c.args.table.now c.args.thread c.args.container c.args.gate c.in_ok-found.ensures.answer found.own found.own_clearance c.in_ok-found.ensures.thread c.args.next c.args.wanted.now c.args.clearance.now c.args.shown.now gate.gate_label gate.gate_clearance gate.entry
+    (enter_found (g.S.LabelStore.labels c.args.store.now) c.args.table.now c.args.thread c.args.container c.args.gate c.in_ok-found.ensures.answer found.own found.own_clearance c.in_ok-found.ensures.thread c.args.next c.args.wanted.now c.args.clearance.now c.args.verify.now gate.gate_label gate.gate_clearance gate.entry
     c.labels_in.result.0.now c.labels_in.result.1.now c.labels_in-2.result.0.now c.labels_in-2.result.1.now gate.ensures.found
     (c.labels_in.ensures.first ∙ ap (λ (labels : g.row.S-Id.Denot → Option Levels). label_at labels found.own) same)
     (c.labels_in.ensures.second ∙ ap (λ (labels : g.row.S-Id.Denot → Option Levels). label_at labels found.own_clearance) same)
@@ -53,7 +53,7 @@ returns-clause-answer g c =
     let found = c.in_ok-found.found in
     let gate = c.in_ok-gate_label in
     let same = c.in_ok-found.ensures.unchanged in
-    enter_found (g.S.LabelStore.labels c.args.store.now) c.args.table.now c.args.thread c.args.container c.args.gate c.in_ok-found.ensures.answer found.own found.own_clearance c.in_ok-found.ensures.thread c.args.next c.args.wanted.now c.args.clearance.now c.args.shown.now gate.gate_label gate.gate_clearance gate.entry
+    enter_found (g.S.LabelStore.labels c.args.store.now) c.args.table.now c.args.thread c.args.container c.args.gate c.in_ok-found.ensures.answer found.own found.own_clearance c.in_ok-found.ensures.thread c.args.next c.args.wanted.now c.args.clearance.now c.args.verify.now gate.gate_label gate.gate_clearance gate.entry
     c.labels_in.result.0.now c.labels_in.result.1.now c.labels_in-2.result.0.now c.labels_in-2.result.1.now gate.ensures.found
     (c.labels_in.ensures.first ∙ ap (λ (labels : g.row.S-Id.Denot → Option Levels). label_at labels found.own) same)
     (c.labels_in.ensures.second ∙ ap (λ (labels : g.row.S-Id.Denot → Option Levels). label_at labels found.own_clearance) same)
