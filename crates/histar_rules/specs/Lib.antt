@@ -1,5 +1,6 @@
 pub mod Finds
 pub mod Kinds
+pub mod RawAnswers
 pub mod Rights
 pub mod Rules
 pub mod Sound

@@ -5,6 +5,7 @@ use Rattle.histar_object.specs.Objects.{label_there, clearance_there, bytes_in, 
 use Rattle.histar_object.specs.State.{State}
 use Rattle.histar_rules.specs.declared.raw.RawCall.{RawCall}
 use Rattle.histar_rules.specs.declared.raw.RawCall.TheVariants.{MakeCategory, OwnLabel, SetLabel, SetClearance, MakeSegment, MakeContainer, MakeThread, MakeGate, Enter, Read, Write, Unlink, LabelOf}
+use Rattle.histar_rules.specs.RawAnswers.{AnswerOf}
 use Rattle.histar_syscall.specs.declared.answers.Answer.{Answer}
 use Rattle.histar_syscall.specs.declared.answers.Answer.TheVariants as answers
 
@@ -30,3 +31,19 @@ raw_answer s t (Read d o) = Some (answers.Bytes (bytes_in (s.objects o)))
 raw_answer s t (Write d o keep bytes) = Some answers.Done
 raw_answer s t (Unlink d o) = Some answers.Done
 raw_answer s t (LabelOf d o) = option_map answers.Label (label_there (s.objects o))
+
+-- an answer of the call's own type, as a value of the one type that all raw calls answer
+abbrev pub answer_value : (call : RawCall) → AnswerOf call → Answer
+answer_value MakeCategory category = answers.Category category
+answer_value OwnLabel own = answers.OwnLabel own.0 own.1
+answer_value (SetLabel label) done = answers.Done
+answer_value (SetClearance clearance) done = answers.Done
+answer_value (MakeSegment d label bytes) number = answers.Object number
+answer_value (MakeContainer d label) number = answers.Object number
+answer_value (MakeThread d label clearance) number = answers.Object number
+answer_value (MakeGate d label clearance entry) number = answers.Object number
+answer_value (Enter d o wanted clearance verify) entry = answers.Entry entry
+answer_value (Read d o) bytes = answers.Bytes bytes
+answer_value (Write d o keep bytes) done = answers.Done
+answer_value (Unlink d o) done = answers.Done
+answer_value (LabelOf d o) label = answers.Label label

@@ -7,6 +7,7 @@ pub use Rattle.histar_rules.specs.Rights
 pub use Rattle.histar_object.specs.State
 pub use Rattle.histar_container.specs.ObjectsModel
 pub use Rattle.histar_container.specs.Tree
+pub use Rattle.histar_rules.specs.RawAnswers
 pub use Rattle.histar_rules.specs.Rules
 pub use Rattle.histar_rules.specs.Sound
 pub use Rattle.histar_rules.specs.Visible

@@ -1,0 +1,5 @@
+use Rattle.histar_syscall.proofs.Agreeing.{answers_agree}
+use Rattle.histar_syscall.proofs.answer_laws.answers_agree.Goals as goal
+
+pub returns : goal.returns
+returns c = answers_agree
