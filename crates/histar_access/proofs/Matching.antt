@@ -24,7 +24,7 @@ use Rattle.histar_layout.specs.Listing.{object_of}
 use Rattle.histar_refinement.specs.Guards.{Guard, guard_label}
 use Rattle.histar_refinement.specs.NumberedClasses.{numbered_class}
 use Rattle.histar_refinement.specs.Labels.{class_guard}
-use Rattle.histar_refinement.specs.LaysOut.{Laid}
+use Rattle.histar_refinement.specs.Represents.{ObjectsMatch}
 use Rattle.histar_refinement.specs.Sessions.{IsSession}
 use Rattle.histar_refinement.specs.Stands.{bare, kind_bare}
 use Rattle.histar_refinement.proofs.ClassFound.{label_of_class}
@@ -89,7 +89,7 @@ with_label None label e = absurd (none-some label e)
 with_label (Some o) label e =
     (kind_bare o.kind, ap (λ (k : Levels). Some (record { label = k; kind = kind_bare o.kind })) (same_Some o.label label e))
 
-module _ (session : Session) (s : State) (f : Flat) (l : Laid session s f) (ok : IsSession session) where
+module _ (session : Session) (s : State) (f : Flat) (l : ObjectsMatch session s f) (ok : IsSession session) where
   -- a node of the tree and what the flat state has there: the same is shown, and labels allow each process what the flat rules do
   pub record IsMatch (node : TreeNode) (e : Path × Node) : Type 0 where
     pub path : node.path ≡ e.0

@@ -95,7 +95,7 @@ module _ (at : Option ℕ) where
 
   -- ---- a machine after the calls
 
-  -- a machine that was booted for a script and made its calls lays out the flat state after them
+  -- a machine that was booted for a script and made its calls represents the flat state after them
   pub machine_of : (text : List ℕ) (script : Reading) → script_of text ≡ Ok script → (start end : MachineModel) → ShowsStart script.session start
       → ShowsAfter start end (calls_before at script.calls) → IsMachineOf at text end
   machine_of text script given start end starts after = record {
@@ -106,7 +106,7 @@ module _ (at : Option ℕ) where
   }
 
   module _ (text : List ℕ) (end : MachineModel) (is : IsMachineOf at text end) where
-    -- so it lays out some flat state
+    -- so it represents some flat state
     pub is_shown : IsShown end
     is_shown = (is.script.session, state_before at is.script, is.shows, is.named)
 

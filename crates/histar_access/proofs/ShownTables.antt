@@ -1,4 +1,4 @@
--- The lines that are read off a machine that lays out a flat state are the table of that.
+-- The lines that are read off a machine that represents a flat state are the table of that.
 use Rattle.std.specs.Prelude.{◌≡◌, ℕ, suc, ◌≤◌, true, List, [], ◌∷◌, length, map, Option, None, Some, refl}
 use Rattle.std.specs.List.{filter_map}
 use Rattle.std.proofs.Common.{ap, sym, ◌∙◌, subst, arith}
@@ -14,7 +14,7 @@ use Rattle.histar_syscall.specs.KernelModel.{state}
 use Rattle.histar_layout.specs.declared.entry.Target.TheVariants.{Directory}
 use Rattle.histar_calls.specs.declared.places.Places.{Places}
 use Rattle.histar_login.specs.Start.{places_of}
-use Rattle.histar_refinement.specs.LaysOut.{Laid}
+use Rattle.histar_refinement.specs.Represents.{ObjectsMatch}
 use Rattle.histar_refinement.specs.Sessions.{IsSession}
 use Rattle.histar_refinement.proofs.Standing.{parent_is_dir, root_is_dir}
 use Rattle.histar_rights.specs.Rights.{rights_below}
@@ -51,7 +51,7 @@ use Rattle.histar_access.proofs.Tables.{flat_below, lines_matched, map_twice, st
 use Rattle.histar_access.proofs.Visiting.{Visitor, cell_by, cells_are, filter_map_map, named_are, named_by, named_of, running_listed}
 use Rattle.histar_access.proofs.Visiting.{start_cell, visitors}
 
-module _ (session : Session) (s : State) (f : Flat) (l : Laid session s f) where
+module _ (session : Session) (s : State) (f : Flat) (l : ObjectsMatch session s f) where
   -- the paths are a tree
   pub are_tree : IsTree f
   are_tree = record {
@@ -122,15 +122,15 @@ module _ (session : Session) (m : MachineModel) (f : Flat) (shows : Shows sessio
   abbrev s : State
   s = state m.kernel
 
-  abbrev l : Laid session s f
-  l = shows.lays_out.laid
+  abbrev l : ObjectsMatch session s f
+  l = shows.represents.laid
 
   abbrev ok : IsSession session
   ok = is_session session shows.declared
 
   -- the tree and the processes of the flat state
   has_tree : HasTreeOf session s f l.category
-  has_tree = flat_states_have_their_trees session s f shows.lays_out shows.shallow
+  has_tree = flat_states_have_their_trees session s f shows.represents shows.shallow
 
   tree_here : IsTreeIn m has_tree.tree
   tree_here =
@@ -143,7 +143,7 @@ module _ (session : Session) (m : MachineModel) (f : Flat) (shows : Shows sessio
   tree_there = (has_tree.tree, tree_here)
 
   has_processes : HasProcessesOf session s f l.category
-  has_processes = flat_states_have_their_processes session s f shows.lays_out named
+  has_processes = flat_states_have_their_processes session s f shows.represents named
 
   -- and processes
   pub processes_there : HasProcesses m

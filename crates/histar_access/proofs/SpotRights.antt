@@ -1,4 +1,4 @@
--- The rights that are found on the way to a path are those of the flat state that is laid out.
+-- The rights that are found on the way to a path are those of the flat state that is represented.
 use Rattle.std.specs.Prelude.{◌≡◌, ℕ, false, is_some, [], ◌∷◌, length, Option, None, Some, MatchOption, option_and_then, option_map, refl}
 use Rattle.std.proofs.Common.{ap, inl, sym, ◌∙◌, subst}
 use Rattle.std.proofs.lemmas.Bool.{true≢false}
@@ -26,7 +26,7 @@ use Rattle.histar_login.specs.Start.{places_of}
 use Rattle.histar_refinement.specs.Addresses.{address_of}
 use Rattle.histar_refinement.specs.Addresses.Step.{Listing, Slash}
 use Rattle.histar_refinement.specs.Directories.{directory_of, target_for}
-use Rattle.histar_refinement.specs.LaysOut.{Laid}
+use Rattle.histar_refinement.specs.Represents.{ObjectsMatch}
 use Rattle.histar_refinement.specs.Lines.{IsDirectoryAt}
 use Rattle.histar_refinement.specs.Sessions.{IsSession}
 use Rattle.histar_refinement.proofs.CallerFound.{callers_are_found, callers_are_there}
@@ -80,7 +80,7 @@ module _ (session : Session) (s : State) where
         lists.2 ∙ ap (λ (t : Target). Some t) (sym (ap (λ (x : Spot). x.target) is.4) ∙ at),
       )
 
-  module _ (f : Flat) (l : Laid session s f) where
+  module _ (f : Flat) (l : ObjectsMatch session s f) where
     -- what leads to what stands at a path has its number
     number_led : (q : Path) (class : Class) (content : Content) (target : Target)
         → target_for l.naming.number (q, record { class = class; content = content }) ≡ Some target
@@ -186,7 +186,7 @@ module _ (m : MachineModel) (q : Path) (me : ProcName) where
   -- who isn't found doesn't run
   pub not_running : visitor_at s m.places me ≡ None → AreRightsOf m q me no_rights
   not_running none session f shows =
-      let l = shows.lays_out.laid in
+      let l = shows.represents.laid in
       let there = callers_are_there session s f l me in
       let lost : is_some (caller_at s (places session s).home me) ≡ is_some (visitor_at s (places session s) me) =
       same_there (caller_at s (places session s).home me) in
@@ -207,7 +207,7 @@ module _ (m : MachineModel) (q : Path) (me : ProcName) where
     unfolding FindsSpot
     nowhere none session f shows =
         let lost : LeadsNowhere s (places session s) q = subst (λ (p : Places). LeadsNowhere s p q) shows.places none in
-        by session f (get f.files q) refl (flat_states_are_resolved session s f shows.lays_out q) lost
+        by session f (get f.files q) refl (flat_states_are_resolved session s f shows.represents q) lost
       where
         by : (session : Session) (f : Flat) (o : Option Node) → get f.files q ≡ o
             → MatchOption o (LeadsNowhere s (places session s) q) (LeadsToNode s (places session s) q) → LeadsNowhere s (places session s) q
@@ -218,21 +218,21 @@ module _ (m : MachineModel) (q : Path) (me : ProcName) where
     -- at one that leads somewhere the rights are those of its spot
     pub spot_rights : (spot : Spot) → FindsSpot s m.places start q (Some spot) → AreRightsOf m q me spot.cell.rights
     unfolding FindsSpot
-    spot_rights spot reached session f shows = by (get f.files q) refl (flat_states_are_resolved session s f shows.lays_out q)
+    spot_rights spot reached session f shows = by (get f.files q) refl (flat_states_are_resolved session s f shows.represents q)
       where
-        found_so : FoundAs session s f shows.lays_out.laid me start
-        found_so = found_as session s f shows.lays_out.laid me start (ap (λ (p : Places). visitor_at s p me) (sym shows.places) ∙ found)
+        found_so : FoundAs session s f shows.represents.laid me start
+        found_so = found_as session s f shows.represents.laid me start (ap (λ (p : Places). visitor_at s p me) (sym shows.places) ∙ found)
 
-        led : Reaches s (places session s) (start_cell session s f shows.lays_out.laid found_so.visitor) q spot
-        led = subst (λ (p : Places). Reaches s p (start_cell session s f shows.lays_out.laid found_so.visitor) q spot) shows.places
+        led : Reaches s (places session s) (start_cell session s f shows.represents.laid found_so.visitor) q spot
+        led = subst (λ (p : Places). Reaches s p (start_cell session s f shows.represents.laid found_so.visitor) q spot) shows.places
             (subst (λ (c : Cell). Reaches s m.places c q spot) (sym found_so.cell) reached)
 
         by : (o : Option Node) → get f.files q ≡ o → MatchOption o (LeadsNowhere s (places session s) q) (LeadsToNode s (places session s) q)
             → spot.cell.rights ≡ rights_if session f q me (get f.files q) (running f me)
         by None e none =
-            absurd (none spot.target (leads_there s (places session s) (start_cell session s f shows.lays_out.laid found_so.visitor) q spot led))
+            absurd (none spot.target (leads_there s (places session s) (start_cell session s f shows.represents.laid found_so.visitor) q spot led))
         by (Some node) e resolved =
-            let there = rights_reached session s f shows.lays_out.laid (few_bytes f shows.small) (is_session session shows.declared) found_so.visitor q spot led node e in
-            let runs = runs_there session s f shows.lays_out.laid found_so.visitor.name found_so.visitor.process found_so.visitor.runs.0 found_so.visitor.runs.1 in
+            let there = rights_reached session s f shows.represents.laid (few_bytes f shows.small) (is_session session shows.declared) found_so.visitor q spot led node e in
+            let runs = runs_there session s f shows.represents.laid found_so.visitor.name found_so.visitor.process found_so.visitor.runs.0 found_so.visitor.runs.1 in
             ap (λ (c : Cell). c.rights) there ∙ (λ i. rights_if session f q found_so.visitor.name (sym e i) (sym runs i))
             ∙ ap (λ (n : ProcName). rights_if session f q n (get f.files q) (running f n)) found_so.name

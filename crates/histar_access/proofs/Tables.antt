@@ -1,4 +1,4 @@
--- The lines that are read off a machine are the table of the flat state that it lays out.
+-- The lines that are read off a machine are the table of the flat state that it represents.
 use Rattle.std.specs.Prelude.{◌≡◌, List, [], ◌∷◌, ◌++◌, length, map, take, refl}
 use Rattle.std.proofs.Common.{ap, sym, ◌∙◌}
 use Rattle.std.proofs.lemmas.List.{map-append, take-map}
@@ -8,7 +8,7 @@ use Rattle.histar_flat.specs.Classes.{may_read, may_write}
 use Rattle.histar_flat.specs.FlatState.{Flat, Node}
 use Rattle.histar_object.specs.State.{State}
 use Rattle.histar_layout.specs.Listing.{object_of}
-use Rattle.histar_refinement.specs.LaysOut.{Laid}
+use Rattle.histar_refinement.specs.Represents.{ObjectsMatch}
 use Rattle.histar_refinement.specs.Sessions.{IsSession}
 use Rattle.histar_rights.specs.declared.rights.Rights.{Rights}
 use Rattle.histar_rights.specs.Rights.{above_root, rights_at, rights_below}
@@ -31,7 +31,7 @@ last_made : {A B : Type 0} (g : A → B) (x : A) (xs : List A) → last_or (g x)
 last_made g x [] = refl
 last_made g x (y ∷ ys) = last_made g y ys
 
-module _ (session : Session) (s : State) (f : Flat) (l : Laid session s f) (ok : IsSession session) (vs : List (Visitor session s f l)) where
+module _ (session : Session) (s : State) (f : Flat) (l : ObjectsMatch session s f) (ok : IsSession session) (vs : List (Visitor session s f l)) where
   -- the rights of each process at a path
   abbrev pub Row : Type 0
   Row = Visitor session s f l → Rights

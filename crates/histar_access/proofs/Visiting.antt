@@ -15,7 +15,7 @@ use Rattle.histar_process.specs.declared.caller.Caller.{Caller}
 use Rattle.histar_process.specs.Caller.{caller_at}
 use Rattle.histar_login.specs.Start.{places_of}
 use Rattle.histar_refinement.specs.Categories.{Categories}
-use Rattle.histar_refinement.specs.LaysOut.{Laid}
+use Rattle.histar_refinement.specs.Represents.{ObjectsMatch}
 use Rattle.histar_refinement.specs.Laws.{RunsAs}
 use Rattle.histar_refinement.proofs.CallerFound.{callers_are_found, callers_are_there}
 use Rattle.histar_rights.specs.Rights.{above_root}
@@ -28,7 +28,7 @@ pub filter_map_map : {A B C : Type 0} (g : B → Option C) (h : A → B) (xs : L
 filter_map_map g h [] = refl
 filter_map_map g h (x ∷ xs) = ap (cons_option (g (h x))) (filter_map_map g h xs)
 
-module _ (session : Session) (s : State) (f : Flat) (l : Laid session s f) where
+module _ (session : Session) (s : State) (f : Flat) (l : ObjectsMatch session s f) where
   -- a process that runs, with its thread
   pub record Visitor : Type 0 where
     pub name : ProcName

@@ -45,6 +45,6 @@ Reaches s places start (name ∷ d) spot =
 unfoldable pub FindsSpot : State → Places → Cell → Path → Option Spot → Type 0
 FindsSpot s places start q found = MatchOption found (LeadsNowhere s places q) (Reaches s places start q)
 
--- whatever flat state the machine lays out, these are the rights of a process at a path in it
+-- whatever flat state the machine represents, these are the rights of a process at a path in it
 abbrev pub AreRightsOf : MachineModel → Path → ProcName → Rights → Type 0
 AreRightsOf m q me rights = (session : Session) (f : Flat) → Shows session m f → rights ≡ rights_of session f q me

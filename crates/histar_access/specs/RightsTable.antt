@@ -29,6 +29,6 @@ runner_of node = runner_by node.name node.life
 abbrev pub line_rights : TableLine → Path × List Rights
 line_rights line = (line.path, line.rights.items)
 
--- Whatever flat state the machine lays out, the table shows the rights of that.
+-- Whatever flat state the machine represents, the table shows the rights of that.
 abbrev pub ShowsTable : MachineModel → Table → Type 0
 ShowsTable m t = (session : Session) (f : Flat) → Shows session m f → HaveShownNames f → ShowsRights session f t

@@ -35,11 +35,11 @@ state_before at script = flat_end script.session (boot script.session) (calls_be
 abbrev pub table_text : Option ℕ → Reading → List ℕ
 table_text at script = access_text (access_table script.session (state_before at script))
 
--- whatever flat state a machine laid out, it lays out the one after these calls
+-- whatever flat state a machine represented, it represents the one after these calls
 abbrev pub ShowsAfter : MachineModel → MachineModel → List CallLine → Type 0
 ShowsAfter old new calls = (session : Session) (f : Flat) → Shows session old f → Shows session new (flat_end session f calls)
 
--- the text is a script, and the machine lays out the flat state before this line, in which processes have names that can be shown
+-- the text is a script, and the machine represents the flat state before this line, in which processes have names that can be shown
 pub record IsMachineOf (at : Option ℕ) (text : List ℕ) (m : MachineModel) : Type 0 where
   pub script : Reading
   pub is_read : script_of text ≡ Ok script

@@ -1,4 +1,4 @@
--- The table of a machine that lays out a flat state.
+-- The table of a machine that represents a flat state.
 use Rattle.std.specs.Prelude.{◌≡◌, ℕ, List, Option}
 use Rattle.std.specs.Io.KnownBytes.{Appends}
 use Rattle.histar_devices.specs.Writing.{AppendsFront}
@@ -14,7 +14,7 @@ use Rattle.histar_shell.specs.Meaning.{Shows}
 use Rattle.histar_access.specs.declared.cells.Cell.{Cell}
 use Rattle.histar_access.specs.Cells.{visitors_among}
 
--- a machine lays out some flat state, whose processes have names that can be shown
+-- a machine represents some flat state, whose processes have names that can be shown
 abbrev pub IsShown : MachineModel → Type 0
 IsShown m = (session : Session) × (f : Flat) × Shows session m f × HaveShownNames f
 
@@ -34,7 +34,7 @@ visitors_in m processes = visitors_among (state m.kernel) m.places processes
 abbrev pub AreVisitors : MachineModel → List Cell → Type 0
 AreVisitors m visitors = (processes : List ProcessNode) × AreProcessesIn m processes × (visitors ≡ visitors_in m processes)
 
--- Whatever flat state the machine lays out, the text of its table was written.
+-- Whatever flat state the machine represents, the text of its table was written.
 abbrev pub AppendsTable : MachineModel → Option (List ℕ) → Option (List ℕ) → Type 0
 AppendsTable m old new = (session : Session) (f : Flat) → Shows session m f → HaveShownNames f → Appends old new
     (access_text (access_table session f))

@@ -9,7 +9,7 @@ use std::alloc::{AllocError, AllocFailed};
 
 /// A call ends without a reply: memory ran out, the kernel denied what no errno tells, or a segment
 /// that should hold a directory, or tell of a process, does not. The machine makes no more calls then. On a machine that
-/// lays out a flat state only memory and a counter at its greatest value end a call so.
+/// represents a flat state only memory and a counter at its greatest value end a call so.
 #[derive(Clone, Copy, Debug, PartialEq, Eq)]
 pub struct Stopped;
 
@@ -45,7 +45,7 @@ impl From<Errno> for Ending {
     }
 }
 
-/// A denial that has no errno stops the call. On a machine that lays out a flat state the objects that
+/// A denial that has no errno stops the call. On a machine that represents a flat state the objects that
 /// the library's calls name are there. A write has `written` for its own errno.
 impl From<Refusal> for Ending {
     ghost use Rattle.std.specs.Prelude.{◌≡◌};
@@ -72,7 +72,7 @@ impl From<AllocError> for Ending {
     }
 }
 
-/// A process segment whose bytes tell nothing. No such segment is on a machine that lays out a flat state.
+/// A process segment whose bytes tell nothing. No such segment is on a machine that represents a flat state.
 impl From<NotAStatus> for Ending {
     ghost use Rattle.std.specs.Prelude.{◌≡◌};
     ghost use Rattle.histar_calls.specs.declared.ending.Ending.TheVariants.{Stopped};

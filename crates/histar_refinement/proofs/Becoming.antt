@@ -31,7 +31,7 @@ use Rattle.histar_refinement.specs.Processes.{process_bytes}
 use Rattle.histar_refinement.specs.Stands.{kind_bare, bare}
 use Rattle.histar_refinement.specs.Expected.{home_object, status_object, inside_object, thread_object, bytes_for, expected_status, expected}
 use Rattle.histar_login.specs.Start.{segment}
-use Rattle.histar_refinement.specs.LaysOut.{AreInOrder, IsProcess, Laid}
+use Rattle.histar_refinement.specs.Represents.{AreInOrder, IsProcess, ObjectsMatch}
 use Rattle.histar_refinement.proofs.ProcessBytes.{alike_bytes}
 use Rattle.histar_refinement.proofs.Places.{AsksAlike, asked_alike, asked_runner}
 use Rattle.histar_refinement.proofs.Steps.{step_tests_equality}
@@ -60,7 +60,7 @@ bared label clearance (Some o) = ap (λ (k : Kind Levels). Some (record { label 
     by (Thread old) = refl
     by (Gate old entry) = refl
 
-module _ (session : Session) (s : State) (f : Flat) (l : Laid session s f) (me : ProcName) (p : Process) (here : f.processes me ≡ Some p) (runs : p.exited ≡ None)
+module _ (session : Session) (s : State) (f : Flat) (l : ObjectsMatch session s f) (me : ProcName) (p : Process) (here : f.processes me ≡ Some p) (runs : p.exited ≡ None)
     (name : Name) (known_user : (name ≡ nobody) ⊎ (is_some (user_number session name) ≡ true)) (held : List ProcName) (held_used : (job : ProcName) → has held job ≡ true → IsUsed session f (OfJob job))
     (held_ordered : AreInOrder l.category held) (held_apart : (job : ProcName) → has p.chain job ≡ true → has held job ≡ false) (held_free : is_some (user_number session name) ≡ false → (p.chain ≡ []) × (held ≡ [])) (T : ℕ) (at_thread : l.naming.number (Runner ∷ Inside ∷ home_address me) ≡ Some T) where
   -- the process as the new user's, which holds these jobs
@@ -205,9 +205,9 @@ module _ (session : Session) (s : State) (f : Flat) (l : Laid session s f) (me :
   gone_then : (with_own s T label clearance).objects boot_thread_number ≡ None
   gone_then = put_other s.objects T (thread_of label clearance) boot_thread_number (λ e. none-some old_thread (sym l.boot_thread_gone ∙ ap s.objects e ∙ thread_stands)) ∙ l.boot_thread_gone
 
-  -- The kernel lays out the flat state with the process so.
+  -- The kernel represents the flat state with the process so.
   pub becomes : (new : State) → ((q : ℕ) → new.objects q ≡ (with_own s T label clearance).objects q) → new.next_object ≡ s.next_object → s.next_category ≤ new.next_category
-      → (later : Laid session new after) × (later.naming ≡ l.naming) × (later.category ≡ l.category)
+      → (later : ObjectsMatch session new after) × (later.naming ≡ l.naming) × (later.category ≡ l.category)
   becomes new objects next_is categories = (
     record {
       naming = l.naming;

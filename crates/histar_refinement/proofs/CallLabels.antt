@@ -23,7 +23,7 @@ use Rattle.histar_refinement.specs.Categories.{CategoryName, among}
 use Rattle.histar_refinement.specs.Processes.{or_zero}
 use Rattle.histar_refinement.specs.Guards.{guard_label, rights_label, rights_clearance}
 use Rattle.histar_refinement.specs.Labels.{private_guard, readable_guard, group_guard, reading, writing, owned_as, thread_rights}
-use Rattle.histar_refinement.specs.LaysOut.{Laid}
+use Rattle.histar_refinement.specs.Represents.{ObjectsMatch}
 use Rattle.histar_layout.proofs.Members.{same_truth}
 use Rattle.histar_layout.proofs.LabelLevels.{at_owning, owning_level}
 use Rattle.histar_refinement.proofs.CategoryTests.{among_none, is_in_names}
@@ -40,7 +40,7 @@ equal_bytes a b = same_truth (bytes_eq a b) (same a b) (λ e. equal_tested a b (
 pub number_by_place : (session : Session) (name : Name) → user_number session name ≡ option_map (λ place. place + 1) (place_of session.users name)
 number_by_place session name = λ i. option_map (λ place. place + 1) (position (λ (u : User). sym (equal_bytes u.name name) i) session.users)
 
-module _ (session : Session) (s : State) (f : Flat) (l : Laid session s f) where
+module _ (session : Session) (s : State) (f : Flat) (l : ObjectsMatch session s f) where
   -- a user's categories have the numbers that the calls reckon with
   pub reads_numbered : (i : ℕ) → i ≤ length session.users → l.category (ReadsUser i) ≡ read_category i
   reads_numbered = user_reads session l.category l.as_made
@@ -69,7 +69,7 @@ unfolding is_star
 star_told true = refl
 star_told false = refl
 
-module _ (session : Session) (s : State) (f : Flat) (l : Laid session s f) (me : ProcName) (p : Process) where
+module _ (session : Session) (s : State) (f : Flat) (l : ObjectsMatch session s f) (me : ProcName) (p : Process) where
   -- a process's thread owns a user's first category where the process is that user's
   pub owns_reads : (j : ℕ) → j ≤ length session.users → owns (rights_label l.category (thread_rights session me p)) j ≡ is_number (user_number session p.user) j
   owns_reads j h =
@@ -106,7 +106,7 @@ module _ (session : Session) (s : State) (f : Flat) (l : Laid session s f) (me :
             known = high;
           }
 
-module _ (session : Session) (s : State) (f : Flat) (l : Laid session s f) (me : ProcName) (caller : Caller) (own_reads : l.category (ReadsProcess me) ≡ caller.read) (own_writes : l.category (WritesProcess me) ≡ caller.write)
+module _ (session : Session) (s : State) (f : Flat) (l : ObjectsMatch session s f) (me : ProcName) (caller : Caller) (own_reads : l.category (ReadsProcess me) ≡ caller.read) (own_writes : l.category (WritesProcess me) ≡ caller.write)
     (name : Name) (i : ℕ) (numbered : user_number session name ≡ Some i) (exited : Option ℕ) (born : ℕ) where
   -- the process as the user's, in no job and holding none
   abbrev pub as_user : Process

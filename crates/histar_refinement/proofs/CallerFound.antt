@@ -1,4 +1,4 @@
--- In a state that is laid out exactly the processes that run are found, each with its thread and its own two categories.
+-- In a state that is represented exactly the processes that run are found, each with its thread and its own two categories.
 use Rattle.std.proofs.Common.{◌≡◌, ℕ, ◌≤◌, true, [], ◌∷◌, length, map, Option, None, Some, refl, sym, ap, ◌∙◌, arith}
 use Rattle.std.specs.Prelude.{is_some, option_map, option_and_then}
 use Rattle.std.specs.List.{range_with_len}
@@ -29,7 +29,7 @@ use Rattle.histar_refinement.specs.Addresses.{same_step, home_address}
 use Rattle.histar_refinement.specs.Addresses.Step.{Home, Status, Inside, Runner, Child}
 use Rattle.histar_refinement.specs.Expected.{home_object, inside_object, expected}
 use Rattle.histar_refinement.specs.Processes.{or_zero, children, listed_by, status_by}
-use Rattle.histar_refinement.specs.LaysOut.{Laid}
+use Rattle.histar_refinement.specs.Represents.{ObjectsMatch}
 use Rattle.histar_refinement.specs.Laws.{IsCallerOf, CallersAreFound, CallersAreThere}
 use Rattle.histar_refinement.proofs.CallerLabels.{write_found, read_found}
 use Rattle.histar_refinement.proofs.FileLabels.{label_bare}
@@ -45,7 +45,7 @@ pub is_or_zero : (o : Option ℕ) → is_some o ≡ true → o ≡ Some (or_zero
 is_or_zero None e = absurd (true≢false (sym e))
 is_or_zero (Some q) e = refl
 
-module _ (session : Session) (s : State) (f : Flat) (l : Laid session s f) where
+module _ (session : Session) (s : State) (f : Flat) (l : ObjectsMatch session s f) where
   abbrev first : Where
   first = (places_of (length session.users)).home
 

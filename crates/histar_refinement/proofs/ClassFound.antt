@@ -24,7 +24,7 @@ use Rattle.histar_refinement.specs.Categories.{CategoryName, Categories, boot_ca
 use Rattle.histar_refinement.specs.Categories.CategoryName.{OfBoot, ReadsUser, WritesUser, ReadsGroup, WritesGroup, OfJob}
 use Rattle.histar_refinement.specs.Guards.{Guard, guard_label}
 use Rattle.histar_refinement.specs.Labels.{class_guard, private_guard, readable_guard, scratch_guard, group_guard, open_guard}
-use Rattle.histar_refinement.specs.LaysOut.{Laid, IsInOrder}
+use Rattle.histar_refinement.specs.Represents.{ObjectsMatch, IsInOrder}
 use Rattle.histar_refinement.specs.NumberedClasses.{job_numbers, numbered_class}
 use Rattle.histar_refinement.proofs.CategoryTests.{named_in}
 use Rattle.histar_refinement.proofs.GateLabels.{user_reads, user_writes, group_reads, group_writes}
@@ -68,7 +68,7 @@ halves (suc q) =
     let h = halves q in
     elim h.1 [ inl e ↦ (h.0, inr (omega (arith, e))) | inr e ↦ (suc h.0, inl (omega (arith, e))) ]
 
-module _ (session : Session) (s : State) (f : Flat) (l : Laid session s f) where
+module _ (session : Session) (s : State) (f : Flat) (l : ObjectsMatch session s f) where
   -- no job's category has another name
   apart : (job : ProcName) (c : CategoryName) → (split_category c).0 < 7 → l.category c ≡ l.category (OfJob job) → ⊥
   apart job c kind e = let same : (split_category c).0 ≡ 7 = ap (λ (d : CategoryName). (split_category d).0) (l.different c (OfJob job) e) in omega (arith, same, kind)
@@ -149,7 +149,7 @@ same_mode category (Scratch owner jobs) = refl
 same_mode category (Grouped group) = refl
 
 -- The label of what stands at a path shows the owner and the mode of its class.
-pub class_told : (session : Session) (s : State) (f : Flat) (l : Laid session s f) (q : Path) (there : Node) → get f.files q ≡ Some there → (g : Guard) → class_guard session there.class ≡ Some g
+pub class_told : (session : Session) (s : State) (f : Flat) (l : ObjectsMatch session s f) (q : Path) (there : Node) → get f.files q ≡ Some there → (g : Guard) → class_guard session there.class ≡ Some g
     → HasOwnerAndMode there.class (class_shown session (guard_label l.category g))
 class_told session s f l q there at g e = record {
   shown_class = without_jobs (numbered_class l.category there.class);

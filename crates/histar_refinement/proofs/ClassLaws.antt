@@ -22,7 +22,7 @@ use Rattle.histar_refinement.specs.Addresses.Step.{Inside, Runner}
 use Rattle.histar_refinement.specs.Directories.{directory_of}
 use Rattle.histar_refinement.specs.Stands.{bare}
 use Rattle.histar_refinement.specs.Expected.{content_kind}
-use Rattle.histar_refinement.specs.LaysOut.{Laid}
+use Rattle.histar_refinement.specs.Represents.{ObjectsMatch}
 use Rattle.histar_refinement.specs.Laws.{StandsFor}
 use Rattle.histar_refinement.proofs.ClassTests.{observes_class, modifies_class}
 use Rattle.histar_refinement.proofs.Standing.{thread_found, guard_at, path_stands, listing_found, listed_is_dir}
@@ -38,7 +38,7 @@ modifies_bare None b = refl
 modifies_bare (Some t) None = refl
 modifies_bare (Some t) (Some o) = refl
 
-module _ (session : Session) (s : State) (f : Flat) (l : Laid session s f) (ok : IsSession session) (me : ProcName) (p : Process) (here : f.processes me ≡ Some p) (running : p.exited ≡ None)
+module _ (session : Session) (s : State) (f : Flat) (l : ObjectsMatch session s f) (ok : IsSession session) (me : ProcName) (p : Process) (here : f.processes me ≡ Some p) (running : p.exited ≡ None)
     (t : ℕ) (at_thread : l.naming.number (Runner ∷ Inside ∷ home_address me) ≡ Some t) where
   abbrev thread : Found
   thread = Some (thread_of (rights_label l.category (thread_rights session me p)) (rights_clearance l.category (thread_rights session me p)))

@@ -1,4 +1,4 @@
--- A category is counted, and has a name from then on: what is laid out stays so.
+-- A category is counted, and has a name from then on: what is represented stays so.
 use Rattle.std.proofs.Common.{◌≡◌, ℕ, ◌≤◌, inl, inr, Bool, true, false, ◌&&◌, cond, [], ◌∷◌, length, Option, None, Some, arith, refl, sym, ap, ◌∙◌, subst}
 use Rattle.std.specs.Prelude.{is_some, nat_le}
 use Rattle.std.proofs.lemmas.Bool.Decides.{nat_tests}
@@ -22,7 +22,7 @@ use Rattle.histar_refinement.specs.Directories.{directory_of}
 use Rattle.histar_refinement.specs.Processes.{process_bytes}
 use Rattle.histar_refinement.specs.Expected.{status_object, bytes_for, expected}
 use Rattle.histar_login.specs.Start.{segment}
-use Rattle.histar_refinement.specs.LaysOut.{IsInOrder, IsProcess, Laid}
+use Rattle.histar_refinement.specs.Represents.{IsInOrder, IsProcess, ObjectsMatch}
 use Rattle.histar_layout.proofs.Members.{first_of, second_of}
 use Rattle.histar_refinement.proofs.Growing.{new_number, old_number, still_different}
 use Rattle.histar_refinement.proofs.Places.{asked_alike}
@@ -96,9 +96,9 @@ module _ (session : Session) (f : Flat) (category other : Categories) (keeps : (
           runner = λ q is. keep_runner session f category other keeps q (f.processes q) refl;
         })
 
-module _ (session : Session) (s : State) (f : Flat) (l : Laid session s f) where
+module _ (session : Session) (s : State) (f : Flat) (l : ObjectsMatch session s f) where
   -- a category more, which has no name
-  pub laid_more : (new : State) → ((q : ℕ) → new.objects q ≡ s.objects q) → new.next_object ≡ s.next_object → s.next_category ≤ new.next_category → (later : Laid session new f) × (later.naming ≡ l.naming) × (later.category ≡ l.category)
+  pub laid_more : (new : State) → ((q : ℕ) → new.objects q ≡ s.objects q) → new.next_object ≡ s.next_object → s.next_category ≤ new.next_category → (later : ObjectsMatch session new f) × (later.naming ≡ l.naming) × (later.category ≡ l.category)
   laid_more new objects next_is categories = (
     record {
       naming = l.naming;
@@ -132,7 +132,7 @@ module _ (session : Session) (s : State) (f : Flat) (l : Laid session s f) where
     pub keeps_named : (d : CategoryName) → IsUsed session f d → named d ≡ l.category d
     keeps_named d used = old_number l.category l.different s.next_category c d (λ e. unused (subst (IsUsed session f) e used)) (l.made d used).1
 
-    pub laid_named : (new : State) → ((q : ℕ) → new.objects q ≡ s.objects q) → new.next_object ≡ s.next_object → s.next_category ≤ new.next_category → (later : Laid session new f) × (later.naming ≡ l.naming) × (later.category ≡ named)
+    pub laid_named : (new : State) → ((q : ℕ) → new.objects q ≡ s.objects q) → new.next_object ≡ s.next_object → s.next_category ≤ new.next_category → (later : ObjectsMatch session new f) × (later.naming ≡ l.naming) × (later.category ≡ named)
     laid_named new objects next_is categories = (
       record {
         naming = l.naming;

@@ -32,7 +32,7 @@ use Rattle.histar_refinement.specs.Directories.{both_numbers, directory_of}
 use Rattle.histar_refinement.specs.Stands.{Stands}
 use Rattle.histar_refinement.specs.Expected.{bare_container, guarded_object, node_object, listing_object, expected}
 use Rattle.histar_login.specs.Start.{segment}
-use Rattle.histar_refinement.specs.LaysOut.{Laid}
+use Rattle.histar_refinement.specs.Represents.{ObjectsMatch}
 use Rattle.histar_refinement.proofs.Steps.{step_tests_equality}
 use Rattle.histar_refinement.proofs.Moving.{number_below, stands_added, number_new, number_old}
 use Rattle.histar_refinement.proofs.Places.{asked_path, asked_listing}
@@ -48,7 +48,7 @@ container_there : (session : Session) (category : Categories) (g : Option Guard)
 container_there session category None some = absurd (some refl)
 container_there session category (Some g) some = refl
 
-module _ (session : Session) (s : State) (f : Flat) (l : Laid session s f) (d : Path) (above : Class) (at_parent : get f.files d ≡ Some (record { class = above; content = Dir }))
+module _ (session : Session) (s : State) (f : Flat) (l : ObjectsMatch session s f) (d : Path) (above : Class) (at_parent : get f.files d ≡ Some (record { class = above; content = Dir }))
     (D N : ℕ) (at_directory : l.naming.number (address_of d) ≡ Some D) (at_listing : l.naming.number (Listing ∷ address_of d) ≡ Some N)
     (m : Name) (absent : get f.files (m ∷ d) ≡ None) (class : Class) (fits : ClassFits session s f l class) (g : Guard) (class_has : class_guard session class ≡ Some g) where
   abbrev label : Levels
@@ -113,7 +113,7 @@ module _ (session : Session) (s : State) (f : Flat) (l : Laid session s f) (d : 
 
   -- The file is made, and the parent's segment is written: `create` at any depth.
   pub laid_created : IsTrue (is_name m) → length (entries_in f d) < most_entries → s.next_object < greatest
-      → (later : Laid session (with_segment_bytes with_file N (spelling (map.insert (directory_of f.files l.naming.number d) m (targets.File s.next_object)))) (with_node f (m ∷ d) class (File []))) × (later.naming ≡ file_naming) × (later.category ≡ l.category)
+      → (later : ObjectsMatch session (with_segment_bytes with_file N (spelling (map.insert (directory_of f.files l.naming.number d) m (targets.File s.next_object)))) (with_node f (m ∷ d) class (File []))) × (later.naming ≡ file_naming) × (later.category ≡ l.category)
   laid_created name room few = laid_made session s f l d m class (File []) absent fits with_file file_naming file_asked (file_stands few) N at_listing (targets.File s.next_object)
       (ap (option_map targets.File) (number_new same_step step_tests_equality s l.naming old_asked l.stands D (address_of d) (Named m) empty_segment at_directory holder free (λ c. sym (none_linked c))))
       name (omega (arith, below), omega (arith, few)) parent_is_dir room
@@ -178,7 +178,7 @@ module _ (session : Session) (s : State) (f : Flat) (l : Laid session s f) (d : 
 
   -- The directory is made, and the parent's segment is written: `mkdir` at any depth.
   pub laid_directory_created : IsTrue (is_name m) → length (entries_in f d) < most_entries → s.next_object + 1 < greatest
-      → (later : Laid session (with_segment_bytes with_directory N (spelling (map.insert (directory_of f.files l.naming.number d) m (targets.Directory s.next_object (s.next_object + 1))))) (with_node f (m ∷ d) class Dir)) × (later.naming ≡ directory_naming) × (later.category ≡ l.category)
+      → (later : ObjectsMatch session (with_segment_bytes with_directory N (spelling (map.insert (directory_of f.files l.naming.number d) m (targets.Directory s.next_object (s.next_object + 1))))) (with_node f (m ∷ d) class Dir)) × (later.naming ≡ directory_naming) × (later.category ≡ l.category)
   laid_directory_created name room few = laid_made session s f l d m class Dir absent fits with_directory directory_naming directory_asked (directory_stands few) N at_listing (targets.Directory s.next_object (s.next_object + 1))
       ((λ i. both_numbers (here_then i) (inner_then i)))
       name ((omega (arith, below), omega (arith, few)), (omega (arith, below), omega (arith, few))) parent_is_dir room

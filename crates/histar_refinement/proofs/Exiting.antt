@@ -1,4 +1,4 @@
--- After a process exits the kernel lays out the flat state in which it has: its process segment is written, and its internal container is
+-- After a process exits the kernel represents the flat state in which it has: its process segment is written, and its internal container is
 -- unlinked, with its thread.
 use Rattle.std.proofs.Common.{◌≡◌, ◌≢◌, ℕ, ◌+◌, ◌*◌, ◌≤◌, ◌⊎◌, inl, inr, Bool, true, false, ◌&&◌, ◌||◌, cond, if◌then◌else◌, List, [], ◌∷◌, length, Option, None, Some, refl, sym, ap, ◌∙◌, subst, map}
 use Rattle.std.specs.Prelude.{is_some, option_map}
@@ -32,13 +32,13 @@ use Rattle.histar_refinement.specs.Processes.{or_zero, children, listed_by, proc
 use Rattle.histar_refinement.specs.Stands.{Stands}
 use Rattle.histar_refinement.specs.Expected.{listing_object, home_object, status_object, inside_object, thread_object, expected_node, listing_at, expected_home, bytes_for, expected_status, container_inside, thread_at, expected}
 use Rattle.histar_login.specs.Start.{segment}
-use Rattle.histar_refinement.specs.LaysOut.{IsProcess, AreJobsGiven, Laid, LaysOut}
+use Rattle.histar_refinement.specs.Represents.{IsProcess, AreJobsGiven, ObjectsMatch, Represents}
 use Rattle.histar_refinement.proofs.ProcessBytes.{alike_bytes}
 use Rattle.histar_refinement.proofs.Places.{address_path, address_process, address_inside, same_home, same_directory, AsksAlike, asked_alike, asked_status}
 use Rattle.histar_refinement.proofs.Steps.{step_tests_equality}
 use Rattle.histar_refinement.proofs.Moving.{bare_held, stands_changed, stands_cut, stands_same, no_address}
 
-module _ (session : Session) (s : State) (f : Flat) (l : Laid session s f) (me : ProcName) (p : Process) (here : f.processes me ≡ Some p) (n : ℕ) (small : n ≤ greatest_status) (C S o : ℕ)
+module _ (session : Session) (s : State) (f : Flat) (l : ObjectsMatch session s f) (me : ProcName) (p : Process) (here : f.processes me ≡ Some p) (n : ℕ) (small : n ≤ greatest_status) (C S o : ℕ)
     (at_home : l.naming.number (home_address me) ≡ Some C) (at_own : l.naming.number (Status ∷ home_address me) ≡ Some S) (at_inside : l.naming.number (Inside ∷ home_address me) ≡ Some o) where
   -- the process then
   abbrev pub changed : Process
@@ -332,7 +332,7 @@ module _ (session : Session) (s : State) (f : Flat) (l : Laid session s f) (me :
         by job (inr served) = inr served
 
     -- The kernel has the objects of the flat state in which the process has exited.
-    pub laid_exited : (later : Laid session new after) × (later.naming ≡ naming) × (later.category ≡ l.category)
+    pub laid_exited : (later : ObjectsMatch session new after) × (later.naming ≡ naming) × (later.category ≡ l.category)
     laid_exited = (
       record {
         naming = naming;
@@ -355,6 +355,6 @@ module _ (session : Session) (s : State) (f : Flat) (l : Laid session s f) (me :
       refl,
     )
 
-    -- and so the kernel lays out the flat state in which the process has exited
-    pub lays_out_exited : AreJobsGiven f → LaysOut session new after
-    lays_out_exited given = record { laid = laid_exited.0; jobs_given = jobs_exited given }
+    -- and so the kernel represents the flat state in which the process has exited
+    pub represents_exited : AreJobsGiven f → Represents session new after
+    represents_exited given = record { laid = laid_exited.0; jobs_given = jobs_exited given }

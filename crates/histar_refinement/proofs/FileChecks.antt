@@ -1,4 +1,4 @@
--- What the kernel says to the raw calls on a directory that is laid out, and on a file in it, by the thread of a process: a read is
+-- What the kernel says to the raw calls on a directory that is represented, and on a file in it, by the thread of a process: a read is
 -- refused Observe exactly where the process may not read, and a write, an unlink and a making Modify exactly where it may not write.
 use Rattle.std.proofs.Common.{◌≡◌, ℕ, ◌+◌, ◌≤◌, ◌&&◌, Bool, true, false, List, [], ◌∷◌, length, None, Some, arith, refl, sym, ap, ◌∙◌}
 use Rattle.std.specs.Prelude.{min, not}
@@ -26,7 +26,7 @@ use Rattle.histar_refinement.specs.Labels.{class_guard, thread_rights}
 use Rattle.histar_refinement.specs.Addresses.{address_of}
 use Rattle.histar_refinement.specs.Addresses.Step.{Listing, Named}
 use Rattle.histar_refinement.specs.Directories.{directory_of}
-use Rattle.histar_refinement.specs.LaysOut.{Laid}
+use Rattle.histar_refinement.specs.Represents.{ObjectsMatch}
 use Rattle.histar_refinement.specs.Laws.{RunsAs}
 use Rattle.histar_refinement.proofs.ClassTests.{observes_class, modifies_class}
 use Rattle.histar_refinement.proofs.DirectoryLaws.{spelling_fits}
@@ -42,7 +42,7 @@ use Rattle.histar_refinement.proofs.Standing.{thread_found, guard_at, file_found
 pub fits : (held bytes : List ℕ) → length bytes ≤ 4096 → fits_segment (min 0 (length held) + length bytes) ≡ true
 fits held bytes h = grind (arith, nat_tests, h)
 
-module _ (session : Session) (s : State) (f : Flat) (l : Laid session s f) (ok : IsSession session) (me : ProcName) (p : Process) (t : ℕ) (runs : RunsAs session s f l me p t)
+module _ (session : Session) (s : State) (f : Flat) (l : ObjectsMatch session s f) (ok : IsSession session) (me : ProcName) (p : Process) (t : ℕ) (runs : RunsAs session s f l me p t)
     (d : Path) (class : Class) (at : get f.files d ≡ Some (record { class = class; content = Dir })) (D N : ℕ) (at_directory : l.naming.number (address_of d) ≡ Some D) (at_listing : l.naming.number (Listing ∷ address_of d) ≡ Some N) where
   abbrev label : Levels
   label = rights_label l.category (thread_rights session me p)

@@ -1,4 +1,4 @@
--- The labels of files and directories that are laid out, and that the kernel tells the one of `/`.
+-- The labels of files and directories that are represented, and that the kernel tells the one of `/`.
 use Rattle.std.proofs.Common.{◌≡◌, ℕ, true, false, [], ◌∷◌, length, None, Some, refl, sym, ap, ◌∙◌}
 use Rattle.std.specs.FinSet as set
 use Rattle.histar_flat.specs.Words.{Path, ProcName}
@@ -22,7 +22,7 @@ use Rattle.histar_refinement.specs.Addresses.{address_of, slash_number}
 use Rattle.histar_refinement.specs.Addresses.Step.{Slash}
 use Rattle.histar_refinement.specs.Stands.{bare}
 use Rattle.histar_refinement.specs.Expected.{content_kind}
-use Rattle.histar_refinement.specs.LaysOut.{Laid}
+use Rattle.histar_refinement.specs.Represents.{ObjectsMatch}
 use Rattle.histar_refinement.specs.Laws.{RunsAs}
 use Rattle.histar_refinement.proofs.RawChecks.{label_check}
 use Rattle.histar_refinement.proofs.Standing.{thread_found, guard_at, path_stands, step_linked, root_is_dir}
@@ -50,7 +50,7 @@ content_is_none : (label : Levels) (c : Content) → is_thread (Some (record { l
 content_is_none label Dir = refl
 content_is_none label (File bytes) = refl
 
-module _ (session : Session) (s : State) (f : Flat) (l : Laid session s f) where
+module _ (session : Session) (s : State) (f : Flat) (l : ObjectsMatch session s f) where
   module _ (q : Path) (there : Node) (at : get f.files q ≡ Some there) (o : ℕ) (numbered : l.naming.number (address_of q) ≡ Some o) where
     -- what stands at a path has the label of its guard
     pub label_at : (g : Guard) → class_guard session there.class ≡ Some g → label_there (s.objects o) ≡ Some (guard_label l.category g)

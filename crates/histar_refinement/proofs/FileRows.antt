@@ -39,7 +39,7 @@ use Rattle.histar_refinement.specs.Directories.{both_numbers, target_for, direct
 use Rattle.histar_refinement.specs.Stands.{Stands}
 use Rattle.histar_refinement.specs.Expected.{guarded_object, content_kind, node_object, listing_object, status_object, bytes_for, expected_status, expected}
 use Rattle.histar_login.specs.Start.{segment}
-use Rattle.histar_refinement.specs.LaysOut.{IsInOrder, AreJobsGiven, Laid}
+use Rattle.histar_refinement.specs.Represents.{IsInOrder, AreJobsGiven, ObjectsMatch}
 use Rattle.histar_refinement.proofs.ProcessBytes.{alike_status}
 use Rattle.histar_refinement.proofs.Places.{path_address, AsksAlikeAt, asked_alike_at, asked_path, asked_listing}
 use Rattle.histar_refinement.proofs.Steps.{step_tests_equality}
@@ -147,9 +147,9 @@ module _ (session : Session) (category : Categories) (f : Flat) (files : Files N
   asked_same a alike = asked_alike_at session category category f (with_files f files) number numbers a alike
       (record { home = λ q is. refl; status = λ q is. same_status q; inside = λ q is. refl; runner = λ q is. refl })
 
--- ---- what a state that is laid out has
+-- ---- what a state that is represented has
 
-module _ (session : Session) (s : State) (f : Flat) (l : Laid session s f) where
+module _ (session : Session) (s : State) (f : Flat) (l : ObjectsMatch session s f) where
   guard_there : (kind : Kind Levels) (g : Option Guard) → g ≢ None → is_present (guarded_object session l.category kind g) ≡ true
   guard_there kind None some = absurd (some refl)
   guard_there kind (Some g) some = refl
@@ -179,7 +179,7 @@ module _ (session : Session) (s : State) (f : Flat) (l : Laid session s f) where
       by None at = refl
       by (Some there) at = absurd (true≢false (sym (l.stands.tree.held (Named n) (address_of d) (numbered_path (n ∷ d) there at)) ∙ nothing_unnumbered d nothing))
 
-  -- a class that can be laid out: it has a guard, its jobs stand in order, and the category of each was made
+  -- a class that can be represented: it has a guard, its jobs stand in order, and the category of each was made
   pub record ClassFits (class : Class) : Type 0 where
     pub guard : class_guard session class ≢ None
     pub order : IsInOrder l.category class
@@ -250,7 +250,7 @@ module _ (session : Session) (s : State) (f : Flat) (l : Laid session s f) where
           → ((a : Address Step) (q : ℕ) → boot_number (length session.users) a ≡ Some q → naming.number a ≡ Some q)
           → ((d : Path) → is_dir_at refiled d ≡ true → IsListable (directory_of files naming.number d))
           → new.next_category ≡ s.next_category → new.objects boot_thread_number ≡ None
-          → (later : Laid session new refiled) × (later.naming ≡ naming) × (later.category ≡ l.category)
+          → (later : ObjectsMatch session new refiled) × (later.naming ≡ naming) × (later.category ≡ l.category)
       laid_files new naming stands numbered booted listable same_next gone = (
         record {
           naming = naming;
@@ -281,7 +281,7 @@ module _ (session : Session) (s : State) (f : Flat) (l : Laid session s f) where
           → ((a : Address Step) (q : ℕ) → boot_number (length session.users) a ≡ Some q → naming.number a ≡ Some q)
           → ((e : Path) → is_dir_at refiled e ≡ true → IsListable (directory_of files naming.number e))
           → mid.next_category ≡ s.next_category → mid.objects boot_thread_number ≡ None
-          → (later : Laid session (with_segment_bytes mid N (spelling (directory_of files naming.number d))) refiled) × (later.naming ≡ naming) × (later.category ≡ l.category)
+          → (later : ObjectsMatch session (with_segment_bytes mid N (spelling (directory_of files naming.number d))) refiled) × (later.naming ≡ naming) × (later.category ≡ l.category)
       laid_listed mid naming asked stands numbered d N at_listing old asked_here asked_else booted listable same_next gone =
           laid_files (with_segment_bytes mid N (spelling (directory_of files naming.number d))) naming (stands_same same_step (with_segment_bytes mid N (spelling (directory_of files naming.number d))) (with_segment_bytes mid N (spelling (directory_of files naming.number d))) naming _ (expected session l.category refiled naming.number) written asks (λ q. refl) refl) numbered
           booted listable same_next (by_bytes mid.objects N boot_thread_number gone)

@@ -21,7 +21,7 @@ use Rattle.histar_refinement.specs.Guards.{rights_label, rights_clearance}
 use Rattle.histar_refinement.specs.Labels.{thread_rights}
 use Rattle.histar_refinement.specs.Addresses.{home_address}
 use Rattle.histar_refinement.specs.Addresses.Step.{Status, Inside, Runner}
-use Rattle.histar_refinement.specs.LaysOut.{AreInOrder, Laid}
+use Rattle.histar_refinement.specs.Represents.{AreInOrder, ObjectsMatch}
 use Rattle.histar_rules.specs.Rules.{greatest}
 use Rattle.histar_refinement.proofs.JobLists.{not_added}
 use Rattle.histar_refinement.proofs.Uses.{keep_order}
@@ -30,7 +30,7 @@ use Rattle.histar_refinement.proofs.Spawned.{births, beside_births}
 use Rattle.histar_refinement.proofs.Spawning.{outer, inner, label, clearance, child_written, own_written, naming, category, child_not_me, at_me, keeps, kept_runner, laid_born as laid_with_child, job_used, given_then, child_given}
 use Rattle.histar_refinement.proofs.Becoming.{becomes, job_used as job_used_then, given_then as given_later}
 
-module _ (session : Session) (s : State) (f : Flat) (l : Laid session s f) (me : ProcName) (p : Process) (here : f.processes me ≡ Some p) (runs : p.exited ≡ None) (room : p.born < 64)
+module _ (session : Session) (s : State) (f : Flat) (l : ObjectsMatch session s f) (me : ProcName) (p : Process) (here : f.processes me ≡ Some p) (runs : p.exited ≡ None) (room : p.born < 64)
     (declared : is_some (user_number session p.user) ≡ true) (served : IsServed f ((p.born + 1) ∷ me)) (stranger : has p.chain ((p.born + 1) ∷ me) ≡ false)
     (jobs_ordered : AreInOrder l.category (p.chain ++ ((p.born + 1) ∷ me) ∷ [])) (held_ordered : AreInOrder l.category (p.held ++ ((p.born + 1) ∷ me) ∷ []))
     (C S T : ℕ) (at_home : l.naming.number (home_address me) ≡ Some C) (at_status : l.naming.number (Status ∷ home_address me) ≡ Some S) (at_thread : l.naming.number (Runner ∷ Inside ∷ home_address me) ≡ Some T) (few : s.next_object + 3 < greatest) where
@@ -75,10 +75,10 @@ module _ (session : Session) (s : State) (f : Flat) (l : Laid session s f) (me :
   abbrev state_born_two : State
   state_born_two = with_next_category (with_next_category (births_of s))
 
-  laid_born : (later : Laid session state_born_two born) × (later.naming ≡ naming session s f l me p here runs room jobs jobs_used jobs_ordered jobs_free C S at_home at_status) × (later.category ≡ category session s f l me p here runs room jobs jobs_used jobs_ordered jobs_free C S at_home at_status)
+  laid_born : (later : ObjectsMatch session state_born_two born) × (later.naming ≡ naming session s f l me p here runs room jobs jobs_used jobs_ordered jobs_free C S at_home at_status) × (later.category ≡ category session s f l me p here runs room jobs jobs_used jobs_ordered jobs_free C S at_home at_status)
   laid_born = laid_with_child session s f l me p here runs room jobs jobs_used jobs_ordered jobs_free C S at_home at_status state_born_two (λ q. refl) refl (omega arith) few
 
-  abbrev b : Laid session state_born_two born
+  abbrev b : ObjectsMatch session state_born_two born
   b = laid_born.0
 
   parent_there : born.processes me ≡ Some parent
@@ -143,7 +143,7 @@ module _ (session : Session) (s : State) (f : Flat) (l : Laid session s f) (me :
     two : Beside T own most owning_two s
     two = beside_uncounted T own most (with_category t T) s (beside_uncounted T own most t s beside)
 
-    pub laid_held : Laid session state_held after
+    pub laid_held : ObjectsMatch session state_held after
     laid_held =
         let same = two.next in
         (becomes session state_born_two born b me parent parent_there runs p.user (inr declared) held held_used held_ordered_then held_apart held_free T thread_there state_held

@@ -20,7 +20,7 @@ use Rattle.histar_refinement.specs.Categories.{Categories, AreDifferent}
 use Rattle.histar_refinement.specs.Categories.CategoryName.{WritesProcess, OfJob}
 use Rattle.histar_refinement.specs.Guards.{guard_label, rights_label}
 use Rattle.histar_refinement.specs.Labels.{process_guard, thread_rights}
-use Rattle.histar_refinement.specs.LaysOut.{AreInOrder}
+use Rattle.histar_refinement.specs.Represents.{AreInOrder}
 use Rattle.histar_refinement.specs.NumberedClasses.{job_numbers}
 use Rattle.histar_refinement.proofs.CallerLabels.{default_guarded}
 use Rattle.histar_refinement.proofs.OneChain.{not_own}

@@ -12,7 +12,7 @@ use Rattle.histar_flat.specs.FlatState.{Flat, was_given, is_given}
 use Rattle.histar_flat.proofs.GivenNames.{longer_has}
 use Rattle.histar_refinement.specs.Categories.{Categories}
 use Rattle.histar_refinement.specs.Categories.CategoryName.{OfJob}
-use Rattle.histar_refinement.specs.LaysOut.{AreInOrder}
+use Rattle.histar_refinement.specs.Represents.{AreInOrder}
 use Rattle.histar_layout.specs.ClassLabels.{IsRisingFrom}
 use Rattle.histar_layout.proofs.Members.{first_of, second_of}
 use Rattle.histar_layout.proofs.Declared.{equal_tested}

@@ -12,12 +12,12 @@ use Rattle.histar_refinement.specs.Categories.{CategoryName, Categories, IsMade,
 use Rattle.histar_refinement.specs.Categories.CategoryName.{OfJob}
 use Rattle.histar_refinement.specs.Guards.{Guard}
 use Rattle.histar_refinement.specs.Labels.{class_guard}
-use Rattle.histar_refinement.specs.LaysOut.{LaysOut, Laid}
+use Rattle.histar_refinement.specs.Represents.{Represents, ObjectsMatch}
 use Rattle.histar_refinement.proofs.JobLists.{never_given}
 use Rattle.histar_refinement.proofs.Uses.{class_used}
 use Rattle.histar_refinement.proofs.Counting.{number_named, keeps_named, laid_named}
 
-module _ (session : Session) (s : State) (f : Flat) (l : LaysOut session s f) (me : ProcName) (p : Process) (here : f.processes me ≡ Some p) where
+module _ (session : Session) (s : State) (f : Flat) (l : Represents session s f) (me : ProcName) (p : Process) (here : f.processes me ≡ Some p) where
   abbrev child : ProcName
   child = (p.born + 1) ∷ me
 
@@ -44,10 +44,10 @@ module _ (session : Session) (s : State) (f : Flat) (l : LaysOut session s f) (m
       never false u = refl
 
   -- once the job's category is made
-  pub named : (later : Laid session (with_next_category s) f) × (later.naming ≡ l.laid.naming) × (later.category ≡ naming_next l.laid.category s.next_category (OfJob ((p.born + 1) ∷ me)))
+  pub named : (later : ObjectsMatch session (with_next_category s) f) × (later.naming ≡ l.laid.naming) × (later.category ≡ naming_next l.laid.category s.next_category (OfJob ((p.born + 1) ∷ me)))
   named = laid_named session s f l.laid (OfJob child) unused (with_next_category s) (λ q. refl) refl (omega arith)
 
-  abbrev pub m : Laid session (with_next_category s) f
+  abbrev pub m : ObjectsMatch session (with_next_category s) f
   m = named.0
 
   pub job_number : m.category (OfJob ((p.born + 1) ∷ me)) ≡ s.next_category

@@ -1,4 +1,4 @@
--- After a process is killed the kernel lays out the flat state without it and all below it.
+-- After a process is killed the kernel represents the flat state without it and all below it.
 use Rattle.std.proofs.Common.{◌≡◌, ◌≢◌, ℕ, ◌+◌, ◌*◌, ◌⊎◌, inl, inr, Bool, true, false, ◌||◌, cond, if◌then◌else◌, List, [], ◌∷◌, length, Option, None, Some, refl, sym, ap, ◌∙◌, subst, ◌≤◌}
 use Rattle.std.specs.Prelude.{is_some, option_map, nat_eq}
 use Rattle.std.proofs.lemmas.Option.{none-some}
@@ -32,14 +32,14 @@ use Rattle.histar_refinement.specs.Processes.{process_bytes}
 use Rattle.histar_refinement.specs.Stands.{Stands}
 use Rattle.histar_refinement.specs.Expected.{listing_object, home_object, status_object, inside_object, thread_object, expected_node, listing_at, expected_home, bytes_for, expected_status, container_inside, thread_at, expected}
 use Rattle.histar_login.specs.Start.{segment}
-use Rattle.histar_refinement.specs.LaysOut.{AreJobsGiven, Laid, LaysOut}
+use Rattle.histar_refinement.specs.Represents.{AreJobsGiven, ObjectsMatch, Represents}
 use Rattle.histar_refinement.proofs.ProcessBytes.{alike_bytes}
 use Rattle.histar_layout.proofs.Members.{first_of, second_of}
 use Rattle.histar_refinement.proofs.Places.{address_path, address_process, address_inside, same_home, same_directory, AsksAlike, asked_alike, asked_status}
 use Rattle.histar_refinement.proofs.Steps.{step_tests_equality}
 use Rattle.histar_refinement.proofs.Moving.{bare_held, stands_changed, stands_cut, stands_same, no_address}
 
-module _ (session : Session) (s : State) (f : Flat) (l : Laid session s f) (me : ProcName) (p : Process) (here : f.processes me ≡ Some p) (n C S o : ℕ)
+module _ (session : Session) (s : State) (f : Flat) (l : ObjectsMatch session s f) (me : ProcName) (p : Process) (here : f.processes me ≡ Some p) (n C S o : ℕ)
     (at_home : l.naming.number (home_address me) ≡ Some C) (at_own : l.naming.number (Status ∷ home_address me) ≡ Some S) (at_victim : l.naming.number (home_address (n ∷ me)) ≡ Some o)
     (mid : State) (cuts : CutsOff s C o mid) where
   abbrev top : ProcName
@@ -288,7 +288,7 @@ module _ (session : Session) (s : State) (f : Flat) (l : Laid session s f) (me :
       by job (inr served) = inr served
 
   -- The kernel has the objects of the flat state without the victim.
-  pub laid_left : (later : Laid session state_left after) × (later.naming ≡ naming) × (later.category ≡ l.category)
+  pub laid_left : (later : ObjectsMatch session state_left after) × (later.naming ≡ naming) × (later.category ≡ l.category)
   laid_left = (
     record {
       naming = naming;
@@ -317,6 +317,6 @@ module _ (session : Session) (s : State) (f : Flat) (l : Laid session s f) (me :
         | false ↦ e
       ]
 
-  -- and so the kernel lays out the flat state without the victim
-  pub lays_out_left : AreJobsGiven f → LaysOut session state_left after
-  lays_out_left given = record { laid = laid_left.0; jobs_given = jobs_left given }
+  -- and so the kernel represents the flat state without the victim
+  pub represents_left : AreJobsGiven f → Represents session state_left after
+  represents_left given = record { laid = laid_left.0; jobs_given = jobs_left given }

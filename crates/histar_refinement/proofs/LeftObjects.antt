@@ -30,7 +30,7 @@ use Rattle.histar_refinement.specs.Addresses.{same_step, first_left, table_numbe
 use Rattle.histar_refinement.specs.Addresses.Step.{Left}
 use Rattle.histar_refinement.specs.Stands.{bare}
 use Rattle.histar_refinement.specs.Expected.{expected}
-use Rattle.histar_refinement.specs.LaysOut.{Laid}
+use Rattle.histar_refinement.specs.Represents.{ObjectsMatch}
 use Rattle.histar_refinement.proofs.AmongNames.{each_head, each_append}
 use Rattle.histar_layout.proofs.Members.{mapped_from}
 use Rattle.histar_layout.proofs.Declared.{user_range, placed, equal_names}
@@ -124,9 +124,9 @@ module _ (session : Session) where
       let number : 1 + k ≡ k + 1 = omega arith in
       ap (left_by_boot session) place ∙ gate_among session.users 1 k u _ e ∙ ap (λ (i : ℕ). Some (gate_left i u)) number
 
--- ---- in a state that is laid out
+-- ---- in a state that is represented
 
-module _ (session : Session) (s : State) (f : Flat) (l : Laid session s f) where
+module _ (session : Session) (s : State) (f : Flat) (l : ObjectsMatch session s f) where
   -- the root container
   pub root_found : (links : Links) × (s.objects root_number ≡ Some (record { label = guard_label (booted session) boot_guard; kind = Container links }))
   root_found = bare_container_is (s.objects root_number) (guard_label (booted session) boot_guard)

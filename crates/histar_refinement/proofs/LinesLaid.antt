@@ -1,4 +1,4 @@
--- In a state that is laid out, the directory segments lead to each directory's numbers.
+-- In a state that is represented, the directory segments lead to each directory's numbers.
 use Rattle.std.proofs.Common.{◌≡◌, ◌≢◌, ℕ, Bool, true, false, List, [], ◌∷◌, Option, None, Some, refl, sym, ap, ◌∙◌}
 use Rattle.std.specs.Prelude.{is_some, option_map, option_and_then}
 use Rattle.std.specs.FinMap as map
@@ -26,7 +26,7 @@ use Rattle.histar_refinement.specs.Stands.{bare}
 use Rattle.histar_refinement.specs.Directories.{both_numbers, target_for, directory_of}
 use Rattle.histar_refinement.specs.Expected.{guarded_object, listing_object}
 use Rattle.histar_login.specs.Start.{segment}
-use Rattle.histar_refinement.specs.LaysOut.{Laid}
+use Rattle.histar_refinement.specs.Represents.{ObjectsMatch}
 use Rattle.histar_refinement.specs.Lines.{IsDirectoryAt}
 use Rattle.histar_refinement.proofs.Places.{asked_listing}
 use Rattle.histar_refinement.proofs.DirectoryLaws.{get_directory}
@@ -102,7 +102,7 @@ pub node_there : (o : Option Node) → is_some_and o is_dir ≡ true → (there 
 node_there None e = absurd (true≢false (sym e))
 node_there (Some there) e = (there, refl)
 
-module _ (session : Session) (s : State) (f : Flat) (l : Laid session s f) where
+module _ (session : Session) (s : State) (f : Flat) (l : ObjectsMatch session s f) where
   -- the segment at a directory's listing
   listed_here : (d : Path) → is_dir_at f d ≡ true → (label : Levels) × (listing_object session l.category (spelling (directory_of f.files l.naming.number d)) (get f.files d) ≡ segment label (spelling (directory_of f.files l.naming.number d)))
   listed_here d is = listing_there session l.category (spelling (directory_of f.files l.naming.number d)) (get f.files d) is (l.guarded d)

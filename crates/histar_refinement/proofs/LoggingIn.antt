@@ -1,4 +1,4 @@
--- After a login that is answered `ok` the kernel lays out the flat state in which the process is the new user's, and holds nothing.
+-- After a login that is answered `ok` the kernel represents the flat state in which the process is the new user's, and holds nothing.
 use Rattle.std.proofs.Common.{◌≡◌, ℕ, inr, true, false, [], ◌∷◌, None, Some, arith, refl, sym, ◌∙◌}
 use Rattle.std.specs.Prelude.{is_some}
 use mathlib.Core.Bool.{true≢false}
@@ -11,10 +11,10 @@ use Rattle.histar_refinement.specs.Guards.{rights_label, rights_clearance}
 use Rattle.histar_refinement.specs.Labels.{thread_rights}
 use Rattle.histar_refinement.specs.Addresses.{home_address}
 use Rattle.histar_refinement.specs.Addresses.Step.{Inside, Runner}
-use Rattle.histar_refinement.specs.LaysOut.{LaysOut}
+use Rattle.histar_refinement.specs.Represents.{Represents}
 use Rattle.histar_refinement.proofs.Becoming.{becomes, given_then, job_used}
 
-module _ (session : Session) (s : State) (f : Flat) (l : LaysOut session s f) (me : ProcName) (p : Process) (here : f.processes me ≡ Some p) (runs : p.exited ≡ None)
+module _ (session : Session) (s : State) (f : Flat) (l : Represents session s f) (me : ProcName) (p : Process) (here : f.processes me ≡ Some p) (runs : p.exited ≡ None)
     (name : Name) (declared : is_some (user_number session name) ≡ true) (T : ℕ) (at_thread : l.laid.naming.number (Runner ∷ Inside ∷ home_address me) ≡ Some T) where
   abbrev changed : Process
   changed = record { user = name; chain = p.chain; held = []; exited = p.exited; born = p.born }
@@ -25,8 +25,8 @@ module _ (session : Session) (s : State) (f : Flat) (l : LaysOut session s f) (m
   never : is_some (user_number session name) ≡ false → (p.chain ≡ []) × (changed.held ≡ [])
   never e = absurd (true≢false (sym declared ∙ e))
 
-  pub lays_out_login : LaysOut session new (with_process f me changed)
-  lays_out_login =
+  pub represents_login : Represents session new (with_process f me changed)
+  represents_login =
       let later = becomes session s f l.laid me p here runs name (inr declared) [] (λ job e. absurd (true≢false (sym e))) tt (λ job e. refl) never T at_thread new (λ q. refl) refl (omega arith) in
       record {
         laid = later.0;

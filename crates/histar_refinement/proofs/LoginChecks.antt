@@ -31,7 +31,7 @@ use Rattle.histar_refinement.specs.Categories.{CategoryName, IsUsed, booted, amo
 use Rattle.histar_refinement.specs.Categories.CategoryName.{ReadsUser, WritesUser, ReadsGroup, WritesGroup, ReadsProcess, WritesProcess, OfJob}
 use Rattle.histar_refinement.specs.Guards.{Rights, guard_label, rights_label, rights_clearance}
 use Rattle.histar_refinement.specs.Labels.{boot_guard, private_guard, gate_rights, reading, writing, owned_as, thread_rights}
-use Rattle.histar_refinement.specs.LaysOut.{Laid}
+use Rattle.histar_refinement.specs.Represents.{ObjectsMatch}
 use Rattle.histar_refinement.specs.Laws.{RunsAs}
 use Rattle.histar_refinement.proofs.AmongNames.{covers, in_first, in_second, at_head, later, each_head, each_append}
 use Rattle.histar_layout.proofs.Declared.{user_range}
@@ -43,7 +43,7 @@ use Rattle.histar_refinement.proofs.RawChecks.{object, link_passes, read_check, 
 use Rattle.histar_refinement.proofs.Standing.{thread_found}
 use Rattle.histar_refinement.proofs.LeftObjects.{root_found, root_label, password_found, gate_found, password_linked, gate_linked}
 
-module _ (session : Session) (s : State) (f : Flat) (l : Laid session s f) (me : ProcName) (p : Process) (t : ℕ) (runs : RunsAs session s f l me p t) (name : Name) (i : ℕ) (numbered : user_number session name ≡ Some i) where
+module _ (session : Session) (s : State) (f : Flat) (l : ObjectsMatch session s f) (me : ProcName) (p : Process) (t : ℕ) (runs : RunsAs session s f l me p t) (name : Name) (i : ℕ) (numbered : user_number session name ≡ Some i) where
   abbrev mine : Rights
   mine = thread_rights session me p
 

@@ -1,4 +1,4 @@
--- After a file or a directory is made at any depth the kernel lays out the flat state with it.
+-- After a file or a directory is made at any depth the kernel represents the flat state with it.
 use Rattle.std.proofs.Common.{◌≡◌, ◌≢◌, ℕ, ◌+◌, ◌*◌, ◌<◌, ◌≤◌, inl, inr, true, cond, [], ◌∷◌, length, Option, None, Some, arith, refl, sym, ap, ◌∙◌, subst}
 use Rattle.std.specs.Prelude.{IsTrue, is_some, option_map, option_and_then}
 use Rattle.std.specs.List.{flat_map}
@@ -30,7 +30,7 @@ use Rattle.histar_refinement.specs.Addresses.Step.{Slash, Listing, Status, Insid
 use Rattle.histar_refinement.specs.Directories.{both_numbers, target_for, directory_of}
 use Rattle.histar_refinement.specs.Stands.{Stands}
 use Rattle.histar_refinement.specs.Expected.{node_object, listing_object, listing_at, expected}
-use Rattle.histar_refinement.specs.LaysOut.{AreJobsGiven, Laid}
+use Rattle.histar_refinement.specs.Represents.{AreJobsGiven, ObjectsMatch}
 use Rattle.histar_refinement.proofs.Places.{process_address, asked_path, asked_listing}
 use Rattle.histar_refinement.proofs.Steps.{step_tests_equality}
 use Rattle.histar_refinement.proofs.Moving.{number_below}
@@ -55,7 +55,7 @@ leads_to_directory None listing some other e = true≢false (sym some)
 leads_to_directory (Some container) None some other e = true≢false (sym other)
 leads_to_directory (Some container) (Some listing) some other e = true≢false (ap is_some e)
 
-module _ (session : Session) (s : State) (f : Flat) (l : Laid session s f) where
+module _ (session : Session) (s : State) (f : Flat) (l : ObjectsMatch session s f) where
   -- each entry leads somewhere
   pub entry_leads : (q : Path) (there : Node) → get f.files q ≡ Some there → target_for l.naming.number (q, there) ≢ None
   entry_leads q there at = by there.content refl
@@ -201,8 +201,8 @@ module _ (session : Session) (s : State) (f : Flat) (l : Laid session s f) where
 
         -- The kernel has the objects of the flat state with what was made.
         pub laid_made : IsTrue (is_name m) → IsTarget target → is_dir_at f d ≡ true → length (entries_in f d) < most_entries
-            → (later : Laid session (with_segment_bytes mid N (spelling grown)) after) × (later.naming ≡ naming) × (later.category ≡ l.category)
-        laid_made name goal dir room = subst (λ (x : Entries). (later : Laid session (with_segment_bytes mid N (spelling x)) after) × (later.naming ≡ naming) × (later.category ≡ l.category)) directory_grown
+            → (later : ObjectsMatch session (with_segment_bytes mid N (spelling grown)) after) × (later.naming ≡ naming) × (later.category ≡ l.category)
+        laid_made name goal dir room = subst (λ (x : Entries). (later : ObjectsMatch session (with_segment_bytes mid N (spelling x)) after) × (later.naming ≡ naming) × (later.category ≡ l.category)) directory_grown
             (laid_listed session s f l after.files all_fit mid naming asked st.stands st.numbered d N (number_listing d (λ e. not_in_itself (sym e)) ∙ at_listing)
             (spelling (directory_of f.files l.naming.number d)) asked_here asked_else booted listable st.same_next st.gone)
           where

@@ -14,7 +14,7 @@ use Rattle.histar_refinement.specs.Categories.{CategoryName, Categories, AreDiff
 use Rattle.histar_refinement.specs.Categories.CategoryName.{WritesProcess, OfJob}
 use Rattle.histar_refinement.specs.Guards.{guard_label}
 use Rattle.histar_refinement.specs.Labels.{process_guard}
-use Rattle.histar_refinement.specs.LaysOut.{AreInOrder}
+use Rattle.histar_refinement.specs.Represents.{AreInOrder}
 use Rattle.histar_layout.proofs.Rising.{one_rising}
 use Rattle.histar_layout.proofs.Members.{is_in, same_truth, equal_itself}
 use Rattle.histar_layout.proofs.LabelLevels.{at_guarded, guarded_level}

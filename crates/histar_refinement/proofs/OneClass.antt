@@ -15,7 +15,7 @@ use Rattle.histar_refinement.specs.Categories.{CategoryName, Categories, AreDiff
 use Rattle.histar_refinement.specs.Categories.CategoryName.{OfBoot, ReadsUser, WritesUser, ReadsGroup, WritesGroup, ReadsProcess, WritesProcess, OfJob}
 use Rattle.histar_refinement.specs.Guards.{Guard, guard_label}
 use Rattle.histar_refinement.specs.Labels.{class_guard, private_guard, readable_guard, scratch_guard, group_guard, open_guard}
-use Rattle.histar_refinement.specs.LaysOut.{IsInOrder}
+use Rattle.histar_refinement.specs.Represents.{IsInOrder}
 use Rattle.histar_refinement.proofs.AmongNames.{at_head, told_one}
 use Rattle.histar_layout.proofs.Members.{mapped_from}
 use Rattle.histar_layout.proofs.LabelLevels.{at_guarded, guarded_level}

@@ -1,4 +1,4 @@
--- A state lays out one flat state at most, for one naming of its categories.
+-- A state represents one flat state at most, for one naming of its categories.
 use Rattle.std.proofs.Common.{◌≡◌, ℕ, ◌+◌, ◌*◌, true, [], ◌∷◌, length, Option, None, Some, refl, sym, ap, ◌∙◌, subst}
 use Rattle.std.specs.Prelude.{is_some, option_map, option_and_then}
 use Rattle.std.specs.FinMap as map
@@ -27,7 +27,7 @@ use Rattle.histar_refinement.specs.Addresses.Step.{Slash, Listing, Status, Insid
 use Rattle.histar_refinement.specs.Directories.{both_numbers, target_for, directory_of}
 use Rattle.histar_refinement.specs.Stands.{bare}
 use Rattle.histar_refinement.specs.Expected.{content_kind, home_object, expected}
-use Rattle.histar_refinement.specs.LaysOut.{IsInOrder, IsProcess, Laid}
+use Rattle.histar_refinement.specs.Represents.{IsInOrder, IsProcess, ObjectsMatch}
 use Rattle.histar_refinement.specs.Laws.{AreAlike}
 use Rattle.histar_refinement.specs.Processes.{or_zero, status_by}
 use Rattle.histar_refinement.proofs.Steps.{step_tests_equality}
@@ -89,9 +89,9 @@ module _ (number : AddressNumbers) (q : Path) where
   led_to class Dir t e = first_of_both (number (address_of q)) (number (Listing ∷ address_of q)) t e
   led_to class (File bytes) t e = first_of_file (number (address_of q)) t e
 
--- ---- one state and two flat states that it lays out
+-- ---- one state and two flat states that it represents
 
-module _ (session : Session) (s : State) (f g : Flat) (l : Laid session s f) (m : Laid session s g) (one_naming : (c : CategoryName) → l.category c ≡ m.category c) where
+module _ (session : Session) (s : State) (f g : Flat) (l : ObjectsMatch session s f) (m : ObjectsMatch session s g) (one_naming : (c : CategoryName) → l.category c ≡ m.category c) where
   same_categories : l.category ≡ m.category
   same_categories = λ i c. one_naming c i
 
@@ -143,7 +143,7 @@ module _ (session : Session) (s : State) (f g : Flat) (l : Laid session s f) (m 
   below d alike dir n = sym (get_directory f.files l.naming.number d n) ∙ ap (λ (entries : Entries). map.get entries n) (same_entries d alike dir) ∙ get_directory g.files m.naming.number d n
 
   -- where `/` leads
-  led_root : (h : Flat) (k : Laid session s h) → leads_at h.files k.naming.number [] ≡ Some (targets.Directory (4 + 2 * length session.users) (5 + 2 * length session.users))
+  led_root : (h : Flat) (k : ObjectsMatch session s h) → leads_at h.files k.naming.number [] ≡ Some (targets.Directory (4 + 2 * length session.users) (5 + 2 * length session.users))
   led_root h k =
       ap (option_and_then (λ (z : Node). target_for k.naming.number ([], z))) (root_is_dir session s h k).1
       ∙ (λ i. both_numbers (k.as_booted (Slash ∷ []) (4 + 2 * length session.users) refl i) (k.as_booted (Listing ∷ Slash ∷ []) (5 + 2 * length session.users) refl i))
@@ -172,7 +172,7 @@ module _ (session : Session) (s : State) (f g : Flat) (l : Laid session s f) (m 
     of_q : IsProcess session l.category q
     of_q = subst (λ (category : Categories). IsProcess session category q) (sym same_categories) (m.processes me q at_q)
 
-    homes : (h : Flat) (j : Laid session s h) (x : Process) → h.processes me ≡ Some x → j.naming.number (home_address me) ≡ Some c → label_there (bare (s.objects c)) ≡ Some (guard_label j.category (process_guard me x))
+    homes : (h : Flat) (j : ObjectsMatch session s h) (x : Process) → h.processes me ≡ Some x → j.naming.number (home_address me) ≡ Some c → label_there (bare (s.objects c)) ≡ Some (guard_label j.category (process_guard me x))
     homes h j x at home = ap label_there (at_number same_step step_tests_equality s j.naming (expected session j.category h j.naming.number) j.stands (home_address me) c home
         ∙ asked_home session j.category h j.naming.number me ∙ ap (home_object session j.category me) at)
 
@@ -206,7 +206,7 @@ module _ (session : Session) (s : State) (f g : Flat) (l : Laid session s f) (m 
     )
 
 -- a process that is there in one is there in the other, with the same numbers
-found_there : (session : Session) (s : State) (f g : Flat) (l : Laid session s f) (m : Laid session s g) (me : ProcName) (p : Process) → f.processes me ≡ Some p
+found_there : (session : Session) (s : State) (f g : Flat) (l : ObjectsMatch session s f) (m : ObjectsMatch session s g) (me : ProcName) (p : Process) → f.processes me ≡ Some p
     → (c : ℕ) × (k : ℕ) × (q : Process) × (g.processes me ≡ Some q)
     × (l.naming.number (home_address me) ≡ Some c) × (m.naming.number (home_address me) ≡ Some c) × (l.naming.number (Status ∷ home_address me) ≡ Some k) × (m.naming.number (Status ∷ home_address me) ≡ Some k)
 found_there session s f g l m me p at =
@@ -216,7 +216,7 @@ found_there session s f g l m me p at =
     (c.0, k.0, other.0, other.1, c.1, other.2, k.1, other.3)
 
 -- each process is the same, but for what is not asked of one that has exited
-pub same_processes : (session : Session) (s : State) (f g : Flat) (l : Laid session s f) (m : Laid session s g) → ((c : CategoryName) → l.category c ≡ m.category c) → (me : ProcName) → AreAlike (f.processes me) (g.processes me)
+pub same_processes : (session : Session) (s : State) (f g : Flat) (l : ObjectsMatch session s f) (m : ObjectsMatch session s g) → ((c : CategoryName) → l.category c ≡ m.category c) → (me : ProcName) → AreAlike (f.processes me) (g.processes me)
 same_processes session s f g l m one_naming me = by (f.processes me) (g.processes me) refl refl
   where
     by : (x y : Option Process) → f.processes me ≡ x → g.processes me ≡ y → AreAlike x y

@@ -13,7 +13,7 @@ use Rattle.histar_refinement.specs.Categories.{CategoryName, Categories, AreDiff
 use Rattle.histar_refinement.specs.Categories.CategoryName.{ReadsUser, OfJob}
 use Rattle.histar_refinement.specs.Guards.{guard_label, rights_label}
 use Rattle.histar_refinement.specs.Labels.{process_guard, thread_rights}
-use Rattle.histar_refinement.specs.LaysOut.{IsProcess}
+use Rattle.histar_refinement.specs.Represents.{IsProcess}
 use Rattle.histar_layout.proofs.LabelLevels.{at_owning, owning_level}
 use Rattle.histar_refinement.proofs.CategoryTests.{among_none, among_jobs, is_in_names}
 use Rattle.histar_refinement.proofs.SessionLemmas.{is_number, is_owner}

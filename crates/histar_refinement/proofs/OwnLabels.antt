@@ -17,7 +17,7 @@ use Rattle.histar_process.proofs.Scanning.{name_none}
 use Rattle.histar_refinement.specs.Categories.{CategoryName, Categories, boot_category}
 use Rattle.histar_refinement.specs.Guards.{rights_label}
 use Rattle.histar_refinement.specs.Labels.{owned_as, thread_rights}
-use Rattle.histar_refinement.specs.LaysOut.{Laid}
+use Rattle.histar_refinement.specs.Represents.{ObjectsMatch}
 use Rattle.histar_refinement.specs.Processes.{or_zero}
 use Rattle.histar_refinement.proofs.CallLabels.{user_of_thread}
 use Rattle.histar_refinement.proofs.GateLabels.{owned_is}
@@ -55,7 +55,7 @@ module _ (session : Session) (category : Categories) (as_made : (c : CategoryNam
   pub owned_numbers : map category (owned_as session p (user_number session p.user)) ≡ owned_by session (or_zero (user_number session p.user)) (is_free p)
   owned_numbers = owned_by_number (user_number session p.user) refl
 
-module _ (session : Session) (s : State) (f : Flat) (l : Laid session s f) (me : ProcName) (p : Process) where
+module _ (session : Session) (s : State) (f : Flat) (l : ObjectsMatch session s f) (me : ProcName) (p : Process) where
   -- The own label of the thread of a process tells the number of its user.
   pub own_user_is : user_of (rights_label l.category (thread_rights session me p)) (length session.users) ≡ or_zero (user_number session p.user)
   own_user_is = user_is (rights_label l.category (thread_rights session me p)) (length session.users) (or_zero (user_number session p.user)) (user_of_thread session s f l me p)

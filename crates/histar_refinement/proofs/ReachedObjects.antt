@@ -1,4 +1,4 @@
--- Each object of a state that is laid out is reached from the root container by links.
+-- Each object of a state that is represented is reached from the root container by links.
 use Rattle.std.proofs.Common.{◌≡◌, ℕ, true, [], ◌∷◌, Option, None, Some, refl, sym, ap, ◌∙◌}
 use mathlib.Core.Bool.{false≢true}
 use Rattle.histar_flat.specs.Sessions.{Session}
@@ -9,7 +9,7 @@ use Rattle.histar_container.specs.Tree.{Address, wanted, under, objects_at, Reac
 use Rattle.histar_container.proofs.Reaching.{under_reached}
 use Rattle.histar_rules.specs.Sound.{root_number}
 use Rattle.histar_refinement.specs.Addresses.{Step, same_step}
-use Rattle.histar_refinement.specs.LaysOut.{Laid}
+use Rattle.histar_refinement.specs.Represents.{ObjectsMatch}
 use Rattle.histar_refinement.proofs.Steps.{step_tests_equality}
 
 -- each address lies at or below that of the root container
@@ -18,7 +18,7 @@ below_root [] = refl
 below_root (x ∷ a) = below_root a
 
 -- each object that there is is reached from the root container
-pub objects_reached : (session : Session) (s : State) (f : Flat) → Laid session s f → (q : ℕ) → is_present (s.objects q) ≡ true → Reached s.objects root_number q
+pub objects_reached : (session : Session) (s : State) (f : Flat) → ObjectsMatch session s f → (q : ℕ) → is_present (s.objects q) ≡ true → Reached s.objects root_number q
 objects_reached session s f l q is = by (l.naming.address q) refl
   where
     by : (a : Option (Address Step)) → l.naming.address q ≡ a → Reached s.objects root_number q

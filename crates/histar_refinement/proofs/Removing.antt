@@ -1,4 +1,4 @@
--- After an entry of a directory is removed with all below it the kernel lays out the flat state without it.
+-- After an entry of a directory is removed with all below it the kernel represents the flat state without it.
 use Rattle.std.proofs.Common.{◌≡◌, ◌≢◌, ℕ, ◌+◌, ◌≤◌, ◌*◌, inl, inr, Bool, true, false, not, ◌||◌, cond, [], ◌∷◌, length, Option, None, Some, refl, sym, ap, ◌∙◌, subst, if◌then◌else◌}
 use Rattle.std.specs.Prelude.{option_and_then}
 use Rattle.std.specs.FinMap as map
@@ -29,7 +29,7 @@ use Rattle.histar_refinement.specs.Addresses.Step.{Left, Slash, Listing, Named, 
 use Rattle.histar_refinement.specs.Directories.{directory_of}
 use Rattle.histar_refinement.specs.Stands.{Stands}
 use Rattle.histar_refinement.specs.Expected.{node_object, listing_object, expected_node, listing_at, expected_home, expected_status, container_inside, thread_at, expected}
-use Rattle.histar_refinement.specs.LaysOut.{AreJobsGiven, Laid, LaysOut}
+use Rattle.histar_refinement.specs.Represents.{AreJobsGiven, ObjectsMatch, Represents}
 use Rattle.histar_refinement.proofs.Places.{address_path, address_process, address_inside, asked_listing}
 use Rattle.histar_refinement.proofs.Steps.{step_tests_equality}
 use Rattle.histar_refinement.proofs.Moving.{stands_cut, no_address}
@@ -67,7 +67,7 @@ module _ (q : Path) where
   under_home [] = under_step Home [] refl ∙ not_root
   under_home (n ∷ p) = under_step (Child n) (home_address p) refl ∙ under_home p
 
-module _ (session : Session) (s : State) (f : Flat) (l : Laid session s f) (m : Name) (d : Path) (D N o : ℕ)
+module _ (session : Session) (s : State) (f : Flat) (l : ObjectsMatch session s f) (m : Name) (d : Path) (D N o : ℕ)
     (at_directory : l.naming.number (address_of d) ≡ Some D) (at_listing : l.naming.number (Listing ∷ address_of d) ≡ Some N) (at_entry : l.naming.number (address_of (m ∷ d)) ≡ Some o)
     (mid : State) (cuts : CutsOff s D o mid) where
   abbrev top : Address Step
@@ -261,8 +261,8 @@ module _ (session : Session) (s : State) (f : Flat) (l : Laid session s f) (m : 
   jobs_removed = jobs_kept session s f l after.files (λ r there at. old_known session s f l r there (was_there r there at))
 
   -- The kernel has the objects of the flat state without the path and all below it: `unlink`, `rmdir` and `rmtree` at any depth.
-  pub laid_removed : is_dir_at f d ≡ true → (later : Laid session (with_segment_bytes mid N (spelling smaller)) after) × (later.naming ≡ naming) × (later.category ≡ l.category)
-  laid_removed dir = subst (λ (x : Entries). (later : Laid session (with_segment_bytes mid N (spelling x)) after) × (later.naming ≡ naming) × (later.category ≡ l.category)) directory_smaller
+  pub laid_removed : is_dir_at f d ≡ true → (later : ObjectsMatch session (with_segment_bytes mid N (spelling smaller)) after) × (later.naming ≡ naming) × (later.category ≡ l.category)
+  laid_removed dir = subst (λ (x : Entries). (later : ObjectsMatch session (with_segment_bytes mid N (spelling x)) after) × (later.naming ≡ naming) × (later.category ≡ l.category)) directory_smaller
       (laid_listed session s f l after.files fits_all mid naming (cut same_step old_asked top) stands_mid (subst (λ (x : ℕ). x ≤ greatest) (sym cuts.next_object) l.numbered) d N
       (sym (kept (Listing ∷ address_of d) listing_outside) ∙ at_listing) (spelling (directory_of f.files l.naming.number d)) asked_here asked_else booted listable cuts.next_category gone_then)
     where
@@ -276,6 +276,6 @@ module _ (session : Session) (s : State) (f : Flat) (l : Laid session s f) (m : 
         | inr t ↦ dir_kept e t.1 (under_path (m ∷ d) e) refl is
       ]
 
-  -- and so the kernel lays out the flat state without the entry
-  pub lays_out_removed : AreJobsGiven f → is_dir_at f d ≡ true → LaysOut session (with_segment_bytes mid N (spelling smaller)) after
-  lays_out_removed given dir = record { laid = (laid_removed dir).0; jobs_given = jobs_removed given }
+  -- and so the kernel represents the flat state without the entry
+  pub represents_removed : AreJobsGiven f → is_dir_at f d ≡ true → Represents session (with_segment_bytes mid N (spelling smaller)) after
+  represents_removed given dir = record { laid = (laid_removed dir).0; jobs_given = jobs_removed given }

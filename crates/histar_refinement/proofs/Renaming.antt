@@ -1,4 +1,4 @@
--- After an entry of a directory is renamed the kernel lays out the flat state with all paths below its new name.
+-- After an entry of a directory is renamed the kernel represents the flat state with all paths below its new name.
 use Rattle.std.proofs.Common.{◌≡◌, ◌≢◌, ℕ, ◌+◌, ◌*◌, ◌⊎◌, inl, inr, Bool, true, false, ◌||◌, cond, [], ◌∷◌, length, Option, None, Some, refl, sym, ap, ◌∙◌, subst}
 use Rattle.std.specs.Prelude.{IsTrue, option_map, option_and_then}
 use Rattle.std.specs.FinMap as map
@@ -24,7 +24,7 @@ use Rattle.histar_refinement.specs.LeftByBoot.{left_by_boot}
 use Rattle.histar_refinement.specs.Directories.{directory_of}
 use Rattle.histar_refinement.specs.Stands.{Stands}
 use Rattle.histar_refinement.specs.Expected.{node_object, listing_object, expected_node, listing_at, expected_home, expected_status, container_inside, thread_at, expected}
-use Rattle.histar_refinement.specs.LaysOut.{AreJobsGiven, Laid, LaysOut}
+use Rattle.histar_refinement.specs.Represents.{AreJobsGiven, ObjectsMatch, Represents}
 use Rattle.histar_refinement.proofs.Places.{address_path, asked_listing}
 use Rattle.histar_refinement.proofs.Steps.{step_tests_equality}
 use Rattle.histar_refinement.proofs.DirectoryLaws.{get_directory}
@@ -32,7 +32,7 @@ use Rattle.histar_refinement.proofs.Renamings.{renamed_naming, stands_renamed}
 use Rattle.histar_refinement.proofs.FileRows.{SameNumbers, same_status, leads_at, directories_alike, same_leads, nothing_in, old_known, old_fits, ClassFits, laid_listed, jobs_kept}
 use Rattle.histar_refinement.proofs.Turning.{turned_name, turned_step, turned_n, turned_k, turned_else, turned, turned_address, address_back, directory_stays, address_stays, same_tests, turned_path_address, turned_home, process_turned, inside_turned, path_turned, get_renamed}
 
-module _ (session : Session) (s : State) (f : Flat) (l : Laid session s f) where
+module _ (session : Session) (s : State) (f : Flat) (l : ObjectsMatch session s f) where
   -- where nothing stands, nothing stands below
   pub nothing_under : (top : Path) → get f.files top ≡ None → (q : Path) → under_path top q ≡ true → get f.files q ≡ None
   nothing_under top absent [] u = elim (same_path_found top []) [
@@ -213,8 +213,8 @@ module _ (session : Session) (s : State) (f : Flat) (l : Laid session s f) where
 
       -- The kernel has the objects of the flat state in which all below the old name is below the new one.
       pub laid_renamed : IsTrue (is_name k) → is_dir_at f d ≡ true
-          → (later : Laid session (with_segment_bytes s N (spelling renamed_directory)) after) × (later.naming ≡ naming) × (later.category ≡ l.category)
-      laid_renamed name dir = subst (λ (x : Entries). (later : Laid session (with_segment_bytes s N (spelling x)) after) × (later.naming ≡ naming) × (later.category ≡ l.category)) directory_renamed
+          → (later : ObjectsMatch session (with_segment_bytes s N (spelling renamed_directory)) after) × (later.naming ≡ naming) × (later.category ≡ l.category)
+      laid_renamed name dir = subst (λ (x : Entries). (later : ObjectsMatch session (with_segment_bytes s N (spelling x)) after) × (later.naming ≡ naming) × (later.category ≡ l.category)) directory_renamed
           (laid_listed session s f l after.files fits_all s naming asked stands_turned l.numbered d N listing_stays
           (spelling (directory_of f.files l.naming.number d)) asked_here asked_else
           (λ a q e. l.as_booted (turned_address n k d a) q (boot_turned a ∙ e)) listable refl l.boot_thread_gone)
@@ -225,6 +225,6 @@ module _ (session : Session) (s : State) (f : Flat) (l : Laid session s f) where
             | inr t ↦ subst IsListable (directory_else e t.1) (l.listable (turned n k d e) (ap (λ (o : Option Node). is_some_and o is_dir) (sym (got e)) ∙ is))
           ]
 
-      -- and so the kernel lays out the flat state with the entry renamed
-      pub lays_out_renamed : AreJobsGiven f → IsTrue (is_name k) → is_dir_at f d ≡ true → LaysOut session (with_segment_bytes s N (spelling renamed_directory)) after
-      lays_out_renamed given name dir = record { laid = (laid_renamed name dir).0; jobs_given = jobs_renamed given }
+      -- and so the kernel represents the flat state with the entry renamed
+      pub represents_renamed : AreJobsGiven f → IsTrue (is_name k) → is_dir_at f d ≡ true → Represents session (with_segment_bytes s N (spelling renamed_directory)) after
+      represents_renamed given name dir = record { laid = (laid_renamed name dir).0; jobs_given = jobs_renamed given }

@@ -1,5 +1,5 @@
 -- The nine raw calls of a spawn, all granted: two categories are made, four objects, a segment is written, and the thread takes its
--- own label and clearance again. The kernel then lays out the flat state with the child.
+-- own label and clearance again. The kernel then represents the flat state with the child.
 use Rattle.std.proofs.Common.{◌≡◌, ℕ, ◌+◌, ◌<◌, inl, true, false, List, [], ◌∷◌, Option, None, Some, arith, refl, sym, ap, ◌∙◌, subst}
 use Rattle.std.specs.Prelude.{is_some}
 use Rattle.std.specs.FinSet as set
@@ -21,7 +21,7 @@ use Rattle.histar_refinement.specs.Labels.{thread_rights}
 use Rattle.histar_refinement.specs.Addresses.{same_step, home_address}
 use Rattle.histar_refinement.specs.Addresses.Step.{Status, Inside, Runner}
 use Rattle.histar_refinement.specs.Expected.{thread_object, expected}
-use Rattle.histar_refinement.specs.LaysOut.{LaysOut, Laid}
+use Rattle.histar_refinement.specs.Represents.{Represents, ObjectsMatch}
 use Rattle.histar_rules.specs.Rules.{greatest}
 use Rattle.histar_refinement.proofs.Places.{asked_runner}
 use Rattle.histar_refinement.proofs.Steps.{step_tests_equality}
@@ -30,7 +30,7 @@ use Rattle.histar_refinement.proofs.Beside.{Beside, beside_itself, beside_added,
 use Rattle.histar_refinement.proofs.Spawning.{outer, inner, label, clearance, child_written, own_written, laid_born, job_used, given_then}
 
 -- the thread of a process that runs
-module _ (session : Session) (s : State) (f : Flat) (l : Laid session s f) (me : ProcName) (p : Process) (here : f.processes me ≡ Some p) (runs : p.exited ≡ None) (T : ℕ) (at_thread : l.naming.number (Runner ∷ Inside ∷ home_address me) ≡ Some T) where
+module _ (session : Session) (s : State) (f : Flat) (l : ObjectsMatch session s f) (me : ProcName) (p : Process) (here : f.processes me ≡ Some p) (runs : p.exited ≡ None) (T : ℕ) (at_thread : l.naming.number (Runner ∷ Inside ∷ home_address me) ≡ Some T) where
   abbrev pub own_label : Levels
   own_label = rights_label l.category (thread_rights session me p)
 
@@ -66,9 +66,9 @@ beside_births T own most t u C S one two three four bytes b =
         → Beside T own most (births t C S one two three four bytes) (births u C S one two three four bytes)
     subst_next = subst (λ (m : ℕ). Beside T own most (with_segment_bytes (with_object (with_object (with_object (with_object t C one) m two) (m + 1) three) m four) S bytes) (births u C S one two three four bytes)) (sym b.next)
 
-module _ (session : Session) (s : State) (f : Flat) (l : LaysOut session s f) (me : ProcName) (p : Process) (here : f.processes me ≡ Some p) (runs : p.exited ≡ None) (room : p.born < 64)
+module _ (session : Session) (s : State) (f : Flat) (l : Represents session s f) (me : ProcName) (p : Process) (here : f.processes me ≡ Some p) (runs : p.exited ≡ None) (room : p.born < 64)
     (C S T : ℕ) (at_home : l.laid.naming.number (home_address me) ≡ Some C) (at_status : l.laid.naming.number (Status ∷ home_address me) ≡ Some S) (at_thread : l.laid.naming.number (Runner ∷ Inside ∷ home_address me) ≡ Some T) (few : s.next_object + 3 < greatest) where
-  abbrev m : Laid session s f
+  abbrev m : ObjectsMatch session s f
   m = l.laid
 
   pub chain_used : (job : ProcName) → has p.chain job ≡ true → IsUsed session f (OfJob job)
@@ -97,8 +97,8 @@ module _ (session : Session) (s : State) (f : Flat) (l : LaysOut session s f) (m
   abbrev pub state_spawned : State
   state_spawned = own_set T (born_of owning_two) own most
 
-  pub lays_out_spawned : LaysOut session state_spawned (with_child f me p p.chain)
-  lays_out_spawned =
+  pub represents_spawned : Represents session state_spawned (with_child f me p p.chain)
+  represents_spawned =
       let start = beside_start session s f m me p here runs T at_thread in
       let two = beside_uncounted T own most (with_category s T) s (beside_uncounted T own most s s start) in
       let born = laid_born session s f m me p here runs room p.chain chain_used (l.laid.processes me p here).chain chain_free C S at_home at_status state_spawned (back T own most (born_of owning_two) (born_of s) (beside_births T own most owning_two s C S _ _ _ _ _ two)) refl (omega arith) few in

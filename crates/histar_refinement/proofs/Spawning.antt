@@ -1,4 +1,4 @@
--- After a birth the kernel lays out the flat state with the child.
+-- After a birth the kernel represents the flat state with the child.
 use Rattle.std.proofs.Common.{◌≡◌, ◌≢◌, ℕ, ◌+◌, ◌*◌, ◌<◌, ◌⊎◌, inl, inr, true, false, ◌&&◌, ◌||◌, cond, List, [], ◌∷◌, length, Option, None, Some, arith, refl, sym, ap, ◌∙◌, subst}
 use Rattle.std.specs.Prelude.{is_some, option_map, nat_le}
 use Rattle.std.proofs.lemmas.Bool.Decides.{nat_tests}
@@ -31,7 +31,7 @@ use Rattle.histar_refinement.specs.Directories.{directory_of}
 use Rattle.histar_refinement.specs.Stands.{Stands}
 use Rattle.histar_refinement.specs.Expected.{listing_object, home_object, status_object, inside_object, thread_object, bytes_for, expected_status, expected}
 use Rattle.histar_login.specs.Start.{segment}
-use Rattle.histar_refinement.specs.LaysOut.{IsInOrder, AreInOrder, IsProcess, Laid}
+use Rattle.histar_refinement.specs.Represents.{IsInOrder, AreInOrder, IsProcess, ObjectsMatch}
 use Rattle.histar_refinement.proofs.ProcessBytes.{alike_bytes}
 use Rattle.histar_layout.proofs.Members.{first_of, second_of}
 use Rattle.histar_layout.proofs.Declared.{equal_tested}
@@ -65,7 +65,7 @@ above : Address Step → Address Step
 above [] = []
 above (x ∷ a) = a
 
-module _ (session : Session) (s : State) (f : Flat) (l : Laid session s f) (me : ProcName) (p : Process) (here : f.processes me ≡ Some p) (runs : p.exited ≡ None) (room : p.born < 64)
+module _ (session : Session) (s : State) (f : Flat) (l : ObjectsMatch session s f) (me : ProcName) (p : Process) (here : f.processes me ≡ Some p) (runs : p.exited ≡ None) (room : p.born < 64)
     (chain : List ProcName) (chain_used : (job : ProcName) → has chain job ≡ true → IsUsed session f (OfJob job)) (chain_ordered : AreInOrder l.category chain)
     (chain_free : is_some (user_number session p.user) ≡ false → chain ≡ [])
     (C S : ℕ) (at_home : l.naming.number (home_address me) ≡ Some C) (at_status : l.naming.number (Status ∷ home_address me) ≡ Some S) where
@@ -464,7 +464,7 @@ module _ (session : Session) (s : State) (f : Flat) (l : Laid session s f) (me :
   gone_then = gone_born s l.naming old_asked l.stands me (p.born + 1) C S at_home at_status holder no_home no_inside no_runner no_status outer inner label clearance child_written own_written boot_thread_number l.boot_thread_gone boot_below
 
   -- The kernel has the objects of the flat state with the child.
-  pub laid_born : (new : State) → ((q : ℕ) → new.objects q ≡ state_born.objects q) → new.next_object ≡ state_born.next_object → new.next_category ≡ s.next_category + 2 → s.next_object + 3 < greatest → (born : Laid session new after) × (born.naming ≡ naming) × (born.category ≡ category)
+  pub laid_born : (new : State) → ((q : ℕ) → new.objects q ≡ state_born.objects q) → new.next_object ≡ state_born.next_object → new.next_category ≡ s.next_category + 2 → s.next_object + 3 < greatest → (born : ObjectsMatch session new after) × (born.naming ≡ naming) × (born.category ≡ category)
   laid_born new objects next_is categories few = (
     record {
       naming = naming;

@@ -1,4 +1,4 @@
--- The objects that stand at the numbers of a state that is laid out: threads, directories with their segments, and files.
+-- The objects that stand at the numbers of a state that is represented: threads, directories with their segments, and files.
 use Rattle.std.proofs.Common.{◌≡◌, ◌≢◌, ℕ, true, List, [], ◌∷◌, Option, None, Some, refl, sym, ap, ◌∙◌}
 use Rattle.std.specs.Prelude.{is_some}
 use Rattle.std.specs.FinSet as set
@@ -27,7 +27,7 @@ use Rattle.histar_refinement.specs.Directories.{directory_of}
 use Rattle.histar_refinement.specs.Stands.{kind_bare, bare}
 use Rattle.histar_refinement.specs.Expected.{bare_container, content_kind, guarded_object, node_object, listing_object, home_object, thread_object, expected}
 use Rattle.histar_login.specs.Start.{segment}
-use Rattle.histar_refinement.specs.LaysOut.{Laid}
+use Rattle.histar_refinement.specs.Represents.{ObjectsMatch}
 use Rattle.histar_refinement.proofs.Steps.{step_tests_equality}
 use Rattle.histar_refinement.proofs.Moving.{bare_is, at_number}
 use Rattle.histar_refinement.proofs.Places.{asked_home, asked_runner, asked_path, asked_listing}
@@ -56,7 +56,7 @@ pub some_unless_none : {A : Type 0} (o : Option A) → o ≢ None → (x : A) ×
 some_unless_none None e = absurd (e refl)
 some_unless_none (Some x) e = (x, refl)
 
-module _ (session : Session) (s : State) (f : Flat) (l : Laid session s f) where
+module _ (session : Session) (s : State) (f : Flat) (l : ObjectsMatch session s f) where
   abbrev asked : Address Step → Found
   asked = expected session l.category f l.naming.number
 

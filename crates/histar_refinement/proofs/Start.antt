@@ -1,4 +1,4 @@
--- The state in which a machine starts lays out the flat state at the start.
+-- The state in which a machine starts represents the flat state at the start.
 use Rattle.std.proofs.Common.{◌≡◌, ◌≢◌, ℕ, zero, suc, ◌+◌, ◌*◌, ◌<◌, ◌≤◌, ◌⊎◌, inl, inr, Bool, true, false, cond, List, [], ◌∷◌, ◌++◌, length, get_or, drop, Option, None, Some, arith, refl, sym, ap, ◌∙◌, subst, append_assoc}
 use Rattle.std.specs.Prelude.{is_some, option_map, option_and_then, map, nat_lt, nat_le, unwrap_or}
 use Rattle.std.specs.List.{flat_map}
@@ -42,7 +42,7 @@ use Rattle.histar_refinement.specs.Addresses.Step.{Left, Slash, Listing, Named, 
 use Rattle.histar_refinement.specs.Directories.{directory_of}
 use Rattle.histar_refinement.specs.Stands.{bare, Stands}
 use Rattle.histar_refinement.specs.Expected.{bare_container, node_object, listing_object, guarded_object, expected_node, listing_at, expected_home, expected_status, container_inside, thread_at, expected}
-use Rattle.histar_refinement.specs.LaysOut.{IsInOrder, IsProcess, Laid, LaysOut}
+use Rattle.histar_refinement.specs.Represents.{IsInOrder, IsProcess, ObjectsMatch, Represents}
 use Rattle.histar_refinement.proofs.Steps.{step_tests_equality}
 use Rattle.histar_refinement.proofs.Places.{address_process, address_inside}
 use Rattle.histar_refinement.proofs.StartNumbers.{is_left, process_address, inside_address, start_number}
@@ -320,7 +320,7 @@ module _ (session : Session) (some_user : 0 < length session.users) where
     slash_guard : class_guard session (Readable (first_user session.users)) ≡ Some (readable_guard 1)
     slash_guard = ap (option_map readable_guard) (first_numbered session.users some_user)
 
-    start_is_laid : Laid session (start_state session) f
+    start_is_laid : ObjectsMatch session (start_state session) f
     start_is_laid = record {
       naming = start_naming n;
       category = start_category session;
@@ -342,5 +342,5 @@ module _ (session : Session) (some_user : 0 < length session.users) where
         total : 6 + 2 * n + 2 * m ≡ (start_state session).next_category
         total = omega arith
 
-    pub start_lays_out : LaysOut session (start_state session) f
-    start_lays_out = record { laid = start_is_laid; jobs_given = λ job u. absurd (no_job job u) }
+    pub start_represents : Represents session (start_state session) f
+    start_represents = record { laid = start_is_laid; jobs_given = λ job u. absurd (no_job job u) }

@@ -1,4 +1,4 @@
--- In a state that is laid out the process segments lead to the numbers of each process and its thread, and to no others.
+-- In a state that is represented the process segments lead to the numbers of each process and its thread, and to no others.
 use Rattle.std.proofs.Common.{◌≡◌, ◌≢◌, ℕ, zero, suc, ◌+◌, ◌<◌, ◌≤◌, ◌==◌, ◌⊎◌, inl, inr, Bool, true, false, cond, [], ◌∷◌, map, Option, None, Some, refl, sym, ap, ◌∙◌, arith}
 use Rattle.std.specs.Prelude.{is_some, nat_le}
 use Rattle.std.specs.List.{filter, range_with_len}
@@ -17,7 +17,7 @@ use Rattle.histar_layout.specs.Status.{ProcessStatus, child_at}
 use Rattle.histar_refinement.specs.Addresses.{AddressNumbers, home_address}
 use Rattle.histar_refinement.specs.Addresses.Step.{Home, Status, Inside, Runner, Child}
 use Rattle.histar_refinement.specs.Expected.{home_object, status_object, thread_object, bytes_for}
-use Rattle.histar_refinement.specs.LaysOut.{Laid}
+use Rattle.histar_refinement.specs.Represents.{ObjectsMatch}
 use Rattle.histar_refinement.specs.Lines.{IsStatusSegment, IsThreadOf}
 use Rattle.histar_refinement.specs.Processes.{or_zero, listed_by, status_by}
 use Rattle.histar_layout.proofs.Members.{first_of, second_of}
@@ -69,7 +69,7 @@ pub zero_there : (o : Option ℕ) (k : ℕ) → is_some o ≡ true → or_zero o
 zero_there None k some e = absurd (true≢false (sym some))
 zero_there (Some q) k some e = ap Some e
 
-module _ (session : Session) (s : State) (f : Flat) (l : Laid session s f) where
+module _ (session : Session) (s : State) (f : Flat) (l : ObjectsMatch session s f) where
   -- the addresses of a process have numbers where it is there
   pub numbered_home : (me : ProcName) → is_some (l.naming.number (home_address me)) ≡ is_some (f.processes me)
   numbered_home me = l.stands.named (home_address me) ∙ ap is_present (asked_home session l.category f l.naming.number me) ∙ by (f.processes me)

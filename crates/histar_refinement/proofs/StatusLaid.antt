@@ -1,4 +1,4 @@
--- In a state that is laid out, the segment of a process is the status that the naming tells.
+-- In a state that is represented, the segment of a process is the status that the naming tells.
 use Rattle.std.proofs.Common.{◌≡◌, ℕ, ◌^◌, ◌<◌, List, [], ◌∷◌, map, Option, None, Some, inl, inr, refl, sym, ap, ◌∙◌, arith}
 use Rattle.std.specs.Prelude.{option_and_then}
 use Rattle.std.specs.List.{AllByRecursion}
@@ -17,11 +17,11 @@ use Rattle.histar_refinement.specs.Addresses.Step.{Status, Inside, Runner}
 use Rattle.histar_refinement.specs.Stands.{bare}
 use Rattle.histar_refinement.specs.Processes.{or_zero, listed_by, status_by, children}
 use Rattle.histar_refinement.specs.Expected.{bytes_for, status_object}
-use Rattle.histar_refinement.specs.LaysOut.{Laid}
+use Rattle.histar_refinement.specs.Represents.{ObjectsMatch}
 use Rattle.histar_refinement.proofs.Places.{asked_status}
 use Rattle.histar_refinement.proofs.LinesLaid.{bytes_bare}
 
-module _ (session : Session) (s : State) (f : Flat) (l : Laid session s f) where
+module _ (session : Session) (s : State) (f : Flat) (l : ObjectsMatch session s f) where
   number_small : (a : Address Step) → or_zero (l.naming.number a) < 2 ^ 64
   number_small a = by (l.naming.number a) refl
     where

@@ -1,4 +1,4 @@
--- Labels in a state that lays out a flat state are told by names that are used; a naming that keeps the used ones keeps the labels.
+-- Labels in a state that represents a flat state are told by names that are used; a naming that keeps the used ones keeps the labels.
 use Rattle.std.proofs.Common.{◌≡◌, ℕ, zero, suc, ◌<◌, ◌≤◌, inl, inr, Bool, true, false, List, [], ◌∷◌, ◌++◌, length, Option, None, Some, arith, refl, sym, ap, ◌∙◌, subst, if◌then◌else◌}
 use Rattle.std.specs.Prelude.{map, is_some, nat_eq, slice_get}
 use Rattle.std.proofs.lemmas.Bool.Decides.{nat_tests}
@@ -23,7 +23,7 @@ use Rattle.histar_refinement.specs.Categories.CategoryName.{ReadsUser, WritesUse
 use Rattle.histar_refinement.specs.Guards.{Guard, guard_label, rights_label, rights_clearance}
 use Rattle.histar_refinement.specs.Labels.{class_guard, private_guard, readable_guard, scratch_guard, group_guard, open_guard, process_guard, inside_guard, reading, writing, owned_as, thread_rights}
 use Rattle.histar_refinement.specs.Expected.{bare_container, guarded_object, content_kind, node_object, listing_object, home_object, inside_object, thread_object}
-use Rattle.histar_refinement.specs.LaysOut.{AreInOrder}
+use Rattle.histar_refinement.specs.Represents.{AreInOrder}
 use Rattle.histar_layout.specs.ClassLabels.{IsRisingFrom}
 use Rattle.histar_refinement.proofs.CategoryTests.{same_told}
 use Rattle.histar_refinement.proofs.AmongNames.{each_none, each_one, each_head, each_append}

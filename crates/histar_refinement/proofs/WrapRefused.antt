@@ -1,4 +1,4 @@
--- A wrap that the kernel refuses after its first category: the thread takes its own label and clearance again, and the state lays out the
+-- A wrap that the kernel refuses after its first category: the thread takes its own label and clearance again, and the state represents the
 -- same flat state. One category more was made, and has no name.
 use Rattle.std.proofs.Common.{◌≡◌, ℕ, ◌∷◌, None, Some, arith, refl}
 use Rattle.histar_flat.specs.Words.{ProcName}
@@ -9,12 +9,12 @@ use Rattle.histar_flat.specs.Classes.{Process}
 use Rattle.histar_flat.specs.FlatState.{Flat}
 use Rattle.histar_refinement.specs.Addresses.{home_address}
 use Rattle.histar_refinement.specs.Addresses.Step.{Inside, Runner}
-use Rattle.histar_refinement.specs.LaysOut.{LaysOut}
+use Rattle.histar_refinement.specs.Represents.{Represents}
 use Rattle.histar_refinement.proofs.Beside.{beside_uncounted, own_set, back}
 use Rattle.histar_refinement.proofs.Spawned.{own_label, own_clearance, beside_start}
 use Rattle.histar_refinement.proofs.Counting.{laid_more}
 
-module _ (session : Session) (s : State) (f : Flat) (l : LaysOut session s f) (me : ProcName) (p : Process) (here : f.processes me ≡ Some p) (runs : p.exited ≡ None) (T : ℕ) (at_thread : l.laid.naming.number (Runner ∷ Inside ∷ home_address me) ≡ Some T) where
+module _ (session : Session) (s : State) (f : Flat) (l : Represents session s f) (me : ProcName) (p : Process) (here : f.processes me ≡ Some p) (runs : p.exited ≡ None) (T : ℕ) (at_thread : l.laid.naming.number (Runner ∷ Inside ∷ home_address me) ≡ Some T) where
   abbrev pub state_refused : State
   state_refused = own_set T (with_category s T) (own_label session s f l.laid me p here runs T at_thread) (own_clearance session s f l.laid me p here runs T at_thread)
 
@@ -23,5 +23,5 @@ module _ (session : Session) (s : State) (f : Flat) (l : LaysOut session s f) (m
   refused_objects = back T (own_label session s f l.laid me p here runs T at_thread) (own_clearance session s f l.laid me p here runs T at_thread) (with_category s T) s
       (beside_uncounted T (own_label session s f l.laid me p here runs T at_thread) (own_clearance session s f l.laid me p here runs T at_thread) s s (beside_start session s f l.laid me p here runs T at_thread))
 
-  pub lays_out_refused : LaysOut session state_refused f
-  lays_out_refused = record { laid = (laid_more session s f l.laid state_refused refused_objects refl (omega arith)).0; jobs_given = l.jobs_given }
+  pub represents_refused : Represents session state_refused f
+  represents_refused = record { laid = (laid_more session s f l.laid state_refused refused_objects refl (omega arith)).0; jobs_given = l.jobs_given }

@@ -34,7 +34,7 @@ use Rattle.histar_refinement.specs.Labels.{class_guard, scratch_guard}
 use Rattle.histar_refinement.specs.Addresses.{Step, address_of, home_address}
 use Rattle.histar_refinement.specs.Addresses.Step.{Listing, Status, Inside, Runner}
 use Rattle.histar_refinement.specs.Directories.{directory_of}
-use Rattle.histar_refinement.specs.LaysOut.{AreInOrder, LaysOut, Laid}
+use Rattle.histar_refinement.specs.Represents.{AreInOrder, Represents, ObjectsMatch}
 use Rattle.histar_refinement.proofs.JobLists.{in_order_last}
 use Rattle.histar_refinement.proofs.Beside.{Beside, beside_added, beside_written, beside_category}
 use Rattle.histar_refinement.proofs.Spawned.{own_label, own_clearance, beside_start}
@@ -45,7 +45,7 @@ use Rattle.histar_refinement.proofs.JobBorn.{after, state_held, given_after, giv
 
 -- The process that wraps and its user, the name of the directory that it makes and the directory above, and the numbers at which the objects of
 -- the process and of the directory above stand.
-pub record Wrapper (session : Session) (s : State) (f : Flat) (l : LaysOut session s f) (me : ProcName) (p : Process) : Type 0 where
+pub record Wrapper (session : Session) (s : State) (f : Flat) (l : Represents session s f) (me : ProcName) (p : Process) : Type 0 where
   pub here : f.processes me ≡ Some p
   pub runs : p.exited ≡ None
   pub room : p.born < 64
@@ -68,7 +68,7 @@ pub record Wrapper (session : Session) (s : State) (f : Flat) (l : LaysOut sessi
   pub at_listing : l.laid.naming.number (Listing ∷ address_of directory) ≡ Some listing
   pub few : s.next_object + 1 < greatest
 
-module _ (session : Session) (s : State) (f : Flat) (l : LaysOut session s f) (me : ProcName) (p : Process) (it : Wrapper session s f l me p) where
+module _ (session : Session) (s : State) (f : Flat) (l : Represents session s f) (me : ProcName) (p : Process) (it : Wrapper session s f l me p) where
   -- its fields by name
   abbrev here : f.processes me ≡ Some p
   here = it.here
@@ -159,10 +159,10 @@ module _ (session : Session) (s : State) (f : Flat) (l : LaysOut session s f) (m
   not_named = jobs.not_named session s f l me p here
 
   -- once the job's category is made
-  abbrev pub named : (later : Laid session (with_next_category s) f) × (later.naming ≡ l.laid.naming) × (later.category ≡ naming_next l.laid.category s.next_category (OfJob child))
+  abbrev pub named : (later : ObjectsMatch session (with_next_category s) f) × (later.naming ≡ l.laid.naming) × (later.category ≡ naming_next l.laid.category s.next_category (OfJob child))
   named = jobs.named session s f l me p here
 
-  abbrev pub m : Laid session (with_next_category s) f
+  abbrev pub m : ObjectsMatch session (with_next_category s) f
   m = named.0
 
   -- which has the next number
@@ -230,13 +230,13 @@ module _ (session : Session) (s : State) (f : Flat) (l : LaysOut session s f) (m
 
   -- Once the parent's directory has room for it.
   module _ (is_named : IsTrue (is_name n)) (room_above : length (entries_in f d) < most_entries) where
-    pub made : (later : Laid session made_state with_directory) × (later.naming ≡ directory_naming session (with_next_category s) f m d above at_parent D N at_D_named at_N_named n absent class fits (scratch_guard chain i) guard_is) × (later.category ≡ m.category)
+    pub made : (later : ObjectsMatch session made_state with_directory) × (later.naming ≡ directory_naming session (with_next_category s) f m d above at_parent D N at_D_named at_N_named n absent class fits (scratch_guard chain i) guard_is) × (later.category ≡ m.category)
     made = laid_directory_created session (with_next_category s) f m d above at_parent D N at_D_named at_N_named n absent class fits (scratch_guard chain i) guard_is is_named room_above (omega (arith, few))
 
     numbers : SameNumbers m.naming.number (directory_naming session (with_next_category s) f m d above at_parent D N at_D_named at_N_named n absent class fits (scratch_guard chain i) guard_is).number
     numbers = directory_numbers session (with_next_category s) f m d above at_parent D N at_D_named at_N_named n absent class fits (scratch_guard chain i) guard_is (omega (arith, few))
 
-    abbrev pub k : Laid session made_state with_directory
+    abbrev pub k : ObjectsMatch session made_state with_directory
     k = made.0
 
     -- what processes have keeps its numbers
@@ -339,9 +339,9 @@ module _ (session : Session) (s : State) (f : Flat) (l : LaysOut session s f) (m
         | inr e ↦ given_now job e
       ]
 
-      -- The state after all calls of the wrap lays out the flat state with the directory and the job's first process, whose wrapper holds the job.
-      pub lays_out_wrapped : LaysOut session state_wrapped wrapped
-      lays_out_wrapped = subst (LaysOut session state_wrapped) same_flat
+      -- The state after all calls of the wrap represents the flat state with the directory and the job's first process, whose wrapper holds the job.
+      pub represents_wrapped : Represents session state_wrapped wrapped
+      represents_wrapped = subst (Represents session state_wrapped) same_flat
           (record {
             laid = laid_held session made_state with_directory k me p here runs room is_declared served stranger k_chain k_held C S T k_home k_status k_thread few_born own most state_directory beside counted;
             jobs_given = jobs_given_then;

@@ -1,4 +1,4 @@
--- After a write to a file at any depth the kernel lays out the flat state with the new bytes.
+-- After a write to a file at any depth the kernel represents the flat state with the new bytes.
 use Rattle.std.proofs.Common.{◌≡◌, ◌≢◌, ℕ, inl, inr, Bool, true, false, List, ◌∷◌, Option, None, Some, refl, sym, ap, ◌∙◌, subst, if◌then◌else◌}
 use Rattle.std.specs.Prelude.{nat_eq, option_map, option_and_then}
 use Rattle.std.proofs.lemmas.Option.{same_Some}
@@ -22,13 +22,13 @@ use Rattle.histar_refinement.specs.Addresses.{Step, same_step, address_of}
 use Rattle.histar_refinement.specs.Directories.{target_for, directory_of}
 use Rattle.histar_refinement.specs.Stands.{Stands}
 use Rattle.histar_refinement.specs.Expected.{node_object, listing_object, listing_at, expected}
-use Rattle.histar_refinement.specs.LaysOut.{AreJobsGiven, Laid, LaysOut}
+use Rattle.histar_refinement.specs.Represents.{AreJobsGiven, ObjectsMatch, Represents}
 use Rattle.histar_refinement.proofs.Steps.{step_tests_equality}
 use Rattle.histar_refinement.proofs.Moving.{bare_held, stands_changed, stands_same}
 use Rattle.histar_refinement.proofs.Places.{asked_path}
 use Rattle.histar_refinement.proofs.FileRows.{asked_same, held_node, leads_at, directories_alike, same_leads, ClassFits, AreKnown, old_known, old_fits, jobs_kept, laid_files}
 
-module _ (session : Session) (s : State) (f : Flat) (l : Laid session s f) (q : Path) (class : Class) (old bytes : List ℕ) (at : get f.files q ≡ Some (record { class = class; content = File old })) (O : ℕ) (at_file : l.naming.number (address_of q) ≡ Some O) where
+module _ (session : Session) (s : State) (f : Flat) (l : ObjectsMatch session s f) (q : Path) (class : Class) (old bytes : List ℕ) (at : get f.files q ≡ Some (record { class = class; content = File old })) (O : ℕ) (at_file : l.naming.number (address_of q) ≡ Some O) where
   abbrev after : Flat
   after = with_node f q class (File bytes)
 
@@ -97,8 +97,8 @@ module _ (session : Session) (s : State) (f : Flat) (l : Laid session s f) (q : 
   ]
 
   -- The kernel has the objects of the flat state with the new bytes: `write`, and `append` where these are the old ones with more.
-  pub laid_overwritten : (later : Laid session (with_segment_bytes s O bytes) (with_file_bytes f q bytes)) × (later.naming ≡ l.naming) × (later.category ≡ l.category)
-  laid_overwritten = subst (λ (c : Class). (later : Laid session (with_segment_bytes s O bytes) (with_node f q c (File bytes))) × (later.naming ≡ l.naming) × (later.category ≡ l.category)) (sym (ap class_of at))
+  pub laid_overwritten : (later : ObjectsMatch session (with_segment_bytes s O bytes) (with_file_bytes f q bytes)) × (later.naming ≡ l.naming) × (later.category ≡ l.category)
+  laid_overwritten = subst (λ (c : Class). (later : ObjectsMatch session (with_segment_bytes s O bytes) (with_node f q c (File bytes))) × (later.naming ≡ l.naming) × (later.category ≡ l.category)) (sym (ap class_of at))
       (laid_files session s f l after.files all_fit (with_segment_bytes s O bytes) l.naming
       (stands_same same_step (with_segment_bytes s O bytes) (with_segment_bytes s O bytes) l.naming _ (expected session l.category after l.naming.number) stands_then asks (λ k. refl) refl) l.numbered
       l.as_booted (λ d is. subst IsListable (directory_all d) (l.listable d (was_dir d is))) refl (by_bytes s.objects boot_thread_number l.boot_thread_gone))
@@ -115,6 +115,6 @@ module _ (session : Session) (s : State) (f : Flat) (l : Laid session s f) (q : 
   pub jobs_overwritten : AreJobsGiven f → AreJobsGiven (with_file_bytes f q bytes)
   jobs_overwritten = subst (λ (c : Class). AreJobsGiven f → AreJobsGiven (with_node f q c (File bytes))) (sym (ap class_of at)) (jobs_kept session s f l after.files all_known)
 
-  -- and so the kernel lays out the flat state with the new bytes
-  pub lays_out_overwritten : AreJobsGiven f → LaysOut session (with_segment_bytes s O bytes) (with_file_bytes f q bytes)
-  lays_out_overwritten given = record { laid = laid_overwritten.0; jobs_given = jobs_overwritten given }
+  -- and so the kernel represents the flat state with the new bytes
+  pub represents_overwritten : AreJobsGiven f → Represents session (with_segment_bytes s O bytes) (with_file_bytes f q bytes)
+  represents_overwritten given = record { laid = laid_overwritten.0; jobs_given = jobs_overwritten given }

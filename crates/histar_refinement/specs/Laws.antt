@@ -1,4 +1,4 @@
--- What it comes to that a state lays out a flat state: who observes and modifies what, what is reached and found, that there is one
+-- What it comes to that a state represents a flat state: who observes and modifies what, what is reached and found, that there is one
 -- such flat state at most, and the start.
 use Rattle.std.specs.Prelude.{◌≡◌, ℕ, ◌<◌, ◌≤◌, ◌⊎◌, ◌↔◌, true, ◌∷◌, length, Option, None, Some, is_some}
 use Rattle.histar_flat.specs.Words.{Path, ProcName}
@@ -21,10 +21,10 @@ use Rattle.histar_refinement.specs.Categories.{CategoryName}
 use Rattle.histar_refinement.specs.Categories.CategoryName.{ReadsProcess, WritesProcess}
 use Rattle.histar_refinement.specs.Addresses.{address_of, home_address}
 use Rattle.histar_refinement.specs.Addresses.Step.{Listing, Status, Inside, Runner}
-use Rattle.histar_refinement.specs.LaysOut.{Laid, LaysOut}
+use Rattle.histar_refinement.specs.Represents.{ObjectsMatch, Represents}
 use Rattle.histar_refinement.specs.Lines.{IsThreadOf, IsDirectoryAt}
 
-module _ (session : Session) (s : State) (f : Flat) (l : Laid session s f) where
+module _ (session : Session) (s : State) (f : Flat) (l : ObjectsMatch session s f) where
   -- the object is what stands at the path, or the directory segment of the directory there
   abbrev pub StandsFor : Path → ℕ → Type 0
   StandsFor q o = (l.naming.number (address_of q) ≡ Some o) ⊎ (l.naming.number (Listing ∷ address_of q) ≡ Some o)
@@ -35,21 +35,21 @@ module _ (session : Session) (s : State) (f : Flat) (l : Laid session s f) where
 
 -- a thread may observe what is of a class exactly where its process may read it
 abbrev pub ThreadsObserveWhatIsRead : Type 0
-ThreadsObserveWhatIsRead = (session : Session) (s : State) (f : Flat) (l : Laid session s f) → IsSession session
+ThreadsObserveWhatIsRead = (session : Session) (s : State) (f : Flat) (l : ObjectsMatch session s f) → IsSession session
     → (me : ProcName) (p : Process) (t : ℕ) → RunsAs session s f l me p t
     → (q : Path) (there : Node) (o : ℕ) → get f.files q ≡ Some there → StandsFor session s f l q o
     → observes (s.objects t) (s.objects o) ≡ may_read session p there.class
 
 -- a thread may modify what is of a class exactly where its process may write it
 abbrev pub ThreadsModifyWhatIsWritten : Type 0
-ThreadsModifyWhatIsWritten = (session : Session) (s : State) (f : Flat) (l : Laid session s f) → IsSession session
+ThreadsModifyWhatIsWritten = (session : Session) (s : State) (f : Flat) (l : ObjectsMatch session s f) → IsSession session
     → (me : ProcName) (p : Process) (t : ℕ) → RunsAs session s f l me p t
     → (q : Path) (there : Node) (o : ℕ) → get f.files q ≡ Some there → StandsFor session s f l q o
     → modifies (s.objects t) (s.objects o) ≡ may_write session p there.class
 
 -- each object that there is is reached from the root container by links
 abbrev pub ObjectsAreReached : Type 0
-ObjectsAreReached = (session : Session) (s : State) (f : Flat) → LaysOut session s f → (q : ℕ) → is_present (s.objects q) ≡ true → Reached s.objects root_number q
+ObjectsAreReached = (session : Session) (s : State) (f : Flat) → Represents session s f → (q : ℕ) → is_present (s.objects q) ≡ true → Reached s.objects root_number q
 
 -- Two processes are the same; or both have exited with the same number, were in the same jobs and had as many children, and
 -- nothing is said of their users and of the jobs that they held.
@@ -59,18 +59,18 @@ AreAlike None (Some q) = ⊥
 AreAlike (Some p) None = ⊥
 AreAlike (Some p) (Some q) = (p.exited ≡ q.exited) × (p.born ≡ q.born) × (p.chain ≡ q.chain) × (p.exited ≡ None → (p.user ≡ q.user) × (p.held ≡ q.held))
 
--- For one naming of its categories a state lays out one flat state at most: the same files and directories of the same classes with
+-- For one naming of its categories a state represents one flat state at most: the same files and directories of the same classes with
 -- the same bytes, and the same processes, but for the users and the held jobs of those that have exited.
-abbrev pub OneIsLaidOut : Type 0
-OneIsLaidOut = (session : Session) (s : State) (f g : Flat) (l : LaysOut session s f) (m : LaysOut session s g) → ((c : CategoryName) → l.laid.category c ≡ m.laid.category c)
+abbrev pub OneIsRepresented : Type 0
+OneIsRepresented = (session : Session) (s : State) (f g : Flat) (l : Represents session s f) (m : Represents session s g) → ((c : CategoryName) → l.laid.category c ≡ m.laid.category c)
     → ((q : Path) → get f.files q ≡ get g.files q) × ((me : ProcName) → AreAlike (f.processes me) (g.processes me))
 
 -- the thread that the process segments lead to is that of the process, which runs
 abbrev pub ThreadsAreFound : Type 0
-ThreadsAreFound = (session : Session) (s : State) (f : Flat) (l : Laid session s f) (me : ProcName) (t : ℕ) → IsThreadOf session s me t ↔ ((p : Process) × RunsAs session s f l me p t)
+ThreadsAreFound = (session : Session) (s : State) (f : Flat) (l : ObjectsMatch session s f) (me : ProcName) (t : ℕ) → IsThreadOf session s me t ↔ ((p : Process) × RunsAs session s f l me p t)
 
 -- A process that runs, as it is found: its container and its process segment, its thread, and the numbers of its own two categories.
-pub record IsCallerOf (session : Session) (s : State) (f : Flat) (l : Laid session s f) (me : ProcName) (p : Process) (caller : Caller) : Type 0 where
+pub record IsCallerOf (session : Session) (s : State) (f : Flat) (l : ObjectsMatch session s f) (me : ProcName) (p : Process) (caller : Caller) : Type 0 where
   pub runs : RunsAs session s f l me p caller.thread
   pub home : l.naming.number (home_address me) ≡ Some caller.home.container
   pub segment : l.naming.number (Status ∷ home_address me) ≡ Some caller.home.segment
@@ -79,20 +79,20 @@ pub record IsCallerOf (session : Session) (s : State) (f : Flat) (l : Laid sessi
 
 -- the processes that are found from where boot left process 0 are exactly those that run
 abbrev pub CallersAreFound : Type 0
-CallersAreFound = (session : Session) (s : State) (f : Flat) (l : Laid session s f) (me : ProcName) (caller : Caller)
+CallersAreFound = (session : Session) (s : State) (f : Flat) (l : ObjectsMatch session s f) (me : ProcName) (caller : Caller)
     → (caller_at s (places_of (length session.users)).home me ≡ Some caller) ↔ ((p : Process) × IsCallerOf session s f l me p caller)
 
 -- and each that runs is found
 abbrev pub CallersAreThere : Type 0
-CallersAreThere = (session : Session) (s : State) (f : Flat) → Laid session s f → (me : ProcName) → is_some (caller_at s (places_of (length session.users)).home me) ≡ is_some (running f me)
+CallersAreThere = (session : Session) (s : State) (f : Flat) → ObjectsMatch session s f → (me : ProcName) → is_some (caller_at s (places_of (length session.users)).home me) ≡ is_some (running f me)
 
 -- the objects that the directory segments lead to are those of the directory at the path
 abbrev pub DirectoriesAreFound : Type 0
-DirectoriesAreFound = (session : Session) (s : State) (f : Flat) (l : Laid session s f) (d : Path) (container listing : ℕ)
+DirectoriesAreFound = (session : Session) (s : State) (f : Flat) (l : ObjectsMatch session s f) (d : Path) (container listing : ℕ)
     → IsDirectoryAt session s d container listing ↔ ((is_dir_at f d ≡ true) × (l.naming.number (address_of d) ≡ Some container) × (l.naming.number (Listing ∷ address_of d) ≡ Some listing))
 
--- the state in which a machine starts lays out the flat state at the start, where some users are declared and the objects of boot
+-- the state in which a machine starts represents the flat state at the start, where some users are declared and the objects of boot
 -- have numbers
-abbrev pub StartIsLaidOut : Type 0
-StartIsLaidOut = (session : Session) → 0 < length session.users → IsSession session → (start_state session).next_object ≤ greatest
-    → LaysOut session (start_state session) (boot session)
+abbrev pub StartIsRepresented : Type 0
+StartIsRepresented = (session : Session) → 0 < length session.users → IsSession session → (start_state session).next_object ≤ greatest
+    → Represents session (start_state session) (boot session)

@@ -9,6 +9,6 @@ pub mod Processes
 pub mod Directories
 pub mod Expected
 pub mod Stands
-pub mod LaysOut
+pub mod Represents
 pub mod Lines
 pub mod Laws

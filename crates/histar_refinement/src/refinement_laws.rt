@@ -1,6 +1,6 @@
-//! What it comes to that a state lays out a flat state. Each law is the contract of a function that
+//! What it comes to that a state represents a flat state. Each law is the contract of a function that
 //! does nothing.
-ghost use Rattle.histar_refinement.specs.Laws.{CallersAreFound, CallersAreThere, DirectoriesAreFound, ObjectsAreReached, OneIsLaidOut, StartIsLaidOut, ThreadsAreFound, ThreadsModifyWhatIsWritten, ThreadsObserveWhatIsRead};
+ghost use Rattle.histar_refinement.specs.Laws.{CallersAreFound, CallersAreThere, DirectoriesAreFound, ObjectsAreReached, OneIsRepresented, StartIsRepresented, ThreadsAreFound, ThreadsModifyWhatIsWritten, ThreadsObserveWhatIsRead};
 
 /// A thread may observe what is of a class exactly where its process may read it.
 pub fn threads_observe_what_is_read()
@@ -12,15 +12,15 @@ pub fn threads_modify_what_is_written()
     ensures { ThreadsModifyWhatIsWritten }
 {}
 
-/// In a state that lays out a flat state each object that there is is reached from the root
+/// In a state that represents a flat state each object that there is is reached from the root
 /// container by links.
 pub fn each_object_is_reached()
     ensures { ObjectsAreReached }
 {}
 
-/// For one naming of its categories a state lays out one flat state at most.
-pub fn one_flat_state_is_laid_out()
-    ensures { OneIsLaidOut }
+/// For one naming of its categories a state represents one flat state at most.
+pub fn one_flat_state_is_represented()
+    ensures { OneIsRepresented }
 {}
 
 /// The process segments lead from that of process 0 to the thread of each process that runs, and to
@@ -45,7 +45,7 @@ pub fn directories_are_found()
     ensures { DirectoriesAreFound }
 {}
 
-/// The state in which a machine starts lays out the flat state at the start.
-pub fn the_start_is_laid_out()
-    ensures { StartIsLaidOut }
+/// The state in which a machine starts represents the flat state at the start.
+pub fn the_start_is_represented()
+    ensures { StartIsRepresented }
 {}

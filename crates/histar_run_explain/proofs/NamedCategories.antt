@@ -1,4 +1,4 @@
--- In a state that lays out a flat state what a category is said to be for is what it is for.
+-- In a state that represents a flat state what a category is said to be for is what it is for.
 use Rattle.std.proofs.Common.{◌≡◌, ℕ, ◌+◌, ◌*◌, ◌-◌, ◌%◌, ◌<◌, ◌≤◌, ◌==◌, Bool, true, false, ◌&&◌, ◌||◌, cond, List, [], ◌∷◌, length, Option, None, Some, refl, sym, ap, ◌∙◌, subst, inl, inr, if◌then◌else◌, arith}
 use Rattle.std.specs.Prelude.{map, not, nat_le, nat_lt, is_some, option_map, option_and_then, slice_get}
 use Rattle.std.proofs.lemmas.Bool.{true≢false}
@@ -28,7 +28,7 @@ use Rattle.histar_refinement.specs.Categories.{CategoryName, CategoryName as nam
 use Rattle.histar_refinement.specs.Expected.{home_object, inside_object, expected}
 use Rattle.histar_refinement.specs.Guards.{guard_label}
 use Rattle.histar_refinement.specs.Labels.{process_guard, inside_guard}
-use Rattle.histar_refinement.specs.LaysOut.{Laid}
+use Rattle.histar_refinement.specs.Represents.{ObjectsMatch}
 use Rattle.histar_refinement.specs.Processes.{or_zero}
 use Rattle.histar_refinement.proofs.CallerFound.{is_or_zero, where_is, status_is, home_is}
 use Rattle.histar_refinement.proofs.CategoryTests.{among_jobs, category_tests_equality, is_in_names, named_in}
@@ -76,7 +76,7 @@ which_job (j ∷ jobs) name e = elim (category_tests_equality name (names.OfJob 
   | inr k ↦ which_job jobs name (sym (ap (λ b. b || among (map names.OfJob jobs) name) k.0) ∙ e)
 ]
 
-module _ (session : Session) (s : State) (f : Flat) (l : Laid session s f) where
+module _ (session : Session) (s : State) (f : Flat) (l : ObjectsMatch session s f) where
   abbrev places : Places
   places = places_of (length session.users)
 

@@ -1,4 +1,4 @@
--- In a state that lays out a flat state what an object is said to be is what it is.
+-- In a state that represents a flat state what an object is said to be is what it is.
 use Rattle.std.proofs.Common.{◌≡◌, ◌≢◌, ℕ, ◌+◌, ◌*◌, ◌-◌, ◌/◌, ◌%◌, ◌<◌, ◌≤◌, ◌==◌, Bool, true, false, ◌&&◌, ◌||◌, cond, [], ◌∷◌, length, Option, None, Some, refl, sym, ap, ◌∙◌, subst, inl, inr, if◌then◌else◌, arith}
 use Rattle.std.specs.Prelude.{not, nat_le, nat_lt, is_some, option_map, option_and_then}
 use Rattle.std.proofs.lemmas.Bool.{true≢false}
@@ -25,7 +25,7 @@ use Rattle.histar_process.specs.Caller.{home_at}
 use Rattle.histar_refinement.specs.Addresses.{address_of, home_address, table_number, first_left}
 use Rattle.histar_refinement.specs.Addresses.Step.{Left, Slash, Listing, Inside, Runner}
 use Rattle.histar_refinement.specs.Directories.{directory_of, target_for}
-use Rattle.histar_refinement.specs.LaysOut.{Laid}
+use Rattle.histar_refinement.specs.Represents.{ObjectsMatch}
 use Rattle.histar_refinement.specs.Laws.{StandsFor}
 use Rattle.histar_refinement.specs.Processes.{or_zero, status_by}
 use Rattle.histar_refinement.proofs.CallerFound.{is_or_zero, where_is, status_is, home_is}
@@ -40,7 +40,7 @@ use Rattle.histar_run_explain.specs.Standing.{users_own, left_standing, listing_
 use Rattle.histar_run_explain.specs.Laws.{IsLeft, IsPartOf, StandsAs, StandingsAreRight}
 use Rattle.histar_run_explain.proofs.Parts.{either_there, step_there, tested, both, one_of}
 
-module _ (session : Session) (s : State) (f : Flat) (l : Laid session s f) where
+module _ (session : Session) (s : State) (f : Flat) (l : ObjectsMatch session s f) where
   abbrev places : Places
   places = places_of (length session.users)
 

@@ -16,7 +16,7 @@ use Rattle.histar_syscall.specs.KernelModel.{state}
 use Rattle.histar_syscall.specs.Runs.{IsRun}
 use Rattle.histar_calls.specs.declared.places.Places.{Places}
 use Rattle.histar_layout.specs.UserTable.{without_passwords}
-use Rattle.histar_refinement.specs.LaysOut.{LaysOut}
+use Rattle.histar_refinement.specs.Represents.{Represents}
 use Rattle.histar_sim.specs.Simulation.{SimulatesLines}
 use Rattle.histar_shell.specs.Answers.{answers_text, calls_of}
 use Rattle.histar_shell.specs.AnsweredCalls.{AnswersCalls, BeginsAnswers}
@@ -118,7 +118,7 @@ module _ (script : Reading) (declared : IsDeclared script.session) (can : AreScr
             start = state start.kernel;
             boot_run = of_boot.run;
             boot_own = of_boot.own;
-            boot_lays_out = subst (λ (s : State). LaysOut script.session s (boot script.session)) (sym starts.state) (start_is_laid script.session declared);
+            boot_represents = subst (λ (s : State). Represents script.session s (boot script.session)) (sym starts.state) (start_is_laid script.session declared);
             end = state end.kernel;
             rows = of_lines;
             run = subst (λ (es : List TraceEntry). IsRun empty_state es (state end.kernel)) (sym parts)

@@ -1,4 +1,4 @@
--- What names amount to in a state that lays out a flat state.
+-- What names amount to in a state that represents a flat state.
 use Rattle.std.specs.Prelude.{◌≡◌, ℕ, ◌-◌, ◌+◌, ◌*◌, ◌≤◌, ◌⊎◌, true, false, ◌∷◌, [], length, nat_le, Some, if◌then◌else◌}
 use Rattle.histar_flat.specs.Words.{ProcName}
 use Rattle.histar_flat.specs.Sessions.{Session, has}
@@ -10,7 +10,7 @@ use Rattle.histar_login.specs.Start.{places_of}
 use Rattle.histar_refinement.specs.Addresses.{home_address, table_number}
 use Rattle.histar_refinement.specs.Addresses.Step.{Left, Status, Inside, Runner}
 use Rattle.histar_refinement.specs.Categories.{CategoryName, CategoryName as names, IsUsed}
-use Rattle.histar_refinement.specs.LaysOut.{Laid}
+use Rattle.histar_refinement.specs.Represents.{ObjectsMatch}
 use Rattle.histar_refinement.specs.Laws.{StandsFor}
 use Rattle.histar_run_explain.specs.Births.{Births}
 use Rattle.histar_run_explain.specs.declared.clues.Clue.{Clue}
@@ -47,16 +47,16 @@ IsPurposeOf session f name (ReadsProcess me) = name ≡ names.ReadsProcess me
 IsPurposeOf session f name (WritesProcess me) = name ≡ names.WritesProcess me
 IsPurposeOf session f name (Job me) = (job : ProcName) × (n : ℕ) × (above : ProcName) × (me ≡ n ∷ above) × (name ≡ names.OfJob job) × BeginsJob f job n above
 
--- Whatever naming lays out the flat state: a category for which a purpose is given is that of a name that is used, and has this purpose.
+-- Whatever naming represents the flat state: a category for which a purpose is given is that of a name that is used, and has this purpose.
 abbrev pub PurposesAreRight : Type 0
 PurposesAreRight =
-    (session : Session) (s : State) (f : Flat) (l : Laid session s f) (clue : Clue) (births : Births) (c : ℕ) (purpose : Purpose)
+    (session : Session) (s : State) (f : Flat) (l : ObjectsMatch session s f) (clue : Clue) (births : Births) (c : ℕ) (purpose : Purpose)
     → purpose_of (without_passwords session) (places_of (length session.users)) s clue births c ≡ Some purpose
     → (name : CategoryName) × (l.category name ≡ c) × IsUsed session f name × IsPurposeOf session f name purpose
 
 -- ---- objects
 
-module _ (session : Session) (s : State) (f : Flat) (l : Laid session s f) where
+module _ (session : Session) (s : State) (f : Flat) (l : ObjectsMatch session s f) where
   -- what boot left in the root container under this number
   abbrev pub IsLeft : ℕ → Type 0
   IsLeft q = l.naming.number (Left q ∷ []) ≡ Some q
@@ -76,9 +76,9 @@ module _ (session : Session) (s : State) (f : Flat) (l : Laid session s f) where
   StandsAs q (At path) = StandsFor session s f l path q
   StandsAs q (Part me) = IsPartOf me q
 
--- Whatever naming lays out the flat state: what an object is said to be is what it is at the address that has its number.
+-- Whatever naming represents the flat state: what an object is said to be is what it is at the address that has its number.
 abbrev pub StandingsAreRight : Type 0
 StandingsAreRight =
-    (session : Session) (s : State) (f : Flat) (l : Laid session s f) (clue : Clue) (q : ℕ) (standing : Standing)
+    (session : Session) (s : State) (f : Flat) (l : ObjectsMatch session s f) (clue : Clue) (q : ℕ) (standing : Standing)
     → standing_of (without_passwords session) (places_of (length session.users)) s clue q ≡ Some standing
     → StandsAs session s f l q standing

@@ -35,7 +35,7 @@ words_of session after asked births =
 abbrev pub births_of : Session → State → CallLine → Births → Births
 births_of session after asked births = births_after after (places_of (length session.users)) asked.process births
 
--- The lines of a script, one after another, from a state that lays out this flat state: each is the row of its call, and the text
+-- The lines of a script, one after another, from a state that represents this flat state: each is the row of its call, and the text
 -- explains each denied entry of it at the state before the entry, in the words of the state after the line and of what is known of births then.
 abbrev pub ExplainsRows : Session → State → Flat → Births → List CallLine → List TraceEntry → List ℕ → State → Type 0
 ExplainsRows session s f births [] entries text end = (entries ≡ []) × (text ≡ []) × (end ≡ s)

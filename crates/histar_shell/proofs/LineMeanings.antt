@@ -1,4 +1,4 @@
--- A line ends as the flat state says that the machine lays out before it.
+-- A line ends as the flat state says that the machine represents before it.
 use Rattle.std.proofs.Common.{◌≡◌, ℕ, Bool, true, false, List, [], ◌∷◌, length, Option, None, Some, Result, Ok, Err, refl, sym, ap, ◌∙◌, subst, append-nil}
 use Rattle.std.specs.Prelude.{is_some}
 use Rattle.std.specs.List.{AllByRecursion}
@@ -22,7 +22,7 @@ use Rattle.histar_calls.specs.Programs.{Program, Runs}
 use Rattle.histar_process.specs.declared.caller.Caller.{Caller}
 use Rattle.histar_process.specs.Caller.{caller_at}
 use Rattle.histar_login.specs.Start.{places_of}
-use Rattle.histar_refinement.specs.LaysOut.{LaysOut}
+use Rattle.histar_refinement.specs.Represents.{Represents}
 use Rattle.histar_refinement.specs.Laws.{IsCallerOf}
 use Rattle.histar_refinement.specs.Lines.{IsThreadOf}
 use Rattle.histar_refinement.specs.Sessions.{IsSession}
@@ -53,19 +53,19 @@ module _ (rows : CallsRefine) (session : Session) (old new : MachineModel) (f : 
 
   module _ (me : ProcName) (caller : Caller) (found : caller_at (state old.kernel) (places_of (length session.users)).home me ≡ Some caller) where
     -- the process is found where it runs
-    running_as : (p : Process) × IsCallerOf session (state old.kernel) f shows.lays_out.laid me p caller
-    running_as = caller_found session (state old.kernel) f shows.lays_out.laid me caller found
+    running_as : (p : Process) × IsCallerOf session (state old.kernel) f shows.represents.laid me p caller
+    running_as = caller_found session (state old.kernel) f shows.represents.laid me caller found
 
     ready : IsReady session (state old.kernel) f me caller.thread
     ready =
         let p = running_as.0 in
         let runs = running_as.1 in
         record {
-          lays_out = shows.lays_out;
+          represents = shows.represents;
           caller = record { process = p; stands = runs.runs.0; runs = runs.runs.1 };
           first = shows.first;
           small = shows.small;
-          thread = thread_led session (state old.kernel) f shows.lays_out.laid me p caller.thread runs.runs.0 runs.runs.1 runs.runs.2;
+          thread = thread_led session (state old.kernel) f shows.represents.laid me p caller.thread runs.runs.0 runs.runs.1 runs.runs.2;
         }
 
     -- a call of the process is its row
@@ -90,14 +90,14 @@ module _ (rows : CallsRefine) (session : Session) (old new : MachineModel) (f : 
         made_row (on_line line old.kernel) refl call result can
         (made_of (on_line line old.kernel) call result (subst (λ (places : Places). Makes old.users places me caller (on_line line old.kernel) new.kernel call result) shows.places h.made))
 
-    -- the machine after it shows what its kernel lays out
-    still_shows : (line : ℕ) (call : UnixCall) (result : Result Reply Stopped) (g : Flat) → HasMade old new line me caller call result → LaysOut session (state new.kernel) g → IsFirstFree g → AreFilesSmall g → AreShallow g
+    -- the machine after it shows what its kernel represents
+    still_shows : (line : ℕ) (call : UnixCall) (result : Result Reply Stopped) (g : Flat) → HasMade old new line me caller call result → Represents session (state new.kernel) g → IsFirstFree g → AreFilesSmall g → AreShallow g
         → Shows session new g
     still_shows line call result g h lays first small shallow = record {
       declared = shows.declared;
       users = h.users ∙ shows.users;
       places = h.places ∙ shows.places;
-      lays_out = lays;
+      represents = lays;
       first = first;
       small = small;
       shallow = shallow;
@@ -117,10 +117,10 @@ module _ (rows : CallsRefine) (session : Session) (old new : MachineModel) (f : 
           entries = row.1.entries;
           trace = row.1.trace;
           row = row.1.row;
-          shows = still_shows line call (Ok reply) (flat_after session f me call) h row.1.row.lays_out
+          shows = still_shows line call (Ok reply) (flat_after session f me call) h row.1.row.represents
               (first_free_after session f shows.first me call)
-              (small_after f shows.small session me (nothing_under session (state old.kernel) f shows.lays_out.laid) call)
-              (shallow_after f shows.shallow session me (nothing_under session (state old.kernel) f shows.lays_out.laid) call can);
+              (small_after f shows.small session me (nothing_under session (state old.kernel) f shows.represents.laid) call)
+              (shallow_after f shows.shallow session me (nothing_under session (state old.kernel) f shows.represents.laid) call can);
         }
     made_ends line call (Err stopped) can h =
         let out = row_of_made line call (Err stopped) can h in
@@ -147,14 +147,14 @@ module _ (rows : CallsRefine) (session : Session) (old new : MachineModel) (f : 
         row = record {
           line = subst (λ (r : Reply). IsLine session (state old.kernel) line me r [] (state old.kernel)) (sym still.0) is_line;
           reads = subst (λ (o : Option Process). HasReads session (state old.kernel) f o call (reply_to session f me call) []) (sym none) tt;
-          lays_out = subst (LaysOut session (state old.kernel)) (sym still.1) shows.lays_out;
+          represents = subst (Represents session (state old.kernel)) (sym still.1) shows.represents;
         };
         shows = subst (Shows session old) (sym still.1) shows;
       }
 
   -- who is not found doesn't run
   lost_is_gone : (me : ProcName) → caller_at (state old.kernel) (places_of (length session.users)).home me ≡ None → running f me ≡ None
-  lost_is_gone me lost = none_of (running f me) (sym (caller_there session (state old.kernel) f shows.lays_out.laid me) ∙ ap is_some lost)
+  lost_is_gone me lost = none_of (running f me) (sym (caller_there session (state old.kernel) f shows.represents.laid me) ∙ ap is_some lost)
 
   runs_end : (line : ℕ) (me : ProcName) (call : UnixCall) (result : Result Reply Stopped) → IsCall call → AnswersRunning old new line me call result → EndsAsMeant session old new f (record { line = line; process = me; call = call }) result
   runs_end line me call result can h = by (caller_at (state old.kernel) (places_of (length session.users)).home me) refl

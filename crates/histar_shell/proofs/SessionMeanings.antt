@@ -19,7 +19,7 @@ use Rattle.histar_syscall.specs.declared.trace.TraceEntry.{TraceEntry}
 use Rattle.histar_syscall.specs.KernelModel.{KernelModel, state}
 use Rattle.histar_syscall.specs.Runs.{IsBy, IsRun}
 use Rattle.histar_login.specs.Boot.{boot_thread_number, boot_calls, IsBooted}
-use Rattle.histar_refinement.specs.LaysOut.{LaysOut}
+use Rattle.histar_refinement.specs.Represents.{Represents}
 use Rattle.histar_shell.proofs.CallRows.{CallsRefine}
 use Rattle.histar_sim.specs.Simulation.{SimulatesLines}
 use Rattle.histar_sim.proofs.Chains.{entries_of, chain_run, chain_own, granted_run}
@@ -151,7 +151,7 @@ module _ (rows : CallsRefine) (script : Reading) (declared : IsDeclared script.s
         start = state start.kernel;
         boot_run = of_boot.run;
         boot_own = of_boot.own;
-        boot_lays_out = subst (λ (s : State). LaysOut script.session s (boot script.session)) (sym starts.state) (start_is_laid script.session declared);
+        boot_represents = subst (λ (s : State). Represents script.session s (boot script.session)) (sym starts.state) (start_is_laid script.session declared);
         end = state end.kernel;
         rows = of_lines;
         run = subst (λ (es : List TraceEntry). IsRun empty_state es (state end.kernel)) (sym parts)

@@ -19,8 +19,8 @@ use Rattle.histar_shell.proofs.SameUsers.{tree_unproved}
 
 module _ (session : Session) (m : MachineModel) (f : Flat) (shows : Shows session m f) where
   -- its kernel has the tree of the flat state
-  has_tree : HasTreeOf session (state m.kernel) f shows.lays_out.laid.category
-  has_tree = flat_states_have_their_trees session (state m.kernel) f shows.lays_out shows.shallow
+  has_tree : HasTreeOf session (state m.kernel) f shows.represents.laid.category
+  has_tree = flat_states_have_their_trees session (state m.kernel) f shows.represents shows.shallow
 
   -- also at the places that the machine knows
   tree_there : IsTreeOf session (state m.kernel) m.places has_tree.tree

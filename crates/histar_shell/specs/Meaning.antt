@@ -21,7 +21,7 @@ use Rattle.histar_calls.specs.declared.ending.Stopped.{Stopped}
 use Rattle.histar_layout.specs.UserTable.{without_passwords}
 use Rattle.histar_login.specs.Boot.{boot_thread_number}
 use Rattle.histar_login.specs.Start.{places_of}
-use Rattle.histar_refinement.specs.LaysOut.{LaysOut}
+use Rattle.histar_refinement.specs.Represents.{Represents}
 use Rattle.histar_refinement.specs.Lines.{IsThreadOf}
 use Rattle.histar_sim.specs.Simulation.{SimulatesLine, SimulatesLines, IsFirstFree, AreFilesSmall, IsBrokenOff}
 use Rattle.histar_devices.specs.Writing.{AppendsFront}
@@ -46,13 +46,13 @@ asked_tree options f = if options.tree then tree_text (flat_lines f) else []
 abbrev pub meaning_text : Options → Reading → List ℕ
 meaning_text options script = answers_text (meaning script.session script.calls) ++ asked_tree options (last_state script)
 
--- A machine of these users and groups, which are those of a script, lays out a flat state, in which process 0 is in no job: its kernel
+-- A machine of these users and groups, which are those of a script, represents a flat state, in which process 0 is in no job: its kernel
 -- does, it has the names and the groups and no passwords, and it knows of `/` and of process 0 what boot answered.
 pub record Shows (session : Session) (m : MachineModel) (f : Flat) : Type 0 where
   pub declared : IsDeclared session
   pub users : m.users ≡ without_passwords session
   pub places : m.places ≡ places_of (length session.users)
-  pub lays_out : LaysOut session (state m.kernel) f
+  pub represents : Represents session (state m.kernel) f
   pub first : IsFirstFree f
   pub small : AreFilesSmall f
   pub shallow : AreShallow f
@@ -79,17 +79,17 @@ abbrev pub EndsAsMeant : Session → MachineModel → MachineModel → Flat → 
 EndsAsMeant session old new f asked (Ok reply) = AnswersAsMeant session old new f asked reply
 EndsAsMeant session old new f asked (Err stopped) = StopsAsMeant session old new f asked
 
--- Whatever flat state the machine lays out before the line, of whatever users and groups whose names it has, the line ends as that says.
+-- Whatever flat state the machine represents before the line, of whatever users and groups whose names it has, the line ends as that says.
 abbrev pub FollowsMeaning : MachineModel → MachineModel → ℕ → ProcName → UnixCall → Result Reply Stopped → Type 0
 FollowsMeaning old new line process call result =
     (session : Session) (f : Flat) → Shows session old f → EndsAsMeant session old new f (record { line = line; process = process; call = call }) result
 
--- a machine lays out the flat start
+-- a machine represents the flat start
 abbrev pub ShowsStart : Session → MachineModel → Type 0
 ShowsStart session m = Shows session m (boot session)
 
 -- The trace of a run: one run of the labelled kernel from its empty state on. It is raw calls of boot, by the boot thread on line 0,
--- which leave a state that lays out the flat start; then the raw calls of the lines, each line the row of its call.
+-- which leave a state that represents the flat start; then the raw calls of the lines, each line the row of its call.
 pub record IsMeantTrace (script : Reading) (trace : List TraceEntry) : Type 0 where
   pub of_boot : List TraceEntry
   pub of_lines : List TraceEntry
@@ -97,7 +97,7 @@ pub record IsMeantTrace (script : Reading) (trace : List TraceEntry) : Type 0 wh
   pub start : State
   pub boot_run : IsRun empty_state of_boot start
   pub boot_own : AllByRecursion (IsBy 0 boot_thread_number) of_boot
-  pub boot_lays_out : LaysOut script.session start (boot script.session)
+  pub boot_represents : Represents script.session start (boot script.session)
   pub end : State
   pub rows : SimulatesLines script.session start (boot script.session) script.calls of_lines end
   pub run : IsRun empty_state trace end

@@ -1,5 +1,5 @@
 -- A spawn: what the raw calls of its birth need is there, and they leave a state that
--- lays out the flat state with the child.
+-- represents the flat state with the child.
 use Rattle.std.proofs.Common.{◌≡◌, ℕ, ◌+◌, ◌<◌, [], ◌∷◌, length, None, Some, arith, sym, ap, ◌∙◌, subst}
 use Rattle.std.specs.Prelude.{map}
 use Rattle.std.specs.FinSet as set
@@ -28,12 +28,12 @@ use Rattle.histar_refinement.specs.Guards.{guard_label, rights_label, rights_cle
 use Rattle.histar_refinement.specs.Labels.{process_guard, inside_guard, thread_rights}
 use Rattle.histar_refinement.specs.Addresses.{home_address}
 use Rattle.histar_refinement.specs.Addresses.Step.{Status, Inside, Runner}
-use Rattle.histar_refinement.specs.LaysOut.{LaysOut}
+use Rattle.histar_refinement.specs.Represents.{Represents}
 use Rattle.histar_refinement.specs.Processes.{or_zero, process_bytes, status_by}
 use Rattle.histar_refinement.proofs.Beside.{own_set}
 use Rattle.histar_refinement.proofs.Growing.{same_rights_label}
 use Rattle.histar_layout.proofs.Members.{is_in}
-use Rattle.histar_refinement.proofs.Spawned.{births, state_spawned, lays_out_spawned}
+use Rattle.histar_refinement.proofs.Spawned.{births, state_spawned, represents_spawned}
 use Rattle.histar_refinement.proofs.Spawning.{keeps, reads_number, writes_number}
 use Rattle.histar_refinement.proofs.Uses.{rights_used}
 use Rattle.histar_refinement.proofs.OwnLabels.{own_user_is, name_of_number}
@@ -44,59 +44,59 @@ use Rattle.histar_sim.proofs.BirthRun.{IsFit, spawned}
 use Rattle.histar_sim.proofs.ChildBytes.{started_fits, grown_fits, few_listed, child_bytes_are, own_bytes_are}
 use Rattle.histar_sim.proofs.ChildLabels.{outer_is, inner_is, label_is, clearance_is}
 
-module _ (session : Session) (ok : IsSession session) (s : State) (f : Flat) (lays_out : LaysOut session s f) (me : ProcName) (p : Process) (here : f.processes me ≡ Some p) (runs : p.exited ≡ None) (room : p.born < 64)
-    (C S : ℕ) (at_home : lays_out.laid.naming.number (home_address me) ≡ Some C) (at_status : lays_out.laid.naming.number (Status ∷ home_address me) ≡ Some S) (T : ℕ) (at_thread : lays_out.laid.naming.number (Runner ∷ Inside ∷ home_address me) ≡ Some T) where
+module _ (session : Session) (ok : IsSession session) (s : State) (f : Flat) (represents : Represents session s f) (me : ProcName) (p : Process) (here : f.processes me ≡ Some p) (runs : p.exited ≡ None) (room : p.born < 64)
+    (C S : ℕ) (at_home : represents.laid.naming.number (home_address me) ≡ Some C) (at_status : represents.laid.naming.number (Status ∷ home_address me) ≡ Some S) (T : ℕ) (at_thread : represents.laid.naming.number (Runner ∷ Inside ∷ home_address me) ≡ Some T) where
   abbrev own : Levels
-  own = rights_label lays_out.laid.category (thread_rights session me p)
+  own = rights_label represents.laid.category (thread_rights session me p)
 
   abbrev most : Levels
-  most = rights_clearance lays_out.laid.category (thread_rights session me p)
+  most = rights_clearance represents.laid.category (thread_rights session me p)
 
   abbrev home : Home
   home = record { container = C; segment = S }
 
   abbrev status : ProcessStatus
-  status = status_by f.processes lays_out.laid.naming.number me p
+  status = status_by f.processes represents.laid.naming.number me p
 
   abbrev kin : Kin
   kin = kin_of session own
 
   -- what the own label of the thread tells
   told : user_of own (length session.users) ≡ or_zero (user_number session p.user)
-  told = own_user_is session s f lays_out.laid me p
+  told = own_user_is session s f represents.laid me p
 
   -- the numbers of categories once the child has its two
   abbrev then_names : Categories
-  then_names = names session s f lays_out.laid me p here runs room C S at_home at_status
+  then_names = names session s f represents.laid me p here runs room C S at_home at_status
 
   -- what was used has its number still
-  kept : (c : CategoryName) → IsUsed session f c → then_names c ≡ lays_out.laid.category c
-  kept c used = keeps session s f lays_out.laid me p here runs room p.chain (chain_used session s f lays_out.laid me p here runs room C S at_home at_status) (lays_out.laid.processes me p here).chain (chain_free session s f lays_out.laid me p here runs room C S at_home at_status) C S at_home at_status c used
+  kept : (c : CategoryName) → IsUsed session f c → then_names c ≡ represents.laid.category c
+  kept c used = keeps session s f represents.laid me p here runs room p.chain (chain_used session s f represents.laid me p here runs room C S at_home at_status) (represents.laid.processes me p here).chain (chain_free session s f represents.laid me p here runs room C S at_home at_status) C S at_home at_status c used
 
   -- so have boot's categories
   as_made : (c : CategoryName) (q : ℕ) → boot_category session c ≡ Some q → then_names c ≡ q
-  as_made c q booted = kept c (boot_used session f lays_out.laid.first c q booted) ∙ lays_out.laid.as_made c q booted
+  as_made c q booted = kept c (boot_used session f represents.laid.first c q booted) ∙ represents.laid.as_made c q booted
 
   -- and the own label of the thread tells the jobs of the process by their numbers then
   own_kept : rights_label then_names (thread_rights session me p) ≡ own
   own_kept =
       let used = rights_used session f me p here in
-      same_rights_label lays_out.laid.category then_names (thread_rights session me p) (λ c e. kept c (used.0 c e), λ c e. kept c (used.1 c e))
+      same_rights_label represents.laid.category then_names (thread_rights session me p) (λ c e. kept c (used.0 c e), λ c e. kept c (used.1 c e))
 
   alike : (q : ℕ) → is_in (jobs_in own) q ≡ is_in (map then_names (map OfJob p.chain)) q
   alike q = ap (λ (label : Levels). is_in (jobs_in label) q) (sym own_kept) ∙ jobs_are then_names session me p q
 
   owned_told : kin.owned ≡ owned_by session (or_zero (user_number session p.user)) (is_free p)
-  owned_told = λ i. owned_by session (told i) (none_if_free lays_out.laid.category session me p i)
+  owned_told = λ i. owned_by session (told i) (none_if_free represents.laid.category session me p i)
 
   named : user_name session.users (or_zero (user_number session p.user)) ≡ p.user
-  named = name_of_number session p.user ((lays_out.laid.processes me p here).someone runs)
+  named = name_of_number session p.user ((represents.laid.processes me p here).someone runs)
 
   reads_is : then_names (ReadsProcess ((p.born + 1) ∷ me)) ≡ s.next_category
-  reads_is = reads_number session s f lays_out.laid me p here runs room p.chain (chain_used session s f lays_out.laid me p here runs room C S at_home at_status) (lays_out.laid.processes me p here).chain (chain_free session s f lays_out.laid me p here runs room C S at_home at_status) C S at_home at_status
+  reads_is = reads_number session s f represents.laid me p here runs room p.chain (chain_used session s f represents.laid me p here runs room C S at_home at_status) (represents.laid.processes me p here).chain (chain_free session s f represents.laid me p here runs room C S at_home at_status) C S at_home at_status
 
   writes_is : then_names (WritesProcess ((p.born + 1) ∷ me)) ≡ s.next_category + 1
-  writes_is = writes_number session s f lays_out.laid me p here runs room p.chain (chain_used session s f lays_out.laid me p here runs room C S at_home at_status) (lays_out.laid.processes me p here).chain (chain_free session s f lays_out.laid me p here runs room C S at_home at_status) C S at_home at_status
+  writes_is = writes_number session s f represents.laid me p here runs room p.chain (chain_used session s f represents.laid me p here runs room C S at_home at_status) (represents.laid.processes me p here).chain (chain_free session s f represents.laid me p here runs room C S at_home at_status) C S at_home at_status
 
   -- so the labels that are handed in are the child's
   abbrev child : ProcName
@@ -118,47 +118,47 @@ module _ (session : Session) (ok : IsSession session) (s : State) (f : Flat) (la
   clearance_same = clearance_is session then_names p as_made named kin alike owned_told ((p.born + 1) ∷ me) s.next_category (s.next_category + 1) reads_is writes_is
 
   abbrev grown : Levels
-  grown = owner session s f lays_out.laid me p here runs room C S at_home at_status
+  grown = owner session s f represents.laid me p here runs room C S at_home at_status
 
   abbrev grown_most : Levels
-  grown_most = owner_most session s f lays_out.laid me p here runs room C S at_home at_status
+  grown_most = owner_most session s f represents.laid me p here runs room C S at_home at_status
 
   -- What the birth needs is there.
-  pub fit : IsFit s T (record { container = C; segment = S }) (status_by f.processes lays_out.laid.naming.number me p) (kin_of session (rights_label lays_out.laid.category (thread_rights session me p)))
-      (rights_label lays_out.laid.category (thread_rights session me p)) (rights_clearance lays_out.laid.category (thread_rights session me p))
+  pub fit : IsFit s T (record { container = C; segment = S }) (status_by f.processes represents.laid.naming.number me p) (kin_of session (rights_label represents.laid.category (thread_rights session me p)))
+      (rights_label represents.laid.category (thread_rights session me p)) (rights_clearance represents.laid.category (thread_rights session me p))
   fit = record {
-    thread = (around_before session s f lays_out.laid me p here runs C S at_home at_status T at_thread).thread;
+    thread = (around_before session s f represents.laid me p here runs C S at_home at_status T at_thread).thread;
     owner = grown;
     owner_most = grown_most;
     label = guard_label then_names (process_guard me p);
-    held = process_bytes f.processes lays_out.laid.naming.number me p;
-    around = around_owner session s f lays_out.laid me p here runs room C S at_home at_status T at_thread;
-    under = (home_modified session s f lays_out.laid me p here runs room C S at_home at_status).0;
-    seen = (home_modified session s f lays_out.laid me p here runs room C S at_home at_status).1;
-    outer = subst (λ (x : Levels). IsModified grown grown_most x (s.next_category + 1 + 1)) (sym outer_same) (outer_modified session s f lays_out.laid me p here runs room C S at_home at_status);
-    inner = subst (λ (x : Levels). IsModified grown grown_most x (s.next_category + 1 + 1)) (sym inner_same) (inner_modified session s f lays_out.laid me p here runs room C S at_home at_status);
-    lesser = subst (λ (x : Levels × Levels). IsLesser grown grown_most x.0 x.1 (s.next_category + 1 + 1)) (λ i. (sym label_same i, sym clearance_same i)) (thread_lesser session s f lays_out.laid me p here runs room C S at_home at_status);
-    taken = own_taken session s f lays_out.laid me p here runs room C S at_home at_status;
+    held = process_bytes f.processes represents.laid.naming.number me p;
+    around = around_owner session s f represents.laid me p here runs room C S at_home at_status T at_thread;
+    under = (home_modified session s f represents.laid me p here runs room C S at_home at_status).0;
+    seen = (home_modified session s f represents.laid me p here runs room C S at_home at_status).1;
+    outer = subst (λ (x : Levels). IsModified grown grown_most x (s.next_category + 1 + 1)) (sym outer_same) (outer_modified session s f represents.laid me p here runs room C S at_home at_status);
+    inner = subst (λ (x : Levels). IsModified grown grown_most x (s.next_category + 1 + 1)) (sym inner_same) (inner_modified session s f represents.laid me p here runs room C S at_home at_status);
+    lesser = subst (λ (x : Levels × Levels). IsLesser grown grown_most x.0 x.1 (s.next_category + 1 + 1)) (λ i. (sym label_same i, sym clearance_same i)) (thread_lesser session s f represents.laid me p here runs room C S at_home at_status);
+    taken = own_taken session s f represents.laid me p here runs room C S at_home at_status;
     child_few = started_fits (s.next_object + 1) (s.next_object + 1 + 1);
-    own_few = grown_fits (process_bytes f.processes lays_out.laid.naming.number me p) s.next_object (s.next_object + 1 + 1 + 1) status (let listed = few_listed f.processes lays_out.laid.naming.number me p in omega (arith, listed, room));
+    own_few = grown_fits (process_bytes f.processes represents.laid.naming.number me p) s.next_object (s.next_object + 1 + 1 + 1) status (let listed = few_listed f.processes represents.laid.naming.number me p in omega (arith, listed, room));
   }
 
-  -- the state after it is the one that lays out the flat state with the child
+  -- the state after it is the one that represents the flat state with the child
   module _ (few : s.next_object + 3 < greatest) where
     abbrev laid_state : State
-    laid_state = state_spawned session s f lays_out me p here runs room C S T at_home at_status at_thread few
+    laid_state = state_spawned session s f represents me p here runs room C S T at_home at_status at_thread few
 
     spawned_is : spawned s T home status kin own most ≡ laid_state
     spawned_is = λ i. own_set T (births (with_category (with_category s T) T) C S
         (record { label = outer_same i; kind = Container set.empty })
         (record { label = inner_same i; kind = Container set.empty })
         (thread_of (label_same i) (clearance_same i))
-        (record { label = outer_same i; kind = Segment (child_bytes_are session s f lays_out.laid me p here runs room p.chain (chain_used session s f lays_out.laid me p here runs room C S at_home at_status) (lays_out.laid.processes me p here).chain (chain_free session s f lays_out.laid me p here runs room C S at_home at_status) C S at_home at_status i) })
-        (own_bytes_are session s f lays_out.laid me p here runs room p.chain (chain_used session s f lays_out.laid me p here runs room C S at_home at_status) (lays_out.laid.processes me p here).chain (chain_free session s f lays_out.laid me p here runs room C S at_home at_status) C S at_home at_status i)) own most
+        (record { label = outer_same i; kind = Segment (child_bytes_are session s f represents.laid me p here runs room p.chain (chain_used session s f represents.laid me p here runs room C S at_home at_status) (represents.laid.processes me p here).chain (chain_free session s f represents.laid me p here runs room C S at_home at_status) C S at_home at_status i) })
+        (own_bytes_are session s f represents.laid me p here runs room p.chain (chain_used session s f represents.laid me p here runs room C S at_home at_status) (represents.laid.processes me p here).chain (chain_free session s f represents.laid me p here runs room C S at_home at_status) C S at_home at_status i)) own most
 
-    -- The flat state with the child is laid out then.
-    pub spawned_laid : LaysOut session
-        (spawned s T (record { container = C; segment = S }) (status_by f.processes lays_out.laid.naming.number me p) (kin_of session (rights_label lays_out.laid.category (thread_rights session me p)))
-        (rights_label lays_out.laid.category (thread_rights session me p)) (rights_clearance lays_out.laid.category (thread_rights session me p)))
+    -- The flat state with the child is represented then.
+    pub spawned_laid : Represents session
+        (spawned s T (record { container = C; segment = S }) (status_by f.processes represents.laid.naming.number me p) (kin_of session (rights_label represents.laid.category (thread_rights session me p)))
+        (rights_label represents.laid.category (thread_rights session me p)) (rights_clearance represents.laid.category (thread_rights session me p)))
         (flat.with_child f me p p.chain)
-    spawned_laid = subst (λ (x : State). LaysOut session x (flat.with_child f me p p.chain)) (sym spawned_is) (lays_out_spawned session s f lays_out me p here runs room C S T at_home at_status at_thread few)
+    spawned_laid = subst (λ (x : State). Represents session x (flat.with_child f me p p.chain)) (sym spawned_is) (represents_spawned session s f represents me p here runs room C S T at_home at_status at_thread few)

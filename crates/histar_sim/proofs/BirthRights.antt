@@ -21,7 +21,7 @@ use Rattle.histar_refinement.specs.Labels.{process_guard, inside_guard, thread_r
 use Rattle.histar_refinement.specs.Addresses.{same_step, home_address}
 use Rattle.histar_refinement.specs.Addresses.Step.{Status, Inside, Runner}
 use Rattle.histar_refinement.specs.Expected.{status_object, bytes_for, expected}
-use Rattle.histar_refinement.specs.LaysOut.{Laid}
+use Rattle.histar_refinement.specs.Represents.{ObjectsMatch}
 use Rattle.histar_refinement.specs.Processes.{process_bytes}
 use Rattle.histar_refinement.proofs.AmongNames.{each_head, each_append}
 use Rattle.histar_refinement.proofs.Growing.{RightsHave, IsOld, new_number, made_label, made_clearance, same_rights_label, same_rights_clearance}
@@ -36,7 +36,7 @@ use Rattle.histar_refinement.proofs.Uses.{process_used, inside_used, rights_used
 use Rattle.histar_sim.proofs.BirthObjects.{Around, around_category}
 use Rattle.histar_sim.proofs.BirthChecks.{IsModified, IsLesser, IsTaken}
 
-module _ (session : Session) (s : State) (f : Flat) (l : Laid session s f) (me : ProcName) (p : Process) (here : f.processes me ≡ Some p) (runs : p.exited ≡ None)
+module _ (session : Session) (s : State) (f : Flat) (l : ObjectsMatch session s f) (me : ProcName) (p : Process) (here : f.processes me ≡ Some p) (runs : p.exited ≡ None)
     (C S : ℕ) (at_home : l.naming.number (home_address me) ≡ Some C) (at_status : l.naming.number (Status ∷ home_address me) ≡ Some S) (T : ℕ) (at_thread : l.naming.number (Runner ∷ Inside ∷ home_address me) ≡ Some T) where
   abbrev held : List ℕ
   held = process_bytes f.processes l.naming.number me p
@@ -57,7 +57,7 @@ module _ (session : Session) (s : State) (f : Flat) (l : Laid session s f) (me :
     segment_below = number_below same_step step_tests_equality s l.naming (expected session l.category f l.naming.number) l.stands (Status ∷ home_address me) S at_status;
   }
 
-module _ (session : Session) (s : State) (f : Flat) (l : Laid session s f) (me : ProcName) (p : Process) (here : f.processes me ≡ Some p) (runs : p.exited ≡ None) (room : p.born < 64)
+module _ (session : Session) (s : State) (f : Flat) (l : ObjectsMatch session s f) (me : ProcName) (p : Process) (here : f.processes me ≡ Some p) (runs : p.exited ≡ None) (room : p.born < 64)
     (C S : ℕ) (at_home : l.naming.number (home_address me) ≡ Some C) (at_status : l.naming.number (Status ∷ home_address me) ≡ Some S) where
   -- the child is in the jobs of its parent
   pub chain_used : (job : ProcName) → has p.chain job ≡ true → IsUsed session f (OfJob job)

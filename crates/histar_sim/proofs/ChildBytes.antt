@@ -27,7 +27,7 @@ use Rattle.histar_refinement.specs.Categories.CategoryName.{OfJob}
 use Rattle.histar_refinement.specs.Addresses.{Step, AddressNumbers, home_address}
 use Rattle.histar_refinement.specs.Addresses.Step.{Status, Inside, Runner}
 use Rattle.histar_refinement.specs.Expected.{expected}
-use Rattle.histar_refinement.specs.LaysOut.{Laid, AreInOrder}
+use Rattle.histar_refinement.specs.Represents.{ObjectsMatch, AreInOrder}
 use Rattle.histar_refinement.specs.Processes.{or_zero, children, listed_by, status_by}
 use Rattle.histar_refinement.proofs.Birth.{at_new_home, at_new_inside, at_new_runner, at_new_status}
 use Rattle.histar_refinement.proofs.Spawning.{after, outer, inner, label, clearance, child_written, own_written, naming, child_not_me, at_child, there_alike, kept_home, kept_status, kept_inside, kept_runner, holder, no_home, no_inside, no_runner, no_status}
@@ -98,7 +98,7 @@ module _ (old new : ℕ → Listed) (test tests : ℕ → Bool) (n : ℕ) (same_
 
 -- ---- the bytes of a spawn
 
-module _ (session : Session) (s : State) (f : Flat) (l : Laid session s f) (me : ProcName) (p : Process) (here : f.processes me ≡ Some p) (runs : p.exited ≡ None) (room : p.born < 64)
+module _ (session : Session) (s : State) (f : Flat) (l : ObjectsMatch session s f) (me : ProcName) (p : Process) (here : f.processes me ≡ Some p) (runs : p.exited ≡ None) (room : p.born < 64)
     (chain : List ProcName) (chain_used : (job : ProcName) → has chain job ≡ true → IsUsed session f (OfJob job)) (chain_ordered : AreInOrder l.category chain)
     (chain_free : is_some (user_number session p.user) ≡ false → chain ≡ [])
     (C S : ℕ) (at_home : l.naming.number (home_address me) ≡ Some C) (at_status : l.naming.number (Status ∷ home_address me) ≡ Some S) where

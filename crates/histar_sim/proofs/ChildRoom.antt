@@ -37,7 +37,7 @@ use Rattle.histar_refinement.specs.Guards.{guard_label, rights_label, rights_cle
 use Rattle.histar_refinement.specs.Labels.{process_guard, thread_rights}
 use Rattle.histar_refinement.specs.Addresses.{home_address}
 use Rattle.histar_refinement.specs.Addresses.Step.{Status, Inside, Runner}
-use Rattle.histar_refinement.specs.LaysOut.{Laid}
+use Rattle.histar_refinement.specs.Represents.{ObjectsMatch}
 use Rattle.histar_refinement.specs.Laws.{IsCallerOf}
 use Rattle.histar_refinement.specs.Processes.{or_zero, process_bytes, status_by}
 use Rattle.histar_refinement.proofs.CallerFound.{caller_found, status_is}
@@ -65,8 +65,8 @@ module _ (session : Session) (me : ProcName) (caller : Caller) (old new : Kernel
   abbrev p : Process
   p = ready.caller.process
 
-  abbrev l : Laid session (state old) f
-  l = ready.lays_out.laid
+  abbrev l : ObjectsMatch session (state old) f
+  l = ready.represents.laid
 
   -- where it is found
   is_caller : (q : Process) × IsCallerOf session (state old) f l me q caller
@@ -153,7 +153,7 @@ module _ (session : Session) (me : ProcName) (caller : Caller) (old new : Kernel
     -- the process has 64 children, or there is room
     by_born : (b : Bool) → nat_lt p.born most_children ≡ b → nat_lt (length me) most_numbers ≡ true → (mid : KernelModel) → Chain old t (all_granted (reads ∷ [])) mid → state mid ≡ state old → Runs (given (must_have_room b) (λ _. rest status_of)) mid new t result → GoesOn → Row
     by_born false is long mid chain stays runs go_on =
-        refused_at_once session f me ready.caller call old new t ready.thread result (reads ∷ []) mid chain stays ready.lays_out EAGAIN (refused_is false true is long) refl refl (needs.reads (all_granted (reads ∷ [])) old.line t (state old)) runs
+        refused_at_once session f me ready.caller call old new t ready.thread result (reads ∷ []) mid chain stays ready.represents EAGAIN (refused_is false true is long) refl refl (needs.reads (all_granted (reads ∷ [])) old.line t (state old)) runs
     by_born true is long mid chain stays runs go_on = go_on long is mid chain stays runs
 
     -- its own segment is read
@@ -171,7 +171,7 @@ module _ (session : Session) (me : ProcName) (caller : Caller) (old new : Kernel
     by_length : (b : Bool) → nat_lt (length me) most_numbers ≡ b → Runs (given (must_have_room b) (λ _. read_status caller.home with_status)) old new t result → GoesOn → Row
     unfolding read_status
     by_length false is runs go_on =
-        refused_at_once session f me ready.caller call old new t ready.thread result [] old (same_kernel old) refl ready.lays_out EAGAIN
+        refused_at_once session f me ready.caller call old new t ready.thread result [] old (same_kernel old) refl ready.represents EAGAIN
         (refused_is (nat_lt p.born most_children) false refl is ∙ either_again (nat_lt p.born most_children)) refl refl (needs.reads [] old.line t (state old)) runs
     by_length true is runs go_on = read is runs go_on
 

@@ -63,18 +63,18 @@ module _ (session : Session) (ok : IsSession session) (old new : KernelModel) (f
   goes_on : GoesOn session ok old new f me t ready m d mode (File []) call result makes make within
   goes_on open_so_far absent room made is_may has mid stays linked number called number_is chain rest =
       let above = container session ok (state old) f me t ready d in
-      let file : Object Levels = record { label = guard_label ready.lays_out.laid.category made.guard; kind = Segment [] } in
+      let file : Object Levels = record { label = guard_label ready.represents.laid.category made.guard; kind = Segment [] } in
       let at_container = container_numbered session ok (state old) f me t ready d open_so_far in
       let low = below session ok (state old) f me t ready (address_of d) above at_container in
       let next_below = ltb-true (state old).next_object greatest has in
-      let later = laid_created session (state old) f ready.lays_out.laid d (directory_class session ok (state old) f me t ready d open_so_far) (directory_stands session ok (state old) f me t ready d open_so_far) above (listing session ok (state old) f me t ready d)
+      let later = laid_created session (state old) f ready.represents.laid d (directory_class session ok (state old) f me t ready d open_so_far) (directory_stands session ok (state old) f me t ready d open_so_far) above (listing session ok (state old) f me t ready d)
       at_container (listing_numbered session ok (state old) f me t ready d open_so_far) m absent made.class made.fits made.guard made.guarded named (ltb-true (length (entries_in f d)) most_entries room) next_below in
-      let making : RawCall = make above (guard_label ready.lays_out.laid.category made.guard) in
+      let making : RawCall = make above (guard_label ready.represents.laid.category made.guard) in
       entry_written session ok old new f me t ready m d mode (File []) call result makes named open_so_far absent room made is_may
       (targets.File (state old).next_object) (omega (arith, low), omega (arith, next_below)) (with_object (state old) above file) (listing_still session ok (state old) f me t ready d open_so_far file)
       (asked session ok (state old) f me t ready d ++ making ∷ []) (among_asked session ok (state old) f me t ready d old.line (making ∷ []))
       linked (called.state ∙ ap (λ (s : State). with_object s above file) stays) chain later.0
-      (subst (λ (q : ℕ). Runs (within (the_room session ok (state old) f me t ready d m) (guard_label ready.lays_out.laid.category made.guard) q) linked new t result) (number_is ∙ ap (λ (s : State). s.next_object) stays) rest)
+      (subst (λ (q : ℕ). Runs (within (the_room session ok (state old) f me t ready d m) (guard_label ready.represents.laid.category made.guard) q) linked new t result) (number_is ∙ ap (λ (s : State). s.next_object) stays) rest)
 
 -- a create does what its flat rule says
 pub create_refines : CreateRefines

@@ -26,7 +26,7 @@ use Rattle.histar_syscall.specs.Runs.{is_label_refusal, is_range_refusal, some_l
 use Rattle.histar_syscall.proofs.Runs.{entry_of}
 use Rattle.histar_calls.specs.Refusals.{errno_for, errno_of, write_errno_of}
 use Rattle.histar_calls.specs.Replies.{is_access, is_permission, is_no_access, is_no_permission, IsRefusedOnce, sets_labels}
-use Rattle.histar_refinement.specs.LaysOut.{LaysOut}
+use Rattle.histar_refinement.specs.Represents.{Represents}
 use Rattle.histar_refinement.specs.Lines.{IsThreadOf}
 use Rattle.histar_sim.specs.Simulation.{IsRunning, IsReplyOfDenial, EndsWithRead, IsLine, IsUnanswered, IsBrokenOff, FollowsRule}
 use Rattle.histar_sim.specs.Reads.{HasReads}
@@ -157,11 +157,11 @@ module _ (session : Session) (f : Flat) (me : ProcName) (caller : IsRunning f me
   all_own line [] = tt
   all_own line (s ∷ steps) = ((refl, named), all_own line steps)
 
-  -- where the raw calls agree with the reply of the flat rules, and the state lays out the flat state after the call, a call is answered so
+  -- where the raw calls agree with the reply of the flat rules, and the state represents the flat state after the call, a call is answered so
   agreed_row : (steps : List Step) → Chain old t steps new → (refusal : Option Errno) → refused session f me caller.process call ≡ refusal → (r : Reply) → reply_or refusal allowed ≡ r
       → Agrees r (entries_of old.line t steps) → ((bytes : List ℕ) → r ≡ Data bytes → EndsWithRead (state old) (entries_of old.line t steps) bytes) → ReadsAmong steps r → r ≢ Gone
-      → LaysOut session (state new) (flat_or refusal f (changed session f me caller.process call)) → FollowsRule session f me call old new t (Ok r)
-  agreed_row steps chain refusal is r r_is agrees told reads lives lays_out =
+      → Represents session (state new) (flat_or refusal f (changed session f me caller.process call)) → FollowsRule session f me call old new t (Ok r)
+  agreed_row steps chain refusal is r r_is agrees told reads lives represents =
       let part = chain_run t old new steps chain in
       let reply = reply_is refusal is ∙ r_is in
       let entries = entries_of old.line t steps in
@@ -185,30 +185,30 @@ module _ (session : Session) (f : Flat) (me : ProcName) (caller : IsRunning f me
             reads = subst (λ (o : Option Process). HasReads session (state old) f o call (reply_to session f me call) entries) (sym runs)
                 (reads_due session (state old) f caller.process call (reply_to session f me call) entries
                 (subst (λ (x : Reply). HasReadsByCall session (state old) f caller.process call x entries) (sym reply) reads));
-            lays_out = subst (LaysOut session (state new)) (sym (after_is refusal is)) lays_out;
+            represents = subst (Represents session (state new)) (sym (after_is refusal is)) represents;
           };
         },
       )
 
   -- where every raw call was granted, a call that the flat rules allow is answered what they answer
   pub granted_row : (calls : List RawCall) → Chain old t (all_granted calls) new → refused session f me caller.process call ≡ None → IsBacked (state old) (entries_of old.line t (all_granted calls)) allowed → ReadsAmong (all_granted calls) allowed
-      → LaysOut session (state new) (changed session f me caller.process call) → FollowsRule session f me call old new t (Ok allowed)
-  granted_row calls chain is backed reads lays_out =
+      → Represents session (state new) (changed session f me caller.process call) → FollowsRule session f me call old new t (Ok allowed)
+  granted_row calls chain is backed reads represents =
       let entries = entries_of old.line t (all_granted calls) in
       agreed_row (all_granted calls) chain None is allowed refl (granted_agree old.line t allowed (backed_plain (state old) entries allowed backed) calls)
-      (backed_told (state old) entries allowed backed) reads (backed_runs (state old) entries allowed backed) lays_out
+      (backed_told (state old) entries allowed backed) reads (backed_runs (state old) entries allowed backed) represents
 
   -- Where one raw call was refused and those behind it give the thread labels, a call that the flat rules refuse as that refusal is told is
-  -- answered so, if the state still lays out the flat state.
+  -- answered so, if the state still represents the flat state.
   pub given_back_row : (calls : List RawCall) (last : RawCall) (denied : Denied) (restoring : List RawCall) → AllByRecursion (λ (c : RawCall). sets_labels c ≡ true) restoring
       → Chain old t (all_granted calls ++ (last, Some denied) ∷ all_granted restoring) new → (errno : Errno) → write_errno_of denied ≡ Some errno → refused session f me caller.process call ≡ Some errno
-      → ReadsAmong (all_granted calls ++ (last, Some denied) ∷ all_granted restoring) (Refused errno) → LaysOut session (state new) f → FollowsRule session f me call old new t (Ok (Refused errno))
-  given_back_row calls last denied restoring sets chain errno told is reads lays_out =
-      agreed_row (all_granted calls ++ (last, Some denied) ∷ all_granted restoring) chain (Some errno) is (Refused errno) refl (refused_agree old.line t last denied errno told restoring sets calls) (λ bytes e. absurd cc) reads (λ e. absurd cc) lays_out
+      → ReadsAmong (all_granted calls ++ (last, Some denied) ∷ all_granted restoring) (Refused errno) → Represents session (state new) f → FollowsRule session f me call old new t (Ok (Refused errno))
+  given_back_row calls last denied restoring sets chain errno told is reads represents =
+      agreed_row (all_granted calls ++ (last, Some denied) ∷ all_granted restoring) chain (Some errno) is (Refused errno) refl (refused_agree old.line t last denied errno told restoring sets calls) (λ bytes e. absurd cc) reads (λ e. absurd cc) represents
 
-  module _ (stays : state new ≡ state old) (lays_out : LaysOut session (state old) f) where
-    still : LaysOut session (state new) f
-    still = subst (λ (s : State). LaysOut session s f) (sym stays) lays_out
+  module _ (stays : state new ≡ state old) (represents : Represents session (state old) f) where
+    still : Represents session (state new) f
+    still = subst (λ (s : State). Represents session s f) (sym stays) represents
 
     -- where every raw call was granted and nothing has changed, a call that the flat rules refuse is answered their errno, if it is neither EACCES nor EPERM
     pub unchanged_row : (calls : List RawCall) → Chain old t (all_granted calls) new → (errno : Errno) → is_access errno ≡ false → is_permission errno ≡ false → refused session f me caller.process call ≡ Some errno

@@ -64,7 +64,7 @@ module _ (session : Session) (ok : IsSession session) (s : State) (f : Flat) (me
     -- what stands there has its number
     pub object_numbered : (content : Content) → get f.files (m ∷ d) ≡ Some (record { class = class; content = content }) → numbers session ok s f me t ready (address_of (m ∷ d)) ≡ Some object_at
     object_numbered content at =
-        let found = some_of (numbers session ok s f me t ready (address_of (m ∷ d))) (numbered_path session s f ready.lays_out.laid (m ∷ d) (record { class = class; content = content }) at) in
+        let found = some_of (numbers session ok s f me t ready (address_of (m ∷ d))) (numbered_path session s f ready.represents.laid (m ∷ d) (record { class = class; content = content }) at) in
         found.1 ∙ sym (ap (λ (o : Option ℕ). Some (or_zero o)) found.1)
 
     -- and the directory has its entry
@@ -96,7 +96,7 @@ module _ (session : Session) (ok : IsSession session) (old new : KernelModel) (f
   module _ (rest : FoundEntry → Program) where
     -- once the entry was looked up
     abbrev at_entry : Option Target → Program
-    at_entry target = given (entry_at target) (λ target. rest (record { place = place_at session ok (state old) f me t ready d; entries = directory_of f.files ready.lays_out.laid.naming.number d; name = m; target = target }))
+    at_entry target = given (entry_at target) (λ target. rest (record { place = place_at session ok (state old) f me t ready d; entries = directory_of f.files ready.represents.laid.naming.number d; name = m; target = target }))
 
     -- the call goes on with the entry
     abbrev pub GoesOn : Type 0
@@ -104,13 +104,13 @@ module _ (session : Session) (ok : IsSession session) (old new : KernelModel) (f
         → (mid : KernelModel) → state mid ≡ state old → Chain old t (all_granted walk) mid → Runs (rest (entry_of session ok (state old) f me t ready m d content)) mid new t result → Row
 
     module _ (go_on : GoesOn) (open_so_far : into session f ready.caller.process d ≡ None) (mid : KernelModel) (stays : state mid ≡ state old) (chain : Chain old t (all_granted walk) mid)
-        (on : Runs (at_entry (map.get (directory_of f.files ready.lays_out.laid.naming.number d) m)) mid new t result) where
-      leads : (target : Option Target) → map.get (directory_of f.files ready.lays_out.laid.naming.number d) m ≡ target → Runs (at_entry target) mid new t result
+        (on : Runs (at_entry (map.get (directory_of f.files ready.represents.laid.naming.number d) m)) mid new t result) where
+      leads : (target : Option Target) → map.get (directory_of f.files ready.represents.laid.naming.number d) m ≡ target → Runs (at_entry target) mid new t result
       leads target is = subst (λ (target : Option Target). Runs (at_entry target) mid new t result) is on
 
       by_stands : (o : Option Node) → get f.files (m ∷ d) ≡ o → Row
       by_stands None is =
-          refused_at_once session f me ready.caller call old new t ready.thread result walk mid chain stays ready.lays_out ENOENT
+          refused_at_once session f me ready.caller call old new t ready.thread result walk mid chain stays ready.represents ENOENT
           (refused_is None None open_so_far is) refl refl (has_reads (λ i. not (is_some (open_so_far i)) && is_some_and (is i) is_dir) (all_granted walk) (Refused ENOENT) (among_granted_all old.line t walk))
           (leads None (nothing_there session ok (state old) f me t ready m d is))
       by_stands (Some node) is =

@@ -34,10 +34,10 @@ use Rattle.histar_refinement.specs.Addresses.{home_address}
 use Rattle.histar_refinement.specs.Addresses.Step.{Status, Inside, Runner}
 use Rattle.histar_refinement.specs.Guards.{guard_label, rights_label, rights_clearance}
 use Rattle.histar_refinement.specs.Labels.{process_guard, thread_rights}
-use Rattle.histar_refinement.specs.LaysOut.{Laid, LaysOut}
+use Rattle.histar_refinement.specs.Represents.{ObjectsMatch, Represents}
 use Rattle.histar_refinement.specs.Processes.{or_zero, process_bytes}
 use Rattle.histar_refinement.proofs.CallerFound.{where_is, caller_found}
-use Rattle.histar_refinement.proofs.Exiting.{written, written_is, lays_out_exited}
+use Rattle.histar_refinement.proofs.Exiting.{written, written_is, represents_exited}
 use Rattle.histar_refinement.proofs.MakingRanges.{all_known}
 use Rattle.histar_refinement.proofs.RawChecks.{object}
 use Rattle.histar_layout.proofs.Declared.{equal_tested}
@@ -57,8 +57,8 @@ module _ (session : Session) (ok : IsSession session) (number : ℕ) (small : nu
   abbrev p : Process
   p = ready.caller.process
 
-  abbrev l : Laid session (state old) f
-  l = ready.lays_out.laid
+  abbrev l : ObjectsMatch session (state old) f
+  l = ready.represents.laid
 
   abbrev here : f.processes me ≡ Some ready.caller.process
   here = ready.caller.stands
@@ -68,32 +68,32 @@ module _ (session : Session) (ok : IsSession session) (number : ℕ) (small : nu
 
   -- its container, its process segment and its internal container
   abbrev C : ℕ
-  C = (where_is session (state old) f ready.lays_out.laid me).container
+  C = (where_is session (state old) f ready.represents.laid me).container
 
   abbrev S : ℕ
-  S = (where_is session (state old) f ready.lays_out.laid me).segment
+  S = (where_is session (state old) f ready.represents.laid me).segment
 
   abbrev o : ℕ
-  o = or_zero (ready.lays_out.laid.naming.number (Inside ∷ home_address me))
+  o = or_zero (ready.represents.laid.naming.number (Inside ∷ home_address me))
 
   at_inside : l.naming.number (Inside ∷ home_address me) ≡ Some o
   at_inside = zero_there _ o (l.stands.tree.held Runner (Inside ∷ home_address me) (numbered_runner session (state old) f l me p here ready.caller.runs)) refl
 
   -- the labels of the thread and of both
   abbrev own : Levels
-  own = rights_label ready.lays_out.laid.category (thread_rights session me ready.caller.process)
+  own = rights_label ready.represents.laid.category (thread_rights session me ready.caller.process)
 
   abbrev most : Levels
-  most = rights_clearance ready.lays_out.laid.category (thread_rights session me ready.caller.process)
+  most = rights_clearance ready.represents.laid.category (thread_rights session me ready.caller.process)
 
   abbrev due : Levels
-  due = guard_label ready.lays_out.laid.category (process_guard me ready.caller.process)
+  due = guard_label ready.represents.laid.category (process_guard me ready.caller.process)
 
   abbrev links : Links
-  links = (container_found session (state old) f ready.lays_out.laid me ready.caller.process ready.caller.stands).0
+  links = (container_found session (state old) f ready.represents.laid me ready.caller.process ready.caller.stands).0
 
   abbrev held : List ℕ
-  held = process_bytes f.processes ready.lays_out.laid.naming.number me ready.caller.process
+  held = process_bytes f.processes ready.represents.laid.naming.number me ready.caller.process
 
   thread_is : (state old).objects t ≡ object own (Thread most)
   thread_is = thread session (state old) f l me p here me p t (runs_as session (state old) f me t ready)
@@ -153,10 +153,10 @@ module _ (session : Session) (ok : IsSession session) (number : ℕ) (small : nu
   written_so : written session (state old) f l me p here number small C S o (at_container session (state old) f l me p here) (at_segment session (state old) f l me p here) at_inside ≡ bytes
   written_so = written_is session (state old) f l me p here number small C S o (at_container session (state old) f l me p here) (at_segment session (state old) f l me p here) at_inside
 
-  laid_after : (end : State) → CutsOff exited C o end → LaysOut session end (changed session f me p call)
+  laid_after : (end : State) → CutsOff exited C o end → Represents session end (changed session f me p call)
   laid_after end cuts =
-      lays_out_exited session (state old) f l me p here number small C S o (at_container session (state old) f l me p here) (at_segment session (state old) f l me p here) at_inside end
-      (subst (λ (b : List ℕ). CutsOff (with_segment_bytes (state old) S b) C o end) (sym written_so) cuts) ready.lays_out.jobs_given
+      represents_exited session (state old) f l me p here number small C S o (at_container session (state old) f l me p here) (at_segment session (state old) f l me p here) at_inside end
+      (subst (λ (b : List ℕ). CutsOff (with_segment_bytes (state old) S b) C o end) (sym written_so) cuts) ready.represents.jobs_given
 
   module _ (mid : KernelModel) (stays : state mid ≡ state old) (chain : Chain old t (all_granted (read ∷ [])) mid) where
     -- the internal container is taken away, and the call is answered
@@ -183,6 +183,6 @@ module _ (session : Session) (ok : IsSession session) (number : ℕ) (small : nu
 -- an exit does what its flat rule says
 pub exit_refines : ExitRefines
 exit_refines session ok number small me caller old new f result ready found run =
-    let is = (caller_found session (state old) f ready.lays_out.laid me caller found).1 in
-    let home_is : where_is session (state old) f ready.lays_out.laid me ≡ caller.home = λ i. record { container = or_zero (is.home i); segment = or_zero (is.segment i) } in
+    let is = (caller_found session (state old) f ready.represents.laid me caller found).1 in
+    let home_is : where_is session (state old) f ready.represents.laid me ≡ caller.home = λ i. record { container = or_zero (is.home i); segment = or_zero (is.segment i) } in
     exit_is_row session ok number small old new f me caller.thread ready result (subst (λ (home : Home). Runs (exit_program home number) old new caller.thread result) (sym home_is) run)

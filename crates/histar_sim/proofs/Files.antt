@@ -40,8 +40,8 @@ use Rattle.histar_refinement.specs.Sessions.{IsSession}
 use Rattle.histar_refinement.specs.Addresses.{address_of}
 use Rattle.histar_refinement.specs.Directories.{directory_of}
 use Rattle.histar_refinement.specs.Processes.{or_zero}
-use Rattle.histar_refinement.specs.LaysOut.{LaysOut}
-use Rattle.histar_refinement.proofs.Writing.{lays_out_overwritten}
+use Rattle.histar_refinement.specs.Represents.{Represents}
+use Rattle.histar_refinement.proofs.Writing.{represents_overwritten}
 use Rattle.histar_sim.specs.Simulation.{IsReady}
 use Rattle.histar_sim.specs.Reads.{AreAmong}
 use Rattle.histar_sim.proofs.ReadsByCall.{HasWalk, HasReadsByCall}
@@ -61,7 +61,7 @@ pub slash_is_no_file : (session : Session) (old new : KernelModel) (f : Flat) (m
     → ReachesFile session f me ready.caller.process [] call later → (rest : FoundFile → Program) → Runs (find_file (places_of (length session.users)) [] rest) old new t result → Goal session f me ready.caller call old new t ready.thread result
 unfolding find_file
 slash_is_no_file session old new f me t ready call result later file rest run =
-    refused_at_once session f me ready.caller call old new t ready.thread result [] old (same_kernel old) refl ready.lays_out EISDIR file.refuses refl refl (file.reads (state old) (Refused EISDIR) [] tt) run
+    refused_at_once session f me ready.caller call old new t ready.thread result [] old (same_kernel old) refl ready.represents EISDIR file.refuses refl refl (file.reads (state old) (Refused EISDIR) [] tt) run
 
 -- what the flat rules refuse of a file that is written
 abbrev pub refusal : Bool → Bool → Option Errno
@@ -120,23 +120,23 @@ module _ (session : Session) (ok : IsSession session) (old new : KernelModel) (f
           → (mid : KernelModel) → state mid ≡ state old → Chain old t (all_granted walk) mid → Runs (rest the_file) mid new t result → Row
 
       module _ (go_on : GoesOn) (open_so_far : into session f p d ≡ None) (mid : KernelModel) (stays : state mid ≡ state old) (chain : Chain old t (all_granted walk) mid)
-          (on : Runs (at_entry (map.get (directory_of f.files ready.lays_out.laid.naming.number d) m)) mid new t result) where
+          (on : Runs (at_entry (map.get (directory_of f.files ready.represents.laid.naming.number d) m)) mid new t result) where
         among : AreAmong walk (entries_of old.line t (all_granted walk))
         among = among_granted_all old.line t walk
 
-        leads : (target : Option Target) → map.get (directory_of f.files ready.lays_out.laid.naming.number d) m ≡ target → Runs (at_entry target) mid new t result
+        leads : (target : Option Target) → map.get (directory_of f.files ready.represents.laid.naming.number d) m ≡ target → Runs (at_entry target) mid new t result
         leads target is = subst (λ (target : Option Target). Runs (at_entry target) mid new t result) is on
 
         by_content : (class : Class) (c : Content) → get f.files (m ∷ d) ≡ Some (record { class = class; content = c }) → Row
         by_content class Dir is =
-            refused_at_once session f me ready.caller call old new t ready.thread result walk mid chain stays ready.lays_out EISDIR
+            refused_at_once session f me ready.caller call old new t ready.thread result walk mid chain stays ready.represents EISDIR
             (refused_is None (Some (record { class = class; content = Dir })) open_so_far is) refl refl (has_reads (all_granted walk) (Refused EISDIR) among)
             (leads _ (directory_there session ok (state old) f me t ready m d class is))
         by_content class (File bytes) is = go_on open_so_far class bytes is mid stays chain (leads _ (file_there session ok (state old) f me t ready m d class bytes is))
 
         by_stands : (o : Option Node) → get f.files (m ∷ d) ≡ o → Row
         by_stands None is =
-            refused_at_once session f me ready.caller call old new t ready.thread result walk mid chain stays ready.lays_out ENOENT
+            refused_at_once session f me ready.caller call old new t ready.thread result walk mid chain stays ready.represents ENOENT
             (refused_is None None open_so_far is) refl refl (has_reads (all_granted walk) (Refused ENOENT) among)
             (leads _ (nothing_there session ok (state old) f me t ready m d is))
         by_stands (Some node) is = by_content node.class node.content is
@@ -182,13 +182,13 @@ module _ (session : Session) (ok : IsSession session) (old new : KernelModel) (f
       -- a denial is told
       denied : (d : Denied) (errno : Errno) → check (state mid) t next ≡ Some d → write_errno_of d ≡ Some errno → refused session f me p call ≡ Some errno → Runs (ask next (λ _. Answers Done)) mid new t result → Row
       denied d errno fails told is on =
-          refused_step session f me ready.caller call old new t ready.thread result walk mid chain stays ready.lays_out errno is next (λ _. Answers Done) d fails told
+          refused_step session f me ready.caller call old new t ready.thread result walk mid chain stays ready.represents errno is next (λ _. Answers Done) d fails told
           (has_reads (refusal may fits) writing.reaches _ _ (among_also old.line t walk walk ((next, Some d) ∷ []) (among_granted_all old.line t walk))) on
 
       -- the kernel has the objects of the flat state with the new bytes
-      laid_after : LaysOut session (with_segment_bytes (state old) file whole) (changed session f me p call)
-      laid_after = subst (LaysOut session (with_segment_bytes (state old) file whole)) (sym writing.changes)
-          (lays_out_overwritten session (state old) f ready.lays_out.laid (m ∷ d) class held whole at file (file_numbered session ok (state old) f me t ready d open_so_far m class held at) ready.lays_out.jobs_given)
+      laid_after : Represents session (with_segment_bytes (state old) file whole) (changed session f me p call)
+      laid_after = subst (Represents session (with_segment_bytes (state old) file whole)) (sym writing.changes)
+          (represents_overwritten session (state old) f ready.represents.laid (m ∷ d) class held whole at file (file_numbered session ok (state old) f me t ready d open_so_far m class held at) ready.represents.jobs_given)
 
       left : (s : State) → s ≡ state old → with_segment_bytes s file (take keep (bytes_in (s.objects file)) ++ bytes) ≡ with_segment_bytes (state old) file whole
       left s same = let there = held_there session ok (state old) f me t ready d open_so_far m class held at in
@@ -205,7 +205,7 @@ module _ (session : Session) (ok : IsSession session) (old new : KernelModel) (f
           answered_step session f me ready.caller call old new t ready.thread result (walk ++ next ∷ []) later longer Done (sym writing.answers) (refused_by true true e more)
           (subst (λ (r : Reply). IsBacked (state old) (entries_of old.line t (all_granted (walk ++ next ∷ []))) r) (sym writing.answers) tt)
           (has_reads (refusal may fits) writing.reaches _ _ (among_then old.line t walk walk (next ∷ []) (among_granted_all old.line t walk)))
-          (subst (λ (s : State). LaysOut session s (changed session f me p call)) (sym new_state) laid_after) end)
+          (subst (λ (s : State). Represents session s (changed session f me p call)) (sym new_state) laid_after) end)
 
     -- The file is found and written, or the call is refused.
     pub writing_step : (length (bytes_at f (m ∷ d)) ≤ most_bytes → take keep (bytes_at f (m ∷ d)) ++ bytes ≡ whole)

@@ -31,7 +31,7 @@ use Rattle.histar_refinement.specs.Addresses.{Step, same_step, address_of, home_
 use Rattle.histar_refinement.specs.Addresses.Step.{Listing, Inside, Runner}
 use Rattle.histar_refinement.specs.Directories.{directory_of}
 use Rattle.histar_refinement.specs.Expected.{expected}
-use Rattle.histar_refinement.specs.LaysOut.{Laid}
+use Rattle.histar_refinement.specs.Represents.{ObjectsMatch}
 use Rattle.histar_refinement.specs.Processes.{or_zero}
 use Rattle.histar_refinement.proofs.Steps.{step_tests_equality}
 use Rattle.histar_refinement.proofs.Moving.{number_below}
@@ -49,18 +49,18 @@ module _ (session : Session) (ok : IsSession session) (s : State) (f : Flat) (me
   abbrev p : Process
   p = ready.caller.process
 
-  abbrev l : Laid session s f
-  l = ready.lays_out.laid
+  abbrev l : ObjectsMatch session s f
+  l = ready.represents.laid
 
   abbrev runner : Address Step
   runner = Runner ∷ Inside ∷ home_address me
 
   -- the label and the clearance of the thread
   abbrev pub label : Levels
-  label = rights_label ready.lays_out.laid.category (thread_rights session me ready.caller.process)
+  label = rights_label ready.represents.laid.category (thread_rights session me ready.caller.process)
 
   abbrev pub clearance : Levels
-  clearance = rights_clearance ready.lays_out.laid.category (thread_rights session me ready.caller.process)
+  clearance = rights_clearance ready.represents.laid.category (thread_rights session me ready.caller.process)
 
   pub thread : s.objects t ≡ object label (Thread clearance)
   thread = thread_found session s f l me p ready.caller.stands ready.caller.runs t (runs session ok s f me t ready).2
@@ -87,11 +87,11 @@ module _ (session : Session) (ok : IsSession session) (s : State) (f : Flat) (me
     listing = (place_at session ok s f me t ready d).listing
 
     abbrev pub entries : Entries
-    entries = directory_of f.files ready.lays_out.laid.naming.number d
+    entries = directory_of f.files ready.represents.laid.naming.number d
 
     -- where the file of a name in it is found
     abbrev pub segment : Name → ℕ
-    segment m = or_zero (ready.lays_out.laid.naming.number (address_of (m ∷ d)))
+    segment m = or_zero (ready.represents.laid.naming.number (address_of (m ∷ d)))
 
     module _ (open_so_far : into session f p d ≡ None) where
       pub is_dir : is_dir_at f d ≡ true
@@ -122,7 +122,7 @@ module _ (session : Session) (ok : IsSession session) (s : State) (f : Flat) (me
 
       -- the thread, the container of the directory and its directory segment stand in a state as they did
       abbrev pub HasListing : State → Type 0
-      HasListing later = HasSegment later t container listing label clearance (guard_label ready.lays_out.laid.category directory_guard.0) (spelling entries)
+      HasListing later = HasSegment later t container listing label clearance (guard_label ready.represents.laid.category directory_guard.0) (spelling entries)
 
       pub has_listing : HasListing s
       has_listing =

@@ -1,4 +1,4 @@
--- Where processes are found in a state that is laid out, and what the kernel says to the raw calls on them by the thread of a process.
+-- Where processes are found in a state that is represented, and what the kernel says to the raw calls on them by the thread of a process.
 use Rattle.std.proofs.Common.{◌≡◌, ℕ, ◌&&◌, Bool, true, false, [], ◌∷◌, length, Option, Some, refl, sym, ap, ◌∙◌}
 use Rattle.std.specs.Prelude.{is_some}
 use Rattle.std.specs.List.{list_all}
@@ -24,7 +24,7 @@ use Rattle.histar_refinement.specs.Labels.{process_guard, thread_rights}
 use Rattle.histar_refinement.specs.Addresses.{Step, same_step, home_address, home_number, status_number}
 use Rattle.histar_refinement.specs.Addresses.Step.{Home as HomeStep, Status}
 use Rattle.histar_refinement.specs.Expected.{home_object, status_object, bytes_for, expected}
-use Rattle.histar_refinement.specs.LaysOut.{Laid}
+use Rattle.histar_refinement.specs.Represents.{ObjectsMatch}
 use Rattle.histar_refinement.specs.Laws.{RunsAs}
 use Rattle.histar_refinement.specs.Lines.{IsStatusSegment}
 use Rattle.histar_refinement.specs.Processes.{or_zero, process_bytes}
@@ -39,7 +39,7 @@ use Rattle.histar_layout.proofs.Declared.{equal_names}
 use Rattle.histar_refinement.proofs.Standing.{bare_container_is, thread_found, step_linked}
 use Rattle.histar_refinement.proofs.StatusFound.{numbered_home, numbered_status, zero_there, status_found}
 
-module _ (session : Session) (s : State) (f : Flat) (l : Laid session s f) where
+module _ (session : Session) (s : State) (f : Flat) (l : ObjectsMatch session s f) where
   -- process 0 is found where boot left it
   pub first_place : (places_of (length session.users)).home ≡ where_is session s f l []
   first_place =

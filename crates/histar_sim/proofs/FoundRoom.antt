@@ -53,7 +53,7 @@ pub slash_stands : (session : Session) (old new : KernelModel) (f : Flat) (me : 
     → (rest : Room → Program) → Runs (find_room (places_of (length session.users)) [] rest) start new t result → Goal session f me ready.caller call old new t ready.thread result
 unfolding find_room
 slash_stands session old new f me t ready call result behind needs before start unchanged begun rest run =
-    refused_at_once session f me ready.caller call old new t ready.thread result before start begun unchanged ready.lays_out EEXIST needs.refuses refl refl
+    refused_at_once session f me ready.caller call old new t ready.thread result before start begun unchanged ready.represents EEXIST needs.refuses refl refl
     (needs.reads (state old) (Refused EEXIST) (entries_of old.line t (all_granted before)) tt) run
 
 -- the place of a new entry in a directory
@@ -119,13 +119,13 @@ module _ (session : Session) (ok : IsSession session) (old new : KernelModel) (f
       few = (holds session ok (state old) f me t ready d (is_dir session ok (state old) f me t ready d open_so_far)).listable.few
 
       full_test : (has_room : Bool) → roomy ≡ has_room → (map.len listed == most_entries) ≡ not has_room
-      full_test true e = let count = count_entries session (state old) f ready.lays_out.laid d in grind (arith, nat_tests, count, few, e)
-      full_test false e = let count = count_entries session (state old) f ready.lays_out.laid d in grind (arith, nat_tests, count, few, e)
+      full_test true e = let count = count_entries session (state old) f ready.represents.laid d in grind (arith, nat_tests, count, few, e)
+      full_test false e = let count = count_entries session (state old) f ready.represents.laid d in grind (arith, nat_tests, count, few, e)
 
       -- the call is refused with no raw call more
       ends_here : (errno : Errno) → is_access errno ≡ false → is_permission errno ≡ false → refused session f me p call ≡ Some errno → Runs (Answers (Refused errno)) mid new t result → Row
       ends_here errno no_access no_permission is end =
-          refused_at_once session f me ready.caller call old new t ready.thread result reached mid chain stays ready.lays_out errno is no_access no_permission
+          refused_at_once session f me ready.caller call old new t ready.thread result reached mid chain stays ready.represents errno is no_access no_permission
           (has_reads (all_granted reached) (Refused errno) (among_granted_behind old.line t before reads)) end
 
       looked_up : (target : Option Target) → map.get listed m ≡ target → Runs (at_entry target (map.len listed == most_entries)) mid new t result

@@ -27,7 +27,7 @@ use Rattle.histar_calls.specs.Replies.{sets_labels}
 use Rattle.histar_calls.specs.Programs.{AnswerOf, Outcome, Program, Runs}
 use Rattle.histar_calls.specs.Programs.Program.{Answers, Asks}
 use Rattle.histar_wrap.specs.Scratch.{or_stops, give_back, gives_back_with, or_given_back, ask_or_give_back}
-use Rattle.histar_refinement.specs.LaysOut.{LaysOut}
+use Rattle.histar_refinement.specs.Represents.{Represents}
 use Rattle.histar_refinement.specs.Lines.{IsThreadOf}
 use Rattle.histar_refinement.proofs.Beside.{own_set}
 use Rattle.histar_sim.specs.Simulation.{IsRunning, IsReplyOfDenial, FollowsRule}
@@ -78,13 +78,13 @@ module _ (session : Session) (f : Flat) (me : ProcName) (caller : IsRunning f me
       ]
 
       -- the call replies the errno
-      told_at_last : LaysOut session (state mid) f → ReadsAmong session f me caller call old new t named (steps restoring) (Refused errno) → Runs (Answers (Refused errno)) mid new t result → Row
-      told_at_last lays_out reads runs =
+      told_at_last : Represents session (state mid) f → ReadsAmong session f me caller call old new t named (steps restoring) (Refused errno) → Runs (Answers (Refused errno)) mid new t result → Row
+      told_at_last represents reads runs =
           let end = replied t mid new (Refused errno) result runs in
           subst (FollowsRule session f me call old new t) (sym end.1)
           (given_back_row session f me caller call old new t named calls last denied restoring sets
           (subst (λ (all : List Step). Chain old t all new) (append-nil (steps restoring)) (chain_after t old mid new (steps restoring) [] so_far end.0))
-          errno told is reads (subst (λ (s : State). LaysOut session s f) (sym end.0.state) lays_out))
+          errno told is reads (subst (λ (s : State). Represents session s f) (sym end.0.state) represents))
 
     -- The thread takes its own label and clearance again, and the call replies the errno.
     module _ (own : Levels × Levels) where
@@ -93,28 +93,28 @@ module _ (session : Session) (f : Flat) (me : ProcName) (caller : IsRunning f me
       taken_again = SetLabel own.0 ∷ SetClearance own.1 ∷ []
 
       give_back_step : (mid : KernelModel) → Chain old t (steps []) mid
-          → check (state mid) t (SetLabel own.0) ≡ None → check (with_changed (state mid) t (with_label own.0)) t (SetClearance own.1) ≡ None → LaysOut session (own_set t (state mid) own.0 own.1) f
+          → check (state mid) t (SetLabel own.0) ≡ None → check (with_changed (state mid) t (with_label own.0)) t (SetClearance own.1) ≡ None → Represents session (own_set t (state mid) own.0 own.1) f
           → ReadsAmong session f me caller call old new t named (steps taken_again) (Refused errno) → Runs (give_back own errno) mid new t result → Row
-      give_back_step mid so_far label_passes clearance_passes lays_out reads runs =
+      give_back_step mid so_far label_passes clearance_passes represents reads runs =
           restored_step [] tt mid so_far (SetLabel own.0) (or_stops (λ _. Asks (SetClearance own.1) (or_stops (λ _. Answers (Refused errno))))) label_passes runs
           (λ labelled done called chain on.
           restored_step (SetLabel own.0 ∷ []) (refl, tt) labelled chain (SetClearance own.1) (or_stops (λ _. Answers (Refused errno)))
           (ap (λ (s : State). check s t (SetClearance own.1)) called.state ∙ clearance_passes) on
           (λ cleared set_to called_then whole answers.
           told_at_last taken_again (refl, (refl, tt)) cleared whole
-          (subst (λ (s : State). LaysOut session s f) (sym (called_then.state ∙ ap (λ (s : State). with_changed s t (with_clearance own.1)) called.state)) lays_out) reads answers))
+          (subst (λ (s : State). Represents session s f) (sym (called_then.state ∙ ap (λ (s : State). with_changed s t (with_clearance own.1)) called.state)) represents) reads answers))
 
   -- A raw call that the rules refuse, as the flat rules refuse the call, once the thread has taken what it gives back.
   pub given_back_step : (calls : List RawCall) (mid : KernelModel) → Chain old t (all_granted calls) mid → (errno : Errno) → refused session f me caller.process call ≡ Some errno
       → (own : Levels × Levels) (next : RawCall) (rest : AnswerOf next → Program) (denied : Denied) → check (state mid) t next ≡ Some denied → errno_for next denied ≡ Some errno
-      → check (state mid) t (SetLabel own.0) ≡ None → check (with_changed (state mid) t (with_label own.0)) t (SetClearance own.1) ≡ None → LaysOut session (own_set t (state mid) own.0 own.1) f
+      → check (state mid) t (SetLabel own.0) ≡ None → check (with_changed (state mid) t (with_label own.0)) t (SetClearance own.1) ≡ None → Represents session (own_set t (state mid) own.0 own.1) f
       → ReadsAmong session f me caller call old new t named (all_granted calls ++ (next, Some denied) ∷ all_granted (SetLabel own.0 ∷ SetClearance own.1 ∷ [])) (Refused errno)
       → Runs (ask_or_give_back own next rest) mid new t result → Row
-  given_back_step calls mid so_far errno is own next rest denied fails told label_passes clearance_passes lays_out reads runs =
+  given_back_step calls mid so_far errno is own next rest denied fails told label_passes clearance_passes represents reads runs =
       denied_step session f me caller call old new t named result calls mid so_far next (or_given_back own (errno_for next) rest) denied fails runs
       (λ later called chain on.
       let same = called.state in
       give_back_step calls next denied errno (told_shown next denied errno told) is own later chain
       (ap (λ (s : State). check s t (SetLabel own.0)) same ∙ label_passes) (ap (λ (s : State). check (with_changed s t (with_label own.0)) t (SetClearance own.1)) same ∙ clearance_passes)
-      (subst (λ (s : State). LaysOut session (own_set t s own.0 own.1) f) (sym same) lays_out) reads
+      (subst (λ (s : State). Represents session (own_set t s own.0 own.1) f) (sym same) represents) reads
       (subst (λ (o : Option Errno). Runs (gives_back_with own o) later new t result) told on))

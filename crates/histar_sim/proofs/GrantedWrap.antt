@@ -52,7 +52,7 @@ use Rattle.histar_refinement.specs.Labels.{scratch_guard}
 use Rattle.histar_refinement.specs.Addresses.{address_of, home_address}
 use Rattle.histar_refinement.specs.Addresses.Step.{Listing, Status, Inside, Runner}
 use Rattle.histar_refinement.specs.Directories.{directory_of}
-use Rattle.histar_refinement.specs.LaysOut.{AreInOrder, Laid, LaysOut}
+use Rattle.histar_refinement.specs.Represents.{AreInOrder, ObjectsMatch, Represents}
 use Rattle.histar_refinement.specs.Processes.{or_zero, status_by}
 use Rattle.histar_refinement.proofs.Beside.{Beside}
 use Rattle.histar_refinement.proofs.DirectoryLaws.{spelling_fits}
@@ -155,7 +155,7 @@ module _ (session : Session) (ok : IsSession session) (me : ProcName) (caller : 
 
   -- the job's name was not used
   unused : ¬ IsUsed session f (OfJob ((p.born + 1) ∷ me))
-  unused u = never_given f me p ready.caller.stands (ready.lays_out.jobs_given child u)
+  unused u = never_given f me p ready.caller.stands (ready.represents.jobs_given child u)
 
   -- what is left of the program once the directory is written, and once the directory segment has a number
   abbrev birth_then : ProcessStatus → Levels → Levels → Program
@@ -188,25 +188,25 @@ module _ (session : Session) (ok : IsSession session) (me : ProcName) (caller : 
     at_parent : get f.files d ≡ Some (record { class = above; content = Dir })
     at_parent = directory_stands session ok (state old) f me t ready d open_so_far
 
-    container_there : ready.lays_out.laid.naming.number (address_of d) ≡ Some place.container
+    container_there : ready.represents.laid.naming.number (address_of d) ≡ Some place.container
     container_there = container_numbered session ok (state old) f me t ready d open_so_far
 
-    listing_there : ready.lays_out.laid.naming.number (Listing ∷ address_of d) ≡ Some place.listing
+    listing_there : ready.represents.laid.naming.number (Listing ∷ address_of d) ≡ Some place.listing
     listing_there = listing_numbered session ok (state old) f me t ready d open_so_far
 
-    home_there : ready.lays_out.laid.naming.number (home_address me) ≡ Some caller.home.container
+    home_there : ready.represents.laid.naming.number (home_address me) ≡ Some caller.home.container
     home_there = at_home session me caller old new f result ready found
 
-    segment_there : ready.lays_out.laid.naming.number (Status ∷ home_address me) ≡ Some caller.home.segment
+    segment_there : ready.represents.laid.naming.number (Status ∷ home_address me) ≡ Some caller.home.segment
     segment_there = at_status session me caller old new f result ready found
 
-    thread_there : ready.lays_out.laid.naming.number (Runner ∷ Inside ∷ home_address me) ≡ Some t
+    thread_there : ready.represents.laid.naming.number (Runner ∷ Inside ∷ home_address me) ≡ Some t
     thread_there = at_thread session me caller old new f result ready found
 
     -- once there is a number for the directory segment
     module _ (few : (state old).next_object + 1 < greatest) where
       -- the process that wraps, its directory and the one above
-      abbrev wrapper : Wrapper session (state old) f ready.lays_out me p
+      abbrev wrapper : Wrapper session (state old) f ready.represents me p
       wrapper = record {
         here = ready.caller.stands;
         runs = ready.caller.runs;
@@ -231,34 +231,34 @@ module _ (session : Session) (ok : IsSession session) (me : ProcName) (caller : 
         few = few;
       }
 
-      -- the state with the directory in it, which lays out the flat state with the directory but for the thread
+      -- the state with the directory in it, which represents the flat state with the directory but for the thread
       abbrev made_state : State
-      made_state = wrapping.made_state session (state old) f ready.lays_out me p wrapper
+      made_state = wrapping.made_state session (state old) f ready.represents me p wrapper
 
       abbrev with_directory : Flat
-      with_directory = wrapping.with_directory session (state old) f ready.lays_out me p wrapper
+      with_directory = wrapping.with_directory session (state old) f ready.represents me p wrapper
 
-      abbrev later : Laid session made_state with_directory
-      later = wrapping.k session (state old) f ready.lays_out me p wrapper named few_entries
+      abbrev later : ObjectsMatch session made_state with_directory
+      later = wrapping.k session (state old) f ready.represents me p wrapper named few_entries
 
       abbrev before : State
-      before = wrapping.state_directory session (state old) f ready.lays_out me p wrapper named few_entries
+      before = wrapping.state_directory session (state old) f ready.represents me p wrapper named few_entries
 
       -- the category of the job has its name in it, and what is made for the job the label that is due
-      abbrev job_named : Laid session (with_next_category (state old)) f
-      job_named = wrapping.m session (state old) f ready.lays_out me p wrapper
+      abbrev job_named : ObjectsMatch session (with_next_category (state old)) f
+      job_named = wrapping.m session (state old) f ready.represents me p wrapper
 
-      naming_is : job_named.naming ≡ ready.lays_out.laid.naming
-      naming_is = (wrapping.named session (state old) f ready.lays_out me p wrapper).1
+      naming_is : job_named.naming ≡ ready.represents.laid.naming
+      naming_is = (wrapping.named session (state old) f ready.represents me p wrapper).1
 
-      category_is : job_named.category ≡ naming_next ready.lays_out.laid.category (state old).next_category (OfJob ((p.born + 1) ∷ me))
-      category_is = (wrapping.named session (state old) f ready.lays_out me p wrapper).2
+      category_is : job_named.category ≡ naming_next ready.represents.laid.category (state old).next_category (OfJob ((p.born + 1) ∷ me))
+      category_is = (wrapping.named session (state old) f ready.represents me p wrapper).2
 
-      names_are : later.category ≡ naming_next ready.lays_out.laid.category (state old).next_category (OfJob ((p.born + 1) ∷ me))
-      names_are = (wrapping.made session (state old) f ready.lays_out me p wrapper named few_entries).2 ∙ category_is
+      names_are : later.category ≡ naming_next ready.represents.laid.category (state old).next_category (OfJob ((p.born + 1) ∷ me))
+      names_are = (wrapping.made session (state old) f ready.represents me p wrapper named few_entries).2 ∙ category_is
 
       due_is : due ≡ guard_label job_named.category (scratch_guard (p.chain ++ child ∷ []) i)
-      due_is = directory_by session (state old) f ready.lays_out.laid me p ready.caller.stands unused job_named.category category_is
+      due_is = directory_by session (state old) f ready.represents.laid me p ready.caller.stands unused job_named.category category_is
           ∙ ap (λ (o : Option ℕ). guard_label job_named.category (scratch_guard (p.chain ++ child ∷ []) (or_zero o))) declared
 
       state_is : with_segment_bytes (with_segment session ok (state old) f me t ready d open_so_far unused i declared) place.listing written ≡ before
@@ -267,38 +267,38 @@ module _ (session : Session) (ok : IsSession session) (me : ProcName) (caller : 
 
       -- what its process and its job are there
       is_declared : is_some (user_number session p.user) ≡ true
-      is_declared = wrapping.is_declared session (state old) f ready.lays_out me p wrapper named few_entries
+      is_declared = wrapping.is_declared session (state old) f ready.represents me p wrapper named few_entries
 
       is_served : IsServed with_directory ((p.born + 1) ∷ me)
-      is_served = wrapping.served session (state old) f ready.lays_out me p wrapper named few_entries
+      is_served = wrapping.served session (state old) f ready.represents me p wrapper named few_entries
 
       stranger : has p.chain ((p.born + 1) ∷ me) ≡ false
-      stranger = wrapping.stranger session (state old) f ready.lays_out me p wrapper
+      stranger = wrapping.stranger session (state old) f ready.represents me p wrapper
 
       chain_ordered : AreInOrder later.category (p.chain ++ ((p.born + 1) ∷ me) ∷ [])
-      chain_ordered = wrapping.k_chain session (state old) f ready.lays_out me p wrapper named few_entries
+      chain_ordered = wrapping.k_chain session (state old) f ready.represents me p wrapper named few_entries
 
       held_ordered : AreInOrder later.category (p.held ++ ((p.born + 1) ∷ me) ∷ [])
-      held_ordered = wrapping.k_held session (state old) f ready.lays_out me p wrapper named few_entries
+      held_ordered = wrapping.k_held session (state old) f ready.represents me p wrapper named few_entries
 
       home_later : later.naming.number (home_address me) ≡ Some caller.home.container
-      home_later = wrapping.k_home session (state old) f ready.lays_out me p wrapper named few_entries
+      home_later = wrapping.k_home session (state old) f ready.represents me p wrapper named few_entries
 
       segment_later : later.naming.number (Status ∷ home_address me) ≡ Some caller.home.segment
-      segment_later = wrapping.k_status session (state old) f ready.lays_out me p wrapper named few_entries
+      segment_later = wrapping.k_status session (state old) f ready.represents me p wrapper named few_entries
 
       thread_later : later.naming.number (Runner ∷ Inside ∷ home_address me) ≡ Some t
-      thread_later = wrapping.k_thread session (state old) f ready.lays_out me p wrapper named few_entries
+      thread_later = wrapping.k_thread session (state old) f ready.represents me p wrapper named few_entries
 
       stands_beside : Beside t own most before made_state
-      stands_beside = wrapping.beside session (state old) f ready.lays_out me p wrapper named few_entries
+      stands_beside = wrapping.beside session (state old) f ready.represents me p wrapper named few_entries
 
       counted : made_state.next_category ≤ before.next_category
-      counted = wrapping.counted session (state old) f ready.lays_out me p wrapper named few_entries
+      counted = wrapping.counted session (state old) f ready.represents me p wrapper named few_entries
 
       -- what the process segment of the parent tells, and what its thread has
       status_is : status ≡ status_by f.processes later.naming.number me p
-      status_is = same_process_status ready.lays_out.laid.naming.number later.naming.number (wrapping.k_numbers session (state old) f ready.lays_out me p wrapper named few_entries) f.processes me p
+      status_is = same_process_status ready.represents.laid.naming.number later.naming.number (wrapping.k_numbers session (state old) f ready.represents me p wrapper named few_entries) f.processes me p
 
       abbrev own_then : Levels
       own_then = rights_label later.category (rights_with_job session me p)
@@ -307,10 +307,10 @@ module _ (session : Session) (ok : IsSession session) (me : ProcName) (caller : 
       most_then = rights_clearance later.category (rights_with_job session me p)
 
       own_is : with_level own job Star ≡ own_then
-      own_is = label_by session (state old) f ready.lays_out.laid me p ready.caller.stands unused later.category names_are
+      own_is = label_by session (state old) f ready.represents.laid me p ready.caller.stands unused later.category names_are
 
       most_is : with_level most job L3 ≡ most_then
-      most_is = clearance_by session (state old) f ready.lays_out.laid me p ready.caller.stands unused later.category names_are
+      most_is = clearance_by session (state old) f ready.represents.laid me p ready.caller.stands unused later.category names_are
 
       thread_has_job : before.objects t ≡ object own_then (Thread most_then)
       thread_has_job = sym (ap (λ (s : State). s.objects t) state_is) ∙ thread_then session ok (state old) f me t ready d open_so_far unused i declared written ∙ (λ j. object (own_is j) (Thread (most_is j)))
@@ -335,26 +335,26 @@ module _ (session : Session) (ok : IsSession session) (me : ProcName) (caller : 
       -- what the birth needs is there
       fits : IsFit before t caller.home (status_by f.processes later.naming.number me p) kin own_then most_then
       fits = fit session ok made_state with_directory later me p parent before.objects own most stands_beside thread_has_job kin
-          (jobs_by session (state old) f ready.lays_out.laid me p ready.caller.stands unused later.category names_are) (owned_told session (state old) f ready.lays_out.laid me p ready.caller.stands unused)
+          (jobs_by session (state old) f ready.represents.laid me p ready.caller.stands unused later.category names_are) (owned_told session (state old) f ready.represents.laid me p ready.caller.stands unused)
 
       -- it leaves the state in which the parent holds the job
       held_then : (few_born : before.next_object + 3 < greatest)
-          → spawned before t caller.home (status_by f.processes later.naming.number me p) kin own_then most_then ≡ wrapping.state_wrapped session (state old) f ready.lays_out me p wrapper named few_entries few_born
+          → spawned before t caller.home (status_by f.processes later.naming.number me p) kin own_then most_then ≡ wrapping.state_wrapped session (state old) f ready.represents me p wrapper named few_entries few_born
       held_then few_born = held_is session ok made_state with_directory later me p parent before.objects own most stands_beside thread_has_job kin
-          (jobs_by session (state old) f ready.lays_out.laid me p ready.caller.stands unused later.category names_are) (owned_told session (state old) f ready.lays_out.laid me p ready.caller.stands unused)
+          (jobs_by session (state old) f ready.represents.laid me p ready.caller.stands unused later.category names_are) (owned_told session (state old) f ready.represents.laid me p ready.caller.stands unused)
           stranger held_ordered few_born counted
 
-      -- in which the flat state of the row is laid out
-      laid_then : (few_born : before.next_object + 3 < greatest) → LaysOut session (spawned before t caller.home (status_by f.processes later.naming.number me p) kin own_then most_then) (changed session f me p call)
+      -- in which the flat state of the row is represented
+      laid_then : (few_born : before.next_object + 3 < greatest) → Represents session (spawned before t caller.home (status_by f.processes later.naming.number me p) kin own_then most_then) (changed session f me p call)
       laid_then few_born =
-          subst (λ (s : State). LaysOut session s (changed session f me p call)) (sym (held_then few_born)) (wrapping.lays_out_wrapped session (state old) f ready.lays_out me p wrapper named few_entries few_born)
+          subst (λ (s : State). Represents session s (changed session f me p call)) (sym (held_then few_born)) (wrapping.represents_wrapped session (state old) f ready.represents me p wrapper named few_entries few_born)
 
       -- with all raw calls the call is answered
       answered : (calls : List RawCall) (end : KernelModel) → AreAmong reads (entries_of old.line t (all_granted calls)) → Chain old t (all_granted calls) end
           → state end ≡ spawned before t caller.home (status_by f.processes later.naming.number me p) kin own_then most_then → before.next_object + 3 < greatest → Runs (Answers (Child child)) end new t result → Row
       answered calls end kept chain is few_born runs =
           answered_step session f me ready.caller call old new t ready.thread result calls end chain (Child child) refl refused_nowhere tt (has_walk session ok (state old) f me t ready m d (entries_of old.line t (all_granted calls)) kept)
-          (subst (λ (s : State). LaysOut session s (changed session f me p call)) (sym is) (laid_then few_born)) runs
+          (subst (λ (s : State). Represents session s (changed session f me p call)) (sym is) (laid_then few_born)) runs
 
       -- the job's first process is born
       born : (calls : List RawCall) (mid : KernelModel) → AreAmong reads (entries_of old.line t (all_granted calls)) → Chain old t (all_granted calls) mid → state mid ≡ before
@@ -367,7 +367,7 @@ module _ (session : Session) (ok : IsSession session) (me : ProcName) (caller : 
       -- the directory is written
       few_written : length written ≤ 4096
       few_written =
-          let count = count_entries session (state old) f ready.lays_out.laid d in
+          let count = count_entries session (state old) f ready.represents.laid d in
           let below_most : length (entries_in f d) < most_entries = few_entries in
           let room_left : map.len (entries session ok (state old) f me t ready d) < 64 = omega (arith, count, below_most) in
           let low = below session ok (state old) f me t ready (address_of d) place.container container_there in
@@ -380,7 +380,7 @@ module _ (session : Session) (ok : IsSession session) (me : ProcName) (caller : 
       directory_written calls mid kept chain at runs =
           let write : RawCall = Write place.container place.listing 0 written in
           let guard = directory_guard session ok (state old) f me t ready d open_so_far in
-          let apart = wrapping.not_named session (state old) f ready.lays_out me p wrapper d (record { class = above; content = Dir }) guard.0 at_parent guard.1 in
+          let apart = wrapping.not_named session (state old) f ready.represents me p wrapper d (record { class = above; content = Dir }) guard.0 at_parent guard.1 in
           granted_step session f me ready.caller call old new t ready.thread result calls mid chain write (λ _. birth_then status (with_level own job Star) (with_level most job L3))
           (ap (λ (s : State). check s t write) at ∙ write_said session ok (state old) f me t ready d open_so_far unused i declared may stranger apart.0 apart.1 written few_written) runs
           (λ end done called right longer goes.

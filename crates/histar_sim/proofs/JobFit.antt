@@ -21,7 +21,7 @@ use Rattle.histar_refinement.specs.Categories.{CategoryName, Categories, IsUsed,
 use Rattle.histar_refinement.specs.Categories.CategoryName.{ReadsProcess, WritesProcess, OfJob}
 use Rattle.histar_refinement.specs.Guards.{guard_label, rights_label, rights_clearance}
 use Rattle.histar_refinement.specs.Labels.{process_guard, inside_guard, thread_rights}
-use Rattle.histar_refinement.specs.LaysOut.{AreInOrder, Laid}
+use Rattle.histar_refinement.specs.Represents.{AreInOrder, ObjectsMatch}
 use Rattle.histar_refinement.specs.Processes.{or_zero, process_bytes, status_by}
 use Rattle.histar_refinement.proofs.Beside.{Beside, own_set}
 use Rattle.histar_refinement.proofs.Counting.{boot_used}
@@ -41,7 +41,7 @@ use Rattle.histar_sim.proofs.ChildLabels.{outer_is, inner_is, label_is, clearanc
 use Rattle.histar_sim.proofs.ScratchLabels.{rights_with_job}
 use Rattle.histar_sim.proofs.JobRights.{JobParent, jobs_used, jobs_free, names, kept, owner, owner_most, around_owner, home_modified, outer_modified, inner_modified, thread_lesser, own_taken, own_is, most_is}
 
-module _ (session : Session) (ok : IsSession session) (s : State) (f : Flat) (l : Laid session s f) (me : ProcName) (p : Process) (parent : JobParent session s f l me p)
+module _ (session : Session) (ok : IsSession session) (s : State) (f : Flat) (l : ObjectsMatch session s f) (me : ProcName) (p : Process) (parent : JobParent session s f l me p)
     (objects : Objects Levels) (own most : Levels) (beside : Beside parent.thread own most (record { objects = objects; next_object = s.next_object; next_category = s.next_category }) s)
     (thread : objects parent.thread ≡ object (rights_label l.category (rights_with_job session me p)) (Thread (rights_clearance l.category (rights_with_job session me p))))
     (kin : Kin) (alike : (q : ℕ) → is_in kin.jobs q ≡ is_in (map l.category (map OfJob (p.chain ++ ((p.born + 1) ∷ me) ∷ []))) q) (told : kin.owned ≡ owned_by session (or_zero (user_number session p.user)) false) where

@@ -20,7 +20,7 @@ use Rattle.histar_refinement.specs.Guards.{Rights, guard_label, rights_label, ri
 use Rattle.histar_refinement.specs.Labels.{process_guard, inside_guard, thread_rights}
 use Rattle.histar_refinement.specs.Addresses.{home_address}
 use Rattle.histar_refinement.specs.Addresses.Step.{Status, Inside, Runner}
-use Rattle.histar_refinement.specs.LaysOut.{AreInOrder, Laid}
+use Rattle.histar_refinement.specs.Represents.{AreInOrder, ObjectsMatch}
 use Rattle.histar_refinement.specs.Processes.{process_bytes}
 use Rattle.histar_refinement.proofs.AmongNames.{each_head, each_append}
 use Rattle.histar_refinement.proofs.Growing.{RightsHave, IsOld, new_number, made_label, made_clearance, same_rights_label, same_rights_clearance}
@@ -38,7 +38,7 @@ use Rattle.histar_sim.proofs.ScratchLabels.{rights_with_job}
 
 -- The parent of a new job's first process, once the job has its directory: the parent's user is declared, its jobs and the new one are in the
 -- order of their categories, and its container, its process segment and its thread have these numbers.
-pub record JobParent (session : Session) (s : State) (f : Flat) (l : Laid session s f) (me : ProcName) (p : Process) : Type 0 where
+pub record JobParent (session : Session) (s : State) (f : Flat) (l : ObjectsMatch session s f) (me : ProcName) (p : Process) : Type 0 where
   pub here : f.processes me ≡ Some p
   pub runs : p.exited ≡ None
   pub room : p.born < 64
@@ -52,7 +52,7 @@ pub record JobParent (session : Session) (s : State) (f : Flat) (l : Laid sessio
   pub at_status : l.naming.number (Status ∷ home_address me) ≡ Some segment
   pub at_thread : l.naming.number (Runner ∷ Inside ∷ home_address me) ≡ Some thread
 
-module _ (session : Session) (s : State) (f : Flat) (l : Laid session s f) (me : ProcName) (p : Process) (parent : JobParent session s f l me p) where
+module _ (session : Session) (s : State) (f : Flat) (l : ObjectsMatch session s f) (me : ProcName) (p : Process) (parent : JobParent session s f l me p) where
   -- its fields by name
   abbrev here : f.processes me ≡ Some p
   here = parent.here

@@ -46,13 +46,13 @@ use Rattle.histar_refinement.specs.Categories.{among, booted}
 use Rattle.histar_refinement.specs.Categories.CategoryName.{OfBoot, ReadsGroup, WritesGroup, OfJob}
 use Rattle.histar_refinement.specs.Guards.{guard_label, rights_label, rights_clearance}
 use Rattle.histar_refinement.specs.Labels.{boot_guard, process_guard, reading, writing, owned_as, thread_rights}
-use Rattle.histar_refinement.specs.LaysOut.{Laid, LaysOut}
+use Rattle.histar_refinement.specs.Represents.{ObjectsMatch, Represents}
 use Rattle.histar_refinement.specs.Laws.{RunsAs}
 use Rattle.histar_refinement.specs.Processes.{process_bytes}
 use Rattle.histar_refinement.proofs.CallerFound.{where_is}
 use Rattle.histar_refinement.proofs.CategoryTests.{among-append, among_none}
 use Rattle.histar_refinement.proofs.ClassTests.{sees_unguarded, jobs_apart}
-use Rattle.histar_refinement.proofs.Killing.{lays_out_left}
+use Rattle.histar_refinement.proofs.Killing.{represents_left}
 use Rattle.histar_refinement.proofs.LeftObjects.{root_found, root_label}
 use Rattle.histar_refinement.proofs.RawChecks.{object, unlink_check}
 use Rattle.histar_layout.proofs.Declared.{equal_names}
@@ -95,7 +95,7 @@ owns_no_boot session me p =
         ∙ (λ k. among_none ReadsGroup OfBoot (λ g. refl) (groups_of session p.user) k || picked (is_free p) i k)
 
 -- so what the root container links is taken away by none
-module _ (session : Session) (s : State) (f : Flat) (l : Laid session s f) (me : ProcName) (p : Process) (t : ℕ) (runs : RunsAs session s f l me p t) where
+module _ (session : Session) (s : State) (f : Flat) (l : ObjectsMatch session s f) (me : ProcName) (p : Process) (t : ℕ) (runs : RunsAs session s f l me p t) where
   abbrev own_label : Levels
   own_label = rights_label l.category (thread_rights session me p)
 
@@ -129,8 +129,8 @@ module _ (session : Session) (ok : IsSession session) (old new : KernelModel) (f
   abbrev p : Process
   p = ready.caller.process
 
-  abbrev l : Laid session (state old) f
-  l = ready.lays_out.laid
+  abbrev l : ObjectsMatch session (state old) f
+  l = ready.represents.laid
 
   abbrev calls_to : ProcName → List RawCall
   calls_to name = search_reads session (state old) f me t ready name
@@ -150,7 +150,7 @@ module _ (session : Session) (ok : IsSession session) (old new : KernelModel) (f
       let unlinks : RawCall = raw.Unlink root_number (home_number (length session.users)) in
       search_step session ok old new f me t ready (calls.Kill []) result [] (λ home status. ask (raw.Unlink root_number (home_number (length session.users))) (λ _. Answers Done)) run (kill_refuses [])
       (λ found first here seen mid stays chain on.
-      refused_step session f me ready.caller (calls.Kill []) old new t ready.thread result (calls_to []) mid chain stays ready.lays_out EACCES refl unlinks (λ _. Answers Done) Modify
+      refused_step session f me ready.caller (calls.Kill []) old new t ready.thread result (calls_to []) mid chain stays ready.represents EACCES refl unlinks (λ _. Answers Done) Modify
       (ap (λ (s : State). check s t unlinks) stays ∙ first_kept session (state old) f l me p t (runs_as session (state old) f me t ready)) refl
       (has_search session (state old) f me t ready [] _ (among_also old.line t (calls_to []) (calls_to []) ((unlinks, Some Modify) ∷ []) (among_granted_all old.line t (calls_to [])))) on)
 
@@ -165,13 +165,13 @@ module _ (session : Session) (ok : IsSession session) (old new : KernelModel) (f
 
     -- the container and the process segment of the parent, and the container of the child
     abbrev C : ℕ
-    C = (where_is session (state old) f ready.lays_out.laid above).container
+    C = (where_is session (state old) f ready.represents.laid above).container
 
     abbrev S : ℕ
-    S = (where_is session (state old) f ready.lays_out.laid above).segment
+    S = (where_is session (state old) f ready.represents.laid above).segment
 
     abbrev o : ℕ
-    o = (where_is session (state old) f ready.lays_out.laid (n ∷ above)).container
+    o = (where_is session (state old) f ready.represents.laid (n ∷ above)).container
 
     abbrev bytes : List ℕ
     bytes = status_bytes (without_child n (status_of session (state old) f me t ready above parent))
@@ -220,11 +220,11 @@ module _ (session : Session) (ok : IsSession session) (old new : KernelModel) (f
             (observed session (state old) f l above parent here me p ∙ seen) (modified session (state old) f l above parent here me p ready.caller.stands seen ∙ mine)
             (linked_then session (state old) f l above parent here n child there me p t runs outside (state cut) cuts) bytes (killed_few session (state old) f l above parent here n)
 
-        laid_after : LaysOut session (with_segment_bytes (state cut) S bytes) (without_process f name)
+        laid_after : Represents session (with_segment_bytes (state cut) S bytes) (without_process f name)
         laid_after =
-            subst (λ (b : List ℕ). LaysOut session (with_segment_bytes (state cut) S b) (without_process f name)) (sym (killed_bytes session (state old) f l above parent here n))
-            (lays_out_left session (state old) f l above parent here n C S o (at_container session (state old) f l above parent here) (at_segment session (state old) f l above parent here) (at_container session (state old) f l name child there)
-            (state cut) cuts ready.lays_out.jobs_given)
+            subst (λ (b : List ℕ). Represents session (with_segment_bytes (state cut) S b) (without_process f name)) (sym (killed_bytes session (state old) f l above parent here n))
+            (represents_left session (state old) f l above parent here n C S o (at_container session (state old) f l above parent here) (at_segment session (state old) f l above parent here) (at_container session (state old) f l name child there)
+            (state cut) cuts ready.represents.jobs_given)
 
         -- the parent's segment is written, and the call is answered
         written : Runs ending cut new t result → Row name
@@ -235,11 +235,11 @@ module _ (session : Session) (ok : IsSession session) (old new : KernelModel) (f
             answered_step session f me ready.caller call old new t ready.thread result all end whole Done refl (refused_by true mine) tt
             (has_search session (state old) f me t ready name _
             (among_then old.line t (calls_to name) (calls_to name ++ unlinking ∷ []) (writing_call ∷ []) (among_then old.line t (calls_to name) (calls_to name) (unlinking ∷ []) (among_granted_all old.line t (calls_to name)))))
-            (subst (λ (s : State). LaysOut session s (without_process f name)) (sym wrote.state) laid_after) last)
+            (subst (λ (s : State). Represents session s (without_process f name)) (sym wrote.state) laid_after) last)
 
       by_kin : (b : Bool) → same above me ≡ b → Runs (ask unlinking (λ _. ending)) mid new t result → Row name
       by_kin false is on =
-          refused_step session f me ready.caller call old new t ready.thread result (calls_to name) mid chain stays ready.lays_out EACCES (refused_by false is) unlinking (λ _. ending) Modify (said false is) refl
+          refused_step session f me ready.caller call old new t ready.thread result (calls_to name) mid chain stays ready.represents EACCES (refused_by false is) unlinking (λ _. ending) Modify (said false is) refl
           (has_search session (state old) f me t ready name _ (among_also old.line t (calls_to name) (calls_to name) ((unlinking, Some Modify) ∷ []) (among_granted_all old.line t (calls_to name)))) on
       by_kin true is on =
           granted_step session f me ready.caller call old new t ready.thread result (calls_to name) mid chain unlinking (λ _. ending) (said true is) on

@@ -28,7 +28,7 @@ use Rattle.histar_refinement.specs.Addresses.Step.{Child as Below}
 use Rattle.histar_refinement.specs.Expected.{expected}
 use Rattle.histar_refinement.specs.Guards.{guard_label, rights_label, rights_clearance}
 use Rattle.histar_refinement.specs.Labels.{process_guard, thread_rights}
-use Rattle.histar_refinement.specs.LaysOut.{Laid}
+use Rattle.histar_refinement.specs.Represents.{ObjectsMatch}
 use Rattle.histar_refinement.specs.Laws.{RunsAs}
 use Rattle.histar_refinement.specs.Processes.{or_zero, listed_by, status_by, process_bytes}
 use Rattle.histar_refinement.proofs.CallerFound.{where_is}
@@ -74,9 +74,9 @@ module _ (me : ProcName) (n : ℕ) (number numbers : AddressNumbers) (test later
     | inr e ↦ keeps k ks e.0 e.1 (others_left ks) (test k) ∙ ap (left_by k ks) (sym (stays k e.1))
   ]
 
--- ---- in a state that is laid out
+-- ---- in a state that is represented
 
-module _ (session : Session) (s : State) (f : Flat) (l : Laid session s f) (me : ProcName) (p : Process) (here : f.processes me ≡ Some p) (n : ℕ) where
+module _ (session : Session) (s : State) (f : Flat) (l : ObjectsMatch session s f) (me : ProcName) (p : Process) (here : f.processes me ≡ Some p) (n : ℕ) where
   abbrev top : ProcName
   top = n ∷ me
 

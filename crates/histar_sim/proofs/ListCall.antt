@@ -20,7 +20,7 @@ use Rattle.histar_calls.specs.ListCall.{list_program}
 use Rattle.histar_login.specs.Start.{places_of}
 use Rattle.histar_refinement.specs.Sessions.{IsSession}
 use Rattle.histar_refinement.specs.Directories.{directory_of}
-use Rattle.histar_refinement.specs.LaysOut.{LaysOut}
+use Rattle.histar_refinement.specs.Represents.{Represents}
 use Rattle.histar_refinement.proofs.Listings.{names_directory}
 use Rattle.histar_refinement.proofs.Making.{entry_leads}
 use Rattle.histar_refinement.proofs.Standing.{root_is_dir}
@@ -36,12 +36,12 @@ module _ (session : Session) (ok : IsSession session) (old new : KernelModel) (f
   -- what refuses the way into the directory refuses the call
   refused_is : (q : Path) → refused session f me ready.caller.process (calls.List q) ≡ into session f ready.caller.process q
   refused_is [] =
-      let root = (root_is_dir session (state old) f ready.lays_out.laid).1 in
+      let root = (root_is_dir session (state old) f ready.represents.laid).1 in
       λ i. unless (is_some_and (root i) (λ n. true)) ENOENT orelse unless (is_some_and (root i) is_dir) ENOTDIR orelse unless (reads session f ready.caller.process []) EACCES
   refused_is (n ∷ d) = refl
 
-  names_are : names_in (directory_of f.files ready.lays_out.laid.naming.number path) ≡ entries_in f path
-  names_are = names_directory f ready.lays_out.laid.naming.number path (λ n there at. entry_leads session (state old) f ready.lays_out.laid (n ∷ path) there at)
+  names_are : names_in (directory_of f.files ready.represents.laid.naming.number path) ≡ entries_in f path
+  names_are = names_directory f ready.represents.laid.naming.number path (λ n there at. entry_leads session (state old) f ready.represents.laid (n ∷ path) there at)
 
   list_is_row : Runs (list_program (places_of (length session.users)) path) old new t result → Goal session f me ready.caller call old new t ready.thread result
   unfolding list_program
@@ -50,9 +50,9 @@ module _ (session : Session) (ok : IsSession session) (old new : KernelModel) (f
       walk_step session ok old new f me t ready call result path (λ directory. Answers (Entries (names_in directory.entries))) run
       (λ errno is steps among. (refused_is path ∙ is, has_way session ok (state old) f me t ready path _ among))
       (λ open_so_far mid stays chain on.
-      answered_step session f me ready.caller call old new t ready.thread result walk mid chain (Entries (names_in (directory_of f.files ready.lays_out.laid.naming.number path))) (ap Entries names_are) (refused_is path ∙ open_so_far) tt
+      answered_step session f me ready.caller call old new t ready.thread result walk mid chain (Entries (names_in (directory_of f.files ready.represents.laid.naming.number path))) (ap Entries names_are) (refused_is path ∙ open_so_far) tt
       (has_way session ok (state old) f me t ready path _ (among_granted_all old.line t walk))
-      (subst (λ (s : State). LaysOut session s f) (sym stays) ready.lays_out) on)
+      (subst (λ (s : State). Represents session s f) (sym stays) ready.represents) on)
 
 -- a list does what its flat rule says
 pub list_refines : ListRefines

@@ -42,7 +42,7 @@ use Rattle.histar_refinement.specs.Categories.{CategoryName, among}
 use Rattle.histar_refinement.specs.Categories.CategoryName.{ReadsProcess, WritesProcess}
 use Rattle.histar_refinement.specs.Guards.{Rights, rights_label, rights_clearance}
 use Rattle.histar_refinement.specs.Labels.{thread_rights, gate_rights}
-use Rattle.histar_refinement.specs.LaysOut.{Laid, LaysOut}
+use Rattle.histar_refinement.specs.Represents.{ObjectsMatch, Represents}
 use Rattle.histar_refinement.specs.Laws.{RunsAs}
 use Rattle.histar_layout.proofs.Declared.{user_range}
 use Rattle.histar_refinement.proofs.Standing.{thread_found}
@@ -50,7 +50,7 @@ use Rattle.histar_refinement.proofs.StatusFound.{thread_back}
 use Rattle.histar_refinement.proofs.LeftObjects.{password_found, unnumbered_user}
 use Rattle.histar_refinement.proofs.CallerFound.{caller_found}
 use Rattle.histar_refinement.proofs.LoginChecks.{more, wanted, limit, entered, as_user, enter_said, read_password_said, user_owns_less, own_owns_less, set_label_said, relabelled_state, set_clearance_said}
-use Rattle.histar_refinement.proofs.LoggingIn.{lays_out_login}
+use Rattle.histar_refinement.proofs.LoggingIn.{represents_login}
 use Rattle.histar_refinement.proofs.GateLabels.{gate_label_is, gate_clearance_is}
 use Rattle.histar_refinement.proofs.CallLabels.{equal_bytes, number_by_place, user_label_is, user_clearance_is}
 use Rattle.histar_sim.proofs.TakenLabels.{labels_taken, labels_back, kept_bytes}
@@ -73,8 +73,8 @@ module _ (session : Session) (name : Name) (password : Password) (me : ProcName)
   abbrev p : Process
   p = ready.caller.process
 
-  abbrev l : Laid session (state old) f
-  l = ready.lays_out.laid
+  abbrev l : ObjectsMatch session (state old) f
+  l = ready.represents.laid
 
   abbrev call : UnixCall
   call = Login name password
@@ -102,7 +102,7 @@ module _ (session : Session) (name : Name) (password : Password) (me : ProcName)
   -- no user has the name
   unknown : place_of session.users name ≡ None → Runs (Answers (Refused ENOENT)) old new t result → Goal
   unknown nowhere runs =
-      refused_at_once session f me ready.caller call old new t ready.thread result [] old (same_kernel old) refl ready.lays_out ENOENT
+      refused_at_once session f me ready.caller call old new t ready.thread result [] old (same_kernel old) refl ready.represents ENOENT
       (refused_is None (is_free p) (unnumbered_user session name (number_by_place session name ∙ ap (option_map (λ place. place + 1)) nowhere)) refl) refl refl
       (subst (λ (o : Option ℕ). AreAmong (reads_of_login session o false) []) (sym nowhere) tt) runs
 
@@ -247,11 +247,11 @@ module _ (session : Session) (name : Name) (password : Password) (me : ProcName)
           taken true (thread_rights session me process_then) (user_owns_less session (state old) f l me p t runs_as name (place + 1) numbered) (λ c e. e) (λ c e. e) user_takes user_clears mid so_far at runs
           (λ later chain later_is answers.
           answered_step session f me ready.caller call old new t ready.thread result (all_calls true) later chain Done refl (refused_by true is) tt (among_calls true)
-          (subst (λ (s : State). LaysOut session s (with_process f me process_then)) (sym later_is) (lays_out_login session (state old) f ready.lays_out me p runs_as.0 runs_as.1 name (ap is_some numbered) t runs_as.2)) answers)
+          (subst (λ (s : State). Represents session s (with_process f me process_then)) (sym later_is) (represents_login session (state old) f ready.represents me p runs_as.0 runs_as.1 name (ap is_some numbered) t runs_as.2)) answers)
       ends false is mid so_far at runs =
           taken false (thread_rights session me p) (own_owns_less session (state old) f l me p t runs_as name (place + 1) numbered) (λ c e. e) (λ c e. e) refl refl mid so_far at runs
           (λ later chain later_is answers.
-          refused_at_once session f me ready.caller call old new t ready.thread result (all_calls false) later chain (later_is ∙ labels_back (state old) t own most thread) ready.lays_out EAUTH (refused_by false is) refl refl (among_calls false) answers)
+          refused_at_once session f me ready.caller call old new t ready.thread result (all_calls false) later chain (later_is ∙ labels_back (state old) t own most thread) ready.represents EAUTH (refused_by false is) refl refl (among_calls false) answers)
 
       -- the password is read
       from_gate : (inside : KernelModel) → Chain old t (all_granted (OwnLabel ∷ enters ∷ [])) inside → state inside ≡ behind → Runs reading inside new t result → Goal
@@ -272,7 +272,7 @@ module _ (session : Session) (name : Name) (password : Password) (me : ProcName)
     -- a process in a job is not let in
     kept_out : is_free p ≡ false → (asked : KernelModel) → Chain old t (all_granted (OwnLabel ∷ [])) asked → state asked ≡ state old → Runs (ask enters (λ _. reading)) asked new t result → Goal
     kept_out jobbed asked chain stays runs =
-        refused_step session f me ready.caller call old new t ready.thread result (OwnLabel ∷ []) asked chain stays ready.lays_out EACCES (refused_is (Some user.0) false user.1 jobbed) enters (λ _. reading) Gate
+        refused_step session f me ready.caller call old new t ready.thread result (OwnLabel ∷ []) asked chain stays ready.represents EACCES (refused_is (Some user.0) false user.1 jobbed) enters (λ _. reading) Gate
         (ap (λ (s : State). check s t enters) stays ∙ enters_said ∙ ap (λ (b : Bool). unless b Gate) jobbed) refl
         (subst (λ (o : Option ℕ). AreAmong (reads_of_login session o false) (entries_of old.line t (all_granted (OwnLabel ∷ []) ++ (enters, Some Gate) ∷ []))) (sym at_place) tt) runs
 

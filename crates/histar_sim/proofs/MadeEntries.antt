@@ -44,7 +44,7 @@ use Rattle.histar_calls.specs.declared.places.Place.{Place}
 use Rattle.histar_login.specs.Start.{places_of}
 use Rattle.histar_refinement.specs.Sessions.{IsSession}
 use Rattle.histar_refinement.specs.Guards.{guard_label}
-use Rattle.histar_refinement.specs.LaysOut.{Laid, LaysOut}
+use Rattle.histar_refinement.specs.Represents.{ObjectsMatch, Represents}
 use Rattle.histar_refinement.proofs.ClassTests.{observes_class, modifies_class}
 use Rattle.histar_refinement.proofs.DirectoryLaws.{spelling_fits}
 use Rattle.histar_refinement.proofs.Making.{count_entries, jobs_made}
@@ -126,7 +126,7 @@ module _ (session : Session) (ok : IsSession session) (old new : KernelModel) (f
   Made = MakesClass session ok (state old) f me t ready mode
 
   abbrev due : Made → Levels
-  due made = guard_label ready.lays_out.laid.category made.guard
+  due made = guard_label ready.represents.laid.category made.guard
 
   -- the thread's own label
   abbrev mine : Levels
@@ -155,7 +155,7 @@ module _ (session : Session) (ok : IsSession session) (old new : KernelModel) (f
       -- the making is denied, and so the call refused
       denied : (x : Levels) (why : Denied) (errno : Errno) → check (state mid) t (make place.container x) ≡ Some why → errno_of why ≡ Some errno → refused session f me p call ≡ Some errno → Runs (making x) mid new t result → Row
       denied x why errno fails told is on =
-          refused_step session f me ready.caller call old new t ready.thread result calls mid chain stays ready.lays_out errno is (make place.container x) (within room_here x) why fails (object.tells x why ∙ told)
+          refused_step session f me ready.caller call old new t ready.thread result calls mid chain stays ready.represents errno is (make place.container x) (within room_here x) why fails (object.tells x why ∙ told)
           (has_reads_made _ _ (among_also old.line t reads calls ((make place.container x, Some why) ∷ []) (among_then old.line t reads reads (raw.OwnLabel ∷ []) (among_granted_all old.line t reads)))) on
 
       -- where the kernel lets the thread hand in a label as the flat rules let the process make something, the making is granted or denied as they say
@@ -172,7 +172,7 @@ module _ (session : Session) (ok : IsSession session) (old new : KernelModel) (f
       made_step go_on on =
           makes session ok (state old) f me t ready mode
           (λ nothing.
-          by_right _ may false (has_number (state old)) refl nothing.nothing refl (ap (λ (s : State). check s t (make place.container (guard_label ready.lays_out.laid.category nothing.guard))) stays ∙ object.outside nothing.guard nothing.outside) (λ is_may is_false is_has. absurd cc)
+          by_right _ may false (has_number (state old)) refl nothing.nothing refl (ap (λ (s : State). check s t (make place.container (guard_label ready.represents.laid.category nothing.guard))) stays ∙ object.outside nothing.guard nothing.outside) (λ is_may is_false is_has. absurd cc)
           (subst (λ (x : Levels). Runs (making x) mid new t result) nothing.label_is on))
           (λ made.
           by_right _ may true (has_number (state old)) refl (ap is_some made.class_is) refl
@@ -207,7 +207,7 @@ module _ (session : Session) (ok : IsSession session) (old new : KernelModel) (f
 
     write_said : check later t (raw.Write place.container place.listing 0 bytes) ≡ None
     write_said =
-        let l = ready.lays_out.laid in
+        let l = ready.represents.laid in
         let above = directory_class session ok (state old) f me t ready d open_so_far in
         let guard = directory_guard session ok (state old) f me t ready d open_so_far in
         let count = count_entries session (state old) f l d in
@@ -223,15 +223,15 @@ module _ (session : Session) (ok : IsSession session) (old new : KernelModel) (f
 
     -- The directory is written with the entry, and the call is done, where the objects of the flat state with the new entry stand then.
     pub entry_written : (before : List RawCall) → AreAmong reads (entries_of old.line t (all_granted before)) → (linked : KernelModel) → state linked ≡ later → Chain old t (all_granted before) linked
-        → Laid session after (with_node f (m ∷ d) made.class content)
+        → ObjectsMatch session after (with_node f (m ∷ d) made.class content)
         → Runs (write_entries room_here.place (map.insert room_here.entries m target) (λ _. Answers Done)) linked new t result → Row
     entry_written before among linked is_later chain laid on =
         let write : RawCall = raw.Write place.container place.listing 0 bytes in
-        let jobs = jobs_made session (state old) f ready.lays_out.laid d m made.class content absent made.fits made.known ready.lays_out.jobs_given in
-        let lays_out : LaysOut session after (with_node f (m ∷ d) made.class content) = record { laid = laid; jobs_given = jobs } in
+        let jobs = jobs_made session (state old) f ready.represents.laid d m made.class content absent made.fits made.known ready.represents.jobs_given in
+        let represents : Represents session after (with_node f (m ∷ d) made.class content) = record { laid = laid; jobs_given = jobs } in
         granted_step session f me ready.caller call old new t ready.thread result before linked chain write (λ _. Answers Done) (ap (λ (s : State). check s t write) is_later ∙ write_said) on
         (λ end done wrote right whole last.
         let end_state : state end ≡ after = wrote.state ∙ ap (λ (s : State). with_segment_bytes s place.listing bytes) is_later in
         answered_step session f me ready.caller call old new t ready.thread result (before ++ write ∷ []) end whole Done (sym entry.answers) (refused_then open_so_far absent room true true is_may (ap is_some made.class_is))
         (subst (λ (r : Reply). IsBacked (state old) (entries_of old.line t (all_granted (before ++ write ∷ []))) r) (sym entry.answers) tt) (has_reads_made _ _ (among_then old.line t reads before (write ∷ []) among))
-        (subst (λ (s : State). LaysOut session s (changed session f me p call)) (sym end_state) (subst (LaysOut session after) (sym changed_is) lays_out)) last)
+        (subst (λ (s : State). Represents session s (changed session f me p call)) (sym end_state) (subst (Represents session after) (sym changed_is) represents)) last)

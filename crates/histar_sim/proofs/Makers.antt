@@ -61,7 +61,7 @@ module _ (session : Session) (ok : IsSession session) (s : State) (f : Flat) (me
 
   -- the thread's own label, and the one that it hands in
   abbrev pub own : Levels
-  own = rights_label ready.lays_out.laid.category (thread_rights session me ready.caller.process)
+  own = rights_label ready.represents.laid.category (thread_rights session me ready.caller.process)
 
   abbrev pub handed : Levels
   handed = label_made session own mode
@@ -69,8 +69,8 @@ module _ (session : Session) (ok : IsSession session) (s : State) (f : Flat) (me
   -- Of this label nothing may be made: it lies outside the thread's range, and the flat rules know of no class.
   pub record MakesNothing : Type 0 where
     pub guard : Guard
-    pub label_is : handed ≡ guard_label ready.lays_out.laid.category guard
-    pub outside : is_made_within session ready.lays_out.laid.category ready.lays_out.laid.different me p guard ≡ false
+    pub label_is : handed ≡ guard_label ready.represents.laid.category guard
+    pub outside : is_made_within session ready.represents.laid.category ready.represents.laid.different me p guard ≡ false
     pub nothing : is_some (class_made session p mode) ≡ false
 
   -- Of this label the thread makes what the flat rules say that the process makes.
@@ -79,10 +79,10 @@ module _ (session : Session) (ok : IsSession session) (s : State) (f : Flat) (me
     pub class_is : class_made session p mode ≡ Some class
     pub guard : Guard
     pub guarded : class_guard session class ≡ Some guard
-    pub label_is : handed ≡ guard_label ready.lays_out.laid.category guard
-    pub within : is_made_within session ready.lays_out.laid.category ready.lays_out.laid.different me p guard ≡ true
-    pub fits : ClassFits session s f ready.lays_out.laid class
-    pub known : AreKnown session s f ready.lays_out.laid class
+    pub label_is : handed ≡ guard_label ready.represents.laid.category guard
+    pub within : is_made_within session ready.represents.laid.category ready.represents.laid.different me p guard ≡ true
+    pub fits : ClassFits session s f ready.represents.laid class
+    pub known : AreKnown session s f ready.represents.laid class
     pub reads : may_read session p class ≡ true
     pub writes : may_write session p class ≡ true
 
@@ -90,25 +90,25 @@ module _ (session : Session) (ok : IsSession session) (s : State) (f : Flat) (me
 
   module _ (free : is_free p ≡ true) where
     -- what is for a group has the group's categories, and nobody's where there is none
-    group_label_so : (group : Name) (o : Option ℕ) → group_number session group ≡ o → (i : ℕ) → file_label session (modes.Group group) i ≡ guard_label ready.lays_out.laid.category (guard_of_group o)
+    group_label_so : (group : Name) (o : Option ℕ) → group_number session group ≡ o → (i : ℕ) → file_label session (modes.Group group) i ≡ guard_label ready.represents.laid.category (guard_of_group o)
     group_label_so group None is i =
         ap (λ (o : Option ℕ). let owner = elim o as (λ _. ℕ) [ None ↦ 0 | Some k ↦ group_owner (length session.users) k ] in secret_of (read_category owner) (write_category owner)) is
-        ∙ sym (private_label session s f ready.lays_out.laid 0 (omega arith))
-    group_label_so group (Some k) is i = sym (group_label session s f ready.lays_out.laid group k is)
+        ∙ sym (private_label session s f ready.represents.laid 0 (omega arith))
+    group_label_so group (Some k) is i = sym (group_label session s f ready.represents.laid group k is)
 
     made_in_none : handed ≡ file_label session mode (user_of own (length session.users))
     made_in_none =
         ap (λ (b : Bool). if b then file_label session mode (user_of own (length session.users)) else scratch_label (user_of own (length session.users)) (jobs_in own))
-        (none_if_free ready.lays_out.laid.category session me p ∙ free)
+        (none_if_free ready.represents.laid.category session me p ∙ free)
 
-    label_so : (i : ℕ) → or_zero number ≡ i → i ≤ length session.users → handed ≡ guard_label ready.lays_out.laid.category (guard_of session mode i)
+    label_so : (i : ℕ) → or_zero number ≡ i → i ≤ length session.users → handed ≡ guard_label ready.represents.laid.category (guard_of session mode i)
     label_so i is low =
-        made_in_none ∙ ap (file_label session mode) (user_is own (length session.users) (or_zero number) (user_of_thread session s f ready.lays_out.laid me p) ∙ is)
+        made_in_none ∙ ap (file_label session mode) (user_is own (length session.users) (or_zero number) (user_of_thread session s f ready.represents.laid me p) ∙ is)
         ∙ by mode
       where
-        by : (x : Mode) → file_label session x i ≡ guard_label ready.lays_out.laid.category (guard_of session x i)
-        by modes.Private = sym (private_label session s f ready.lays_out.laid i low)
-        by modes.Readable = sym (readable_label session s f ready.lays_out.laid i low)
+        by : (x : Mode) → file_label session x i ≡ guard_label ready.represents.laid.category (guard_of session x i)
+        by modes.Private = sym (private_label session s f ready.represents.laid i low)
+        by modes.Readable = sym (readable_label session s f ready.represents.laid i low)
         by modes.Open = refl
         by (modes.Group group) = group_label_so group (group_number session group) refl i
 
@@ -123,7 +123,7 @@ module _ (session : Session) (ok : IsSession session) (s : State) (f : Flat) (me
 
     -- it makes nothing in this mode, and the label lies outside its thread's range
     record CannotMake (x : Mode) (i : ℕ) : Type 0 where
-      outside : is_made_within session ready.lays_out.laid.category ready.lays_out.laid.different me p (guard_of session x i) ≡ false
+      outside : is_made_within session ready.represents.laid.category ready.represents.laid.different me p (guard_of session x i) ≡ false
       nothing : is_some (free_class session p x) ≡ false
 
     off : (is_free p && is_number number 0) ≡ false
@@ -136,8 +136,8 @@ module _ (session : Session) (ok : IsSession session) (s : State) (f : Flat) (me
     -- a group's is made by its members
     by_group : (group : Name) (i : ℕ) (o : Option ℕ) → group_number session group ≡ o → (b : Bool) → is_member session p.user group ≡ b → CanMake (modes.Group group) i ⊎ CannotMake (modes.Group group) i
     by_group group i None is b member = inr (record {
-      outside = ap (λ (o : Option ℕ). is_made_within session ready.lays_out.laid.category ready.lays_out.laid.different me p (guard_of_group o)) is
-          ∙ private_range session ready.lays_out.laid.category ready.lays_out.laid.different me p 0 ∙ off;
+      outside = ap (λ (o : Option ℕ). is_made_within session ready.represents.laid.category ready.represents.laid.different me p (guard_of_group o)) is
+          ∙ private_range session ready.represents.laid.category ready.represents.laid.different me p 0 ∙ off;
       nothing = ap (λ (x : Bool). is_some (if x then Some (Grouped group) else None)) (no_member session p.user group is);
     })
     by_group group i (Some k) is true member = inl (record {
@@ -147,9 +147,9 @@ module _ (session : Session) (ok : IsSession session) (s : State) (f : Flat) (me
       writes = λ j. member j && free j;
     })
     by_group group i (Some k) is false member = inr (record {
-      outside = ap (λ (o : Option ℕ). is_made_within session ready.lays_out.laid.category ready.lays_out.laid.different me p (guard_of_group o)) is
-          ∙ made_of_group session ready.lays_out.laid.category ready.lays_out.laid.different me p k
-          ∙ (λ j. free j && (is_member_of session me p ready.lays_out.laid.category ready.lays_out.laid.different ok group k is ∙ member) j);
+      outside = ap (λ (o : Option ℕ). is_made_within session ready.represents.laid.category ready.represents.laid.different me p (guard_of_group o)) is
+          ∙ made_of_group session ready.represents.laid.category ready.represents.laid.different me p k
+          ∙ (λ j. free j && (is_member_of session me p ready.represents.laid.category ready.represents.laid.different ok group k is ∙ member) j);
       nothing = ap (λ (x : Bool). is_some (if x then Some (Grouped group) else None)) member;
     })
 
@@ -177,11 +177,11 @@ module _ (session : Session) (ok : IsSession session) (s : State) (f : Flat) (me
     -- and nobody none
     by_nobody : number ≡ None → (x : Mode) → CanMake x 0 ⊎ CannotMake x 0
     by_nobody none modes.Private = inr (record {
-      outside = private_range session ready.lays_out.laid.category ready.lays_out.laid.different me p 0 ∙ off;
+      outside = private_range session ready.represents.laid.category ready.represents.laid.different me p 0 ∙ off;
       nothing = ap (λ (b : Bool). is_some (if b then None else Some (Private p.user))) (is_nobody session ok s f me t ready (ap is_some none));
     })
     by_nobody none modes.Readable = inr (record {
-      outside = readable_range session ready.lays_out.laid.category ready.lays_out.laid.different me p 0 ∙ off;
+      outside = readable_range session ready.represents.laid.category ready.represents.laid.different me p 0 ∙ off;
       nothing = ap (λ (b : Bool). is_some (if b then None else Some (Readable p.user))) (is_nobody session ok s f me t ready (ap is_some none));
     })
     by_nobody none modes.Open = inl (makes_open 0)
@@ -206,9 +206,9 @@ module _ (session : Session) (ok : IsSession session) (s : State) (f : Flat) (me
           guard = guard_of session mode i;
           guarded = can.guarded;
           label_is = label_so i is low;
-          within = made_in_range session ready.lays_out.laid.category ready.lays_out.laid.different me p ok mode (class_of_mode mode p.user) (guard_of session mode i) class_is can.guarded;
-          fits = made_fits session s f ready.lays_out.laid me p ready.caller.stands (class_of_mode mode p.user) has_guard (no_jobs p.user mode);
-          known = made_known session s f ready.lays_out.laid me p ready.caller.stands (class_of_mode mode p.user) (no_jobs p.user mode);
+          within = made_in_range session ready.represents.laid.category ready.represents.laid.different me p ok mode (class_of_mode mode p.user) (guard_of session mode i) class_is can.guarded;
+          fits = made_fits session s f ready.represents.laid me p ready.caller.stands (class_of_mode mode p.user) has_guard (no_jobs p.user mode);
+          known = made_known session s f ready.represents.laid me p ready.caller.stands (class_of_mode mode p.user) (no_jobs p.user mode);
           reads = can.reads;
           writes = can.writes;
         }
@@ -241,7 +241,7 @@ module _ (session : Session) (ok : IsSession session) (s : State) (f : Flat) (me
     user : (o : Option ℕ) → number ≡ o → (i : ℕ) × (number ≡ Some i)
     user (Some i) is = (i, is)
     user None is =
-        let empty = ((ready.lays_out.laid.processes me p ready.caller.stands).free ready.caller.runs (ap is_some is)).0 in
+        let empty = ((ready.represents.laid.processes me p ready.caller.stands).free ready.caller.runs (ap is_some is)).0 in
         absurd (true≢false (sym (ap (λ (chain : List ProcName). elim chain as (λ _. Bool) [ [] ↦ true | job ∷ jobs ↦ false ]) empty) ∙ busy))
 
     i : ℕ
@@ -254,14 +254,14 @@ module _ (session : Session) (ok : IsSession session) (s : State) (f : Flat) (me
     low = (user_range session p.user (user number refl).0 (user number refl).1).1
 
     -- what the thread hands in is secret to its user and to its jobs
-    label_in_jobs : handed ≡ guard_label ready.lays_out.laid.category (scratch_guard p.chain (user number refl).0)
+    label_in_jobs : handed ≡ guard_label ready.represents.laid.category (scratch_guard p.chain (user number refl).0)
     label_in_jobs =
         ap (λ (b : Bool). if b then file_label session mode (user_of own (length session.users)) else scratch_label (user_of own (length session.users)) (jobs_in own))
-        (none_if_free ready.lays_out.laid.category session me p ∙ busy)
-        ∙ ap (λ (number : ℕ). scratch_label number (jobs_in own)) (user_is own (length session.users) (or_zero number) (user_of_thread session s f ready.lays_out.laid me p) ∙ ap or_zero is)
-        ∙ same_guarded (read_category (user number refl).0 ∷ jobs_in own) [] (read_category (user number refl).0 ∷ map ready.lays_out.laid.category (map OfJob p.chain)) []
-        (λ q. ap (λ (b : Bool). q == read_category (user number refl).0 || b) (jobs_are ready.lays_out.laid.category session me p q)) (λ q. refl)
-        ∙ ap (λ (c : ℕ). guarded_by (c ∷ map ready.lays_out.laid.category (map OfJob p.chain)) []) (sym (reads_numbered session s f ready.lays_out.laid (user number refl).0 low))
+        (none_if_free ready.represents.laid.category session me p ∙ busy)
+        ∙ ap (λ (number : ℕ). scratch_label number (jobs_in own)) (user_is own (length session.users) (or_zero number) (user_of_thread session s f ready.represents.laid me p) ∙ ap or_zero is)
+        ∙ same_guarded (read_category (user number refl).0 ∷ jobs_in own) [] (read_category (user number refl).0 ∷ map ready.represents.laid.category (map OfJob p.chain)) []
+        (λ q. ap (λ (b : Bool). q == read_category (user number refl).0 || b) (jobs_are ready.represents.laid.category session me p q)) (λ q. refl)
+        ∙ ap (λ (c : ℕ). guarded_by (c ∷ map ready.represents.laid.category (map OfJob p.chain)) []) (sym (reads_numbered session s f ready.represents.laid (user number refl).0 low))
 
     class_guarded : class_guard session (Scratch p.user p.chain) ≡ Some (scratch_guard p.chain (user number refl).0)
     class_guarded = ap (option_map (scratch_guard p.chain)) is
@@ -280,9 +280,9 @@ module _ (session : Session) (ok : IsSession session) (s : State) (f : Flat) (me
       guard = scratch_guard p.chain (user number refl).0;
       guarded = class_guarded;
       label_is = label_in_jobs;
-      within = made_in_range session ready.lays_out.laid.category ready.lays_out.laid.different me p ok mode (Scratch p.user p.chain) (scratch_guard p.chain (user number refl).0) class_in_jobs class_guarded;
-      fits = made_fits session s f ready.lays_out.laid me p ready.caller.stands (Scratch p.user p.chain) (λ none. let k : None ≡ Some (scratch_guard p.chain (user number refl).0) = sym none ∙ class_guarded in absurd cc) of_chain;
-      known = made_known session s f ready.lays_out.laid me p ready.caller.stands (Scratch p.user p.chain) of_chain;
+      within = made_in_range session ready.represents.laid.category ready.represents.laid.different me p ok mode (Scratch p.user p.chain) (scratch_guard p.chain (user number refl).0) class_in_jobs class_guarded;
+      fits = made_fits session s f ready.represents.laid me p ready.caller.stands (Scratch p.user p.chain) (λ none. let k : None ≡ Some (scratch_guard p.chain (user number refl).0) = sym none ∙ class_guarded in absurd cc) of_chain;
+      known = made_known session s f ready.represents.laid me p ready.caller.stands (Scratch p.user p.chain) of_chain;
       reads = λ j. equal_tested p.user p.user refl j && all_known p j;
       writes = λ j. (equal_tested p.user p.user refl j && all_known p j) && all_had p.chain j;
     }

@@ -37,7 +37,7 @@ use Rattle.histar_calls.specs.Mkdir.{mkdir_program}
 use Rattle.histar_refinement.specs.Sessions.{IsSession}
 use Rattle.histar_refinement.specs.Guards.{guard_label}
 use Rattle.histar_refinement.specs.Addresses.{address_of}
-use Rattle.histar_refinement.specs.LaysOut.{Laid}
+use Rattle.histar_refinement.specs.Represents.{ObjectsMatch}
 use Rattle.histar_refinement.proofs.ClassTests.{observes_class, modifies_class}
 use Rattle.histar_refinement.proofs.Creating.{laid_directory_created}
 use Rattle.histar_refinement.proofs.FileChecks.{is_known}
@@ -74,8 +74,8 @@ module _ (session : Session) (ok : IsSession session) (old new : KernelModel) (f
   abbrev Row : Type 0
   Row = Goal session f me ready.caller call old new t ready.thread result
 
-  abbrev l : Laid session (state old) f
-  l = ready.lays_out.laid
+  abbrev l : ObjectsMatch session (state old) f
+  l = ready.represents.laid
 
   makes : MakesEntry session f me ready.caller.process (m ∷ d) mode Dir call
   makes = mkdir_makes session f me ready.caller.process (m ∷ d) mode
@@ -93,7 +93,7 @@ module _ (session : Session) (ok : IsSession session) (old new : KernelModel) (f
   module _ (open_so_far : into session f ready.caller.process d ≡ None) (absent : get f.files (m ∷ d) ≡ None) (room : nat_lt (length (entries_in f d)) most_entries ≡ true)
       (made : MakesClass session ok (state old) f me t ready mode) (is_may : may_write session ready.caller.process (directory_class session ok (state old) f me t ready d open_so_far) ≡ true) where
     abbrev due : Levels
-    due = guard_label ready.lays_out.laid.category made.guard
+    due = guard_label ready.represents.laid.category made.guard
 
     -- the state once the container is made
     abbrev held : Object Levels
@@ -152,7 +152,7 @@ module _ (session : Session) (ok : IsSession session) (old new : KernelModel) (f
   -- once the container is made its directory segment is
   goes_on : GoesOn session ok old new f me t ready m d mode Dir call result makes make within
   goes_on open_so_far absent room made is_may has mid stays linked inner called inner_is chain rest =
-      let label : Levels = guard_label ready.lays_out.laid.category made.guard in
+      let label : Levels = guard_label ready.represents.laid.category made.guard in
       let held : Object Levels = record { label = label; kind = Container set.empty } in
       by_more open_so_far absent room made is_may linked (called.state ∙ ap (λ (s : State). with_object s above held) stays) chain (has_number (with_object (state old) above held)) refl
       (subst (λ (q : ℕ). Runs (within room_here label q) linked new t result) (inner_is ∙ ap (λ (s : State). s.next_object) stays) rest)

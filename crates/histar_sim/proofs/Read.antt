@@ -28,7 +28,7 @@ use Rattle.histar_calls.specs.Programs.Program.{Answers}
 use Rattle.histar_calls.specs.Parts.{ask}
 use Rattle.histar_calls.specs.Read.{read_program}
 use Rattle.histar_refinement.specs.Sessions.{IsSession}
-use Rattle.histar_refinement.specs.LaysOut.{LaysOut}
+use Rattle.histar_refinement.specs.Represents.{Represents}
 use Rattle.histar_sim.specs.Simulation.{IsReady, EndsWithRead}
 use Rattle.histar_sim.specs.Laws.{ReadRefines}
 use Rattle.histar_sim.proofs.Chains.{all_granted, entries_of, Chain}
@@ -75,7 +75,7 @@ module _ (session : Session) (ok : IsSession session) (old new : KernelModel) (f
 
     by_right : (may : Bool) → reads session f p (m ∷ d) ≡ may → Runs (ask next (λ (b : List ℕ). Answers (Data b))) mid new t result → Row
     by_right false is on =
-        refused_step session f me ready.caller call old new t ready.thread result walk mid chain stays ready.lays_out EACCES (refused_by false is) next (λ (b : List ℕ). Answers (Data b)) Observe
+        refused_step session f me ready.caller call old new t ready.thread result walk mid chain stays ready.represents EACCES (refused_by false is) next (λ (b : List ℕ). Answers (Data b)) Observe
         (said_by false is) refl (walked_also session ok (state old) f me t ready m d old.line ((next, Some Observe) ∷ [])) on
     by_right true is on =
         granted_step session f me ready.caller call old new t ready.thread result walk mid chain next (λ (b : List ℕ). Answers (Data b)) (said_by true is) on
@@ -86,7 +86,7 @@ module _ (session : Session) (ok : IsSession session) (old new : KernelModel) (f
         (subst (EndsWithRead (state old) (entries_of old.line t (all_granted walk ++ (next, None) ∷ []))) held (read_last old mid t walk chain (container session ok (state old) f me t ready d) file)) in
         let same : state later ≡ state old = called.state ∙ stays in
         answered_step session f me ready.caller call old new t ready.thread result (walk ++ next ∷ []) later longer (Data answer) (ap Data answer_is) (refused_by true is) backed (walked_then session ok (state old) f me t ready m d old.line (next ∷ []))
-        (subst (λ (s : State). LaysOut session s f) (sym same) ready.lays_out) end)
+        (subst (λ (s : State). Represents session s f) (sym same) ready.represents) end)
 
 -- a read does what its flat rule says
 pub read_refines : ReadRefines

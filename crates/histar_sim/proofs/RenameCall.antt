@@ -36,11 +36,11 @@ use Rattle.histar_refinement.specs.Sessions.{IsSession}
 use Rattle.histar_refinement.specs.Addresses.{address_of}
 use Rattle.histar_refinement.specs.Addresses.Step.{Listing}
 use Rattle.histar_refinement.specs.Directories.{directory_of}
-use Rattle.histar_refinement.specs.LaysOut.{LaysOut}
+use Rattle.histar_refinement.specs.Represents.{Represents}
 use Rattle.histar_refinement.proofs.DirectoryLaws.{get_directory}
 use Rattle.histar_refinement.proofs.FileChecks.{write_listing_said}
 use Rattle.histar_refinement.proofs.FileRows.{leads_at}
-use Rattle.histar_refinement.proofs.Renaming.{listable_renamed, lays_out_renamed}
+use Rattle.histar_refinement.proofs.Renaming.{listable_renamed, represents_renamed}
 use Rattle.histar_sim.specs.Simulation.{IsReady}
 use Rattle.histar_sim.proofs.Chains.{all_granted, Chain}
 use Rattle.histar_sim.proofs.Steps.{Goal, granted_step, refused_step, refused_at_once, answered_step}
@@ -69,7 +69,7 @@ module _ (session : Session) (ok : IsSession session) (old new : KernelModel) (f
   listing = (place_at session ok (state old) f me t ready d).listing
 
   abbrev entries : Entries
-  entries = directory_of f.files ready.lays_out.laid.naming.number d
+  entries = directory_of f.files ready.represents.laid.naming.number d
 
   -- what the flat rules refuse of the new name
   abbrev refusal : Option Node → Bool → Option Errno
@@ -85,10 +85,10 @@ module _ (session : Session) (ok : IsSession session) (old new : KernelModel) (f
     root_at : get f.files d ≡ Some (record { class = root; content = Dir })
     root_at = (stands session ok (state old) f me t ready d (dir session ok (state old) f me t ready d open_so_far)).1
 
-    at_D : ready.lays_out.laid.naming.number (address_of d) ≡ Some container
+    at_D : ready.represents.laid.naming.number (address_of d) ≡ Some container
     at_D = at_container session ok (state old) f me t ready d is_dir_here
 
-    at_N : ready.lays_out.laid.naming.number (Listing ∷ address_of d) ≡ Some listing
+    at_N : ready.represents.laid.naming.number (Listing ∷ address_of d) ≡ Some listing
     at_N = at_listing session ok (state old) f me t ready d is_dir_here
 
     sees : may_read session p root ≡ true
@@ -106,8 +106,8 @@ module _ (session : Session) (ok : IsSession session) (old new : KernelModel) (f
     abbrev target : Target
     target = target_at session ok (state old) f me t ready m d content
 
-    leads : leads_at f.files ready.lays_out.laid.naming.number (m ∷ d) ≡ Some target
-    leads = sym (get_directory f.files ready.lays_out.laid.naming.number d m) ∙ entry_leads session ok (state old) f me t ready m d class content at
+    leads : leads_at f.files ready.represents.laid.naming.number (m ∷ d) ≡ Some target
+    leads = sym (get_directory f.files ready.represents.laid.naming.number d m) ∙ entry_leads session ok (state old) f me t ready m d class content at
 
     -- the directory with the entry under its new name
     abbrev renamed : Entries
@@ -121,24 +121,24 @@ module _ (session : Session) (ok : IsSession session) (old new : KernelModel) (f
       said : (may : Bool) → may_write session p root ≡ may → check (state mid) t next ≡ unless may Modify
       said may is_may =
           ap (λ (s : State). check s t next) stays
-          ∙ write_listing_said session (state old) f ready.lays_out.laid ok me p t (runs session ok (state old) f me t ready) d root root_at container listing at_D at_N sees renamed
-          (listable_renamed session (state old) f ready.lays_out.laid m name d listing at_N absent target leads named (ready.lays_out.laid.listable d is_dir_here))
+          ∙ write_listing_said session (state old) f ready.represents.laid ok me p t (runs session ok (state old) f me t ready) d root root_at container listing at_D at_N sees renamed
+          (listable_renamed session (state old) f ready.represents.laid m name d listing at_N absent target leads named (ready.represents.laid.listable d is_dir_here))
           ∙ ap (λ (b : Bool). unless b Modify) is_may
 
       -- the kernel has the objects of the flat state with the entry renamed
-      laid_after : LaysOut session (with_segment_bytes (state old) listing (spelling renamed)) (with_renamed f (m ∷ d) (name ∷ d))
-      laid_after = lays_out_renamed session (state old) f ready.lays_out.laid m name d listing at_N absent target leads ready.lays_out.jobs_given named is_dir_here
+      laid_after : Represents session (with_segment_bytes (state old) listing (spelling renamed)) (with_renamed f (m ∷ d) (name ∷ d))
+      laid_after = represents_renamed session (state old) f ready.represents.laid m name d listing at_N absent target leads ready.represents.jobs_given named is_dir_here
 
       by_right : (may : Bool) → may_write session p root ≡ may → Runs (ask next (λ _. Answers Done)) mid new t result → Row
       by_right false is_may on =
-          refused_step session f me ready.caller call old new t ready.thread result walk mid chain stays ready.lays_out EACCES (refused_by None false absent is_may) next (λ _. Answers Done) Modify (said false is_may) refl
+          refused_step session f me ready.caller call old new t ready.thread result walk mid chain stays ready.represents EACCES (refused_by None false absent is_may) next (λ _. Answers Done) Modify (said false is_may) refl
           (walked_also session ok (state old) f me t ready m d old.line ((next, Some Modify) ∷ [])) on
       by_right true is_may on =
           granted_step session f me ready.caller call old new t ready.thread result walk mid chain next (λ _. Answers Done) (said true is_may) on
           (λ later answer called right longer end.
           let new_state : state later ≡ with_segment_bytes (state old) listing (spelling renamed) = called.state ∙ ap (λ (s : State). with_segment_bytes s listing (spelling renamed)) stays in
           answered_step session f me ready.caller call old new t ready.thread result (walk ++ next ∷ []) later longer Done refl (refused_by None true absent is_may) tt (walked_then session ok (state old) f me t ready m d old.line (next ∷ []))
-          (subst (λ (s : State). LaysOut session s (with_renamed f (m ∷ d) (name ∷ d))) (sym new_state) laid_after) end)
+          (subst (λ (s : State). Represents session s (with_renamed f (m ∷ d) (name ∷ d))) (sym new_state) laid_after) end)
 
     -- once the new name was looked up
     abbrev at_name : Option Target → Program
@@ -148,7 +148,7 @@ module _ (session : Session) (ok : IsSession session) (old new : KernelModel) (f
     by_name None absent on =
         by_right absent (may_write session p root) refl (subst (λ (o : Option Target). Runs (at_name o) mid new t result) (nothing_there session ok (state old) f me t ready name d absent) on)
     by_name (Some node) is on =
-        refused_at_once session f me ready.caller call old new t ready.thread result walk mid chain stays ready.lays_out EEXIST (refused_by (Some node) (may_write session p root) is refl) refl refl
+        refused_at_once session f me ready.caller call old new t ready.thread result walk mid chain stays ready.represents EEXIST (refused_by (Some node) (may_write session p root) is refl) refl refl
         (has_walk session ok (state old) f me t ready m d _ (among_granted_all old.line t walk))
         (subst (λ (o : Option Target). Runs (at_name o) mid new t result) (entry_leads session ok (state old) f me t ready name d node.class node.content is) on)
 
@@ -162,7 +162,7 @@ rename_of_slash : (session : Session) (old new : KernelModel) (f : Flat) (me : P
     → Goal session f me ready.caller (calls.Rename [] name) old new t ready.thread result
 unfolding rename_program find_entry
 rename_of_slash session old new f me t name result ready run =
-    refused_at_once session f me ready.caller (calls.Rename [] name) old new t ready.thread result [] old (same_kernel old) refl ready.lays_out EBUSY refl refl refl tt run
+    refused_at_once session f me ready.caller (calls.Rename [] name) old new t ready.thread result [] old (same_kernel old) refl ready.represents EBUSY refl refl refl tt run
 
 -- a rename does what its flat rule says
 pub rename_refines : RenameRefines

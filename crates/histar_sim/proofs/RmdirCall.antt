@@ -109,7 +109,7 @@ module _ (session : Session) (ok : IsSession session) (old new : KernelModel) (f
       module _ (sees : reads session f p (m ∷ d) ≡ true) (mid : KernelModel) (stays : state mid ≡ state old) (chain : Chain old t (all_granted (walk ++ read ∷ [])) mid) where
         by_entries : (b : Bool) → is_empty ≡ b → Runs (given (unless_filled b) (λ _. take_away (entry_of session ok (state old) f me t ready m d Dir) (λ _. Answers Done))) mid new t result → Row
         by_entries false is on =
-            refused_at_once session f me ready.caller call old new t ready.thread result (walk ++ read ∷ []) mid chain stays ready.lays_out ENOTEMPTY (refused_by Dir class true false at sees is) refl refl
+            refused_at_once session f me ready.caller call old new t ready.thread result (walk ++ read ∷ []) mid chain stays ready.represents ENOTEMPTY (refused_by Dir class true false at sees is) refl refl
             (both_suffice (all_granted (walk ++ read ∷ [])) (Refused ENOTEMPTY) open_so_far is_dir_here (among_granted_all old.line t (walk ++ read ∷ []))) on
         by_entries true is on =
             take_away_step session ok old new f me t ready m d call result (record { refuses = refused_by Dir class true true at sees is; removes = refl; answers = refl }) open_so_far class Dir at
@@ -119,7 +119,7 @@ module _ (session : Session) (ok : IsSession session) (old new : KernelModel) (f
         emptied on =
             by_entries is_empty refl
             (subst (λ (n : ℕ). Runs (given (unless_filled (n == 0)) (λ _. take_away (entry_of session ok (state old) f me t ready m d Dir) (λ _. Answers Done))) mid new t result)
-            (count_entries session (state old) f ready.lays_out.laid (m ∷ d)) on)
+            (count_entries session (state old) f ready.represents.laid (m ∷ d)) on)
 
     module _ (mid : KernelModel) (stays : state mid ≡ state old) (chain : Chain old t (all_granted walk) mid) where
       by_content : (class : Class) (content : Content) → get f.files (m ∷ d) ≡ Some (record { class = class; content = content }) → Runs (at_entry (entry_of session ok (state old) f me t ready m d content)) mid new t result → Row
@@ -131,7 +131,7 @@ module _ (session : Session) (ok : IsSession session) (old new : KernelModel) (f
           ))
           (λ sees later same longer rest. emptied class at sees later same longer rest)
       by_content class (File bytes) at on =
-          refused_at_once session f me ready.caller call old new t ready.thread result walk mid chain stays ready.lays_out ENOTDIR (refused_by (File bytes) class (reads session f p (m ∷ d)) is_empty at refl refl) refl refl
+          refused_at_once session f me ready.caller call old new t ready.thread result walk mid chain stays ready.represents ENOTDIR (refused_by (File bytes) class (reads session f p (m ∷ d)) is_empty at refl refl) refl refl
           (walk_suffices (all_granted walk) (Refused ENOTDIR) (λ i. not (is_some (open_so_far i)) && is_some_and (at i) is_dir) (among_granted_all old.line t walk)) on
 
   rmdir_is_row : Runs (rmdir_program (places_of (length session.users)) (m ∷ d)) old new t result → Row
@@ -145,7 +145,7 @@ rmdir_of_slash : (session : Session) (old new : KernelModel) (f : Flat) (me : Pr
     → Goal session f me ready.caller (calls.Rmdir []) old new t ready.thread result
 unfolding rmdir_program find_entry
 rmdir_of_slash session old new f me t result ready run =
-    refused_at_once session f me ready.caller (calls.Rmdir []) old new t ready.thread result [] old (same_kernel old) refl ready.lays_out EBUSY refl refl refl tt run
+    refused_at_once session f me ready.caller (calls.Rmdir []) old new t ready.thread result [] old (same_kernel old) refl ready.represents EBUSY refl refl refl tt run
 
 -- an rmdir does what its flat rule says
 pub rmdir_refines : RmdirRefines

@@ -48,7 +48,7 @@ rmtree_of_slash : (session : Session) (old new : KernelModel) (f : Flat) (me : P
     → Goal session f me ready.caller (calls.Rmtree []) old new t ready.thread result
 unfolding rmtree_program find_entry
 rmtree_of_slash session old new f me t result ready run =
-    refused_at_once session f me ready.caller (calls.Rmtree []) old new t ready.thread result [] old (same_kernel old) refl ready.lays_out EBUSY refl refl refl tt run
+    refused_at_once session f me ready.caller (calls.Rmtree []) old new t ready.thread result [] old (same_kernel old) refl ready.represents EBUSY refl refl refl tt run
 
 -- an rmtree does what its flat rule says
 pub rmtree_refines : RmtreeRefines

@@ -70,7 +70,7 @@ module _ (session : Session) (ok : IsSession session) (s : State) (f : Flat) (me
   due = directory_label session (label session ok s f me t ready) s.next_category
 
   abbrev above : Levels
-  above = guard_label ready.lays_out.laid.category (directory_guard session ok s f me t ready d open_so_far).0
+  above = guard_label ready.represents.laid.category (directory_guard session ok s f me t ready d open_so_far).0
 
   abbrev held : Object Levels
   held = record { label = due; kind = Container set.empty }
@@ -103,7 +103,7 @@ module _ (session : Session) (ok : IsSession session) (s : State) (f : Flat) (me
   -- The directory segment is made unless there is no number for it.
   pub make_said : check with_container t (MakeSegment s.next_object due []) ≡ unless (has_number with_container) TooBig
   make_said =
-      let is : IsModified own_then most_then due (s.next_category + 1) = directory_modified session s f ready.lays_out.laid me p ready.caller.stands unused i declared in
+      let is : IsModified own_then most_then due (s.next_category + 1) = directory_modified session s f ready.represents.laid me p ready.caller.stands unused i declared in
       segment_said with_container t own_then most_then still.thread s.next_object due (holder_made (with_category s t) (container session ok s f me t ready d) due) is.above is.seen due is [] refl
 
   module _ (may : may_write session ready.caller.process (directory_class session ok s f me t ready d open_so_far) ≡ true) (stranger : has ready.caller.process.chain ((ready.caller.process.born + 1) ∷ me) ≡ false)
@@ -111,7 +111,7 @@ module _ (session : Session) (ok : IsSession session) (s : State) (f : Flat) (me
       (not_written : among (directory_guard session ok s f me t ready d open_so_far).0.written (OfJob ((ready.caller.process.born + 1) ∷ me)) ≡ false) where
     modified : (is_below own_then above && is_below_raised above own_then) ≡ true
     modified =
-        above_modified session s f ready.lays_out.laid me p ready.caller.stands unused ok d (record { class = directory_class session ok s f me t ready d open_so_far; content = Dir }) (directory_stands session ok s f me t ready d open_so_far)
+        above_modified session s f ready.represents.laid me p ready.caller.stands unused ok d (record { class = directory_class session ok s f me t ready d open_so_far; content = Dir }) (directory_stands session ok s f me t ready d open_so_far)
         (directory_guard session ok s f me t ready d open_so_far).0 (directory_guard session ok s f me t ready d open_so_far).1 stranger not_secret not_written ∙ may
 
     -- The directory above is written with few bytes.

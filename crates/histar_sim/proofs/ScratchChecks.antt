@@ -27,7 +27,7 @@ use Rattle.histar_refinement.specs.Categories.CategoryName.{OfJob}
 use Rattle.histar_refinement.specs.Guards.{Guard, Rights, guard_label, rights_label, rights_clearance}
 use Rattle.histar_refinement.specs.Labels.{class_guard, scratch_guard, thread_rights}
 use Rattle.histar_refinement.specs.Addresses.{Step, address_of}
-use Rattle.histar_refinement.specs.LaysOut.{Laid}
+use Rattle.histar_refinement.specs.Represents.{ObjectsMatch}
 use Rattle.histar_refinement.specs.Processes.{or_zero}
 use Rattle.histar_refinement.proofs.AmongNames.{each_append}
 use Rattle.histar_refinement.proofs.Growing.{RightsHave, same_rights_label, same_rights_clearance}
@@ -47,25 +47,25 @@ module _ (session : Session) (ok : IsSession session) (s : State) (f : Flat) (me
   abbrev p : Process
   p = ready.caller.process
 
-  abbrev l : Laid session s f
-  l = ready.lays_out.laid
+  abbrev l : ObjectsMatch session s f
+  l = ready.represents.laid
 
   abbrev child : ProcName
   child = (p.born + 1) ∷ me
 
-  -- the new job's category, and what is laid out once it is named
+  -- the new job's category, and what is represented once it is named
   abbrev job : ℕ
   job = s.next_category
 
-  abbrev m : Laid session (with_next_category s) f
-  m = jobs.m session s f ready.lays_out me p ready.caller.stands
+  abbrev m : ObjectsMatch session (with_next_category s) f
+  m = jobs.m session s f ready.represents me p ready.caller.stands
 
   -- the job's name was not used, and it is named as the labels are
   unused : ¬ IsUsed session f (OfJob child)
-  unused = jobs.unused session s f ready.lays_out me p ready.caller.stands
+  unused = jobs.unused session s f ready.represents me p ready.caller.stands
 
   naming_is : m.category ≡ naming_next l.category job (OfJob child)
-  naming_is = (jobs.named session s f ready.lays_out me p ready.caller.stands).2
+  naming_is = (jobs.named session s f ready.represents me p ready.caller.stands).2
 
   abbrev with_it : State
   with_it = with_category s t
@@ -117,7 +117,7 @@ module _ (session : Session) (ok : IsSession session) (s : State) (f : Flat) (me
 
   taken : IsTaken owner owner_most own most (job + 1)
   taken =
-      let kept = jobs.keeps session s f ready.lays_out me p ready.caller.stands in
+      let kept = jobs.keeps session s f ready.represents me p ready.caller.stands in
       subst (λ (x : Levels × Levels). IsTaken owner owner_most x.0 x.1 (job + 1))
       (λ i. (same_rights_label l.category m.category mine (λ c e. kept c (used.0 c e), λ c e. kept c (used.1 c e)) i, same_rights_clearance l.category m.category mine (λ c e. kept c (used.0 c e), λ c e. kept c (used.1 c e)) i)) taken_named
 
@@ -162,7 +162,7 @@ module _ (session : Session) (ok : IsSession session) (s : State) (f : Flat) (me
     above = directory_guard session ok s f me t ready d open_so_far
 
     at_container : m.naming.number (address_of d) ≡ Some D
-    at_container = ap (λ (n : Naming Step). n.number (address_of d)) (jobs.named session s f ready.lays_out me p ready.caller.stands).1 ∙ container_numbered session ok s f me t ready d open_so_far
+    at_container = ap (λ (n : Naming Step). n.number (address_of d)) (jobs.named session s f ready.represents me p ready.caller.stands).1 ∙ container_numbered session ok s f me t ready d open_so_far
 
     holder : (links : Links) × (s.objects D ≡ object (guard_label m.category above.0) (Container links))
     holder = container_found session (with_next_category s) f m d class (directory_stands session ok s f me t ready d open_so_far) above.0 above.1 D at_container
@@ -176,8 +176,8 @@ module _ (session : Session) (ok : IsSession session) (s : State) (f : Flat) (me
 
     making_then : no_making with_it t D ≡ unless (may_write session p class) Modify
     making_then =
-        let stranger = jobs.stranger session s f ready.lays_out me p ready.caller.stands in
-        let unnamed = jobs.not_named session s f ready.lays_out me p ready.caller.stands d (record { class = class; content = Dir }) above.0 (directory_stands session ok s f me t ready d open_so_far) above.1 in
+        let stranger = jobs.stranger session s f ready.represents me p ready.caller.stands in
+        let unnamed = jobs.not_named session s f ready.represents me p ready.caller.stands d (record { class = class; content = Dir }) above.0 (directory_stands session ok s f me t ready d open_so_far) above.1 in
         making_check with_it t owner owner_most thread_then D (guard_label m.category above.0) holder.0 holder_then
         (observes_parent session m.category m.different me p child ok class above.0 above.1 stranger unnamed.0 unnamed.1 ∙ may_look session ok s f me t ready d open_so_far)
         ∙ ap (λ (b : Bool). unless b Modify) (modifies_parent session m.category m.different me p child ok class above.0 above.1 stranger unnamed.0 unnamed.1)

@@ -22,7 +22,7 @@ use Rattle.histar_refinement.specs.Categories.{CategoryName, Categories, AreDiff
 use Rattle.histar_refinement.specs.Categories.CategoryName.{ReadsUser, OfJob}
 use Rattle.histar_refinement.specs.Guards.{Guard, Rights, guard_label, rights_label, rights_clearance}
 use Rattle.histar_refinement.specs.Labels.{class_guard, scratch_guard, thread_rights}
-use Rattle.histar_refinement.specs.LaysOut.{Laid}
+use Rattle.histar_refinement.specs.Represents.{ObjectsMatch}
 use Rattle.histar_refinement.specs.Processes.{or_zero}
 use Rattle.histar_refinement.proofs.AmongNames.{each_head}
 use Rattle.histar_refinement.proofs.CallLabels.{reads_numbered}
@@ -52,7 +52,7 @@ number_there (Some i) = itself
     itself : nat_eq i i ≡ true
     itself = grind (arith)
 
-module _ (session : Session) (s : State) (f : Flat) (l : Laid session s f) (me : ProcName) (p : Process) (here : f.processes me ≡ Some p) (unused : ¬ IsUsed session f (OfJob ((p.born + 1) ∷ me))) where
+module _ (session : Session) (s : State) (f : Flat) (l : ObjectsMatch session s f) (me : ProcName) (p : Process) (here : f.processes me ≡ Some p) (unused : ¬ IsUsed session f (OfJob ((p.born + 1) ∷ me))) where
   abbrev child : ProcName
   child = (p.born + 1) ∷ me
 

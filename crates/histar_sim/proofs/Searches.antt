@@ -1,4 +1,4 @@
--- The way to a process, at a state that lays out a flat state: it is refused as the flat rules refuse it, or the process segment of each
+-- The way to a process, at a state that represents a flat state: it is refused as the flat rules refuse it, or the process segment of each
 -- process on the way is read, and the last one is handed on.
 use Rattle.std.proofs.Common.{◌≡◌, ℕ, ◌&&◌, Bool, true, false, List, [], ◌∷◌, ◌++◌, Option, None, Some, Result, refl, sym, ap, ◌∙◌, subst, length, if◌then◌else◌}
 use Rattle.std.proofs.lemmas.List.{map-append, append-nil}
@@ -34,7 +34,7 @@ use Rattle.histar_calls.specs.Parts.{given, if_there}
 use Rattle.histar_process.specs.Parts.{find_home, home_of, must_be_there, read_status}
 use Rattle.histar_login.specs.Start.{places_of}
 use Rattle.histar_refinement.specs.Sessions.{IsSession}
-use Rattle.histar_refinement.specs.LaysOut.{Laid}
+use Rattle.histar_refinement.specs.Represents.{ObjectsMatch}
 use Rattle.histar_refinement.specs.Laws.{RunsAs}
 use Rattle.histar_refinement.specs.Processes.{status_by}
 use Rattle.histar_refinement.proofs.CallerFound.{where_is, status_is, child_is}
@@ -57,20 +57,20 @@ module _ (session : Session) (s : State) (f : Flat) (me : ProcName) (t : ℕ) (r
   abbrev p : Process
   p = ready.caller.process
 
-  abbrev l : Laid session s f
-  l = ready.lays_out.laid
+  abbrev l : ObjectsMatch session s f
+  l = ready.represents.laid
 
   -- the thread is that of the process
-  pub runs_as : RunsAs session s f ready.lays_out.laid me ready.caller.process t
-  runs_as = (ready.caller.stands, ready.caller.runs, (thread_back session s f ready.lays_out.laid me t ready.thread).3)
+  pub runs_as : RunsAs session s f ready.represents.laid me ready.caller.process t
+  runs_as = (ready.caller.stands, ready.caller.runs, (thread_back session s f ready.represents.laid me t ready.thread).3)
 
   -- where a process is found
   abbrev pub place_of : ProcName → Home
-  place_of name = where_is session s f ready.lays_out.laid name
+  place_of name = where_is session s f ready.represents.laid name
 
   -- what its process segment tells
   abbrev pub status_of : ProcName → Process → ProcessStatus
-  status_of name other = status_by f.processes ready.lays_out.laid.naming.number name other
+  status_of name other = status_by f.processes ready.represents.laid.naming.number name other
 
   -- the raw call that reads its process segment
   abbrev pub read_of : ProcName → RawCall
@@ -145,7 +145,7 @@ module _ (session : Session) (ok : IsSession session) (old new : KernelModel) (f
   calls_to name = search_reads session (state old) f me t ready name
 
   abbrev place : ProcName → Home
-  place name = where_is session (state old) f ready.lays_out.laid name
+  place name = where_is session (state old) f ready.represents.laid name
 
   abbrev status : ProcName → Process → ProcessStatus
   status name other = status_of session (state old) f me t ready name other
@@ -178,12 +178,12 @@ module _ (session : Session) (ok : IsSession session) (old new : KernelModel) (f
       said : (b : Bool) → sees process other ≡ b → check (state mid) t (read name) ≡ unless b Observe
       said b is =
           ap (λ (s : State). check s t (read name)) stays
-          ∙ read_said session (state old) f ready.lays_out.laid name other here me process t (runs_as session (state old) f me t ready) ∙ ap (λ (b : Bool). unless b Observe) is
+          ∙ read_said session (state old) f ready.represents.laid name other here me process t (runs_as session (state old) f me t ready) ∙ ap (λ (b : Bool). unless b Observe) is
 
       by : (b : Bool) → sees process other ≡ b → Row
       by false is =
           let end = refuses is in
-          refused_step session f me ready.caller call old new t ready.thread result before mid chain stays ready.lays_out EACCES end.0 (read name) _ Observe (said false is) refl end.1 run
+          refused_step session f me ready.caller call old new t ready.thread result before mid chain stays ready.represents EACCES end.0 (read name) _ Observe (said false is) refl end.1 run
       by true is =
           granted_step session f me ready.caller call old new t ready.thread result before mid chain (read name) _ (said true is) run
           (λ later bytes called right longer on.
@@ -220,7 +220,7 @@ module _ (session : Session) (ok : IsSession session) (old new : KernelModel) (f
         let same = search_longer session (state old) f me t ready n above found false (ap is_some is) ∙ append-nil (calls_to above) in
         let end = refuses ESRCH (tests_are None is) (all_granted (calls_to above))
         (subst (λ (calls : List RawCall). AreAmong calls (entries_of old.line t (all_granted (calls_to above)))) (sym same) (among_granted_all old.line t (calls_to above))) in
-        refused_at_once session f me ready.caller call old new t ready.thread result (calls_to above) mid chain stays ready.lays_out ESRCH end.0 refl refl end.1 on
+        refused_at_once session f me ready.caller call old new t ready.thread result (calls_to above) mid chain stays ready.represents ESRCH end.0 refl refl end.1 on
     by_child (Some child) is on = enters child is on
 
     -- the number is looked up in what the parent's process segment tells, and the child's is read
@@ -239,7 +239,7 @@ module _ (session : Session) (ok : IsSession session) (old new : KernelModel) (f
   search_step [] rest run refuses go_on =
       let first = first_there session (state old) f me t ready in
       status_step [] first.0 first.1 [] old refl (same_kernel old) (rest (place []))
-      (subst (λ (home : Home). Runs (read_status home (rest home)) old new t result) (first_place session (state old) f ready.lays_out.laid) run)
+      (subst (λ (home : Home). Runs (read_status home (rest home)) old new t result) (first_place session (state old) f ready.represents.laid) run)
       (λ unseen. absurd (true≢false (sym first.2 ∙ unseen)))
       (λ seen later stays chain on. go_on refl first.0 first.1 seen later stays chain on)
   search_step (n ∷ above) rest run refuses go_on =

@@ -33,7 +33,7 @@ use Rattle.histar_process.specs.Kin.{kin_of}
 use Rattle.histar_process.specs.SpawnCall.{spawn_program}
 use Rattle.histar_login.specs.Start.{places_of}
 use Rattle.histar_refinement.specs.Sessions.{IsSession}
-use Rattle.histar_refinement.specs.LaysOut.{LaysOut}
+use Rattle.histar_refinement.specs.Represents.{Represents}
 use Rattle.histar_sim.specs.Simulation.{IsReady}
 use Rattle.histar_sim.specs.Reads.{AreAmong}
 use Rattle.histar_sim.proofs.Chains.{all_granted, entries_of, Chain}
@@ -100,15 +100,15 @@ module _ (session : Session) (ok : IsSession session) (me : ProcName) (caller : 
         → Runs (Answers reply) later new t result → Row
     answered calls later kept chain is few runs =
         answered_step session f me ready.caller Spawn old new t ready.thread result calls later chain reply refl refused_nowhere tt tt
-        (subst (λ (s : State). LaysOut session s (flat.with_child f me p p.chain)) (sym is)
-        (spawned_laid session ok (state old) f ready.lays_out me p ready.caller.stands ready.caller.runs few_born caller.home.container caller.home.segment
+        (subst (λ (s : State). Represents session s (flat.with_child f me p p.chain)) (sym is)
+        (spawned_laid session ok (state old) f ready.represents me p ready.caller.stands ready.caller.runs few_born caller.home.container caller.home.segment
         (at_home session me caller old new f result ready found) (at_status session me caller old new f result ready found) t (at_thread session me caller old new f result ready found) few)) runs
 
     -- the thread has asked for its own labels
     born : (mid : KernelModel) → Chain old t (all_granted (before ++ OwnLabel ∷ [])) mid → state mid ≡ state old → Runs (with_labels status (own, most)) mid new t result → Row
     born mid chain stays runs =
         birth_made session f me ready.caller Spawn old new t ready.thread result (state old) caller.home status (kin_of session own) own most
-        (fit session ok (state old) f ready.lays_out me p ready.caller.stands ready.caller.runs few_born caller.home.container caller.home.segment
+        (fit session ok (state old) f ready.represents me p ready.caller.stands ready.caller.runs few_born caller.home.container caller.home.segment
         (at_home session me caller old new f result ready found) (at_status session me caller old new f result ready found) t (at_thread session me caller old new f result ready found)) reply []
         answered (before ++ OwnLabel ∷ []) mid tt chain stays runs
 

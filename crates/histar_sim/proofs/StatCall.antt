@@ -43,7 +43,7 @@ use Rattle.histar_refinement.specs.Addresses.Step.{Slash}
 use Rattle.histar_refinement.specs.Directories.{directory_of}
 use Rattle.histar_refinement.specs.Guards.{Guard, guard_label}
 use Rattle.histar_refinement.specs.Labels.{class_guard}
-use Rattle.histar_refinement.specs.LaysOut.{LaysOut}
+use Rattle.histar_refinement.specs.Represents.{Represents}
 use Rattle.histar_refinement.specs.Lines.{IsObjectAt}
 use Rattle.histar_refinement.proofs.ClassFound.{HasOwnerAndMode, class_told}
 use Rattle.histar_refinement.proofs.FileChecks.{label_said}
@@ -67,7 +67,7 @@ module _ (session : Session) (ok : IsSession session) (old new : KernelModel) (f
   Row q = Goal session f me ready.caller (calls.Stat q) old new t ready.thread result
 
   -- the label of what stands at a path is asked for, once these raw calls were made
-  module _ (q : Path) (there : Node) (at : get f.files q ≡ Some there) (D O : ℕ) (numbered : ready.lays_out.laid.naming.number (address_of q) ≡ Some O) (object_at : IsObjectAt session (state old) q D O)
+  module _ (q : Path) (there : Node) (at : get f.files q ≡ Some there) (D O : ℕ) (numbered : ready.represents.laid.naming.number (address_of q) ≡ Some O) (object_at : IsObjectAt session (state old) q D O)
       (allowed : refused session f me ready.caller.process (calls.Stat q) ≡ None) (passes : check (state old) t (raw.LabelOf D O) ≡ None)
       (reads : List RawCall) (are_reads : AreReadsOf session (state old) (walked_paths session (state old) f ready.caller.process q) reads) (mid : KernelModel) (stays : state mid ≡ state old) (chain : Chain old t (all_granted reads) mid) where
     abbrev call : UnixCall
@@ -77,10 +77,10 @@ module _ (session : Session) (ok : IsSession session) (old new : KernelModel) (f
     next = raw.LabelOf D O
 
     guard : (g : Guard) × (class_guard session there.class ≡ Some g)
-    guard = guard_at session (state old) f ready.lays_out.laid q there at
+    guard = guard_at session (state old) f ready.represents.laid q there at
 
-    tells : HasOwnerAndMode there.class (class_shown session (guard_label ready.lays_out.laid.category guard.0))
-    tells = class_told session (state old) f ready.lays_out.laid q there at guard.0 guard.1
+    tells : HasOwnerAndMode there.class (class_shown session (guard_label ready.represents.laid.category guard.0))
+    tells = class_told session (state old) f ready.represents.laid q there at guard.0 guard.1
 
     abbrev due : Reply
     due = Stats (stat_of tells.shown_class (is_dir there))
@@ -90,7 +90,7 @@ module _ (session : Session) (ok : IsSession session) (old new : KernelModel) (f
 
     told_is : (label : Levels) → Some label ≡ label_there ((state mid).objects O) → class_reply (is_dir there) (class_shown session label) ≡ Answers due
     told_is label right =
-        let same = same_Some _ _ (right ∙ ap (λ (s : State). label_there (s.objects O)) stays ∙ label_at session (state old) f ready.lays_out.laid q there at O numbered guard.0 guard.1) in
+        let same = same_Some _ _ (right ∙ ap (λ (s : State). label_there (s.objects O)) stays ∙ label_at session (state old) f ready.represents.laid q there at O numbered guard.0 guard.1) in
         ap (λ (l : Levels). class_reply (is_dir there) (class_shown session l)) same ∙ ap (class_reply (is_dir there)) tells.is
 
     all_reads : ReadsAmong session f me ready.caller call old new t ready.thread (all_granted (reads ++ next ∷ [])) due
@@ -104,7 +104,7 @@ module _ (session : Session) (ok : IsSession session) (old new : KernelModel) (f
         let entries = entries_of old.line t (all_granted (reads ++ next ∷ [])) in
         answered_step session f me ready.caller call old new t ready.thread result (reads ++ next ∷ []) later longer due due_is allowed
         (subst (IsBacked (state old) entries) due_is tt) (subst (ReadsAmong session f me ready.caller call old new t ready.thread (all_granted (reads ++ next ∷ []))) due_is all_reads)
-        (subst (λ (s : State). LaysOut session s f) (sym same) ready.lays_out)
+        (subst (λ (s : State). Represents session s f) (sym same) ready.represents)
         (subst (λ (program : Program). Runs program later new t result) (told_is label right) end))
 
   module _ (m : Name) (d : Path) where
@@ -126,20 +126,20 @@ module _ (session : Session) (ok : IsSession session) (old new : KernelModel) (f
     at_entry target = given (entry_at target) (λ found. ask (raw.LabelOf place.container (object_of found)) (λ label. class_reply (is_directory found) (class_shown session label)))
 
     module _ (open_so_far : into session f ready.caller.process d ≡ None) (mid : KernelModel) (stays : state mid ≡ state old) (chain : Chain old t (all_granted walk) mid)
-        (on : Runs (at_entry (map.get (directory_of f.files ready.lays_out.laid.naming.number d) m)) mid new t result) where
-      leads : (target : Option Target) → map.get (directory_of f.files ready.lays_out.laid.naming.number d) m ≡ target → Runs (at_entry target) mid new t result
+        (on : Runs (at_entry (map.get (directory_of f.files ready.represents.laid.naming.number d) m)) mid new t result) where
+      leads : (target : Option Target) → map.get (directory_of f.files ready.represents.laid.naming.number d) m ≡ target → Runs (at_entry target) mid new t result
       leads target is = subst (λ (target : Option Target). Runs (at_entry target) mid new t result) is on
 
-      by_target : (there : Node) → get f.files (m ∷ d) ≡ Some there → (target : Target) → map.get (directory_of f.files ready.lays_out.laid.naming.number d) m ≡ Some target
-          → ready.lays_out.laid.naming.number (address_of (m ∷ d)) ≡ Some (object_of target) → is_directory target ≡ is_dir there → Row (m ∷ d)
+      by_target : (there : Node) → get f.files (m ∷ d) ≡ Some there → (target : Target) → map.get (directory_of f.files ready.represents.laid.naming.number d) m ≡ Some target
+          → ready.represents.laid.naming.number (address_of (m ∷ d)) ≡ Some (object_of target) → is_directory target ≡ is_dir there → Row (m ∷ d)
       by_target there at target is numbered kind =
           let is_dir_above = dir session ok (state old) f me t ready d open_so_far in
           let above = stands session ok (state old) f me t ready d is_dir_above in
           let object_at : IsObjectAt session (state old) (m ∷ d) place.container (object_of target) =
-          (place.listing, directory_of f.files ready.lays_out.laid.naming.number d, target, found session ok (state old) f me t ready d is_dir_above, holds session ok (state old) f me t ready d is_dir_above, is, refl) in
-          let passes = label_said session (state old) f ready.lays_out.laid ok me ready.caller.process t (runs session ok (state old) f me t ready) d above.0 above.1 place.container place.listing
+          (place.listing, directory_of f.files ready.represents.laid.naming.number d, target, found session ok (state old) f me t ready d is_dir_above, holds session ok (state old) f me t ready d is_dir_above, is, refl) in
+          let passes = label_said session (state old) f ready.represents.laid ok me ready.caller.process t (runs session ok (state old) f me t ready) d above.0 above.1 place.container place.listing
           (at_container session ok (state old) f me t ready d is_dir_above) (at_listing session ok (state old) f me t ready d is_dir_above) (seen session ok (state old) f me t ready d open_so_far) m (object_of target) numbered
-          (no_thread_at session (state old) f ready.lays_out.laid (m ∷ d) there at (object_of target) numbered) in
+          (no_thread_at session (state old) f ready.represents.laid (m ∷ d) there at (object_of target) numbered) in
           label_step (m ∷ d) there at place.container (object_of target) numbered object_at (refused_is None (Some there) open_so_far at) passes walk (reads_way session ok (state old) f me t ready d) mid stays chain
           (subst (λ (b : Bool). Runs (ask (raw.LabelOf place.container (object_of target)) (λ label. class_reply b (class_shown session label))) mid new t result) kind (leads (Some target) is))
 
@@ -152,7 +152,7 @@ module _ (session : Session) (ok : IsSession session) (old new : KernelModel) (f
 
       by_stands : (o : Option Node) → get f.files (m ∷ d) ≡ o → Row (m ∷ d)
       by_stands None at =
-          refused_at_once session f me ready.caller stat old new t ready.thread result walk mid chain stays ready.lays_out ENOENT (refused_is None None open_so_far at) refl refl
+          refused_at_once session f me ready.caller stat old new t ready.thread result walk mid chain stays ready.represents ENOENT (refused_is None None open_so_far at) refl refl
           (label_less session (state old) f m d ENOENT _ ready.caller.process (has_way session ok (state old) f me t ready d _ (among_granted_all old.line t walk))) (leads None (nothing_there session ok (state old) f me t ready m d at))
       by_stands (Some there) at = by_content there.class there.content at
 
@@ -167,10 +167,10 @@ module _ (session : Session) (ok : IsSession session) (old new : KernelModel) (f
   stat_of_slash : Runs (stat_program session (places_of (length session.users)) []) old new t result → Row []
   unfolding stat_program find_object
   stat_of_slash run =
-      let root = root_is_dir session (state old) f ready.lays_out.laid in
+      let root = root_is_dir session (state old) f ready.represents.laid in
       let slash = slash_number (length session.users) in
-      label_step [] (record { class = root.0; content = Dir }) root.1 root_number slash (ready.lays_out.laid.as_booted (Slash ∷ []) slash refl) (refl, refl)
-      (ap (λ (o : Option Node). unless (is_some_and o (λ n. true)) ENOENT) root.1) (slash_label_said session (state old) f ready.lays_out.laid me ready.caller.process t (runs session ok (state old) f me t ready))
+      label_step [] (record { class = root.0; content = Dir }) root.1 root_number slash (ready.represents.laid.as_booted (Slash ∷ []) slash refl) (refl, refl)
+      (ap (λ (o : Option Node). unless (is_some_and o (λ n. true)) ENOENT) root.1) (slash_label_said session (state old) f ready.represents.laid me ready.caller.process t (runs session ok (state old) f me t ready))
       [] refl old refl (same_kernel old) run
 
 -- a stat does what its flat rule says

@@ -18,7 +18,7 @@ use Rattle.histar_calls.specs.Programs.Program.{Answers}
 use Rattle.histar_process.specs.StatusCall.{status_reply, status_program}
 use Rattle.histar_login.specs.Start.{places_of}
 use Rattle.histar_refinement.specs.Sessions.{IsSession}
-use Rattle.histar_refinement.specs.LaysOut.{LaysOut}
+use Rattle.histar_refinement.specs.Represents.{Represents}
 use Rattle.histar_sim.specs.Simulation.{IsReady}
 use Rattle.histar_sim.proofs.Endings.{IsBacked}
 use Rattle.histar_sim.proofs.Steps.{Goal, answered_step}
@@ -53,7 +53,7 @@ module _ (session : Session) (ok : IsSession session) (old new : KernelModel) (f
       answered_step session f me ready.caller call old new t ready.thread result reads mid chain (status_reply other.exited) (said other here) found
       (subst (IsBacked (state old) _) (said other here) (life_backed (state old) _ other.exited))
       (has_search session (state old) f me t ready name _ (among_granted_all old.line t reads))
-      (subst (λ (s : State). LaysOut session s f) (sym stays) ready.lays_out) on)
+      (subst (λ (s : State). Represents session s f) (sym stays) ready.represents) on)
 
 -- a question for a status does what its flat rule says
 pub status_refines : StatusRefines

@@ -1,4 +1,4 @@
--- A program that is run at a state that lays out a flat state: one step a raw call.
+-- A program that is run at a state that represents a flat state: one step a raw call.
 use Rattle.std.proofs.Common.{◌≡◌, ℕ, false, List, [], ◌∷◌, ◌++◌, ◌⊎◌, Option, None, Some, Result, Ok, Err, inl, inr, refl, sym, ap, ◌∙◌, subst}
 use Rattle.std.proofs.lemmas.List.{map-append, append-nil}
 use Rattle.std.specs.Prelude.{IsErr}
@@ -26,7 +26,7 @@ use Rattle.histar_calls.specs.Replies.{is_access, is_permission}
 use Rattle.histar_calls.specs.Programs.{AnswerOf, IsAnswer, Outcome, Program, Asked, Completes, Begins, Runs}
 use Rattle.histar_calls.specs.Programs.Program.{Answers, Asks, Stops}
 use Rattle.histar_calls.specs.Parts.{refused_with, or_refused, ask, if_there, list}
-use Rattle.histar_refinement.specs.LaysOut.{LaysOut}
+use Rattle.histar_refinement.specs.Represents.{Represents}
 use Rattle.histar_refinement.specs.Lines.{IsThreadOf}
 use Rattle.histar_sim.specs.Simulation.{IsRunning, has_category, FollowsRule}
 use Rattle.histar_sim.proofs.Chains.{Step, all_granted, entries_of, Chain, chain_after, granted_broken_off, exhausted_broken_off}
@@ -196,7 +196,7 @@ module _ (session : Session) (f : Flat) (me : ProcName) (caller : IsRunning f me
     pub exhausted_category_step : (next : RawCall) (rest : AnswerOf next → Program) → check (state mid) t next ≡ Some TooBig → errno_for next TooBig ≡ None → has_category (state mid) ≡ false → Runs (ask next rest) mid new t result → Goal
     exhausted_category_step next rest fails untold greatest runs = counted_out next rest fails untold (inr greatest) runs
 
-    module _ (stays : state mid ≡ state old) (lays_out : LaysOut session (state old) f) (errno : Errno) (is : refused session f me caller.process call ≡ Some errno) where
+    module _ (stays : state mid ≡ state old) (represents : Represents session (state old) f) (errno : Errno) (is : refused session f me caller.process call ≡ Some errno) where
       -- a raw call that they refuse, as the flat rules refuse the call
       pub refused_step : (next : RawCall) (rest : AnswerOf next → Program) (denied : Denied) → check (state mid) t next ≡ Some denied → errno_for next denied ≡ Some errno
           → ReadsAmong session f me caller call old new t named (all_granted calls ++ (next, Some denied) ∷ []) (Refused errno) → Runs (ask next rest) mid new t result → Goal
@@ -206,7 +206,7 @@ module _ (session : Session) (f : Flat) (me : ProcName) (caller : IsRunning f me
             let said = replied t end.mid new (Refused errno) result (subst (λ (o : Option Errno). Runs (refused_with o) end.mid new t result) told end.runs) in
             let chain = chain_after t old mid new (all_granted calls) ((next, Some denied) ∷ []) so_far (end.mid, end.called, said.0) in
             subst (FollowsRule session f me call old new t) (sym said.1)
-            (refused_row session f me caller call old new t named (said.0.state ∙ end.called.state ∙ stays) lays_out calls next denied chain errno (told_shown next denied errno told) is reads)
+            (refused_row session f me caller call old new t named (said.0.state ∙ end.called.state ∙ stays) represents calls next denied chain errno (told_shown next denied errno told) is reads)
       ]
 
       -- and a call that is refused with no raw call more
@@ -214,13 +214,13 @@ module _ (session : Session) (f : Flat) (me : ProcName) (caller : IsRunning f me
       refused_at_once no_access no_permission reads runs =
           let end = replied t mid new (Refused errno) result runs in
           subst (FollowsRule session f me call old new t) (sym end.1)
-          (unchanged_row session f me caller call old new t named (end.0.state ∙ stays) lays_out calls (kept end.0) errno no_access no_permission is reads)
+          (unchanged_row session f me caller call old new t named (end.0.state ∙ stays) represents calls (kept end.0) errno no_access no_permission is reads)
 
     -- a call that replies what the flat rules answer
     pub answered_step : (reply : Reply) → reply ≡ flat.answer f me caller.process call → refused session f me caller.process call ≡ None → IsBacked (state old) (entries_of old.line t (all_granted calls)) (flat.answer f me caller.process call)
-        → ReadsAmong session f me caller call old new t named (all_granted calls) (flat.answer f me caller.process call) → LaysOut session (state mid) (changed session f me caller.process call) → Runs (Answers reply) mid new t result → Goal
-    answered_step reply said is backed reads lays_out runs =
+        → ReadsAmong session f me caller call old new t named (all_granted calls) (flat.answer f me caller.process call) → Represents session (state mid) (changed session f me caller.process call) → Runs (Answers reply) mid new t result → Goal
+    answered_step reply said is backed reads represents runs =
         let end = replied t mid new reply result runs in
         subst (FollowsRule session f me call old new t) (sym (end.1 ∙ ap Ok said))
         (granted_row session f me caller call old new t named calls (kept end.0) is backed reads
-        (subst (λ (s : State). LaysOut session s (changed session f me caller.process call)) (sym end.0.state) lays_out))
+        (subst (λ (s : State). Represents session s (changed session f me caller.process call)) (sym end.0.state) represents))

@@ -46,7 +46,7 @@ use Rattle.histar_refinement.specs.Addresses.{Step, same_step, address_of, home_
 use Rattle.histar_refinement.specs.Addresses.Step.{Listing, Named, Inside, Runner}
 use Rattle.histar_refinement.specs.Directories.{directory_of}
 use Rattle.histar_refinement.specs.Expected.{expected}
-use Rattle.histar_refinement.specs.LaysOut.{Laid, LaysOut}
+use Rattle.histar_refinement.specs.Represents.{ObjectsMatch, Represents}
 use Rattle.histar_refinement.specs.Laws.{RunsAs}
 use Rattle.histar_refinement.proofs.Steps.{step_tests_equality}
 use Rattle.histar_refinement.proofs.Moving.{one_address}
@@ -54,7 +54,7 @@ use Rattle.histar_refinement.proofs.ClassTests.{observes_class, modifies_class}
 use Rattle.histar_refinement.proofs.DirectoryLaws.{spelling_fits}
 use Rattle.histar_refinement.proofs.RawChecks.{object, write_check}
 use Rattle.histar_refinement.proofs.FileChecks.{fits, unlink_said}
-use Rattle.histar_refinement.proofs.Removing.{under_home, lays_out_removed}
+use Rattle.histar_refinement.proofs.Removing.{under_home, represents_removed}
 use Rattle.histar_refinement.proofs.Standing.{thread_found, guard_at, container_found, listing_found, step_linked}
 use Rattle.histar_sim.specs.Simulation.{IsReady}
 use Rattle.histar_sim.specs.Reads.{AreAmong}
@@ -66,7 +66,7 @@ use Rattle.histar_sim.proofs.Entries.{object_at, entry_of, object_led_to, object
 
 -- ---- the state between the two raw calls
 
-module _ (session : Session) (s : State) (f : Flat) (l : Laid session s f) (ok : IsSession session) (me : ProcName) (p : Process) (t : ℕ) (runs : RunsAs session s f l me p t)
+module _ (session : Session) (s : State) (f : Flat) (l : ObjectsMatch session s f) (ok : IsSession session) (me : ProcName) (p : Process) (t : ℕ) (runs : RunsAs session s f l me p t)
     (d : Path) (class : Class) (at : get f.files d ≡ Some (record { class = class; content = Dir })) (D N : ℕ) (at_directory : l.naming.number (address_of d) ≡ Some D) (at_listing : l.naming.number (Listing ∷ address_of d) ≡ Some N)
     (m : Name) (O : ℕ) (at_entry : l.naming.number (address_of (m ∷ d)) ≡ Some O) (mid : State) (cuts : CutsOff s D O mid) where
   abbrev top : Address Step
@@ -155,7 +155,7 @@ module _ (session : Session) (ok : IsSession session) (old new : KernelModel) (f
   o = object_at session ok (state old) f me t ready m d
 
   abbrev entries : Entries
-  entries = directory_of f.files ready.lays_out.laid.naming.number d
+  entries = directory_of f.files ready.represents.laid.naming.number d
 
   -- The flat rule takes the entry away where the directory that it lies in may be written.
   pub record TakesAway : Type 0 where
@@ -178,13 +178,13 @@ module _ (session : Session) (ok : IsSession session) (old new : KernelModel) (f
     root_at : get f.files d ≡ Some (record { class = root; content = Dir })
     root_at = (stands session ok (state old) f me t ready d (dir session ok (state old) f me t ready d open_so_far)).1
 
-    at_D : ready.lays_out.laid.naming.number (address_of d) ≡ Some container
+    at_D : ready.represents.laid.naming.number (address_of d) ≡ Some container
     at_D = at_container session ok (state old) f me t ready d is_dir_here
 
-    at_N : ready.lays_out.laid.naming.number (Listing ∷ address_of d) ≡ Some listing
+    at_N : ready.represents.laid.naming.number (Listing ∷ address_of d) ≡ Some listing
     at_N = at_listing session ok (state old) f me t ready d is_dir_here
 
-    at_O : ready.lays_out.laid.naming.number (address_of (m ∷ d)) ≡ Some o
+    at_O : ready.represents.laid.naming.number (address_of (m ∷ d)) ≡ Some o
     at_O = object_numbered session ok (state old) f me t ready m d class content at
 
     sees : may_read session p root ≡ true
@@ -206,7 +206,7 @@ module _ (session : Session) (ok : IsSession session) (old new : KernelModel) (f
     said : (may : Bool) → may_write session p root ≡ may → check (state mid) t unlinks ≡ unless may Modify
     said may is =
         ap (λ (s : State). check s t unlinks) same
-        ∙ unlink_said session (state old) f ready.lays_out.laid ok me p t (runs session ok (state old) f me t ready) d root root_at container listing at_D at_N sees m o at_O
+        ∙ unlink_said session (state old) f ready.represents.laid ok me p t (runs session ok (state old) f me t ready) d root root_at container listing at_D at_N sees m o at_O
         ∙ ap (λ (b : Bool). unless b Modify) is
 
     among : (more : List RawCall) → AreAmong calls (entries_of old.line t (all_granted (calls ++ more)))
@@ -215,11 +215,11 @@ module _ (session : Session) (ok : IsSession session) (old new : KernelModel) (f
     module _ (may : may_write session p root ≡ true) (cut : KernelModel) (cuts : CutsOff (state old) container o (state cut)) (so_far : Chain old t (all_granted (calls ++ unlinks ∷ [])) cut) where
       write_said : check (state cut) t writing ≡ None
       write_said =
-          written_then session (state old) f ready.lays_out.laid ok me p t (runs session ok (state old) f me t ready) d root root_at container listing at_D at_N m o at_O (state cut) cuts sees may
-          (map.remove entries m) (listable_remove entries m (ready.lays_out.laid.listable d is_dir_here))
+          written_then session (state old) f ready.represents.laid ok me p t (runs session ok (state old) f me t ready) d root root_at container listing at_D at_N m o at_O (state cut) cuts sees may
+          (map.remove entries m) (listable_remove entries m (ready.represents.laid.listable d is_dir_here))
 
-      laid_after : LaysOut session (with_segment_bytes (state cut) listing (spelling (map.remove entries m))) (without_below f (m ∷ d))
-      laid_after = lays_out_removed session (state old) f ready.lays_out.laid m d container listing o at_D at_N at_O (state cut) cuts ready.lays_out.jobs_given is_dir_here
+      laid_after : Represents session (with_segment_bytes (state cut) listing (spelling (map.remove entries m))) (without_below f (m ∷ d))
+      laid_after = represents_removed session (state old) f ready.represents.laid m d container listing o at_D at_N at_O (state cut) cuts ready.represents.jobs_given is_dir_here
 
       -- the directory is written, and the call is answered
       written : Runs ending cut new t result → Row
@@ -230,11 +230,11 @@ module _ (session : Session) (ok : IsSession session) (old new : KernelModel) (f
           let among_all = among_then old.line t calls (calls ++ unlinks ∷ []) (writing ∷ []) (among (unlinks ∷ [])) in
           answered_step session f me ready.caller call old new t ready.thread result all end whole Done (sym rule.answers) (refused_so true may)
           (subst (IsBacked (state old) (entries_of old.line t (all_granted all))) (sym rule.answers) tt) (has_reads (all_granted all) (flat.answer f me p call) among_all)
-          (subst (LaysOut session (state end)) (sym rule.removes) (subst (λ (s : State). LaysOut session s (without_below f (m ∷ d))) (sym wrote.state) laid_after)) last)
+          (subst (Represents session (state end)) (sym rule.removes) (subst (λ (s : State). Represents session s (without_below f (m ∷ d))) (sym wrote.state) laid_after)) last)
 
     by_right : (may : Bool) → may_write session p root ≡ may → Runs (ask unlinks (λ _. ending)) mid new t result → Row
     by_right false is on =
-        refused_step session f me ready.caller call old new t ready.thread result calls mid chain same ready.lays_out EACCES (refused_so false is) unlinks (λ _. ending) Modify (said false is) refl
+        refused_step session f me ready.caller call old new t ready.thread result calls mid chain same ready.represents EACCES (refused_so false is) unlinks (λ _. ending) Modify (said false is) refl
         (has_reads _ _ (among_also old.line t calls calls ((unlinks, Some Modify) ∷ []) (among_granted_all old.line t calls))) on
     by_right true is on =
         granted_step session f me ready.caller call old new t ready.thread result calls mid chain unlinks (λ _. ending) (said true is) on

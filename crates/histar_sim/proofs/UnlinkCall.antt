@@ -62,7 +62,7 @@ module _ (session : Session) (ok : IsSession session) (old new : KernelModel) (f
 
     by_content : (class : Class) (content : Content) → get f.files (m ∷ d) ≡ Some (record { class = class; content = content }) → Runs (at_entry (entry_of session ok (state old) f me t ready m d content)) mid new t result → Row
     by_content class Dir at on =
-        refused_at_once session f me ready.caller call old new t ready.thread result walk mid chain stays ready.lays_out EISDIR (refused_by class Dir at) refl refl
+        refused_at_once session f me ready.caller call old new t ready.thread result walk mid chain stays ready.represents EISDIR (refused_by class Dir at) refl refl
         (has_walk session ok (state old) f me t ready m d _ (among_granted_all old.line t walk)) on
     by_content class (File bytes) at on =
         take_away_step session ok old new f me t ready m d call result (record { refuses = refused_by class (File bytes) at; removes = refl; answers = refl }) open_so_far class (File bytes) at
@@ -79,7 +79,7 @@ unlink_of_slash : (session : Session) (old new : KernelModel) (f : Flat) (me : P
     → Goal session f me ready.caller (calls.Unlink []) old new t ready.thread result
 unfolding unlink_program find_entry
 unlink_of_slash session old new f me t result ready run =
-    refused_at_once session f me ready.caller (calls.Unlink []) old new t ready.thread result [] old (same_kernel old) refl ready.lays_out EBUSY refl refl refl tt run
+    refused_at_once session f me ready.caller (calls.Unlink []) old new t ready.thread result [] old (same_kernel old) refl ready.represents EBUSY refl refl refl tt run
 
 -- an unlink does what its flat rule says
 pub unlink_refines : UnlinkRefines

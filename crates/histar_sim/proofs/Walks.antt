@@ -1,4 +1,4 @@
--- The walk into a directory, at a state that lays out a flat state: it is refused as the flat rules refuse it, or each directory on
+-- The walk into a directory, at a state that represents a flat state: it is refused as the flat rules refuse it, or each directory on
 -- the way is read, and the last one is handed on.
 use Rattle.std.proofs.Common.{◌≡◌, ℕ, ◌&&◌, Bool, true, false, List, [], ◌∷◌, ◌++◌, Option, None, Some, Result, inl, inr, refl, sym, ap, ◌∙◌, subst, append_assoc, length, if◌then◌else◌}
 use Rattle.std.proofs.lemmas.List.{map-append, append-nil}
@@ -129,14 +129,14 @@ module _ (line t : ℕ) where
 
 module _ (session : Session) (ok : IsSession session) (s : State) (f : Flat) (me : ProcName) (t : ℕ) (ready : IsReady session s f me t) where
   abbrev pub numbers : AddressNumbers
-  numbers = ready.lays_out.laid.naming.number
+  numbers = ready.represents.laid.naming.number
 
   abbrev p : Process
   p = ready.caller.process
 
   -- the thread is that of the process
-  pub runs : RunsAs session s f ready.lays_out.laid me ready.caller.process t
-  runs = (ready.caller.stands, ready.caller.runs, (thread_back session s f ready.lays_out.laid me t ready.thread).3)
+  pub runs : RunsAs session s f ready.represents.laid me ready.caller.process t
+  runs = (ready.caller.stands, ready.caller.runs, (thread_back session s f ready.represents.laid me t ready.thread).3)
 
   -- where a directory is found
   abbrev pub place_at : Path → Place
@@ -155,13 +155,13 @@ module _ (session : Session) (ok : IsSession session) (s : State) (f : Flat) (me
   directory_read d = record { place = place_at d; entries = directory_of f.files numbers d }
 
   pub slash_is_dir : is_dir_at f [] ≡ true
-  slash_is_dir = ap (λ (o : Option Node). is_some_and o is_dir) (root_is_dir session s f ready.lays_out.laid).1
+  slash_is_dir = ap (λ (o : Option Node). is_some_and o is_dir) (root_is_dir session s f ready.represents.laid).1
 
   -- `/` is found where boot left it
   pub slash_place : (places_of (length session.users)).slash ≡ place_at []
   slash_place =
-      let container = sym (ready.lays_out.laid.as_booted (Slash ∷ []) (slash_number (length session.users)) refl) in
-      let listing = sym (ready.lays_out.laid.as_booted (Listing ∷ Slash ∷ []) (slash_listing_number (length session.users)) refl) in
+      let container = sym (ready.represents.laid.as_booted (Slash ∷ []) (slash_number (length session.users)) refl) in
+      let listing = sym (ready.represents.laid.as_booted (Listing ∷ Slash ∷ []) (slash_listing_number (length session.users)) refl) in
       λ i. record { container = or_zero (container i); listing = or_zero (listing i) }
 
   module _ (d : Path) (dir : is_dir_at f d ≡ true) where
@@ -169,16 +169,16 @@ module _ (session : Session) (ok : IsSession session) (s : State) (f : Flat) (me
     stands = dir_there (get f.files d) dir
 
     pub at_container : numbers (address_of d) ≡ Some (place_at d).container
-    at_container = is_or_zero (numbers (address_of d)) (numbered_path session s f ready.lays_out.laid d (record { class = stands.0; content = Dir }) stands.1)
+    at_container = is_or_zero (numbers (address_of d)) (numbered_path session s f ready.represents.laid d (record { class = stands.0; content = Dir }) stands.1)
 
     pub at_listing : numbers (Listing ∷ address_of d) ≡ Some (place_at d).listing
-    at_listing = is_or_zero (numbers (Listing ∷ address_of d)) (numbered_listing session s f ready.lays_out.laid d stands.0 stands.1)
+    at_listing = is_or_zero (numbers (Listing ∷ address_of d)) (numbered_listing session s f ready.represents.laid d stands.0 stands.1)
 
     pub holds : IsDirectory (bytes_in (s.objects (place_at d).listing)) (directory_of f.files numbers d)
-    holds = holds_directory session s f ready.lays_out.laid d (place_at d).listing dir at_listing
+    holds = holds_directory session s f ready.represents.laid d (place_at d).listing dir at_listing
 
     pub found : IsDirectoryAt session s d (place_at d).container (place_at d).listing
-    found = directory_found session s f ready.lays_out.laid d (place_at d).container (place_at d).listing dir at_container at_listing
+    found = directory_found session s f ready.represents.laid d (place_at d).container (place_at d).listing dir at_container at_listing
 
     pub reads_is : reads session f p d ≡ may_read session p stands.0
     reads_is = ap (λ (o : Option Node). is_some_and o (λ n. may_read session p n.class)) stands.1
@@ -186,7 +186,7 @@ module _ (session : Session) (ok : IsSession session) (s : State) (f : Flat) (me
     -- its directory segment is read unless the process may not read it
     pub read_said : check s t (read_of d) ≡ unless (reads session f p d) Observe
     read_said =
-        read_listing_said session s f ready.lays_out.laid ok me p t runs d stands.0 stands.1 (place_at d).container (place_at d).listing at_container at_listing
+        read_listing_said session s f ready.represents.laid ok me p t runs d stands.0 stands.1 (place_at d).container (place_at d).listing at_container at_listing
         ∙ ap (λ (b : Bool). unless b Observe) (sym reads_is)
 
   -- the walk looks whether directories may be read, and nothing else
@@ -252,7 +252,7 @@ module _ (session : Session) (ok : IsSession session) (s : State) (f : Flat) (me
 
     -- a file does
     pub file_number : (class : Class) (bytes : List ℕ) → get f.files (m ∷ d) ≡ Some (record { class = class; content = File bytes }) → numbers (address_of (m ∷ d)) ≡ Some (or_zero (numbers (address_of (m ∷ d))))
-    file_number class bytes is = is_or_zero (numbers (address_of (m ∷ d))) (numbered_path session s f ready.lays_out.laid (m ∷ d) (record { class = class; content = File bytes }) is)
+    file_number class bytes is = is_or_zero (numbers (address_of (m ∷ d))) (numbered_path session s f ready.represents.laid (m ∷ d) (record { class = class; content = File bytes }) is)
 
     pub file_there : (class : Class) (bytes : List ℕ) → get f.files (m ∷ d) ≡ Some (record { class = class; content = File bytes })
         → finite.get (directory_of f.files numbers d) m ≡ Some (targets.File (or_zero (numbers (address_of (m ∷ d)))))
@@ -291,7 +291,7 @@ module _ (session : Session) (ok : IsSession session) (old new : KernelModel) (f
 
   -- the entries of a directory
   abbrev entries_at : Path → Entries
-  entries_at d = directory_of f.files ready.lays_out.laid.naming.number d
+  entries_at d = directory_of f.files ready.represents.laid.naming.number d
 
   -- the bytes of a directory segment are read after these raw calls
   bytes_step : (d : Path) → is_dir_at f d ≡ true → (before : List RawCall) (mid : KernelModel) → state mid ≡ state old → Chain old t (all_granted before) mid
@@ -307,7 +307,7 @@ module _ (session : Session) (ok : IsSession session) (old new : KernelModel) (f
       by : (b : Bool) → reads session f process d ≡ b → Row
       by false is =
           let end = refuses is in
-          refused_step session f me ready.caller call old new t ready.thread result before mid chain stays ready.lays_out EACCES end.0 (read d) rest Observe (said false is) refl end.1 run
+          refused_step session f me ready.caller call old new t ready.thread result before mid chain stays ready.represents EACCES end.0 (read d) rest Observe (said false is) refl end.1 run
       by true is =
           granted_step session f me ready.caller call old new t ready.thread result before mid chain (read d) rest (said true is) run
           (λ later bytes called right longer on.
@@ -391,13 +391,13 @@ module _ (session : Session) (ok : IsSession session) (old new : KernelModel) (f
       by_content class Dir is on = enters class is (subst (λ (target : Option Target). Runs (at_name target) mid new t result) (directory_there session ok (state old) f me t ready n d class is) on)
       by_content class (File bytes) is on =
           let end = breaks_off ENOTDIR (into_is _ is) (ap (λ (o : Option Node). is_some_and o is_dir) is) in
-          refused_at_once session f me ready.caller call old new t ready.thread result (reached d) mid chain stays ready.lays_out ENOTDIR end.0 refl refl end.1
+          refused_at_once session f me ready.caller call old new t ready.thread result (reached d) mid chain stays ready.represents ENOTDIR end.0 refl refl end.1
           (subst (λ (target : Option Target). Runs (at_name target) mid new t result) (file_there session ok (state old) f me t ready n d class bytes is) on)
 
       next_step : (o : Option Node) → get f.files (n ∷ d) ≡ o → Runs (at_name (finite.get (entries_at d) n)) mid new t result → Row
       next_step None is on =
           let end = breaks_off ENOENT (into_is _ is) (ap (λ (o : Option Node). is_some_and o is_dir) is) in
-          refused_at_once session f me ready.caller call old new t ready.thread result (reached d) mid chain stays ready.lays_out ENOENT end.0 refl refl end.1
+          refused_at_once session f me ready.caller call old new t ready.thread result (reached d) mid chain stays ready.represents ENOENT end.0 refl refl end.1
           (subst (λ (target : Option Target). Runs (at_name target) mid new t result) (nothing_there session ok (state old) f me t ready n d is) on)
       next_step (Some node) is on = by_content node.class node.content is on
 

@@ -26,7 +26,7 @@ use Rattle.histar_process.specs.Whoami.{whoami_program}
 use Rattle.histar_refinement.specs.Sessions.{IsSession}
 use Rattle.histar_refinement.specs.Guards.{rights_label, rights_clearance}
 use Rattle.histar_refinement.specs.Labels.{thread_rights}
-use Rattle.histar_refinement.specs.LaysOut.{Laid, LaysOut}
+use Rattle.histar_refinement.specs.Represents.{ObjectsMatch, Represents}
 use Rattle.histar_refinement.proofs.RawChecks.{caller_passes}
 use Rattle.histar_refinement.proofs.Standing.{thread_found}
 use Rattle.histar_sim.specs.Simulation.{IsReady}
@@ -40,8 +40,8 @@ module _ (session : Session) (ok : IsSession session) (old new : KernelModel) (f
   abbrev p : Process
   p = ready.caller.process
 
-  abbrev l : Laid session (state old) f
-  l = ready.lays_out.laid
+  abbrev l : ObjectsMatch session (state old) f
+  l = ready.represents.laid
 
   abbrev own : Levels
   own = rights_label l.category (thread_rights session me p)
@@ -68,7 +68,7 @@ module _ (session : Session) (ok : IsSession session) (old new : KernelModel) (f
       (caller_passes (state old) t own (rights_clearance l.category (thread_rights session me p)) thread) run
       (λ later label called right longer on.
       answered_step session f me ready.caller calls.Whoami old new t ready.thread result (OwnLabel ∷ []) later longer (reply_by label.0) (told label.0 right.0) refl tt (inl (refl, tt))
-      (subst (λ (s : State). LaysOut session s f) (sym called.state) ready.lays_out) on)
+      (subst (λ (s : State). Represents session s f) (sym called.state) ready.represents) on)
 
 -- a whoami does what its flat rule says
 pub whoami_refines : WhoamiRefines

@@ -40,10 +40,10 @@ use Rattle.histar_login.specs.Start.{places_of}
 use Rattle.histar_wrap.specs.Scratch.{ask_or_give_back, directory_label, hold_job, kin_in, make_scratch, or_given_back}
 use Rattle.histar_wrap.specs.WrapCall.{wrap_program}
 use Rattle.histar_refinement.specs.Sessions.{IsSession}
-use Rattle.histar_refinement.specs.LaysOut.{LaysOut}
+use Rattle.histar_refinement.specs.Represents.{Represents}
 use Rattle.histar_refinement.proofs.Beside.{own_set}
 use Rattle.histar_refinement.proofs.Standing.{some_of}
-use Rattle.histar_refinement.proofs.WrapRefused.{lays_out_refused}
+use Rattle.histar_refinement.proofs.WrapRefused.{represents_refused}
 use Rattle.histar_sim.specs.Simulation.{IsReady, has_category}
 use Rattle.histar_sim.specs.Reads.{AreAmong}
 use Rattle.histar_sim.proofs.ReadsByCall.{HasWalk, HasWalkUnlessFull}
@@ -164,7 +164,7 @@ module _ (session : Session) (ok : IsSession session) (me : ProcName) (caller : 
             given_back_step session f me ready.caller (Wrap (m ∷ d)) old new t ready.thread result before mid chain errno is (own, most) next within denied fails told
             (ap (λ (s : State). check s t (SetLabel own)) counted ∙ set_label_said session ok (state old) f me t ready)
             (ap (λ (s : State). check (with_changed s t (with_label own)) t (SetClearance most)) counted ∙ set_clearance_said session ok (state old) f me t ready)
-            (subst (λ (s : State). LaysOut session (own_set t s own most) f) (sym counted) (lays_out_refused session (state old) f ready.lays_out me p ready.caller.stands ready.caller.runs t (at_thread session me caller old new f result ready found)))
+            (subst (λ (s : State). Represents session (own_set t s own most) f) (sym counted) (represents_refused session (state old) f ready.represents me p ready.caller.stands ready.caller.runs t (at_thread session me caller old new f result ready found)))
             (has_reads session ok old new f me t ready m d (Wrap (m ∷ d)) result not_nobody (needs_room (m ∷ d)) (all_granted before ++ (next, Some denied) ∷ all_granted (SetLabel own ∷ SetClearance most ∷ [])) (Refused errno)
             (among_also old.line t walk before ((next, Some denied) ∷ all_granted (SetLabel own ∷ SetClearance most ∷ [])) among_before)) on
 

@@ -13,7 +13,7 @@ use Rattle.histar_login.specs.Start.{places_of}
 use Rattle.histar_flat.specs.declared.calls.UnixCall.{UnixCall}
 use Rattle.histar_sim.specs.Simulation.{IsReady, FollowsRule}
 
--- Whoever runs the program as the thread of a process, in a state that lays out a flat state, does what the flat rule of the call says.
+-- Whoever runs the program as the thread of a process, in a state that represents a flat state, does what the flat rule of the call says.
 abbrev pub Refines : Session → UnixCall → Program → Type 0
 Refines session call program =
     (me : ProcName) (old new : KernelModel) (f : Flat) (t : ℕ) (result : Result Reply Stopped)

@@ -24,7 +24,7 @@ use Rattle.histar_syscall.specs.Runs.{IsBy, IsRun, some_label_refusal, some_rang
 use Rattle.histar_calls.specs.declared.ending.Stopped.{Stopped}
 use Rattle.histar_calls.specs.Refusals.{write_errno_of}
 use Rattle.histar_calls.specs.Replies.{is_no_access, is_no_permission, IsRefusedOnce, IsRestoring}
-use Rattle.histar_refinement.specs.LaysOut.{LaysOut}
+use Rattle.histar_refinement.specs.Represents.{Represents}
 use Rattle.histar_refinement.specs.Lines.{IsThreadOf}
 use Rattle.histar_sim.specs.Reads.{HasReads}
 
@@ -65,13 +65,13 @@ pub record IsLine (session : Session) (before : State) (line : ℕ) (process : P
   pub gone : reply ≡ Gone → entries ≡ []
 
 -- The line is the row of its call: it is answered what the flat state says, it has the reads that the call cannot do without, and the
--- state after it lays out the flat state after the call.
+-- state after it represents the flat state after the call.
 pub record SimulatesLine (session : Session) (before : State) (f : Flat) (asked : CallLine) (entries : List TraceEntry) (after : State) : Type 0 where
   pub line : IsLine session before asked.line asked.process (reply_to session f asked.process asked.call) entries after
   pub reads : HasReads session before f (running f asked.process) asked.call (reply_to session f asked.process asked.call) entries
-  pub lays_out : LaysOut session after (flat_after session f asked.process asked.call)
+  pub represents : Represents session after (flat_after session f asked.process asked.call)
 
--- the lines of a script, one after another, from a state that lays out this flat state: each is the row of its call
+-- the lines of a script, one after another, from a state that represents this flat state: each is the row of its call
 abbrev pub SimulatesLines : Session → State → Flat → List CallLine → List TraceEntry → State → Type 0
 SimulatesLines session s f [] entries end = (entries ≡ []) × (end ≡ s)
 SimulatesLines session s f (asked ∷ more) entries end =
@@ -127,10 +127,10 @@ AreFilesSmall f = (q : Path) (class : Class) (bytes : List ℕ) → get f.files 
 abbrev pub IsFirstFree : Flat → Type 0
 IsFirstFree f = (p : Process) → f.processes [] ≡ Some p → p.chain ≡ []
 
--- Where a call of a process is made: the state lays out this flat state, in which the process runs, process 0 is in no job and files are
+-- Where a call of a process is made: the state represents this flat state, in which the process runs, process 0 is in no job and files are
 -- small enough, and the thread is the process's own.
 pub record IsReady (session : Session) (s : State) (f : Flat) (me : ProcName) (t : ℕ) : Type 0 where
-  pub lays_out : LaysOut session s f
+  pub represents : Represents session s f
   pub caller : IsRunning f me
   pub first : IsFirstFree f
   pub small : AreFilesSmall f

@@ -165,7 +165,7 @@ always_err (Err fault) q = q
 
 -- ---- steps one after another
 
--- Where a run has come from a flat state: the machine lays out one, and whatever steps come next, their checks stand behind those that were
+-- Where a run has come from a flat state: the machine represents one, and whatever steps come next, their checks stand behind those that were
 -- written and counted.
 pub record IsAt (session : Session) (f : Flat) (file : List ℕ) (start now : Run) (steps : List Step) (before after : Option (List ℕ)) : Type 0 where
   pub flat : Flat
@@ -175,7 +175,7 @@ pub record IsAt (session : Session) (f : Flat) (file : List ℕ) (start now : Ru
   pub written : Appends before after (checks_text file (start.tally.count + 1) done)
   pub tally : now.tally ≡ tally_with start.tally done
 
--- So it has from whatever flat state the machine laid out.
+-- So it has from whatever flat state the machine represented.
 pub record HasCome (file : List ℕ) (start now : Run) (steps : List Step) (before after : Option (List ℕ)) : Type 0 where
   pub from : (session : Session) (f : Flat) → Shows session start.machine f → IsAt session f file start now steps before after
 

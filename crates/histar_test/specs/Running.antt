@@ -55,22 +55,22 @@ step_text file session f run step = checks_text file (run.tally.count + 1) (chec
 abbrev pub IsMemory : Fault → Type 0
 IsMemory fault = fault ≡ OutOfMemory
 
--- a run begins: the machine lays out the flat start of this session, no call is open, and the checks of earlier files are counted
+-- a run begins: the machine represents the flat start of this session, no call is open, and the checks of earlier files are counted
 pub record Starts (session : Session) (before : Tally) (run : Run) : Type 0 where
   pub shows : ShowsStart session run.machine
   pub last : run.last ≡ None
   pub tally : run.tally ≡ before
 
--- a call was made: the machine lays out the flat state after it, and the reply is the one that the flat state says
+-- a call was made: the machine represents the flat state after it, and the reply is the one that the flat state says
 pub record IsMade (session : Session) (f : Flat) (new : MachineModel) (call : CallLine) (said : List ℕ) (made : Made) : Type 0 where
   pub shows : Shows session new (flat_after session f call.process call.call)
   pub is : made ≡ made_of session f call said
 
--- whatever flat state the machine laid out, the call was made in it
+-- whatever flat state the machine represented, the call was made in it
 abbrev pub MakesCall : MachineModel → MachineModel → CallLine → List ℕ → Made → Type 0
 MakesCall old new call said made = (session : Session) (f : Flat) → Shows session old f → IsMade session f new call said made
 
--- whatever flat state the machine lays out, this is the check of the question in it
+-- whatever flat state the machine represents, this is the check of the question in it
 abbrev pub AsksMachine : MachineModel → Question → Check → Type 0
 AsksMachine machine question check = (session : Session) (f : Flat) → Shows session machine f → check ≡ question_check session f question
 
@@ -86,7 +86,7 @@ pub record IsTaken (session : Session) (f : Flat) (old new : Run) (step : Step) 
   pub last : new.last ≡ last_at session f old.last step
   pub tally : new.tally ≡ tally_with old.tally (check_at session f old.last step)
 
--- whatever flat state the machine laid out, the step was taken from it
+-- whatever flat state the machine represented, the step was taken from it
 abbrev pub TakesStep : Run → Run → Step → Type 0
 TakesStep old new step = (session : Session) (f : Flat) → Shows session old.machine f → IsTaken session f old new step
 
@@ -105,7 +105,7 @@ pub record AreTaken (session : Session) (f : Flat) (file : List ℕ) (old new : 
   pub written : Appends before after (checks_text file (old.tally.count + 1) (checks_from session f old.last steps))
   pub tally : new.tally ≡ tally_with old.tally (checks_from session f old.last steps)
 
--- whatever flat state the machine laid out, the steps were taken from it
+-- whatever flat state the machine represented, the steps were taken from it
 abbrev pub TakesSteps : List ℕ → Run → Run → List Step → Option (List ℕ) → Option (List ℕ) → Type 0
 TakesSteps file old new steps before after =
     (session : Session) (f : Flat) → Shows session old.machine f → AreTaken session f file old new steps before after

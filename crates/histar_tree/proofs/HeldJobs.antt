@@ -24,7 +24,7 @@ use Rattle.histar_refinement.specs.Categories.{CategoryName, Categories, AreDiff
 use Rattle.histar_refinement.specs.Categories.CategoryName.{ReadsProcess, WritesProcess, OfJob}
 use Rattle.histar_refinement.specs.Guards.{rights_label}
 use Rattle.histar_refinement.specs.Labels.{owned_as, thread_rights}
-use Rattle.histar_refinement.specs.LaysOut.{Laid, AreInOrder}
+use Rattle.histar_refinement.specs.Represents.{ObjectsMatch, AreInOrder}
 use Rattle.histar_refinement.specs.NumberedClasses.{job_numbers}
 use Rattle.histar_refinement.specs.Processes.{or_zero}
 use Rattle.histar_refinement.proofs.CallerFound.{caller_is}
@@ -106,7 +106,7 @@ module _ (category : Categories) (different : AreDifferent category) (known : Li
     beside_is in_order = one_rising 0 0 (owned_beside (map category known) own) (job_numbers category held) (passed_rise test own) in_order (λ c.
         alike c ∙ ap (λ (cs : List ℕ). is_in cs c) (map-map category OfJob held))
 
-module _ (session : Session) (s : State) (f : Flat) (l : Laid session s f) (me : ProcName) (p : Process) (here : f.processes me ≡ Some p) (runs : p.exited ≡ None) where
+module _ (session : Session) (s : State) (f : Flat) (l : ObjectsMatch session s f) (me : ProcName) (p : Process) (here : f.processes me ≡ Some p) (runs : p.exited ≡ None) where
   abbrev thread : Levels
   thread = rights_label l.category (thread_rights session me p)
 

@@ -1,4 +1,4 @@
--- In a state that lays out a flat state a path leads to what that has there, and else nowhere.
+-- In a state that represents a flat state a path leads to what that has there, and else nowhere.
 use Rattle.std.specs.Prelude.{◌≡◌, ℕ, [], ◌∷◌, length, Option, Some, None, MatchOption, option_and_then, refl}
 use Rattle.std.proofs.Common.{ap, sym, ◌∙◌}
 use Rattle.std.proofs.lemmas.Option.{none-some, same_Some}
@@ -21,7 +21,7 @@ use Rattle.histar_login.specs.Start.{places_of}
 use Rattle.histar_refinement.specs.Addresses.{address_of}
 use Rattle.histar_refinement.specs.Addresses.Step.{Listing}
 use Rattle.histar_refinement.specs.Directories.{target_for, directory_of}
-use Rattle.histar_refinement.specs.LaysOut.{Laid}
+use Rattle.histar_refinement.specs.Represents.{ObjectsMatch}
 use Rattle.histar_refinement.specs.Lines.{IsDirectoryAt}
 use Rattle.histar_refinement.proofs.DirectoryLaws.{get_directory}
 use Rattle.histar_refinement.proofs.LinesLaid.{leads_to, node_there, holds_directory, directory_found, directory_back}
@@ -48,7 +48,7 @@ module _ (session : Session) (s : State) where
   led_directory [] c g led = (ap container_in led, ap listing_in led)
   led_directory (n ∷ d) c g led = (led.0, led.1, led.2, led_directory d led.0 led.1 led.3, led.4, led.5)
 
-  module _ (f : Flat) (l : Laid session s f) where
+  module _ (f : Flat) (l : ObjectsMatch session s f) where
     -- where an entry of the flat state leads, if it is there
     abbrev target_at : Path → Option Node → Option Target
     target_at q o = option_and_then (λ (there : Node). target_for l.naming.number (q, there)) o
@@ -107,6 +107,6 @@ module _ (session : Session) (s : State) where
     resolved_as q None at = nothing_led q at
     resolved_as q (Some node) at = leads_to_node q node at
 
--- in a state that lays out a flat state a path leads to what that has there, and else nowhere
+-- in a state that represents a flat state a path leads to what that has there, and else nowhere
 pub flat_states_are_resolved : FlatStatesAreResolved
 flat_states_are_resolved session s f lays q = resolved_as session s f lays.laid q (get f.files q) refl

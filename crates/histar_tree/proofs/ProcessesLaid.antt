@@ -1,4 +1,4 @@
--- A state that lays out a flat state has the processes of that.
+-- A state that represents a flat state has the processes of that.
 use Rattle.std.specs.Prelude.{◌≡◌, ℕ, zero, suc, ◌+◌, ◌<◌, List, [], ◌∷◌, ◌++◌, length, map, Option, None, Some, is_some, option_map, refl}
 use Rattle.std.specs.List.{cons_option, filter_map, flat_map, range_with_len}
 use Rattle.std.proofs.Common.{arith, ap, sym, ◌∙◌, subst}
@@ -22,7 +22,7 @@ use Rattle.histar_refinement.specs.Guards.{guard_label, rights_label}
 use Rattle.histar_refinement.specs.Labels.{process_guard, thread_rights}
 use Rattle.histar_refinement.specs.NumberedClasses.{job_numbers}
 use Rattle.histar_refinement.specs.Processes.{or_zero, listed_by}
-use Rattle.histar_refinement.specs.LaysOut.{Laid}
+use Rattle.histar_refinement.specs.Represents.{ObjectsMatch}
 use Rattle.histar_refinement.proofs.CallerFound.{is_or_zero, where_is, status_is, child_is, caller_is, runs_here}
 use Rattle.histar_refinement.proofs.JobLabels.{chain_is}
 use Rattle.histar_refinement.proofs.Standing.{some_of, home_found, thread_found}
@@ -35,7 +35,7 @@ use Rattle.histar_tree.specs.ProcessLines.{ProcessLine, process_line, flat_life,
 use Rattle.histar_tree.specs.Laws.{AreNamed, FlatStatesHaveTheirProcesses}
 use Rattle.histar_tree.proofs.HeldJobs.{running_is}
 
-module _ (session : Session) (s : State) (f : Flat) (l : Laid session s f) where
+module _ (session : Session) (s : State) (f : Flat) (l : ObjectsMatch session s f) where
   -- where a process is found
   abbrev found : ProcName → Where
   found me = where_is session s f l me
@@ -165,7 +165,7 @@ module _ (session : Session) (s : State) (f : Flat) (l : Laid session s f) where
   first_found : found [] ≡ (places_of (length session.users)).home
   first_found i = record { container = or_zero (l.as_booted (Home ∷ []) _ refl i); segment = or_zero (l.as_booted (Status ∷ Home ∷ []) _ refl i) }
 
--- a state that lays out a flat state has the processes of that
+-- a state that represents a flat state has the processes of that
 pub flat_states_have_their_processes : FlatStatesHaveTheirProcesses
 unfolding AreProcessesOf
 flat_states_have_their_processes session s f lays named =

@@ -1,4 +1,4 @@
--- A state that lays out a flat state has the tree of that.
+-- A state that represents a flat state has the tree of that.
 use Rattle.std.specs.Prelude.{◌≡◌, ℕ, zero, suc, ◌+◌, ◌<◌, Bool, true, false, cond, T, List, [], ◌∷◌, ◌++◌, length, map, Option, Some, None, option_map, option_and_then, refl}
 use Rattle.std.specs.List.{filter_map, cons_option, flat_map}
 use Rattle.std.proofs.Common.{arith, ap, inl, inr, sym, ◌∙◌, subst}
@@ -29,7 +29,7 @@ use Rattle.histar_layout.specs.ClassLabels.{without_jobs}
 use Rattle.histar_refinement.specs.Addresses.{address_of, slash_number, slash_listing_number}
 use Rattle.histar_refinement.specs.Addresses.Step.{Slash, Listing}
 use Rattle.histar_refinement.specs.Directories.{both_numbers, target_for, target_in, directory_of}
-use Rattle.histar_refinement.specs.LaysOut.{Laid}
+use Rattle.histar_refinement.specs.Represents.{ObjectsMatch}
 use Rattle.histar_refinement.specs.Categories.{Categories}
 use Rattle.histar_refinement.specs.Guards.{guard_label}
 use Rattle.histar_refinement.specs.NumberedClasses.{numbered_class}
@@ -63,7 +63,7 @@ there_is : (o : Option Node) → is_some_and o (λ n. true) ≡ true → (there 
 there_is None e = absurd (true≢false (sym e))
 there_is (Some there) e = (there, refl)
 
-module _ (session : Session) (s : State) (f : Flat) (l : Laid session s f) where
+module _ (session : Session) (s : State) (f : Flat) (l : ObjectsMatch session s f) where
   -- `/` leads where boot left it
   pub slash_leads : (class : Class) → target_for l.naming.number ([], record { class = class; content = Dir }) ≡ Some (targets.Directory (slash_number (length session.users)) (slash_listing_number (length session.users)))
   slash_leads class i = both_numbers (l.as_booted (Slash ∷ []) (slash_number (length session.users)) refl i) (l.as_booted (Listing ∷ Slash ∷ []) (slash_listing_number (length session.users)) refl i)
@@ -239,7 +239,7 @@ tree_shown s (node ∷ tree) = ap (λ (lines : List TreeLine). line_at s node �
 same_lines : (s : State) (category : Categories) (tree : List TreeNode) (es : List (Path × Node)) → map (tree_entry s) tree ≡ map (flat_entry category) es → lines_at s tree ≡ map flat_line es
 same_lines s category tree es same = tree_shown s tree ∙ ap (map shown_line) same ∙ flat_shown category es
 
--- a state that lays out a flat state has the tree of that
+-- a state that represents a flat state has the tree of that
 pub flat_states_have_their_trees : FlatStatesHaveTheirTrees
 unfolding IsTreeOf
 flat_states_have_their_trees session s f lays shallow =

@@ -1,4 +1,4 @@
--- The tree of a state that lays out a flat state, where its paths lead, and its processes.
+-- The tree of a state that represents a flat state, where its paths lead, and its processes.
 use Rattle.std.specs.Prelude.{◌≡◌, ◌≤◌, true, List, [], length, map, Some, is_some, MatchOption}
 use Rattle.histar_flat.specs.Words.{Path, ProcName, most_names, most_numbers}
 use Rattle.histar_flat.specs.Sessions.{Session}
@@ -10,7 +10,7 @@ use Rattle.histar_layout.specs.declared.entry.Target.{Target}
 use Rattle.histar_calls.specs.declared.places.Places.{Places}
 use Rattle.histar_login.specs.Start.{places_of}
 use Rattle.histar_refinement.specs.Categories.{Categories}
-use Rattle.histar_refinement.specs.LaysOut.{LaysOut}
+use Rattle.histar_refinement.specs.Represents.{Represents}
 use Rattle.histar_tree.specs.declared.tree.TreeNode.{TreeNode}
 use Rattle.histar_tree.specs.Tree.{IsTreeOf}
 use Rattle.histar_tree.specs.TreeEntries.{file_bytes_at, tree_entry, flat_entry}
@@ -32,9 +32,9 @@ pub record HasTreeOf (session : Session) (s : State) (f : Flat) (category : Cate
   pub same : map (tree_entry s) tree ≡ map (flat_entry category) f.files.entries
   pub lines : lines_at s tree ≡ flat_lines f
 
--- a state that lays out a flat state has the tree of that, under the numbers that its categories have
+-- a state that represents a flat state has the tree of that, under the numbers that its categories have
 abbrev pub FlatStatesHaveTheirTrees : Type 0
-FlatStatesHaveTheirTrees = (session : Session) (s : State) (f : Flat) (l : LaysOut session s f) → AreShallow f → HasTreeOf session s f l.laid.category
+FlatStatesHaveTheirTrees = (session : Session) (s : State) (f : Flat) (l : Represents session s f) → AreShallow f → HasTreeOf session s f l.laid.category
 
 -- a state has one tree at most
 abbrev pub StatesHaveOneTree : Type 0
@@ -51,10 +51,10 @@ pub record LeadsToNode (s : State) (places : Places) (q : Path) (node : Node) : 
   pub kind : is_directory target ≡ is_dir node
   pub bytes : file_bytes_at s target ≡ bytes_of (Some node)
 
--- in a state that lays out a flat state a path leads to what that has there, and else nowhere
+-- in a state that represents a flat state a path leads to what that has there, and else nowhere
 abbrev pub FlatStatesAreResolved : Type 0
 FlatStatesAreResolved =
-    (session : Session) (s : State) (f : Flat) → LaysOut session s f → (q : Path)
+    (session : Session) (s : State) (f : Flat) → Represents session s f → (q : Path)
     → MatchOption (get f.files q) (LeadsNowhere s (places_of (length session.users)) q) (LeadsToNode s (places_of (length session.users)) q)
 
 -- no process has more numbers in its name than can be shown
@@ -67,8 +67,8 @@ pub record HasProcessesOf (session : Session) (s : State) (f : Flat) (category :
   pub are_processes : AreProcessesOf session s (places_of (length session.users)) processes
   pub lines : map process_line processes ≡ flat_processes category (levels_at []) f []
 
--- A state that lays out a flat state has the processes of that: what is shown of them is what the flat state has, each job by the
+-- A state that represents a flat state has the processes of that: what is shown of them is what the flat state has, each job by the
 -- category that it has in the state.
 abbrev pub FlatStatesHaveTheirProcesses : Type 0
 FlatStatesHaveTheirProcesses =
-    (session : Session) (s : State) (f : Flat) (l : LaysOut session s f) → AreNamed f → HasProcessesOf session s f l.laid.category
+    (session : Session) (s : State) (f : Flat) (l : Represents session s f) → AreNamed f → HasProcessesOf session s f l.laid.category

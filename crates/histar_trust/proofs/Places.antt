@@ -16,7 +16,7 @@ use Rattle.histar_layout.specs.Listing.{is_directory}
 use Rattle.histar_refinement.specs.Categories.{Categories}
 use Rattle.histar_refinement.specs.Categories.CategoryName.{OfJob}
 use Rattle.histar_refinement.specs.NumberedClasses.{numbered_class}
-use Rattle.histar_refinement.specs.LaysOut.{Laid}
+use Rattle.histar_refinement.specs.Represents.{ObjectsMatch}
 use Rattle.histar_refinement.proofs.LinesLaid.{node_there}
 use Rattle.histar_refinement.proofs.Standing.{parent_is_dir}
 use Rattle.histar_secrecy.specs.declared.file_class.FileClass.{FileClass}
@@ -101,7 +101,7 @@ module _ (s : State) (category : Categories) where
       subst (λ (p : Path). AreAlike q (if same_path q p then Some node else node_at q tree) (find path_cmp q (e ∷ es))) (sym path)
       (one_alike q node e (node_at q tree) (find path_cmp q es) path entry line rest)
 
-module _ (session : Session) (s : State) (f : Flat) (l : Laid session s f) (tree : List TreeNode)
+module _ (session : Session) (s : State) (f : Flat) (l : ObjectsMatch session s f) (tree : List TreeNode)
     (each : (q : Path) → AreAlike s l.category q (node_at q tree) (get f.files q)) where
   -- what the tree has where the flat state has something
   pub found_at : (q : Path) (there : Node) → get f.files q ≡ Some there → (node : TreeNode) × (node_at q tree ≡ Some node)

@@ -41,7 +41,7 @@ writes_none OutOfMemory read given = refl
 writes_none ReadFailed read given = refl
 writes_none WriteFailed read given = absurd given
 
--- it lays out a state that calls lead to
+-- it represents a state that calls lead to
 pub shows_reached : (at : Option ℕ) (text : List ℕ) (m : MachineModel) (is : IsMachineOf at text m)
     → ShowsReached is.script.session m (state_before at is.script)
 shows_reached at text m is = record { shows = is.shows; reached = (calls_before at is.script.calls, refl) }

@@ -1,4 +1,4 @@
--- The lines on the files of a machine are those of the flat state that it lays out.
+-- The lines on the files of a machine are those of the flat state that it represents.
 use Rattle.std.specs.Prelude.{◌≡◌, ℕ, Bool, true, false, not, ◌&&◌, List, [], ◌∷◌, ◌++◌, codes, filter, is_ok, map, OnOk, Some, if◌then◌else◌, refl}
 use Rattle.std.proofs.Common.{Result, Ok, Err, ap, ap₂, sym, ◌∙◌, append_assoc, append-nil}
 use Rattle.std.proofs.lemmas.Bool.{and_parts}
@@ -160,7 +160,7 @@ module _ {session : Session} {m : MachineModel} {f : Flat} (r : ShowsReached ses
   s = state m.kernel
 
   abbrev category : Categories
-  category = r.shows.lays_out.laid.category
+  category = r.shows.represents.laid.category
 
   -- who has which standing to a file, and who could log in as a reader
   members_are : (e : Path × Node) → get f.files e.0 ≡ Some e.1 → (class : FileClass)

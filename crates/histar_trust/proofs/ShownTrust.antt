@@ -1,4 +1,4 @@
--- What is read off a machine is what the flat state says that it lays out.
+-- What is read off a machine is what the flat state says that it represents.
 use Rattle.std.specs.Prelude.{◌≡◌, ℕ, Bool, length, true, false, not, ◌&&◌, List, [], ◌∷◌, ◌++◌, map, filter, codes, Option, None, Some, option_map, if◌then◌else◌, refl}
 use Rattle.std.specs.List.{filter_map}
 use Rattle.std.proofs.Common.{ap, sym, ◌∙◌, subst}
@@ -17,7 +17,7 @@ use Rattle.histar_calls.specs.declared.places.Places.{Places}
 use Rattle.histar_login.specs.Start.{places_of}
 use Rattle.histar_refinement.specs.Categories.{CategoryName, split_category}
 use Rattle.histar_refinement.specs.Categories.CategoryName.{OfJob}
-use Rattle.histar_refinement.specs.LaysOut.{Laid}
+use Rattle.histar_refinement.specs.Represents.{ObjectsMatch}
 use Rattle.histar_rights.specs.Running.{HaveShownNames, Named, running_in}
 use Rattle.histar_rights.specs.Table.{access_line_text, line_of}
 use Rattle.histar_rights.proofs.Named.{processes_are_named}
@@ -97,8 +97,8 @@ module _ {session : Session} {m : MachineModel} {f : Flat} (r : ShowsReached ses
   abbrev s : State
   s = state m.kernel
 
-  abbrev l : Laid session s f
-  l = r.shows.lays_out.laid
+  abbrev l : ObjectsMatch session s f
+  l = r.shows.represents.laid
 
   abbrev number : ProcName → ℕ
   number = number_of l.category
@@ -132,7 +132,7 @@ module _ {session : Session} {m : MachineModel} {f : Flat} (r : ShowsReached ses
 
   module _ (tree : List TreeNode) (is : IsTreeIn m tree) where
     pub own_tree : HasTreeOf session s f l.category
-    own_tree = flat_states_have_their_trees session s f r.shows.lays_out r.shows.shallow
+    own_tree = flat_states_have_their_trees session s f r.shows.represents r.shows.shallow
 
     own_tree_here : IsTreeIn m own_tree.tree
     own_tree_here =
@@ -160,7 +160,7 @@ module _ {session : Session} {m : MachineModel} {f : Flat} (r : ShowsReached ses
 
   module _ (members : List Member) (found_members : AreMembers m members) where
     own : HasProcessesOf session s f l.category
-    own = flat_states_have_their_processes session s f r.shows.lays_out named
+    own = flat_states_have_their_processes session s f r.shows.represents named
 
     same_processes : found_members.processes ≡ own.processes
     same_processes = one_list session s (places_of (length session.users)) found_members.processes own.processes

@@ -125,19 +125,19 @@ module _ (session : Session) (members : List Member) where
 abbrev pub head_text : TreeNode → List ℕ
 head_text node = access_line_text (record { path = node.path; stat = node_stat node; cells = [] })
 
--- a machine lays out a flat state that calls lead to
+-- a machine represents a flat state that calls lead to
 pub record ShowsReached (session : Session) (m : MachineModel) (f : Flat) : Type 0 where
   pub shows : Shows session m f
   pub reached : IsReached session f
 
--- a machine lays out some such state
+-- a machine represents some such state
 abbrev pub HasState : MachineModel → Type 0
 HasState m = (session : Session) × (f : Flat) × ShowsReached session m f
 
--- whatever such state a machine lays out, this is the text of that for the path
+-- whatever such state a machine represents, this is the text of that for the path
 abbrev pub ShowsTrust : MachineModel → Path → List ℕ → Type 0
 ShowsTrust m path text = (session : Session) (f : Flat) → ShowsReached session m f → text ≡ trust_text session f path
 
--- whatever such state a machine lays out, this is the text on its files
+-- whatever such state a machine represents, this is the text on its files
 abbrev pub ShowsSecrets : MachineModel → List ℕ → Type 0
 ShowsSecrets m text = (session : Session) (f : Flat) → ShowsReached session m f → text ≡ secrets_text session f

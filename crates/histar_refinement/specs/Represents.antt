@@ -1,4 +1,4 @@
--- When the state of a labelled kernel lays out a flat state.
+-- When the state of a labelled kernel represents a flat state.
 use Rattle.std.specs.Prelude.{◌≡◌, ◌≢◌, ℕ, ◌+◌, ◌≤◌, ◌⊎◌, true, false, List, [], ◌∷◌, length, map, None, Some, is_some}
 use Rattle.histar_flat.specs.Words.{Path, ProcName, greatest_status, most_children}
 use Rattle.histar_flat.specs.Sessions.{Session, has, user_number}
@@ -29,7 +29,7 @@ abbrev pub IsInOrder : Categories → Class → Type 0
 IsInOrder category (Scratch owner jobs) = AreInOrder category jobs
 IsInOrder category class = Unit {0}
 
--- A process that can be laid out: its user is declared, or is nobody, who is in no job and holds none; it holds no job that it is
+-- A process that can be represented: its user is declared, or is nobody, who is in no job and holds none; it holds no job that it is
 -- in, its jobs stand in order, and its counts are those that its segment has room for. Of one that has exited neither the user nor
 -- the held jobs can be known, and nothing is said of them.
 pub record IsProcess (session : Session) (category : Categories) (p : Process) : Type 0 where
@@ -43,7 +43,7 @@ pub record IsProcess (session : Session) (category : Categories) (p : Process) :
 
 -- A state of the kernel has the objects of a flat state, under a naming of its objects by addresses and a naming of its categories.
 -- This holds also in the midst of a call that begins a job: there a directory is for a job whose first process was not yet born.
-pub record Laid (session : Session) (s : State) (f : Flat) : Type 0 where
+pub record ObjectsMatch (session : Session) (s : State) (f : Flat) : Type 0 where
   pub naming : Naming Step
   pub category : Categories
   -- each object stands at an address, links exactly what stands one step below it, and is what the flat state asks for there: its
@@ -62,7 +62,7 @@ pub record Laid (session : Session) (s : State) (f : Flat) : Type 0 where
   pub in_order : (q : Path) (there : Node) → get f.files q ≡ Some there → IsInOrder category there.class
   -- each directory is one that a directory segment can hold
   pub listable : (d : Path) → is_dir_at f d ≡ true → IsListable (directory_of f.files naming.number d)
-  -- process 0 is there, and each process is one that can be laid out
+  -- process 0 is there, and each process is one that can be represented
   pub first : is_some (f.processes []) ≡ true
   pub processes : (me : ProcName) (p : Process) → f.processes me ≡ Some p → IsProcess session category p
   -- the numbers in the names of processes were given to children that were born
@@ -74,7 +74,7 @@ pub record Laid (session : Session) (s : State) (f : Flat) : Type 0 where
 abbrev pub AreJobsGiven : Flat → Type 0
 AreJobsGiven f = (job : ProcName) → IsKnown f job ⊎ IsServed f job → is_given f.processes job ≡ true
 
--- a state of the kernel lays out a flat state
-pub record LaysOut (session : Session) (s : State) (f : Flat) : Type 0 where
-  pub laid : Laid session s f
+-- a state of the kernel represents a flat state
+pub record Represents (session : Session) (s : State) (f : Flat) : Type 0 where
+  pub laid : ObjectsMatch session s f
   pub jobs_given : AreJobsGiven f
