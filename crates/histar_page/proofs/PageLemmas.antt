@@ -1,28 +1,30 @@
--- A page of three parts.
-use Rattle.std.proofs.Common.{◌≡◌, ℕ, List, ◌++◌, ◌∙◌, ap, ap₂, sym}
-use Rattle.std.specs.List.{flat_map}
+-- A page, one part after another.
+use Rattle.std.proofs.Common.{◌≡◌, ℕ, List, [], ◌++◌, ◌∙◌, refl, ap, ap₂, subst, sym}
 use Rattle.std.proofs.lemmas.List.Concat.{flat_map-append}
 use Rattle.histar_page.specs.declared.piece.Piece.{Piece}
 use Rattle.histar_page.specs.Items.{Item, item_of, items_of}
 use Rattle.histar_page.specs.Rendering.{piece_text, rendered}
 use Rattle.histar_page.specs.Page.{IsPage, IsReport, Sources}
 
--- a map over three parts
-three : {X A : Type 0} (f : X → List A) (a b c : List X) → flat_map f (a ++ b ++ c) ≡ flat_map f a ++ flat_map f b ++ flat_map f c
-three f a b c = flat_map-append f (a ++ b) c ∙ ap (λ l. l ++ flat_map f c) (flat_map-append f a b)
+-- a page is written so far of pieces that show these items
+pub record IsWritten (page : List ℕ) (items : List Item) : Type 0 where
+  pub pieces : List Piece
+  pub written : page ≡ rendered pieces
+  pub shown : items_of pieces ≡ items
 
--- the items of three parts
-pub parts_are : (head session files : List Piece) {h s f : List Item} → items_of head ≡ h → items_of session ≡ s → items_of files ≡ f
-    → items_of (head ++ session ++ files) ≡ h ++ s ++ f
-parts_are head session files eh es ef =
-    three item_of head session files ∙ ap₂ (λ (a b : List Item). a ++ b) (ap₂ (λ (a b : List Item). a ++ b) eh es) ef
+-- nothing is written
+pub none_written : {page : List ℕ} → page ≡ [] → IsWritten page []
+none_written e = record { pieces = []; written = e; shown = refl }
 
--- a page that was written of three parts
-pub page_is : {sources : Sources} {first second page : List ℕ} (head session files : List Piece)
-    → first ≡ rendered head → second ≡ first ++ rendered session → page ≡ second ++ rendered files
-    → IsReport sources (items_of (head ++ session ++ files)) → IsPage sources page
-page_is head session files first second third shows = record {
-  pieces = head ++ session ++ files;
-  written = third ∙ ap (λ l. l ++ rendered files) (second ∙ ap (λ l. l ++ rendered session) first) ∙ sym (three piece_text head session files);
-  shows = shows;
+-- one part more is written
+pub part_written : {old new : List ℕ} {items added : List Item} (part more : List Piece) → IsWritten old items
+    → new ≡ old ++ rendered more → more ≡ part → items_of part ≡ added → IsWritten new (items ++ added)
+part_written part more h e same shown = record {
+  pieces = h.pieces ++ part;
+  written = e ∙ ap₂ (λ (a b : List ℕ). a ++ b) h.written (ap rendered same) ∙ sym (flat_map-append piece_text h.pieces part);
+  shown = flat_map-append item_of h.pieces part ∙ ap₂ (λ (a b : List Item). a ++ b) h.shown shown;
 }
+
+-- a page that shows a report
+pub page_is : {sources : Sources} {page : List ℕ} {items : List Item} → IsWritten page items → IsReport sources items → IsPage sources page
+page_is {sources} h report = record { pieces = h.pieces; written = h.written; shows = subst (IsReport sources) (sym h.shown) report }

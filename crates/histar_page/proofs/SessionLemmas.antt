@@ -12,7 +12,9 @@ use Rattle.histar_page.specs.declared.kind.Kind.{Kind}
 use Rattle.histar_page.specs.declared.kind.Kind.TheVariants.{Reply, Refusal, RawCall, DeniedCall}
 use Rattle.histar_page.specs.Items.{Item}
 use Rattle.histar_page.specs.Lines.{after_word, is_denied, is_explanation, is_own, is_raw_call, is_refused, is_reply, mark_number}
-use Rattle.histar_page.specs.Session.{AddsSession, AreOwn, IsSession, answer_items, boot_items, call_items, is_answer_kind, is_number_kind, is_raw_kind, is_why_kind, of_kinds, other_call_items, other_why_items, raw_item, raw_kind, reply_kind, why_item}
+use Rattle.histar_page.specs.Session.{AddsSession, AreOwn, IsSession, answer_items, boot_items, call_items, is_answer_kind, is_number_kind, is_other_kind, is_raw_kind, is_why_kind, of_kinds, other_call_items, other_item, other_why_items, raw_item, raw_kind, reply_kind, why_item}
+use Rattle.histar_page.specs.Order.{session_numbers}
+use Rattle.histar_page.proofs.OwnLemmas.{boot_alone}
 
 -- ---- kinds
 
@@ -61,6 +63,11 @@ behind_answers raw_calls explanations =
     of-append is_answer_kind (map raw_item raw_calls) (map why_item explanations)
     ∙ ap₂ (λ (a b : List Item). a ++ b) (raw_none is_answer_kind refl refl raw_calls) (of_none is_answer_kind why_item (λ line. refl) explanations)
 
+behind_others : (raw_calls explanations : List (List ℕ)) → of_kinds is_other_kind (map raw_item raw_calls ++ map why_item explanations) ≡ []
+behind_others raw_calls explanations =
+    of-append is_other_kind (map raw_item raw_calls) (map why_item explanations)
+    ∙ ap₂ (λ (a b : List Item). a ++ b) (raw_none is_other_kind refl refl raw_calls) (of_none is_other_kind why_item (λ line. refl) explanations)
+
 -- ---- a call
 
 call_answers : (script : List (List ℕ)) (line : List ℕ) (raw_calls explanations : List (List ℕ))
@@ -75,6 +82,11 @@ call_raw script line raw_calls explanations = rw (by_reply (λ k. is_raw_kind k 
 call_why : (script : List (List ℕ)) (line : List ℕ) (raw_calls explanations : List (List ℕ))
     → of_kinds is_why_kind (call_items script line raw_calls explanations) ≡ map why_item explanations
 call_why script line raw_calls explanations = rw (by_reply (λ k. is_why_kind k ≡ false) refl refl line) (behind_why raw_calls explanations)
+
+call_others : (script : List (List ℕ)) (line : List ℕ) (raw_calls explanations : List (List ℕ))
+    → of_kinds is_other_kind (call_items script line raw_calls explanations) ≡ []
+call_others script line raw_calls explanations =
+    rw (by_reply (λ k. is_other_kind k ≡ false) refl refl line) (behind_others raw_calls explanations)
 
 -- ---- numbers
 
@@ -160,6 +172,18 @@ why_all : (lines : List (List ℕ)) → of_kinds is_why_kind (flat_map other_why
 why_all [] = refl
 why_all (line ∷ lines) = ap (λ l. why_item line ∷ l) (why_all lines)
 
+calls_numbers : (lines : List (List ℕ)) → of_kinds is_other_kind (flat_map other_call_items lines) ≡ map other_item (map mark_number lines)
+calls_numbers [] = refl
+calls_numbers (line ∷ lines) =
+    rw (by_raw (λ k. is_other_kind k ≡ false) refl refl line) (ap (λ l. other_item (mark_number line) ∷ l) (calls_numbers lines))
+
+whys_numbers : (lines : List (List ℕ)) → of_kinds is_other_kind (flat_map other_why_items lines) ≡ map other_item (map mark_number lines)
+whys_numbers [] = refl
+whys_numbers (line ∷ lines) = ap (λ l. other_item (mark_number line) ∷ l) (whys_numbers lines)
+
+boot_number : (boot : List (List ℕ)) → of_kinds is_other_kind (boot_items boot) ≡ other_item (codes "0") ∷ []
+boot_number boot = ap (λ l. other_item (codes "0") ∷ l) (raw_none is_other_kind refl refl boot)
+
 -- ---- what is added
 
 -- one list was added behind another
@@ -167,15 +191,15 @@ joined : (test : Kind → Bool) (xs ys a b : List Item) → of_kinds test xs ≡
 joined test xs ys a b x y = of-append test xs ys ∙ ap₂ (λ (a b : List Item). a ++ b) x y
 
 -- nothing was added
-pub adds_none : (script : List (List ℕ)) (old : List Item) → AddsSession script [] [] [] old old
-adds_none script old = record { added = []; is_added = sym (append-nil old); answers = refl; raw = refl; why = refl; own = λ number. tt }
+pub adds_none : (script : List (List ℕ)) (old : List Item) → AddsSession script [] [] [] [] old old
+adds_none script old = record { added = []; is_added = sym (append-nil old); answers = refl; raw = refl; why = refl; own = λ number. tt; others = refl }
 
 -- a call was added
-pub adds_call : {script done raw why : List (List ℕ)} {old mid new : List Item} (line : List ℕ) (raw_calls explanations : List (List ℕ))
-    → AddsSession script done raw why old mid → new ≡ mid ++ call_items script line raw_calls explanations
+pub adds_call : {script done raw why numbers : List (List ℕ)} {old mid new : List Item} (line : List ℕ) (raw_calls explanations : List (List ℕ))
+    → AddsSession script done raw why numbers old mid → new ≡ mid ++ call_items script line raw_calls explanations
     → list_all (is_own (split_word line).0) raw_calls ≡ true → list_all (is_own (split_word line).0) explanations ≡ true
-    → AddsSession script (done ++ line ∷ []) (raw ++ raw_calls) (why ++ explanations) old new
-adds_call {script} {done} {raw} {why} {old} line raw_calls explanations h e own_calls own_explanations =
+    → AddsSession script (done ++ line ∷ []) (raw ++ raw_calls) (why ++ explanations) numbers old new
+adds_call {script} {done} {raw} {why} {numbers} {old} line raw_calls explanations h e own_calls own_explanations =
     let call = call_items script line raw_calls explanations in
     record {
       added = h.added ++ call;
@@ -184,13 +208,14 @@ adds_call {script} {done} {raw} {why} {old} line raw_calls explanations h e own_
       raw = joined is_raw_kind h.added call _ _ h.raw (call_raw script line raw_calls explanations) ∙ sym (map-append raw_item raw raw_calls);
       why = joined is_why_kind h.added call _ _ h.why (call_why script line raw_calls explanations) ∙ sym (map-append why_item why explanations);
       own = λ number. own-append number h.added call (h.own number) (own_call script line raw_calls explanations own_calls own_explanations);
+      others = joined is_other_kind h.added call _ _ h.others (call_others script line raw_calls explanations) ∙ append-nil (map other_item numbers);
     }
 
 -- raw calls of no reply were added
-pub adds_calls : {script done raw why : List (List ℕ)} {old mid new : List Item} (raw_calls : List (List ℕ))
-    → AddsSession script done raw why old mid → new ≡ mid ++ flat_map other_call_items raw_calls
-    → AddsSession script done (raw ++ raw_calls) why old new
-adds_calls {script} {done} {raw} {why} {old} raw_calls h e =
+pub adds_calls : {script done raw why numbers : List (List ℕ)} {old mid new : List Item} (raw_calls : List (List ℕ))
+    → AddsSession script done raw why numbers old mid → new ≡ mid ++ flat_map other_call_items raw_calls
+    → AddsSession script done (raw ++ raw_calls) why (numbers ++ map mark_number raw_calls) old new
+adds_calls {script} {done} {raw} {why} {numbers} {old} raw_calls h e =
     let others = flat_map other_call_items raw_calls in
     record {
       added = h.added ++ others;
@@ -199,13 +224,15 @@ adds_calls {script} {done} {raw} {why} {old} raw_calls h e =
       raw = joined is_raw_kind h.added others _ _ h.raw (other_raw raw_calls) ∙ sym (map-append raw_item raw raw_calls);
       why = joined is_why_kind h.added others _ _ h.why (other_none raw_calls) ∙ append-nil _;
       own = λ number. own-append number h.added others (h.own number) (own_other_calls raw_calls);
+      others =
+          joined is_other_kind h.added others _ _ h.others (calls_numbers raw_calls) ∙ sym (map-append other_item numbers (map mark_number raw_calls));
     }
 
 -- explanations of no reply were added
-pub adds_whys : {script done raw why : List (List ℕ)} {old mid new : List Item} (explanations : List (List ℕ))
-    → AddsSession script done raw why old mid → new ≡ mid ++ flat_map other_why_items explanations
-    → AddsSession script done raw (why ++ explanations) old new
-adds_whys {script} {done} {raw} {why} {old} explanations h e =
+pub adds_whys : {script done raw why numbers : List (List ℕ)} {old mid new : List Item} (explanations : List (List ℕ))
+    → AddsSession script done raw why numbers old mid → new ≡ mid ++ flat_map other_why_items explanations
+    → AddsSession script done raw (why ++ explanations) (numbers ++ map mark_number explanations) old new
+adds_whys {script} {done} {raw} {why} {numbers} {old} explanations h e =
     let others = flat_map other_why_items explanations in
     record {
       added = h.added ++ others;
@@ -214,13 +241,15 @@ adds_whys {script} {done} {raw} {why} {old} explanations h e =
       raw = joined is_raw_kind h.added others _ _ h.raw (why_raw explanations) ∙ append-nil _;
       why = joined is_why_kind h.added others _ _ h.why (why_all explanations) ∙ sym (map-append why_item why explanations);
       own = λ number. own-append number h.added others (h.own number) (own_other_why explanations);
+      others =
+          joined is_other_kind h.added others _ _ h.others (whys_numbers explanations) ∙ sym (map-append other_item numbers (map mark_number explanations));
     }
 
 -- what was added behind the raw calls of boot
-pub adds_boot : {script done raw why : List (List ℕ)} {old mid new : List Item} (boot : List (List ℕ))
-    → mid ≡ old ++ boot_items boot → list_all (is_own (codes "0")) boot ≡ true → AddsSession script done raw why mid new
-    → AddsSession script done (boot ++ raw) why old new
-adds_boot {script} {done} {raw} {why} {old} boot e is_boot h =
+pub adds_boot : {script done raw why numbers : List (List ℕ)} {old mid new : List Item} (boot : List (List ℕ))
+    → mid ≡ old ++ boot_items boot → list_all (is_own (codes "0")) boot ≡ true → AddsSession script done raw why numbers mid new
+    → AddsSession script done (boot ++ raw) why (codes "0" ∷ numbers) old new
+adds_boot {script} {done} {raw} {why} {numbers} {old} boot e is_boot h =
     let items = boot_items boot in
     record {
       added = items ++ h.added;
@@ -230,20 +259,21 @@ adds_boot {script} {done} {raw} {why} {old} boot e is_boot h =
       why = joined is_why_kind items h.added _ _ (raw_none is_why_kind refl refl boot) h.why;
       own = λ number. own-append number items h.added
           (never, subst_nil (codes "0") boot is_boot) h.own;
+      others = joined is_other_kind items h.added _ _ (boot_number boot) h.others;
     }
   where
     subst_nil : (number : List ℕ) (lines : List (List ℕ)) → list_all (is_own number) lines ≡ true → AreOwn number (map raw_item lines)
     subst_nil number lines is = let P : List Item → Type 0 = AreOwn number in rw (← append-nil (map raw_item lines)) (own_raw number lines [] is tt)
 
 -- what was added of equal lists
-pub adds_as : {script done raw why all raws whys : List (List ℕ)} {old new : List Item} → all ≡ done → raws ≡ raw → whys ≡ why
-    → AddsSession script done raw why old new → AddsSession script all raws whys old new
-adds_as is_all are_raws are_whys h = rw (is_all, are_raws, are_whys) h
+pub adds_as : {script done raw why numbers all raws whys others : List (List ℕ)} {old new : List Item} → all ≡ done → raws ≡ raw → whys ≡ why
+    → others ≡ numbers → AddsSession script done raw why numbers old new → AddsSession script all raws whys others old new
+adds_as is_all are_raws are_whys are_others h = rw (is_all, are_raws, are_whys, are_others) h
 
 -- a session that was added to nothing
 pub session_is : {script replies raw why lines output : List (List ℕ)} {old new : List Item}
     → script ≡ lines → replies ≡ filter is_reply output → raw ≡ filter is_raw_call output → why ≡ filter is_explanation output → old ≡ []
-    → AddsSession script replies raw why old new → IsSession lines output new
+    → AddsSession script replies raw why (session_numbers replies raw why) old new → IsSession lines output new
 session_is is_script are_replies are_raw are_why is_empty h =
     let all = h.is_added ∙ ap (λ l. l ++ h.added) is_empty in
     record {
@@ -251,4 +281,7 @@ session_is is_script are_replies are_raw are_why is_empty h =
       raw_calls = ap (of_kinds is_raw_kind) all ∙ h.raw ∙ ap (map raw_item) are_raw;
       explanations = ap (of_kinds is_why_kind) all ∙ h.why ∙ ap (map why_item) are_why;
       own = let P : List Item → Type 0 = AreOwn [] in subst P (sym all) (h.own []);
+      with_calls = λ follows.
+          ap (of_kinds is_other_kind) all ∙ h.others ∙ (λ i. map other_item (session_numbers (are_replies i) (are_raw i) (are_why i)))
+          ∙ boot_alone _ _ _ follows.raw_calls follows.explanations;
     }

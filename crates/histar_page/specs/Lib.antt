@@ -2,7 +2,11 @@ pub mod Texts
 pub mod Rendering
 pub mod Items
 pub mod Lines
+pub mod Order
 pub mod Head
 pub mod Session
 pub mod Files
+pub mod Secrets
+pub mod Places
+pub mod Drawing
 pub mod Page

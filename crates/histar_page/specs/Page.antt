@@ -8,6 +8,8 @@ use Rattle.histar_page.specs.Rendering.{rendered}
 use Rattle.histar_page.specs.Head.{head_items}
 use Rattle.histar_page.specs.Session.{IsSession}
 use Rattle.histar_page.specs.Files.{files_items}
+use Rattle.histar_page.specs.Secrets.{secrets_items}
+use Rattle.histar_page.specs.Drawing.{drawing_items}
 
 -- the texts that a page is made of
 pub record Sources : Type 0 where
@@ -16,15 +18,18 @@ pub record Sources : Type 0 where
   pub script : List ℕ
   pub output : List ℕ
   pub table : List ℕ
+  pub secrets : List ℕ
 
 -- the texts that references point to
 abbrev pub sources_of : Texts → Sources
-sources_of texts = record { name = texts.name.now; version = texts.version.now; script = texts.script.now; output = texts.output.now; table = texts.table.now }
+sources_of texts = record { name = texts.name.now; version = texts.version.now; script = texts.script.now; output = texts.output.now; table = texts.table.now; secrets = texts.secrets.now }
 
--- What a page shows: its head, the session, and the files.
+-- What a page shows: its head, the session, the files, the secrets and the drawing.
 pub record IsReport (sources : Sources) (items : List Item) : Type 0 where
   pub session : List Item
   pub parts : items ≡ head_items sources.name sources.version (lines_of sources.output) ++ session ++ files_items (lines_of sources.table)
+      ++ secrets_items (lines_of sources.secrets)
+      ++ drawing_items (lines_of sources.script) (lines_of sources.output) (lines_of sources.table)
   pub is_session : IsSession (lines_of sources.script) (lines_of sources.output) session
 
 -- The page is written of pieces that show the session. All else in it is fixed text of the program.

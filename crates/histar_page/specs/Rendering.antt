@@ -4,9 +4,9 @@ use Rattle.std.specs.List.{flat_map}
 use Rattle.histar_html.specs.Escape.{escaped}
 use Rattle.histar_page.specs.declared.markup.TheConstants.{STYLE}
 use Rattle.histar_page.specs.declared.kind.Kind.{Kind}
-use Rattle.histar_page.specs.declared.kind.Kind.TheVariants.{Title, FileName, Calls, Refusals, Denials, Version, LineNumber, OtherLine, Call, Reply, Refusal, RawCall, DeniedCall, Explanation, Column, Path, Stat, Process, Granted, Withheld}
+use Rattle.histar_page.specs.declared.kind.Kind.TheVariants.{Title, FileName, Calls, Refusals, Denials, Version, LineNumber, OtherLine, Call, Reply, Refusal, RawCall, DeniedCall, Explanation, Column, Path, Stat, Process, Granted, Withheld, Secret, Trusted, Confined, LoginReader, DrawnHeight, ProcessBand, FileBand, ReadEdge, WriteEdge, BothEdge, EdgeEnd, EdgeProcess, EdgeFile, ProcessNode, FileNode, NodeName}
 use Rattle.histar_page.specs.declared.markup.Markup.{Markup}
-use Rattle.histar_page.specs.declared.markup.Markup.TheVariants.{Begin, Style, BeginCounts, EndHead, BeginSession, BeginBoot, BeginOther, BeginCall, BeginBehind, EndCall, BeginBare, EndBare, EndSession, BeginFiles, EndColumns, BeginRow, BeginCell, EndCell, EndRow, End}
+use Rattle.histar_page.specs.declared.markup.Markup.TheVariants.{Begin, Style, BeginCounts, EndHead, BeginSession, BeginBoot, BeginOther, BeginCall, BeginBehind, EndCall, BeginBare, EndBare, EndSession, BeginFiles, EndColumns, BeginRow, BeginCell, EndCell, EndRow, EndFiles, BeginSecrets, NoSecrets, OnSecrets, BeginSecret, EndSecret, EndSecrets, BeginLabels, NotDrawn, BeginDrawing, Arrows, EndDrawing, End}
 use Rattle.histar_page.specs.declared.piece.Piece.{Piece}
 use Rattle.histar_page.specs.declared.piece.Piece.TheVariants.{Fixed, Shown, Counted, Letter}
 
@@ -32,6 +32,22 @@ opening Stat = codes "<td class=\"stat\">"
 opening Process = codes "<small>"
 opening Granted = codes "<b>"
 opening Withheld = codes "<i>"
+opening Secret = codes "<code>"
+opening Trusted = codes "<span class=\"trusted\">trusted <b>"
+opening Confined = codes "<span class=\"confined\">confined <b>"
+opening LoginReader = codes "<span class=\"login\">login <b>"
+opening DrawnHeight = codes "<svg viewBox=\"0 0 936 "
+opening ProcessBand = codes "<rect class=\"job\" width=\"216\" height=\"44\" y=\"-9\" transform=\"translate(0 "
+opening FileBand = codes "<rect class=\"job\" width=\"416\" height=\"32\" y=\"-3\" transform=\"translate(512 "
+opening ReadEdge = codes "<line class=\"reads\" marker-start=\"url(#read)\" x1=\"210\" x2=\"518\" y1=\""
+opening WriteEdge = codes "<line class=\"writes\" marker-end=\"url(#written)\" x1=\"210\" x2=\"518\" y1=\""
+opening BothEdge = codes "<line class=\"both\" marker-start=\"url(#both)\" marker-end=\"url(#both)\" x1=\"210\" x2=\"518\" y1=\""
+opening EdgeEnd = codes ""
+opening EdgeProcess = codes ""
+opening EdgeFile = codes ""
+opening ProcessNode = codes "<g class=\"node\" transform=\"translate(8 "
+opening FileNode = codes "<g class=\"node\" transform=\"translate(520 "
+opening NodeName = codes "<text x=\"8\" y=\"18\">"
 
 -- the markup behind a text of a kind
 abbrev pub closing : Kind → List ℕ
@@ -55,13 +71,29 @@ closing Stat = codes "</td>"
 closing Process = codes "</small>"
 closing Granted = codes "</b>"
 closing Withheld = codes "</i>"
+closing Secret = codes "</code>\n"
+closing Trusted = codes "</b></span>\n"
+closing Confined = codes "</b></span>\n"
+closing LoginReader = codes "</b></span>\n"
+closing DrawnHeight = codes "\" role=\"img\" aria-label=\"Processes and files\">\n"
+closing ProcessBand = codes ")\"></rect>\n"
+closing FileBand = codes ")\"></rect>\n"
+closing ReadEdge = codes "\" y2=\""
+closing WriteEdge = codes "\" y2=\""
+closing BothEdge = codes "\" y2=\""
+closing EdgeEnd = codes "\"><title>"
+closing EdgeProcess = codes " and "
+closing EdgeFile = codes "</title></line>\n"
+closing ProcessNode = codes ")\"><rect width=\"200\" height=\"26\" rx=\"4\"></rect>"
+closing FileNode = codes ")\"><rect width=\"400\" height=\"26\" rx=\"4\"></rect>"
+closing NodeName = codes "</text></g>\n"
 
 -- a fixed text
 abbrev pub markup_text : Markup → List ℕ
 markup_text Begin = codes "<!DOCTYPE html>\n<html lang=\"en\">\n<head>\n<meta charset=\"utf-8\">\n<meta name=\"viewport\" content=\"width=device-width, initial-scale=1\">\n"
 markup_text Style = STYLE.now
 markup_text BeginCounts = codes "<p>\n"
-markup_text EndHead = codes "</p>\n<nav><a href=\"#session\">Session</a> <a href=\"#files\">Files</a></nav>\n</header>\n<main>\n"
+markup_text EndHead = codes "</p>\n<nav><a href=\"#session\">Session</a> <a href=\"#files\">Files</a> <a href=\"#secrets\">Secrets</a> <a href=\"#labels\">Labels</a></nav>\n</header>\n<main>\n"
 markup_text BeginSession = codes "<section id=\"session\">\n<h2>Session</h2>\n"
 markup_text BeginBoot = codes "<details class=\"other\">\n<summary>Boot, line "
 markup_text BeginOther = codes "<details class=\"other\">\n<summary>Raw calls of line "
@@ -77,7 +109,19 @@ markup_text BeginRow = codes "<tr>"
 markup_text BeginCell = codes "<td class=\"rights\">"
 markup_text EndCell = codes "</td>"
 markup_text EndRow = codes "</tr>\n"
-markup_text End = codes "</tbody>\n</table>\n</div>\n</section>\n</main>\n</body>\n</html>\n"
+markup_text EndFiles = codes "</tbody>\n</table>\n</div>\n</section>\n"
+markup_text BeginSecrets = codes "<section id=\"secrets\">\n<h2>Secrets</h2>\n"
+markup_text NoSecrets = codes "<p>Each file is for everyone to read at the end.</p>\n"
+markup_text OnSecrets = codes "<p>On whom each file rests at the end that isn't for everyone to read: the trusted could pass it on, the confined can't, and who logs in as one of these users may read it.</p>\n"
+markup_text BeginSecret = codes "<p class=\"secret\">\n"
+markup_text EndSecret = codes "</p>\n"
+markup_text EndSecrets = codes "</section>\n"
+markup_text BeginLabels = codes "<section id=\"labels\">\n<h2>Labels</h2>\n"
+markup_text NotDrawn = codes "<p>It has more than 12 processes or 30 files and directories at the end, and is not drawn.</p>\n</section>\n"
+markup_text BeginDrawing = codes "<p>Processes are on the left, files and directories on the right. A line with a head at the process says that it may read the file, one with a head at the file that it may write there: so what one writes another may read. The bands are jobs, and what they may change.</p>\n<div class=\"wide\">\n"
+markup_text Arrows = codes "<defs>\n<marker id=\"read\" viewBox=\"0 0 8 8\" refX=\"7\" refY=\"4\" markerWidth=\"8\" markerHeight=\"8\" orient=\"auto-start-reverse\"><path class=\"reads\" d=\"M0 0 8 4 0 8z\"></path></marker>\n<marker id=\"written\" viewBox=\"0 0 8 8\" refX=\"7\" refY=\"4\" markerWidth=\"8\" markerHeight=\"8\" orient=\"auto-start-reverse\"><path class=\"writes\" d=\"M0 0 8 4 0 8z\"></path></marker>\n<marker id=\"both\" viewBox=\"0 0 8 8\" refX=\"7\" refY=\"4\" markerWidth=\"8\" markerHeight=\"8\" orient=\"auto-start-reverse\"><path class=\"both\" d=\"M0 0 8 4 0 8z\"></path></marker>\n</defs>\n"
+markup_text EndDrawing = codes "</svg>\n</div>\n</section>\n"
+markup_text End = codes "</main>\n</body>\n</html>\n"
 
 -- what is written of a text of a kind: the text, escaped, between its tags
 abbrev pub shown_text : Kind → List ℕ → List ℕ

@@ -6,6 +6,7 @@ use Rattle.histar_page.specs.declared.kind.Kind.{Kind}
 use Rattle.histar_page.specs.declared.kind.Kind.TheVariants.{LineNumber, OtherLine, Call, Reply, Refusal, RawCall, DeniedCall, Explanation}
 use Rattle.histar_page.specs.Items.{Item}
 use Rattle.histar_page.specs.Lines.{after_word, front_number, is_denied, is_explanation, is_raw_call, is_refused, is_reply, mark_number}
+use Rattle.histar_page.specs.Order.{FollowsReplies}
 
 -- ---- what is shown of a line
 
@@ -60,6 +61,15 @@ is_number_kind LineNumber = true
 is_number_kind OtherLine = true
 is_number_kind kind = false
 
+-- the number of a line that is shown without a call
+abbrev pub is_other_kind : Kind → Bool
+is_other_kind OtherLine = true
+is_other_kind kind = false
+
+-- a number that is shown without a call
+abbrev pub other_item : List ℕ → Item
+other_item number = (OtherLine, number)
+
 -- those of these kinds
 abbrev pub of_kinds : (Kind → Bool) → List Item → List Item
 of_kinds test items = filter (λ item. test item.0) items
@@ -71,12 +81,14 @@ AreOwn number (item ∷ items) =
     ((is_raw_kind item.0 || is_why_kind item.0) ≡ true → mark_number item.1 ≡ number)
     × AreOwn (if is_number_kind item.0 then item.1 else number) items
 
--- The calls, raw calls and explanations are those of the output: each line is shown once, in its order, and behind the number of its line.
+-- The calls, raw calls and explanations are those of the output: each line is shown once, in its order, and behind the number of its line. Where
+-- they are in the order of the replies, the number is that of its call, since no other is shown without a call but the 0 of boot.
 pub record IsSession (script output : List (List ℕ)) (items : List Item) : Type 0 where
   pub answers : of_kinds is_answer_kind items ≡ flat_map (answer_items script) (filter is_reply output)
   pub raw_calls : of_kinds is_raw_kind items ≡ map raw_item (filter is_raw_call output)
   pub explanations : of_kinds is_why_kind items ≡ map why_item (filter is_explanation output)
   pub own : AreOwn [] items
+  pub with_calls : FollowsReplies output → of_kinds is_other_kind items ≡ other_item (codes "0") ∷ []
 
 -- ---- the parts
 
@@ -96,11 +108,12 @@ other_call_items line = (OtherLine, mark_number line) ∷ raw_item line ∷ []
 abbrev pub other_why_items : List ℕ → List Item
 other_why_items line = (OtherLine, mark_number line) ∷ why_item line ∷ []
 
--- Items were added that are these replies with these raw calls and explanations.
-pub record AddsSession (script replies raw_calls explanations : List (List ℕ)) (old new : List Item) : Type 0 where
+-- Items were added that are these replies with these raw calls and explanations, and these numbers are shown without a call.
+pub record AddsSession (script replies raw_calls explanations numbers : List (List ℕ)) (old new : List Item) : Type 0 where
   pub added : List Item
   pub is_added : new ≡ old ++ added
   pub answers : of_kinds is_answer_kind added ≡ flat_map (answer_items script) replies
   pub raw : of_kinds is_raw_kind added ≡ map raw_item raw_calls
   pub why : of_kinds is_why_kind added ≡ map why_item explanations
   pub own : (number : List ℕ) → AreOwn number added
+  pub others : of_kinds is_other_kind added ≡ map other_item numbers

@@ -16,7 +16,7 @@ use histar_flat::split_at_first;
 use std::alloc::{AllocError, Global};
 
 /// What is between a process and its rights.
-const COLON: u8 = b':';
+pub(crate) const COLON: u8 = b':';
 
 /// The letter of a right that is withheld.
 const WITHHELD: u8 = b'-';
@@ -31,7 +31,7 @@ pub(crate) fn files_pieces<'a>(alloc: Global, table: &'a [u8]) -> Result<Vec<Pie
     push_heads(alloc, &mut pieces, lines.as_slice())?;
     fix(&mut pieces, Markup::EndColumns)?;
     push_rows(alloc, &mut pieces, lines.as_slice())?;
-    fix(&mut pieces, Markup::End)?;
+    fix(&mut pieces, Markup::EndFiles)?;
     Ok(pieces)
 }
 

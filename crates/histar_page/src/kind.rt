@@ -28,6 +28,38 @@ pub enum Kind {
     Process,
     Granted,
     Withheld,
+    /// A file that not everyone may read.
+    Secret,
+    /// A process that is trusted with a file.
+    Trusted,
+    /// A process that is confined.
+    Confined,
+    /// A user as whom a process that logs in may read a file.
+    LoginReader,
+    /// The height of a drawing.
+    DrawnHeight,
+    /// How far down a process of a job is.
+    ProcessBand,
+    /// How far down a file is that a job may change.
+    FileBand,
+    /// How far down a process is that may read.
+    ReadEdge,
+    /// How far down a process is that may write.
+    WriteEdge,
+    /// How far down a process is that may read and write.
+    BothEdge,
+    /// How far down the file of an edge is.
+    EdgeEnd,
+    /// The process of an edge.
+    EdgeProcess,
+    /// The file of an edge.
+    EdgeFile,
+    /// How far down a process is.
+    ProcessNode,
+    /// How far down a file is.
+    FileNode,
+    /// The process or the file of a node.
+    NodeName,
 }
 
 impl Kind {
@@ -56,6 +88,27 @@ impl Kind {
             Kind::Process => b"<small>",
             Kind::Granted => b"<b>",
             Kind::Withheld => b"<i>",
+            Kind::Secret => b"<code>",
+            Kind::Trusted => b"<span class=\"trusted\">trusted <b>",
+            Kind::Confined => b"<span class=\"confined\">confined <b>",
+            Kind::LoginReader => b"<span class=\"login\">login <b>",
+            Kind::DrawnHeight => b"<svg viewBox=\"0 0 936 ",
+            Kind::ProcessBand =>
+                b"<rect class=\"job\" width=\"216\" height=\"44\" y=\"-9\" transform=\"translate(0 ",
+            Kind::FileBand =>
+                b"<rect class=\"job\" width=\"416\" height=\"32\" y=\"-3\" transform=\"translate(512 ",
+            Kind::ReadEdge =>
+                b"<line class=\"reads\" marker-start=\"url(#read)\" x1=\"210\" x2=\"518\" y1=\"",
+            Kind::WriteEdge =>
+                b"<line class=\"writes\" marker-end=\"url(#written)\" x1=\"210\" x2=\"518\" y1=\"",
+            Kind::BothEdge =>
+                b"<line class=\"both\" marker-start=\"url(#both)\" marker-end=\"url(#both)\" x1=\"210\" x2=\"518\" y1=\"",
+            Kind::EdgeEnd => b"",
+            Kind::EdgeProcess => b"",
+            Kind::EdgeFile => b"",
+            Kind::ProcessNode => b"<g class=\"node\" transform=\"translate(8 ",
+            Kind::FileNode => b"<g class=\"node\" transform=\"translate(520 ",
+            Kind::NodeName => b"<text x=\"8\" y=\"18\">",
         }
     }
 
@@ -70,11 +123,24 @@ impl Kind {
             Kind::LineNumber => b"</span>\n",
             Kind::OtherLine | Kind::Granted => b"</b>",
             Kind::Call | Kind::Reply | Kind::Refusal => b"</code>\n",
-            Kind::RawCall | Kind::DeniedCall | Kind::Explanation => b"</code>\n",
+            Kind::RawCall | Kind::DeniedCall | Kind::Explanation | Kind::Secret => b"</code>\n",
             Kind::Column | Kind::Path => b"</th>",
             Kind::Stat => b"</td>",
             Kind::Process => b"</small>",
             Kind::Withheld => b"</i>",
+            Kind::Trusted | Kind::Confined | Kind::LoginReader => b"</b></span>\n",
+            Kind::DrawnHeight => b"\" role=\"img\" aria-label=\"Processes and files\">\n",
+            Kind::ProcessBand => b")\"></rect>\n",
+            Kind::FileBand => b")\"></rect>\n",
+            Kind::ReadEdge => b"\" y2=\"",
+            Kind::WriteEdge => b"\" y2=\"",
+            Kind::BothEdge => b"\" y2=\"",
+            Kind::EdgeEnd => b"\"><title>",
+            Kind::EdgeProcess => b" and ",
+            Kind::EdgeFile => b"</title></line>\n",
+            Kind::ProcessNode => b")\"><rect width=\"200\" height=\"26\" rx=\"4\"></rect>",
+            Kind::FileNode => b")\"><rect width=\"400\" height=\"26\" rx=\"4\"></rect>",
+            Kind::NodeName => b"</text></g>\n",
         }
     }
 }

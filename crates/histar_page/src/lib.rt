@@ -3,16 +3,23 @@
 //! A page is a list of pieces: [`Markup`] is fixed text of the program, and all else is shown as text.
 #![tactic(auto)]
 
+mod bands;
+mod drawing;
+mod edges;
 mod files;
 mod head;
+mod jobs;
 mod kind;
 mod lines;
 mod markup;
 mod page;
 mod piece;
+mod places;
+mod secrets;
 mod session;
 
 pub use kind::Kind;
 pub use markup::Markup;
 pub use page::{Texts, page_text};
 pub use piece::Piece;
+pub use places::{MOST_DRAWN_FILES, MOST_DRAWN_PROCESSES, nodes_are_apart};

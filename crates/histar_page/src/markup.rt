@@ -5,9 +5,11 @@ ghost use Rattle.histar_page.specs.Rendering.{markup_text};
 /// How the page looks: in light and dark, on small screens, and on paper.
 const STYLE: &[u8] = b"<style>
 :root { color-scheme: light dark; --ink: #1b1f24; --dim: #59636e; --page: #fff; --panel: #f3f5f8; --line: #d5dae0;
-  --good: #17652f; --bad: #a40e1f; --bad-panel: #fdeaec; --s: #cfe3ff; --r: #cdefd6; --w: #ffe2b8; --d: #ffd1d6; --letter: #1b1f24 }
+  --good: #17652f; --bad: #a40e1f; --bad-panel: #fdeaec; --s: #cfe3ff; --r: #cdefd6; --w: #ffe2b8; --d: #ffd1d6; --letter: #1b1f24;
+  --reads: #2c8a4b; --writes: #c26a00; --both: #7a4fb5 }
 @media (prefers-color-scheme: dark) { :root { --ink: #e6e9ed; --dim: #a0a9b4; --page: #14171b; --panel: #1e2329; --line: #39414b;
-  --good: #7fd69a; --bad: #ff9aa2; --bad-panel: #3d1d22; --s: #234a7a; --r: #22583a; --w: #6b4a12; --d: #74303a; --letter: #f4f6f8 } }
+  --good: #7fd69a; --bad: #ff9aa2; --bad-panel: #3d1d22; --s: #234a7a; --r: #22583a; --w: #6b4a12; --d: #74303a; --letter: #f4f6f8;
+  --reads: #6fd08d; --writes: #f0a34a; --both: #b99cf0 } }
 * { box-sizing: border-box }
 body { margin: 0 auto; max-width: 76rem; padding: 1rem; background: var(--page); color: var(--ink); font: 16px/1.5 system-ui, sans-serif }
 h1 { margin: 0 0 .3rem; font-size: 1.5rem; overflow-wrap: anywhere }
@@ -45,6 +47,24 @@ tbody th { font: .85rem/1.7 ui-monospace, monospace; white-space: normal; overfl
 .rights small + * + b { background: var(--r) }
 .rights small + * + * + b { background: var(--w) }
 .rights small + * + * + * + b { background: var(--d) }
+.secret { display: flex; flex-wrap: wrap; gap: .1rem .6rem; align-items: baseline; margin: 0; padding: .3rem 0; border-top: 1px solid var(--line) }
+.secret code { flex: 0 1 20rem; min-width: 12rem }
+.secret span { padding: 0 .4rem; border-radius: .2rem; font-size: .85rem; color: var(--letter) }
+.secret b { font-family: ui-monospace, monospace; font-weight: normal }
+.trusted { background: var(--w) }
+.confined { background: var(--r) }
+.login { background: var(--s) }
+svg { display: block; width: 58.5rem; font: 13px ui-monospace, monospace }
+.node rect { fill: var(--panel); stroke: var(--line) }
+.node text { fill: var(--ink) }
+.job { fill: var(--s); opacity: .55 }
+line { stroke-width: 1.4; opacity: .75 }
+line.reads { stroke: var(--reads) }
+line.writes { stroke: var(--writes) }
+line.both { stroke: var(--both) }
+path.reads { fill: var(--reads) }
+path.writes { fill: var(--writes) }
+path.both { fill: var(--both) }
 @media (max-width: 40rem) {
   summary, .bare { grid-template-columns: 1rem 2rem minmax(0, 1fr) }
   summary .reply, summary .refusal, .bare .reply, .bare .refusal { grid-column: 3 }
@@ -92,6 +112,18 @@ pub enum Markup {
     BeginCell,
     EndCell,
     EndRow,
+    EndFiles,
+    BeginSecrets,
+    NoSecrets,
+    OnSecrets,
+    BeginSecret,
+    EndSecret,
+    EndSecrets,
+    BeginLabels,
+    NotDrawn,
+    BeginDrawing,
+    Arrows,
+    EndDrawing,
     End,
 }
 
@@ -110,7 +142,7 @@ impl Markup {
             Markup::Style => STYLE,
             Markup::BeginCounts => b"<p>\n",
             Markup::EndHead => b"</p>
-<nav><a href=\"#session\">Session</a> <a href=\"#files\">Files</a></nav>
+<nav><a href=\"#session\">Session</a> <a href=\"#files\">Files</a> <a href=\"#secrets\">Secrets</a> <a href=\"#labels\">Labels</a></nav>
 </header>
 <main>
 ",
@@ -135,11 +167,23 @@ impl Markup {
             Markup::BeginCell => b"<td class=\"rights\">",
             Markup::EndCell => b"</td>",
             Markup::EndRow => b"</tr>\n",
-            Markup::End => b"</tbody>
-</table>
-</div>
-</section>
-</main>
+            Markup::EndFiles => b"</tbody>\n</table>\n</div>\n</section>\n",
+            Markup::BeginSecrets => b"<section id=\"secrets\">\n<h2>Secrets</h2>\n",
+            Markup::NoSecrets => b"<p>Each file is for everyone to read at the end.</p>\n",
+            Markup::OnSecrets =>
+                b"<p>On whom each file rests at the end that isn't for everyone to read: the trusted could pass it on, the confined can't, and who logs in as one of these users may read it.</p>\n",
+            Markup::BeginSecret => b"<p class=\"secret\">\n",
+            Markup::EndSecret => b"</p>\n",
+            Markup::EndSecrets => b"</section>\n",
+            Markup::BeginLabels => b"<section id=\"labels\">\n<h2>Labels</h2>\n",
+            Markup::NotDrawn =>
+                b"<p>It has more than 12 processes or 30 files and directories at the end, and is not drawn.</p>\n</section>\n",
+            Markup::BeginDrawing =>
+                b"<p>Processes are on the left, files and directories on the right. A line with a head at the process says that it may read the file, one with a head at the file that it may write there: so what one writes another may read. The bands are jobs, and what they may change.</p>\n<div class=\"wide\">\n",
+            Markup::Arrows =>
+                b"<defs>\n<marker id=\"read\" viewBox=\"0 0 8 8\" refX=\"7\" refY=\"4\" markerWidth=\"8\" markerHeight=\"8\" orient=\"auto-start-reverse\"><path class=\"reads\" d=\"M0 0 8 4 0 8z\"></path></marker>\n<marker id=\"written\" viewBox=\"0 0 8 8\" refX=\"7\" refY=\"4\" markerWidth=\"8\" markerHeight=\"8\" orient=\"auto-start-reverse\"><path class=\"writes\" d=\"M0 0 8 4 0 8z\"></path></marker>\n<marker id=\"both\" viewBox=\"0 0 8 8\" refX=\"7\" refY=\"4\" markerWidth=\"8\" markerHeight=\"8\" orient=\"auto-start-reverse\"><path class=\"both\" d=\"M0 0 8 4 0 8z\"></path></marker>\n</defs>\n",
+            Markup::EndDrawing => b"</svg>\n</div>\n</section>\n",
+            Markup::End => b"</main>
 </body>
 </html>
 ",

@@ -2,9 +2,11 @@
 ghost use Rattle.std.specs.Prelude.{IfOk};
 ghost use Rattle.histar_page.specs.Page.{IsPage, sources_of};
 
+use crate::drawing::drawing_pieces;
 use crate::files::files_pieces;
 use crate::head::head_pieces;
 use crate::piece::render;
+use crate::secrets::secrets_pieces;
 use crate::session::session_pieces;
 use std::alloc::{AllocError, Global};
 
@@ -20,6 +22,8 @@ pub struct Texts<'a> {
     pub output: &'a [u8],
     /// What `access` writes of the script.
     pub table: &'a [u8],
+    /// What is written of its secrets: a line for each file that not everyone may read.
+    pub secrets: &'a [u8],
 }
 
 /// Returns the page of a session.
@@ -29,9 +33,13 @@ pub fn page_text(alloc: Global, texts: &Texts) -> Result<Vec<u8>, AllocError>
     let head = head_pieces(alloc, texts.name, texts.version, texts.output)?;
     let session = session_pieces(alloc, texts.script, texts.output)?;
     let files = files_pieces(alloc, texts.table)?;
+    let secrets = secrets_pieces(alloc, texts.secrets)?;
+    let drawing = drawing_pieces(alloc, texts.script, texts.output, texts.table)?;
     let mut page = Vec::new(alloc);
     render(&mut page, head.as_slice())?;
     render(&mut page, session.as_slice())?;
     render(&mut page, files.as_slice())?;
+    render(&mut page, secrets.as_slice())?;
+    render(&mut page, drawing.as_slice())?;
     Ok(page)
 }

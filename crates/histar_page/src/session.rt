@@ -1,5 +1,5 @@
 //! The session on a page: each call with its reply, and behind it its raw calls.
-ghost use Rattle.std.specs.Prelude.{◌≡◌, ◌≤◌, ◌+◌, ◌++◌, ◌∷◌, [], length, map, take, true, IfOk, OnOk};
+ghost use Rattle.std.specs.Prelude.{◌≡◌, ◌≤◌, ◌+◌, ◌++◌, ◌∷◌, [], drop, length, map, take, true, IfOk, OnOk};
 ghost use Rattle.std.specs.List.{flat_map, list_all};
 ghost use Rattle.histar_script.specs.Lines.{lines_of};
 ghost use Rattle.histar_page.specs.Texts.{texts};
@@ -7,6 +7,7 @@ ghost use Rattle.histar_page.specs.Items.{items_of};
 ghost use Rattle.histar_page.specs.Session.{AddsSession, answer_items, boot_items, call_items, call_on, IsSession};
 ghost use Rattle.histar_page.specs.Session.{other_call_items, other_why_items, raw_item, raw_kind, reply_kind, why_item};
 ghost use Rattle.histar_page.specs.Lines.{is_own, mark_number};
+ghost use Rattle.histar_page.specs.Order.{other_numbers, past_own, session_numbers};
 ghost use Rattle.histar_page.specs.declared.kind.Kind.TheVariants.{OtherLine};
 
 use crate::head::{RAW_MARK, WHY_MARK, is_refused};
@@ -55,6 +56,7 @@ fn push_session<'a>(
 ) -> Result<(), AllocError>
     ensures { OnOk result (AddsSession (texts script.now) (texts replies.now)
         (texts raw_calls.now) (texts explanations.now)
+        (session_numbers (texts replies.now) (texts raw_calls.now) (texts explanations.now))
         (items_of pieces.old.items) (items_of pieces.new.items)) }
 {
     let boot = own_lines(raw_calls, 0, b"0");
@@ -75,6 +77,7 @@ fn push_calls<'a>(
 ) -> Result<(), AllocError>
     ensures { OnOk result (AddsSession (texts script.now) (texts replies.now)
         (texts raw_calls.now) (texts explanations.now)
+        (other_numbers (texts replies.now) (texts raw_calls.now) (texts explanations.now))
         (items_of pieces.old.items) (items_of pieces.new.items)) }
 {
     let mut raw_at = 0;
@@ -100,6 +103,8 @@ fn own_lines<'b, 'a>(lines: &'b [&'a [u8]], from: usize, word: &[u8]) -> &'b [&'
     ensures taken { take (from + length result.now) (texts lines.entry.now)
         ≡ take from (texts lines.entry.now) ++ texts result.now }
     ensures own { list_all (is_own word.now) (texts result.now) ≡ true }
+    ensures rest { drop (from + length result.now) (texts lines.entry.now)
+        ≡ past_own word.now (drop from (texts lines.entry.now)) }
 {
     let (_, later) = lines.split_at(from);
     let (own, _) = later.split_at(own_count(later, word));
@@ -168,7 +173,7 @@ fn reply_kind(line: &[u8]) -> Kind
 }
 
 /// Returns the line of a script that a reply answers.
-fn call_on<'a>(script: &[&'a [u8]], reply: &[u8]) -> &'a [u8]
+pub(crate) fn call_on<'a>(script: &[&'a [u8]], reply: &[u8]) -> &'a [u8]
     ensures { result.now ≡ call_on (texts script.now) reply.now }
 {
     let Some(number) = front_number(reply) else {

@@ -9,7 +9,8 @@ use Rattle.histar_script.specs.Reading.{script_of}
 use Rattle.histar_shell.specs.declared.session.Options.{Options}
 use Rattle.histar_run_explain.specs.Run.{ExplainsText}
 use Rattle.histar_access.specs.Session.{AccessText}
-use Rattle.histar_page.specs.Page.{IsPage, Sources}
+use Rattle.histar_trust.specs.Session.{SecretsText}
+use Rattle.histar_page.specs.Page.{IsPage}
 
 -- a run is asked for its raw calls
 abbrev pub with_trace : Options
@@ -23,14 +24,21 @@ IsExplainedOutput text output = ExplainsText with_trace text (Some []) (Some out
 abbrev pub IsTable : List ℕ → List ℕ → Type 0
 IsTable text table = AccessText None text (Some []) (Some table) (Ok tt)
 
--- A page was written as far as `Writes` says: one that shows the output of the run of the script that a text is, and its table of rights.
+-- these are the lines on the secret files after the script that a text is
+abbrev pub AreSecrets : List ℕ → List ℕ → Type 0
+AreSecrets text secrets = SecretsText text (Some []) (Some secrets) (Ok tt)
+
+-- A page was written as far as `Writes` says: one that shows the output of the run of the script that a text is, its table of rights, and on
+-- whom its secret files rest.
 pub record WritesPageAs (Writes : List ℕ → Type 0) (name version text : List ℕ) : Type 0 where
   pub output : List ℕ
   pub is_output : IsExplainedOutput text output
   pub table : List ℕ
   pub is_table : IsTable text table
+  pub secrets : List ℕ
+  pub are_secrets : AreSecrets text secrets
   pub page : List ℕ
-  pub is_page : IsPage (record { name = name; version = version; script = text; output = output; table = table }) page
+  pub is_page : IsPage (record { name = name; version = version; script = text; output = output; table = table; secrets = secrets }) page
   pub written : Writes page
 
 -- A page of the run was written; or the fault of the script is answered, and nothing was written. At a failed write a beginning was written,
@@ -43,11 +51,11 @@ WritesPage name version text old new (Err (BadScript n)) = (script_of text ≡ E
 WritesPage name version text old new (Err TooLong) = (script_of text ≡ Err TooLong) × Keeps old new
 WritesPage name version text old new (Err ReadFailed) = Keeps old new
 
--- the table of rights after the script that a text is, or the fault of the script, or that memory ran out
-abbrev pub GivesTable : List ℕ → Result (Vec ℕ) Fault → Type 0
-GivesTable text (Ok table) = IsTable text table.items
-GivesTable text (Err (BadScript n)) = script_of text ≡ Err (BadScript n)
-GivesTable text (Err TooLong) = script_of text ≡ Err TooLong
-GivesTable text (Err OutOfMemory) = Unit {0}
-GivesTable text (Err ReadFailed) = ⊥
-GivesTable text (Err WriteFailed) = ⊥
+-- the text that is this of the script that a text is, or the fault of the script, or that memory ran out
+abbrev pub GivesText : (List ℕ → List ℕ → Type 0) → List ℕ → Result (Vec ℕ) Fault → Type 0
+GivesText Is text (Ok found) = Is text found.items
+GivesText Is text (Err (BadScript n)) = script_of text ≡ Err (BadScript n)
+GivesText Is text (Err TooLong) = script_of text ≡ Err TooLong
+GivesText Is text (Err OutOfMemory) = Unit {0}
+GivesText Is text (Err ReadFailed) = ⊥
+GivesText Is text (Err WriteFailed) = ⊥

@@ -2,7 +2,7 @@
 ghost use Rattle.std.specs.Prelude.{◌≡◌, false, None, IfErr, IfSome};
 ghost use Rattle.histar_devices.specs.Device.{CountsFailure};
 ghost use Rattle.histar_script.specs.Runs.{LeavesSink, RunsInput, is_read_failed, is_write_failed};
-ghost use Rattle.histar_report.specs.Session.{GivesTable, WritesPage};
+ghost use Rattle.histar_report.specs.Session.{AreSecrets, GivesText, IsTable, WritesPage};
 
 use histar_access::access;
 use histar_devices::{Sink, Source, read_input, write_bytes};
@@ -10,6 +10,7 @@ use histar_page::{Texts, page_text};
 use histar_script::Fault;
 use histar_shell::{Counted, Options};
 use histar_transcript::{explained_output, in_memory};
+use histar_trust::secrets;
 use std::alloc::Global;
 
 /// What a run is asked for: its raw calls. The files are in the table of rights.
@@ -18,8 +19,8 @@ const OPTIONS: Options = Options {
     trace: true,
 };
 
-/// Reads a script, runs it with explanations, and writes one page that shows the session, and who may do what
-/// at its end. The name is that of the script's file.
+/// Reads a script, runs it with explanations, and writes one page that shows the session, who may do what at its
+/// end, and on whom its secret files rest. The name is that of the script's file.
 ///
 /// All is written once the script has run. It doesn't flush the sink.
 pub fn report<R: Source, W: Sink>(
@@ -64,6 +65,7 @@ fn report_text<W: Sink>(
 {
     let output = explained_output(alloc, text, OPTIONS)?;
     let table = table_of(alloc, text)?;
+    let secret_lines = secrets_of(alloc, text)?;
     let page = page_text(
         alloc,
         &Texts {
@@ -72,6 +74,7 @@ fn report_text<W: Sink>(
             script: text,
             output: output.as_slice(),
             table: table.as_slice(),
+            secrets: secret_lines.as_slice(),
         },
     )?;
     write_bytes(writer, page.as_slice())?;
@@ -80,11 +83,23 @@ fn report_text<W: Sink>(
 
 /// Returns what `access` writes of the script that a text is.
 fn table_of(alloc: Global, text: &[u8]) -> Result<Vec<u8>, Fault>
-    ensures { GivesTable text.now result }
+    ensures { GivesText IsTable text.now result }
 {
     let mut reader = Counted::new(text);
     let mut writer = Counted::new(Vec::new(alloc));
     match access(alloc, &mut reader, &mut writer, None) {
+        Ok(()) => Ok(writer.into_inner()),
+        Err(fault) => Err(in_memory(fault)),
+    }
+}
+
+/// Returns what is written of the files that not everyone may read after the script that a text is.
+fn secrets_of(alloc: Global, text: &[u8]) -> Result<Vec<u8>, Fault>
+    ensures { GivesText AreSecrets text.now result }
+{
+    let mut reader = Counted::new(text);
+    let mut writer = Counted::new(Vec::new(alloc));
+    match secrets(alloc, &mut reader, &mut writer) {
         Ok(()) => Ok(writer.into_inner()),
         Err(fault) => Err(in_memory(fault)),
     }

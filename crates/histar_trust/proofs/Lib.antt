@@ -2,5 +2,6 @@ pub mod Pieces
 pub mod Runners
 pub mod Places
 pub mod ShownTrust
+pub mod ShownSecrets
 pub mod Runs
 pub mod Printed

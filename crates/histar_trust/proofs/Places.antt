@@ -48,11 +48,11 @@ same_everyone category FlatOpen = refl
 same_everyone category (FlatScratch owner jobs) = refl
 same_everyone category (FlatGrouped group) = refl
 
-first_of_list : {A : Type 0} → A → List A → A
+unfoldable pub first_of_list : {A : Type 0} → A → List A → A
 first_of_list x [] = x
 first_of_list x (y ∷ ys) = y
 
-rest_of_list : {A : Type 0} → List A → List A
+unfoldable pub rest_of_list : {A : Type 0} → List A → List A
 rest_of_list [] = []
 rest_of_list (y ∷ ys) = ys
 

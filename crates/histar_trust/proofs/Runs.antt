@@ -1,6 +1,6 @@
 -- What `trust` says, put together from what its parts say.
-use Rattle.std.proofs.Common.{◌≡◌, ℕ, ◌<◌, true, false, ltb, List, [], ◌++◌, length, Option, Some, None, Result, Ok, Err, refl, sym, ap, subst, ◌∙◌, arith, rules, tests, append-nil, inl, inr}
-use Rattle.std.specs.Prelude.{IfErr, IfSome, IsOk, MatchResult, is_ok}
+use Rattle.std.proofs.Common.{◌≡◌, ℕ, ◌<◌, true, false, ltb, List, ◌++◌, length, Option, Some, None, Result, Ok, Err, refl, sym, ap, subst, ◌∙◌, arith, rules, tests, append-nil, inl, inr}
+use Rattle.std.specs.Prelude.{IfSome, MatchResult, is_ok}
 use Rattle.std.specs.Io.KnownBytes.{Appends, Keeps}
 use Rattle.std.proofs.lemmas.Bool.{cases_lt, false≢true}
 use Rattle.std.proofs.lemmas.List.{length-append}
@@ -9,22 +9,18 @@ use Rattle.histar_devices.specs.declared.input.InputError.{InputError}
 use Rattle.histar_devices.specs.declared.input.InputError.TheVariants as input
 use Rattle.histar_devices.specs.Input.{most_taken, TakesAll, TakesSome}
 use Rattle.histar_devices.specs.Writing.{AppendsFront}
-use Rattle.histar_flat.specs.declared.calls.CallLine.{CallLine}
-use Rattle.histar_flat.specs.Words.{Path}
-use Rattle.histar_flat.specs.Sessions.{Session}
-use Rattle.histar_flat.specs.Meaning.{boot, flat_end}
 use Rattle.histar_script.specs.declared.fault.Fault.{Fault}
 use Rattle.histar_script.specs.declared.fault.Fault.TheVariants.{BadScript, TooLong, OutOfMemory, ReadFailed, WriteFailed}
 use Rattle.histar_script.specs.Script.{Reading}
 use Rattle.histar_script.specs.Outcome.{Gives, input_fault}
 use Rattle.histar_script.specs.Lines.{most_script_bytes}
 use Rattle.histar_script.specs.Reading.{script_of}
-use Rattle.histar_script.specs.Runs.{LeavesSink, StopsReading, is_read_failed, is_write_failed, RunsTaken, RunsInput}
+use Rattle.histar_script.specs.Runs.{StopsReading, is_read_failed, is_write_failed, RunsTaken, RunsInput}
 use Rattle.histar_shell.specs.Machine.{MachineModel}
 use Rattle.histar_shell.specs.Outcome.{AgreesWith, IsFaultAt}
 use Rattle.histar_access.specs.Session.{IsMachineOf, calls_before, state_before}
-use Rattle.histar_trust.specs.Findings.{HasState, ShowsReached, ShowsTrust}
-use Rattle.histar_trust.specs.Session.{BeginsTrust, TrustText, WritesAtFault, WritesTrust, text_before}
+use Rattle.histar_trust.specs.Findings.{HasState, ShowsReached}
+use Rattle.histar_trust.specs.Session.{WritesAtFault, WritesOf, WritesText}
 
 -- what it answers
 abbrev Answer : Type 0
@@ -53,7 +49,7 @@ shows_reached at text m is = record { shows = is.shows; reached = (calls_before 
 pub has_state : (at : Option ℕ) (text : List ℕ) (m : MachineModel) → IsMachineOf at text m → HasState m
 has_state at text m is = (is.script.session, state_before at is.script, shows_reached at text m is)
 
-module _ (at : Option ℕ) (path : Path) where
+module _ (text_of : Reading → List ℕ) where
   -- ---- a text that is a script or none
 
   script_fault_agrees : (f : Fault) (read : Result Reading Fault) → Gives (Err f) read → IsFaultAt read f
@@ -63,7 +59,7 @@ module _ (at : Option ℕ) (path : Path) where
   script_fault_agrees ReadFailed read given = absurd given
   script_fault_agrees WriteFailed read given = absurd given
 
-  script_fault_writes : (f : Fault) (w : Option (List ℕ)) (read : Result Reading Fault) → Gives (Err f) read → WritesAtFault at path w w read f
+  script_fault_writes : (f : Fault) (w : Option (List ℕ)) (read : Result Reading Fault) → Gives (Err f) read → WritesAtFault text_of w w read f
   script_fault_writes (BadScript n) w read given = Keeps-refl w
   script_fault_writes TooLong w read given = Keeps-refl w
   script_fault_writes OutOfMemory w read given = Keeps-refl w
@@ -71,30 +67,27 @@ module _ (at : Option ℕ) (path : Path) where
   script_fault_writes WriteFailed w read given = absurd given
 
   -- a text in which reading finds a fault
-  pub faulty_text : (text : List ℕ) (w : Option (List ℕ)) (f : Fault) → Gives (Err f) (script_of text) → TrustText at path text w w (Err f)
+  pub faulty_text : (text : List ℕ) (w : Option (List ℕ)) (f : Fault) → Gives (Err f) (script_of text) → WritesOf text_of text w w (Err f)
   faulty_text text w f given = record {
     faults = script_fault_agrees f (script_of text) given;
     writes = script_fault_writes f w (script_of text) given;
   }
 
   -- a text for which memory ran out before anything was written
-  pub unwritten_text : (text : List ℕ) (w : Option (List ℕ)) → TrustText at path text w w (Err OutOfMemory)
+  pub unwritten_text : (text : List ℕ) (w : Option (List ℕ)) → WritesOf text_of text w w (Err OutOfMemory)
   unwritten_text text w = record { faults = tt; writes = Keeps-refl w }
 
   -- ---- a machine after the calls
 
-  module _ {text : List ℕ} {m : MachineModel} (is : IsMachineOf at text m) (lines : List ℕ) (shown : ShowsTrust m path lines)
+  module _ {at : Option ℕ} {text : List ℕ} {m : MachineModel} (is : IsMachineOf at text m) (lines : List ℕ) (lines_are : lines ≡ text_of is.script)
       (old new : Option (List ℕ)) where
-    lines_are : lines ≡ text_before at path is.script
-    lines_are = shown is.script.session (state_before at is.script) (shows_reached at text m is)
-
-    pub written_text : Appends old new lines → TrustText at path text old new (Ok tt)
+    pub written_text : Appends old new lines → WritesOf text_of text old new (Ok tt)
     written_text h = record {
       faults = ap is_ok is.is_read;
       writes = record { script = is.script; is_read = is.is_read; written = subst (Appends old new) lines_are h };
     }
 
-    pub begun_text : AppendsFront old new lines → TrustText at path text old new (Err WriteFailed)
+    pub begun_text : AppendsFront old new lines → WritesOf text_of text old new (Err WriteFailed)
     begun_text h = record {
       faults = ap is_ok is.is_read;
       writes = record { script = is.script; is_read = is.is_read; written = subst (AppendsFront old new) lines_are h };
@@ -104,22 +97,22 @@ module _ (at : Option ℕ) (path : Path) where
 
   -- an error of the input stops the reading
   pub stops_reading : (e : InputError) (left rest w : Option (List ℕ)) → TakesSome left rest
-      → RunsInput (TrustText at path) left rest w w (Err (input_fault e))
+      → RunsInput (WritesOf text_of) left rest w w (Err (input_fault e))
   stops_reading input.OutOfMemory left rest w takes = inl (record { takes = takes; keeps = Keeps-refl w })
   stops_reading input.ReadFailed left rest w takes = record { takes = takes; keeps = Keeps-refl w }
 
   -- what was taken is run
   pub runs_taken : {left rest old new : Option (List ℕ)} {taken text : List ℕ} {result : Answer} → TakesAll left rest taken → text ≡ taken
-      → TrustText at path text old new result → is_read_failed result ≡ false → RunsInput (TrustText at path) left rest old new result
+      → WritesOf text_of text old new result → is_read_failed result ≡ false → RunsInput (WritesOf text_of) left rest old new result
   runs_taken {left} {rest} {old} {new} {taken} {text} {result} takes same runs no_read_failed =
       at_result result (record {
         taken = taken;
         takes = takes;
-        runs = subst (λ (t : List ℕ). TrustText at path t old new result) same runs;
+        runs = subst (λ (t : List ℕ). WritesOf text_of t old new result) same runs;
       }) no_read_failed
     where
-      at_result : (r : Answer) → RunsTaken (TrustText at path) left rest old new r → is_read_failed r ≡ false
-          → RunsInput (TrustText at path) left rest old new r
+      at_result : (r : Answer) → RunsTaken (WritesOf text_of) left rest old new r → is_read_failed r ≡ false
+          → RunsInput (WritesOf text_of) left rest old new r
       at_result (Ok done) h none = h
       at_result (Err (BadScript n)) h none = h
       at_result (Err TooLong) h none = h
@@ -142,29 +135,29 @@ module _ (at : Option ℕ) (path : Path) where
 
   -- what was run is the script of the whole input
   same_run : (input taken : List ℕ) {old new : Option (List ℕ)} (result : Answer) → script_of taken ≡ script_of input
-      → TrustText at path taken old new result → TrustText at path input old new result
+      → WritesOf text_of taken old new result → WritesOf text_of input old new result
   same_run input taken {old} {new} result same runs = record {
     faults = subst (λ (read : Result Reading Fault). AgreesWith read result) same runs.faults;
-    writes = subst (λ (read : Result Reading Fault). MatchResult result (λ _. WritesTrust at path old new read)
-        (WritesAtFault at path old new read)) same runs.writes;
+    writes = subst (λ (read : Result Reading Fault). MatchResult result (λ _. WritesText text_of old new read)
+        (WritesAtFault text_of old new read)) same runs.writes;
   }
 
   -- a known input that was taken was run
-  taken_known : (left rest old new : Option (List ℕ)) (result : Answer) → RunsTaken (TrustText at path) left rest old new result
-      → IfSome left (λ input. TrustText at path input old new result)
+  taken_known : (left rest old new : Option (List ℕ)) (result : Answer) → RunsTaken (WritesOf text_of) left rest old new result
+      → IfSome left (λ input. WritesOf text_of input old new result)
   taken_known None rest old new result h = tt
   taken_known (Some input) rest old new result h = same_run input h.taken result (same_script input rest h.taken h.takes) h.runs
 
   -- a known input of which some was taken was run as far as that
   stopped_known : (left : Option (List ℕ)) {rest old new : Option (List ℕ)} (result : Answer)
-      → ((input : List ℕ) → Keeps old new → TrustText at path input old new result)
-      → StopsReading left rest old new → IfSome left (λ input. TrustText at path input old new result)
+      → ((input : List ℕ) → Keeps old new → WritesOf text_of input old new result)
+      → StopsReading left rest old new → IfSome left (λ input. WritesOf text_of input old new result)
   stopped_known None result runs h = tt
   stopped_known (Some input) result runs h = runs input h.keeps
 
   -- a known input was run
-  pub input_known : (left rest old new : Option (List ℕ)) (result : Answer) → RunsInput (TrustText at path) left rest old new result
-      → IfSome left (λ input. TrustText at path input old new result)
+  pub input_known : (left rest old new : Option (List ℕ)) (result : Answer) → RunsInput (WritesOf text_of) left rest old new result
+      → IfSome left (λ input. WritesOf text_of input old new result)
   input_known left rest old new (Ok done) h = taken_known left rest old new (Ok done) h
   input_known left rest old new (Err (BadScript n)) h = taken_known left rest old new (Err (BadScript n)) h
   input_known left rest old new (Err TooLong) h = taken_known left rest old new (Err TooLong) h

@@ -76,7 +76,7 @@ confined_is t c reads bound te ce =
     by false false = refl
 
 -- the names of users have no passwords
-same_names : (users : List User) → map (λ (u : User). u.name) (map without_password users) ≡ map (λ (u : User). u.name) users
+pub same_names : (users : List User) → map (λ (u : User). u.name) (map without_password users) ≡ map (λ (u : User). u.name) users
 same_names [] = refl
 same_names (u ∷ users) = ap (λ (names : List Name). u.name ∷ names) (same_names users)
 
@@ -107,7 +107,7 @@ module _ {session : Session} {m : MachineModel} {f : Flat} (r : ShowsReached ses
   one_number : AreNumbered number
   one_number a b e = ap (λ (c : CategoryName). (split_category c).1) (l.different (OfJob a) (OfJob b) e)
 
-  is_so : ShowsAState number session f
+  pub is_so : ShowsAState number session f
   is_so = shown_is_so session f number one_number
 
   -- processes have names that can be shown
@@ -131,7 +131,7 @@ module _ {session : Session} {m : MachineModel} {f : Flat} (r : ShowsReached ses
   ]
 
   module _ (tree : List TreeNode) (is : IsTreeIn m tree) where
-    own_tree : HasTreeOf session s f l.category
+    pub own_tree : HasTreeOf session s f l.category
     own_tree = flat_states_have_their_trees session s f r.shows.represents r.shows.shallow
 
     own_tree_here : IsTreeIn m own_tree.tree
@@ -140,7 +140,7 @@ module _ {session : Session} {m : MachineModel} {f : Flat} (r : ShowsReached ses
         (tree_unproved session s m.places own_tree.tree
         (subst (λ (places : Places). IsTreeOf session s places own_tree.tree) (sym r.shows.places) own_tree.is_tree))
 
-    same_tree : own_tree.tree ≡ tree
+    pub same_tree : own_tree.tree ≡ tree
     same_tree = states_have_one_tree m.users s m.places own_tree.tree tree own_tree_here is
 
     each : (q : Path) → AreAlike s l.category q (node_at q tree) (get f.files q)
@@ -202,13 +202,13 @@ module _ {session : Session} {m : MachineModel} {f : Flat} (r : ShowsReached ses
         by_tests : ShowsStanding session there.class f member.name c.1
         by_tests = standings_are_shown session f r.reached path there at member.name c.1 shown.runs
 
-        trusted_same : has_standing session.groups (flat_class class) Trusted member ≡ is_trusted session there.class f c.0
+        pub trusted_same : has_standing session.groups (flat_class class) Trusted member ≡ is_trusted session there.class f c.0
         trusted_same =
             ap (is_same_standing Trusted) standing_is
             ∙ trusted_is (is_trusted session there.class f member.name) (is_confined session there.class f member.name)
             ∙ ap (is_trusted session there.class f) name_is
 
-        confined_same : has_standing session.groups (flat_class class) Confined member ≡ is_confined session there.class f c.0
+        pub confined_same : has_standing session.groups (flat_class class) Confined member ≡ is_confined session there.class f c.0
         confined_same =
             ap (is_same_standing Confined) standing_is
             ∙ confined_is (is_trusted session there.class f member.name) (is_confined session there.class f member.name)
@@ -229,7 +229,7 @@ module _ {session : Session} {m : MachineModel} {f : Flat} (r : ShowsReached ses
     -- ---- what is printed
 
     -- the members that pass a test are the processes that pass one on their names, where the two tests agree
-    chosen : (test : Member → Bool) (of_name : ProcName → Bool)
+    pub chosen : (test : Member → Bool) (of_name : ProcName → Bool)
         → ((member : Member) (c : Named) → runner_of member ≡ numbered f l.category c → Runs f l.category c → test member ≡ of_name c.0)
         → map with_user (filter test members) ≡ running_where session f of_name
     chosen test of_name agree = picked f l.category test (λ c. of_name c.0) agree members (running_in f) members_are all_run

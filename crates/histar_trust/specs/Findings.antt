@@ -8,6 +8,8 @@ use Rattle.histar_flat.specs.Classes.{Class as FlatClass}
 use Rattle.histar_flat.specs.Classes.Class.{Private as FlatPrivate, Readable as FlatReadable, Open as FlatOpen, Scratch as FlatScratch}
 use Rattle.histar_flat.specs.Classes.Class.{Grouped as FlatGrouped}
 use Rattle.histar_flat.specs.FlatState.{Flat}
+use Rattle.histar_flat.specs.Texts.{path_text}
+use Rattle.std.specs.List.{flat_map}
 use Rattle.histar_rights.specs.Table.{access_line_text}
 use Rattle.histar_layout.specs.Listing.{is_directory}
 use Rattle.histar_layout.specs.declared.class.Class.{Class}
@@ -17,7 +19,7 @@ use Rattle.histar_secrecy.specs.declared.standing.Member.{Member}
 use Rattle.histar_secrecy.specs.declared.standing.Standing.{Standing}
 use Rattle.histar_secrecy.specs.declared.standing.Standing.TheVariants.{Trusted, Confined, Outside}
 use Rattle.histar_secrecy.specs.Noninterference.{IsReached}
-use Rattle.histar_secrecy.specs.ShownStandings.{has_standing, is_login_changer, is_login_reader, is_shown_changer, job_numbered, with_user}
+use Rattle.histar_secrecy.specs.ShownStandings.{flat_class, has_standing, is_login_changer, is_login_reader, is_shown_changer, job_numbered, with_user}
 use Rattle.histar_tree.specs.declared.process.Life.{Life}
 use Rattle.histar_tree.specs.declared.process.Life.TheVariants.{Running, Exited}
 use Rattle.histar_tree.specs.declared.process.ProcessNode.{ProcessNode}
@@ -25,6 +27,7 @@ use Rattle.histar_tree.specs.declared.tree.TreeNode.{TreeNode}
 use Rattle.histar_tree.specs.TreeLines.{node_stat}
 use Rattle.histar_shell.specs.Machine.{MachineModel}
 use Rattle.histar_shell.specs.Meaning.{Shows}
+use Rattle.histar_trust.specs.Secrets.{is_secret, process_mark, secrets_text, user_mark}
 use Rattle.histar_trust.specs.TrustText.{is_for_everyone, process_lines, trust_text, user_lines}
 
 -- a process that runs: its user, the jobs that it is in, and those that it holds, by the numbers of their categories
@@ -93,6 +96,25 @@ module _ (session : Session) (members : List Member) where
       let class = class_flat node.class in
       if is_directory node.target then [] else if is_for_everyone class then codes "everyone\n" else shown_readers class
 
+  -- who is trusted with a file of the class, who is confined, and who could log in as a reader, as it is printed on one line
+  abbrev pub shown_members : FlatClass → List ℕ
+  shown_members class =
+      flat_map (process_mark (codes "trusted")) (those_of class Trusted)
+      ++ flat_map (process_mark (codes "confined")) (those_of class Confined)
+      ++ flat_map (user_mark (codes "login")) (filter (is_login_reader session.groups class) (names_of session))
+
+  -- and what is printed of a file or a directory of a tree
+  abbrev pub shown_secret : TreeNode → List ℕ
+  shown_secret node =
+      let class = class_flat node.class in
+      if is_secret (is_directory node.target) class then path_text node.path ++ shown_members class ++ codes "\n" else []
+
+  -- what is printed of each of these was added, and their classes are those of files
+  pub record AddsSecrets (tree : List TreeNode) (old new : List ℕ) : Type 0 where
+    pub classes : List FileClass
+    pub are : map flat_class classes ≡ map (λ (node : TreeNode). class_flat node.class) tree
+    pub added : new ≡ old ++ flat_map shown_secret tree
+
   -- who may change what is of the first of these classes, and lies in directories of the others, as it is printed
   abbrev pub shown_changers : List FileClass → List ℕ
   shown_changers classes =
@@ -115,3 +137,7 @@ HasState m = (session : Session) × (f : Flat) × ShowsReached session m f
 -- whatever such state a machine represents, this is the text of that for the path
 abbrev pub ShowsTrust : MachineModel → Path → List ℕ → Type 0
 ShowsTrust m path text = (session : Session) (f : Flat) → ShowsReached session m f → text ≡ trust_text session f path
+
+-- whatever such state a machine represents, this is the text on its files
+abbrev pub ShowsSecrets : MachineModel → List ℕ → Type 0
+ShowsSecrets m text = (session : Session) (f : Flat) → ShowsReached session m f → text ≡ secrets_text session f

@@ -1,4 +1,5 @@
 pub mod TrustText
+pub mod Secrets
 pub mod Findings
 pub mod Session
 pub mod Printed

@@ -1,4 +1,4 @@
--- What is written of a script that was read: the text of the flat state before a line, or after all.
+-- What is written of a script that was read: a text of its flat state, as that on one path before a line, or that on all files after all.
 use Rattle.std.specs.Prelude.{◌≡◌, ℕ, List, Option, Result, Ok, MatchResult}
 use Rattle.std.specs.Io.KnownBytes.{Appends, Keeps}
 use Rattle.histar_devices.specs.Writing.{AppendsFront}
@@ -9,31 +9,40 @@ use Rattle.histar_script.specs.declared.fault.Fault.{Fault}
 use Rattle.histar_script.specs.declared.fault.Fault.TheVariants.{WriteFailed}
 use Rattle.histar_shell.specs.Outcome.{AgreesWith}
 use Rattle.histar_access.specs.Session.{state_before}
+use Rattle.histar_trust.specs.Secrets.{secrets_after}
 use Rattle.histar_trust.specs.TrustText.{trust_text}
+
+module _ (text_of : Reading → List ℕ) (old new : Option (List ℕ)) where
+  -- the reading is of a script, and its text was written
+  pub record WritesText (read : Result Reading Fault) : Type 0 where
+    pub script : Reading
+    pub is_read : read ≡ Ok script
+    pub written : Appends old new (text_of script)
+
+  -- the reading is of a script, and a beginning of its text was written
+  pub record BeginsText (read : Result Reading Fault) : Type 0 where
+    pub script : Reading
+    pub is_read : read ≡ Ok script
+    pub written : AppendsFront old new (text_of script)
+
+  -- at a failed write a beginning of the text was written, and at the other faults nothing
+  abbrev pub WritesAtFault : Result Reading Fault → Fault → Type 0
+  WritesAtFault read WriteFailed = BeginsText read
+  WritesAtFault read fault = Keeps old new
+
+-- A text was read as a script: its fault is answered, or exactly the text of the script was written.
+pub record WritesOf (text_of : Reading → List ℕ) (text : List ℕ) (old new : Option (List ℕ)) (result : Result (Unit {0}) Fault) : Type 0 where
+  pub faults : AgreesWith (script_of text) result
+  pub writes : MatchResult result (λ _. WritesText text_of old new (script_of text)) (WritesAtFault text_of old new (script_of text))
 
 -- the text of the flat state of a script before this line, for a path
 abbrev pub text_before : Option ℕ → Path → Reading → List ℕ
 text_before at path script = trust_text script.session (state_before at script) path
 
-module _ (at : Option ℕ) (path : Path) (old new : Option (List ℕ)) where
-  -- the reading is of a script, and the text of its state was written
-  pub record WritesTrust (read : Result Reading Fault) : Type 0 where
-    pub script : Reading
-    pub is_read : read ≡ Ok script
-    pub written : Appends old new (text_before at path script)
+-- The text was read as a script: its fault is answered, or exactly the text of its state for a path was written.
+abbrev pub TrustText : Option ℕ → Path → List ℕ → Option (List ℕ) → Option (List ℕ) → Result (Unit {0}) Fault → Type 0
+TrustText at path = WritesOf (text_before at path)
 
-  -- the reading is of a script, and a beginning of the text of its state was written
-  pub record BeginsTrust (read : Result Reading Fault) : Type 0 where
-    pub script : Reading
-    pub is_read : read ≡ Ok script
-    pub written : AppendsFront old new (text_before at path script)
-
-  -- at a failed write a beginning of the text was written, and at the other faults nothing
-  abbrev pub WritesAtFault : Result Reading Fault → Fault → Type 0
-  WritesAtFault read WriteFailed = BeginsTrust read
-  WritesAtFault read fault = Keeps old new
-
--- The text was read as a script: its fault is answered, or exactly the text of its state was written.
-pub record TrustText (at : Option ℕ) (path : Path) (text : List ℕ) (old new : Option (List ℕ)) (result : Result (Unit {0}) Fault) : Type 0 where
-  pub faults : AgreesWith (script_of text) result
-  pub writes : MatchResult result (λ _. WritesTrust at path old new (script_of text)) (WritesAtFault at path old new (script_of text))
+-- The text was read as a script: its fault is answered, or exactly the text on the files after all its calls was written.
+abbrev pub SecretsText : List ℕ → Option (List ℕ) → Option (List ℕ) → Result (Unit {0}) Fault → Type 0
+SecretsText = WritesOf secrets_after

@@ -46,13 +46,25 @@ module _ (session : Session) (f : Flat) where
   abbrev pub users_where : (Name → Bool) → List Name
   users_where test = filter test (map (λ (u : User). u.name) session.users)
 
+  -- who is trusted with what is of the class
+  abbrev pub trusted_with : Class → List (ProcName × Name)
+  trusted_with class = running_where (is_trusted session class f)
+
+  -- who is confined by it
+  abbrev pub confined_by : Class → List (ProcName × Name)
+  confined_by class = running_where (is_confined session class f)
+
+  -- who could log in as a reader
+  abbrev pub login_readers : Class → List Name
+  login_readers class = users_where (λ user. may_read session (logged_in user) class)
+
   -- who is trusted with what is of the class, who is confined, who is an outsider, and who could log in as a reader
   abbrev pub readers_text : Class → List ℕ
   readers_text class =
-      process_lines (codes "trusted") (running_where (is_trusted session class f))
-      ++ process_lines (codes "confined") (running_where (is_confined session class f))
+      process_lines (codes "trusted") (trusted_with class)
+      ++ process_lines (codes "confined") (confined_by class)
       ++ process_lines (codes "outside") (running_where (is_outsider session class f))
-      ++ user_lines (codes "login") (users_where (λ user. may_read session (logged_in user) class))
+      ++ user_lines (codes "login") (login_readers class)
 
   -- of a directory nothing, and of a file `everyone` where each process may read it, and else who has which standing
   abbrev pub standings_text : Node → List ℕ

@@ -82,7 +82,7 @@ fn push_standings(
 }
 
 /// Checks whether each process may read a file of the class.
-fn is_for_everyone(class: &FileClass) -> bool
+pub(crate) fn is_for_everyone(class: &FileClass) -> bool
     ensures { result ≡ is_for_everyone (flat_class class.now) }
 {
     matches!(class, FileClass::Readable(_) | FileClass::Open)

@@ -2,8 +2,9 @@
 ghost use Rattle.std.specs.Prelude.{◌≡◌, false, IfErr, IfSome};
 ghost use Rattle.histar_devices.specs.Device.{CountsFailure};
 ghost use Rattle.histar_script.specs.Runs.{LeavesSink, is_read_failed, is_write_failed, RunsInput};
-ghost use Rattle.histar_trust.specs.Session.{TrustText};
+ghost use Rattle.histar_trust.specs.Session.{SecretsText, TrustText};
 
+use crate::files::secret_lines;
 use crate::output::trust_lines;
 use histar_access::machine_before;
 use histar_devices::{Sink, Source, read_input, write_bytes};
@@ -62,6 +63,52 @@ fn trust_text<W: Sink>(
 {
     let machine = machine_before(alloc, text, at)?;
     let lines = trust_lines(alloc, &machine, path)?;
+    write_bytes(writer, lines.as_slice())?;
+    Ok(())
+}
+
+/// Reads a script, runs it on a machine of its own, and writes a line for each file that not everyone may read
+/// then: its path, each process that is trusted with it, each that is confined, and each user as whom one could
+/// log in as a reader.
+///
+/// The whole script is read and checked before the first call. It doesn't flush the sink.
+pub fn secrets<R: Source, W: Sink>(
+    alloc: Global,
+    reader: &mut R,
+    writer: &mut W,
+) -> Result<(), Fault>
+    // After a bad script, one that is too long and a failed read the sink is as it was.
+    ensures nothing { IfErr result (LeavesSink writer.old writer.new) }
+
+    // A device has failed exactly where its fault is the answer.
+    ensures reads { CountsFailure (R.failures reader.old) (R.failures reader.new)
+        (is_read_failed result) }
+    ensures writes { CountsFailure (W.failures writer.old) (W.failures writer.new)
+        (is_write_failed result) }
+
+    // Whatever is known of the source, bytes of it were taken, to its end but never more than 1,048,577: the fault of the script
+    // that they are is answered, or exactly the lines of the flat state after its calls are written.
+    ensures runs { RunsInput SecretsText (R.left reader.old) (R.left reader.new)
+        (W.written writer.old) (W.written writer.new) result }
+
+    // So where the input is known, these are the lines of the script of the whole input.
+    ensures known { IfSome (R.left reader.old) (λ input.
+        SecretsText input (W.written writer.old) (W.written writer.new) result) }
+{
+    let input = read_input(alloc, reader)?;
+    secrets_text(alloc, input.as_slice(), writer)
+}
+
+/// Writes the lines on the files after the calls of the script that a text is.
+fn secrets_text<W: Sink>(alloc: Global, text: &[u8], writer: &mut W) -> Result<(), Fault>
+    ensures nothing { IfErr result (LeavesSink writer.old writer.new) }
+    ensures reads { is_read_failed result ≡ false }
+    ensures writes { CountsFailure (W.failures writer.old) (W.failures writer.new)
+        (is_write_failed result) }
+    ensures runs { SecretsText text.now (W.written writer.old) (W.written writer.new) result }
+{
+    let machine = machine_before(alloc, text, None)?;
+    let lines = secret_lines(alloc, &machine)?;
     write_bytes(writer, lines.as_slice())?;
     Ok(())
 }

@@ -1,11 +1,11 @@
 use Rattle.std.proofs.Common.{ℕ, List, ◌++◌, length, take, arith, ◌∙◌, ap, sym}
 use Rattle.std.specs.Borrow.{Bor}
-use Rattle.std.specs.List.{list_all}
+use Rattle.std.specs.List.{list_all, prefix_len}
 use Rattle.std.proofs.lemmas.List.{length-map, take-map}
 use Rattle.std.proofs.lemmas.List.Sums.{prefix_len-le-length}
 use Rattle.histar_page.specs.Texts.{texts}
 use Rattle.histar_page.specs.Lines.{is_own}
-use Rattle.histar_page.proofs.OwnLemmas.{own_pass, taken_texts}
+use Rattle.histar_page.proofs.OwnLemmas.{own_pass, past_texts, taken_texts}
 use Rattle.histar_page.proofs.session.own_lines.Goals as goal
 
 pub split_at-requires-2 : goal.split_at-requires-2
@@ -45,3 +45,9 @@ returns-clause-own c =
     ∙ ap (list_all own) (sym (take-map now c.own_count.result later))
     ∙ ap (λ k. list_all own (take k (texts later))) c.own_count.ensures
     ∙ own_pass own (texts later)
+
+pub returns-clause-rest : goal.returns-clause-rest
+returns-clause-rest c =
+    let now : Bor (List ℕ) → List ℕ = λ line. line.now in
+    past_texts now c.args.word.now c.args.lines.now c.args.from _
+    (c.split_at-2.ensures.front_len ∙ c.own_count.ensures ∙ ap (λ l. prefix_len (is_own c.args.word.now) (texts l)) c.split_at.ensures.back)

@@ -1,4 +1,4 @@
-use Rattle.std.proofs.Common.{◌≡◌, List, ◌++◌, sym, ap, ◌∙◌}
+use Rattle.std.proofs.Common.{◌≡◌, ◌++◌, sym, ap, ◌∙◌}
 use Rattle.std.specs.Prelude.{Some, None, map, option_copied}
 use Rattle.std.specs.List.{filter_map}
 use Rattle.histar_secrecy.specs.ShownStandings.{flat_class}

@@ -1,6 +1,7 @@
 use Rattle.std.proofs.lemmas.Result.{err_from_is_err_and}
 use Rattle.histar_script.specs.Outcome.{input_fault}
 use Rattle.histar_script.proofs.Sinks.{sink_left}
+use Rattle.histar_trust.specs.Session.{text_before}
 use Rattle.histar_trust.proofs.Runs.{input_known, runs_taken, stops_reading}
 use Rattle.histar_trust.proofs.session.trust.Goals as goal
 
@@ -12,14 +13,14 @@ returns-in_err-input-clause-nothing g c =
 pub returns-in_err-input-clause-runs : goal.returns-in_err-input-clause-runs
 returns-in_err-input-clause-runs g c =
     let p = err_from_is_err_and c.from_residual.result c.from_residual.ensures.1 in
-    rw (p.1, p.2) (stops_reading c.args.at c.args.path.now c.in_err-input.field-0.0 _ _ _ c.in_err-input.ensures.err)
+    rw (p.1, p.2) (stops_reading (text_before c.args.at c.args.path.now) c.in_err-input.field-0.0 _ _ _ c.in_err-input.ensures.err)
 
 pub returns-in_err-input-clause-known : goal.returns-in_err-input-clause-known
-returns-in_err-input-clause-known g c = input_known c.args.at c.args.path.now _ _ _ _ _ (returns-in_err-input-clause-runs g c)
+returns-in_err-input-clause-known g c = input_known (text_before c.args.at c.args.path.now) _ _ _ _ _ (returns-in_err-input-clause-runs g c)
 
 pub returns-clause-runs : goal.returns-clause-runs
 returns-clause-runs g c =
-    runs_taken c.args.at c.args.path.now c.in_ok-input.ensures.ok c.as_slice.ensures.value c.trust_text.ensures.runs c.trust_text.ensures.reads
+    runs_taken (text_before c.args.at c.args.path.now) c.in_ok-input.ensures.ok c.as_slice.ensures.value c.trust_text.ensures.runs c.trust_text.ensures.reads
 
 pub returns-clause-known : goal.returns-clause-known
-returns-clause-known g c = input_known c.args.at c.args.path.now _ _ _ _ _ (returns-clause-runs g c)
+returns-clause-known g c = input_known (text_before c.args.at c.args.path.now) _ _ _ _ _ (returns-clause-runs g c)

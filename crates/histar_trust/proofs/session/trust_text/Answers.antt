@@ -1,7 +1,8 @@
-use Rattle.std.proofs.Common.{sym, subst, refl}
+use Rattle.std.proofs.Common.{◌≡◌, ◌∙◌, refl}
 use Rattle.std.proofs.lemmas.Result.{err_from_is_err_and}
-use Rattle.histar_trust.specs.Findings.{ShowsTrust}
-use Rattle.histar_trust.proofs.Runs.{begun_text, has_state, unwritten_text, written_text}
+use Rattle.histar_access.specs.Session.{state_before}
+use Rattle.histar_trust.specs.Session.{text_before}
+use Rattle.histar_trust.proofs.Runs.{begun_text, has_state, shows_reached, unwritten_text, written_text}
 use Rattle.histar_trust.proofs.session.trust_text.Goals as goal
 
 pub trust_lines-requires : goal.trust_lines-requires
@@ -25,7 +26,7 @@ returns-in_err-lines-clause-writes g c =
 pub returns-in_err-lines-clause-runs : goal.returns-in_err-lines-clause-runs
 returns-in_err-lines-clause-runs g c =
     let p = err_from_is_err_and c.from_residual-in_err-lines.result c.from_residual-in_err-lines.ensures.1 in
-    rw (p.1, p.2) (unwritten_text c.args.at c.args.path.now c.args.text.now _)
+    rw (p.1, p.2) (unwritten_text (text_before c.args.at c.args.path.now) c.args.text.now _)
 
 pub returns-in_err-write_bytes-clause-nothing : goal.returns-in_err-write_bytes-clause-nothing
 returns-in_err-write_bytes-clause-nothing g c =
@@ -45,10 +46,18 @@ returns-in_err-write_bytes-clause-writes g c =
 pub returns-in_err-write_bytes-clause-runs : goal.returns-in_err-write_bytes-clause-runs
 returns-in_err-write_bytes-clause-runs g c =
     let p = err_from_is_err_and c.from_residual-in_err-write_bytes.result c.from_residual-in_err-write_bytes.ensures.1 in
-    let shown = subst (ShowsTrust c.in_ok-machine.machine c.args.path.now) (sym c.as_slice.ensures.value) c.in_ok-lines.ensures in
-    rw (p.1, p.2) (begun_text c.args.at c.args.path.now c.in_ok-machine.ensures _ shown _ _ c.in_err-write_bytes.ensures.err)
+    let is = c.in_ok-machine.ensures in
+    let shown : c.as_slice.result.now ≡ text_before c.args.at c.args.path.now is.script =
+    c.as_slice.ensures.value
+    ∙ c.in_ok-lines.ensures is.script.session (state_before c.args.at is.script)
+    (shows_reached c.args.at c.args.text.now c.in_ok-machine.machine is) in
+    rw (p.1, p.2) (begun_text (text_before c.args.at c.args.path.now) c.in_ok-machine.ensures _ shown _ _ c.in_err-write_bytes.ensures.err)
 
 pub returns-clause-runs : goal.returns-clause-runs
 returns-clause-runs g c =
-    let shown = subst (ShowsTrust c.in_ok-machine.machine c.args.path.now) (sym c.as_slice.ensures.value) c.in_ok-lines.ensures in
-    written_text c.args.at c.args.path.now c.in_ok-machine.ensures _ shown _ _ c.in_ok-write_bytes.ensures.ok
+    let is = c.in_ok-machine.ensures in
+    let shown : c.as_slice.result.now ≡ text_before c.args.at c.args.path.now is.script =
+    c.as_slice.ensures.value
+    ∙ c.in_ok-lines.ensures is.script.session (state_before c.args.at is.script)
+    (shows_reached c.args.at c.args.text.now c.in_ok-machine.machine is) in
+    written_text (text_before c.args.at c.args.path.now) c.in_ok-machine.ensures _ shown _ _ c.in_ok-write_bytes.ensures.ok

@@ -1,0 +1,100 @@
+//! The jobs of a session.
+ghost use Rattle.std.specs.Prelude.{◌≡◌, ◌++◌, IfOk, OnOk};
+ghost use Rattle.std.specs.List.{flat_map};
+ghost use Rattle.histar_page.specs.Texts.{texts};
+ghost use Rattle.histar_page.specs.Lines.{words_of};
+ghost use Rattle.histar_page.specs.Drawing.{has_letter, is_within, job_begun, job_on, process_of};
+
+use crate::files::COLON;
+use crate::lines::{after_word, or_nothing, words_in};
+use crate::session::call_on;
+use histar_flat::split_at_first;
+use std::alloc::{AllocError, Global};
+
+/// The call that begins a job.
+const WRAP: &[u8] = b"wrap";
+
+/// Returns the first processes of the jobs that calls have begun, by their replies.
+pub(crate) fn jobs_in<'a>(
+    alloc: Global,
+    script: &[&'a [u8]],
+    replies: &[&'a [u8]],
+) -> Result<Vec<&'a [u8]>, AllocError>
+    ensures { IfOk result (λ jobs.
+        texts jobs.items ≡ flat_map (job_on (texts script.now)) (texts replies.now)) }
+{
+    let mut jobs = Vec::new(alloc);
+    let mut rest = replies;
+    'replies: while let [reply, more @ ..] = rest {
+        push_job(alloc, &mut jobs, call_on(script, reply), after_word(reply))?;
+        rest = more;
+    }
+    Ok(jobs)
+}
+
+/// Adds the first process of the job that a call with this reply has begun, if it has begun one.
+fn push_job<'a>(
+    alloc: Global,
+    jobs: &mut Vec<&'a [u8]>,
+    call: &'a [u8],
+    reply: &'a [u8],
+) -> Result<(), AllocError>
+    ensures { OnOk result (texts jobs.new.items
+        ≡ texts jobs.old.items ++ job_begun (words_of call.now) (words_of reply.now)) }
+{
+    let call = words_in(alloc, call)?;
+    let reply = words_in(alloc, reply)?;
+    push_begun(jobs, call.as_slice(), reply.as_slice())
+}
+
+/// Adds the first process of a job, if the words of a call and of its reply say that one has begun.
+fn push_begun<'a>(
+    jobs: &mut Vec<&'a [u8]>,
+    call: &[&'a [u8]],
+    reply: &[&'a [u8]],
+) -> Result<(), AllocError>
+    ensures { OnOk result (texts jobs.new.items
+        ≡ texts jobs.old.items ++ job_begun (texts call.now) (texts reply.now)) }
+{
+    let [_, word, ..] = call else {
+        return Ok(());
+    };
+    let [_, job] = reply else {
+        return Ok(());
+    };
+    if *word == WRAP {
+        jobs.push(*job)?;
+    }
+    Ok(())
+}
+
+/// Checks whether a process is the first of a job or below it.
+pub(crate) fn is_within(job: &[u8], process: &[u8]) -> bool
+    ensures { result ≡ is_within job.now process.now }
+{
+    match job {
+        [] => match process {
+            [] => true,
+            [next, ..] => *next == b'.',
+        },
+        [first, job @ ..] => match process {
+            [] => false,
+            [other, process @ ..] => *first == *other && is_within(job, process),
+        },
+    }
+}
+
+/// Returns the process of a cell.
+pub(crate) fn process_of(cell: &[u8]) -> &[u8]
+    ensures { result.now ≡ process_of cell.entry.now }
+{
+    split_at_first(cell, COLON).0
+}
+
+/// Checks whether the letters of a cell's rights have this one.
+pub(crate) fn has_letter(letter: u8, cell: &[u8]) -> bool
+    ensures { result ≡ has_letter letter cell.now }
+{
+    let letters = or_nothing(split_at_first(cell, COLON).1);
+    letters.iter().any(|b| *b == letter)
+}

@@ -1,0 +1,127 @@
+//! The secrets on a page: each file that not everyone may read, and whom it rests on.
+ghost use Rattle.std.specs.Prelude.{◌≡◌, ◌++◌, ◌∷◌, [], IfOk, OnOk, map};
+ghost use Rattle.std.specs.List.{flat_map};
+ghost use Rattle.histar_script.specs.Lines.{lines_of};
+ghost use Rattle.histar_page.specs.Texts.{texts};
+ghost use Rattle.histar_page.specs.Items.{items_of};
+ghost use Rattle.histar_page.specs.Lines.{words_of};
+ghost use Rattle.histar_page.specs.Secrets.{member_item, member_kind, secret_items, secret_line_items, secrets_items};
+
+use crate::files::COLON;
+use crate::kind::Kind;
+use crate::lines::{lines_in, or_nothing, words_in};
+use crate::markup::Markup;
+use crate::piece::{Piece, fix, show};
+use histar_flat::split_at_first;
+use std::alloc::{AllocError, Global};
+
+/// The word before a process that is trusted.
+const TRUSTED: &[u8] = b"trusted";
+
+/// The word before a process that is confined.
+const CONFINED: &[u8] = b"confined";
+
+/// Returns the pieces of the part of a page that shows secrets.
+pub(crate) fn secrets_pieces<'a>(
+    alloc: Global,
+    secrets: &'a [u8],
+) -> Result<Vec<Piece<'a>>, AllocError>
+    ensures { IfOk result (λ pieces.
+        items_of pieces.items ≡ secrets_items (lines_of secrets.entry.now)) }
+{
+    let lines = lines_in(alloc, secrets)?;
+    let mut pieces = Vec::new(alloc);
+    fix(&mut pieces, Markup::BeginSecrets)?;
+    fix(&mut pieces, note_on(lines.as_slice()))?;
+    push_secrets(alloc, &mut pieces, lines.as_slice())?;
+    fix(&mut pieces, Markup::EndSecrets)?;
+    Ok(pieces)
+}
+
+/// Returns the sentence before these lines.
+fn note_on(lines: &[&[u8]]) -> Markup {
+    if lines.is_empty() {
+        Markup::NoSecrets
+    } else {
+        Markup::OnSecrets
+    }
+}
+
+/// Adds the lines of the secrets.
+fn push_secrets<'a>(
+    alloc: Global,
+    pieces: &mut Vec<Piece<'a>>,
+    lines: &[&'a [u8]],
+) -> Result<(), AllocError>
+    ensures { OnOk result (items_of pieces.new.items
+        ≡ items_of pieces.old.items ++ flat_map secret_line_items (texts lines.now)) }
+{
+    let mut rest = lines;
+    'lines: while let [line, more @ ..] = rest {
+        push_secret(alloc, pieces, line)?;
+        rest = more;
+    }
+    Ok(())
+}
+
+/// Adds a line of the secrets.
+fn push_secret<'a>(
+    alloc: Global,
+    pieces: &mut Vec<Piece<'a>>,
+    line: &'a [u8],
+) -> Result<(), AllocError>
+    ensures { OnOk result (items_of pieces.new.items
+        ≡ items_of pieces.old.items ++ secret_items (words_of line.now)) }
+{
+    let words = words_in(alloc, line)?;
+    fix(pieces, Markup::BeginSecret)?;
+    push_words(pieces, words.as_slice())?;
+    fix(pieces, Markup::EndSecret)
+}
+
+/// Adds the words of a line: a path, and then processes and users.
+fn push_words<'a>(pieces: &mut Vec<Piece<'a>>, words: &[&'a [u8]]) -> Result<(), AllocError>
+    ensures { OnOk result (items_of pieces.new.items
+        ≡ items_of pieces.old.items ++ secret_items (texts words.now)) }
+{
+    let [path, members @ ..] = words else {
+        return Ok(());
+    };
+    show(pieces, Kind::Secret, path)?;
+    push_members(pieces, members)
+}
+
+/// Adds processes and users, each by the word before it.
+fn push_members<'a>(pieces: &mut Vec<Piece<'a>>, members: &[&'a [u8]]) -> Result<(), AllocError>
+    ensures { OnOk result (items_of pieces.new.items
+        ≡ items_of pieces.old.items ++ map member_item (texts members.now)) }
+{
+    let mut rest = members;
+    'members: while let [member, more @ ..] = rest {
+        push_member(pieces, member)?;
+        rest = more;
+    }
+    Ok(())
+}
+
+/// Adds a process or a user, by the word before it.
+fn push_member<'a>(pieces: &mut Vec<Piece<'a>>, member: &'a [u8]) -> Result<(), AllocError>
+    ensures { OnOk result (items_of pieces.new.items
+        ≡ items_of pieces.old.items ++ member_item member.now ∷ []) }
+{
+    let (word, name) = split_at_first(member, COLON);
+    show(pieces, member_kind(word), or_nothing(name))
+}
+
+/// Returns what a process or a user is to a file, by the word before it.
+fn member_kind(word: &[u8]) -> Kind
+    ensures { result ≡ member_kind word.now }
+{
+    if word == TRUSTED {
+        Kind::Trusted
+    } else if word == CONFINED {
+        Kind::Confined
+    } else {
+        Kind::LoginReader
+    }
+}

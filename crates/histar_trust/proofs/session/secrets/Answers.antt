@@ -1,0 +1,26 @@
+use Rattle.std.proofs.lemmas.Result.{err_from_is_err_and}
+use Rattle.histar_script.specs.Outcome.{input_fault}
+use Rattle.histar_script.proofs.Sinks.{sink_left}
+use Rattle.histar_trust.specs.Secrets.{secrets_after}
+use Rattle.histar_trust.proofs.Runs.{input_known, runs_taken, stops_reading}
+use Rattle.histar_trust.proofs.session.secrets.Goals as goal
+
+pub returns-in_err-input-clause-nothing : goal.returns-in_err-input-clause-nothing
+returns-in_err-input-clause-nothing g c =
+    let p = err_from_is_err_and c.from_residual.result c.from_residual.ensures.1 in
+    rw (p.1, p.2) (sink_left c.args.writer.now (input_fault c.in_err-input.field-0.0))
+
+pub returns-in_err-input-clause-runs : goal.returns-in_err-input-clause-runs
+returns-in_err-input-clause-runs g c =
+    let p = err_from_is_err_and c.from_residual.result c.from_residual.ensures.1 in
+    rw (p.1, p.2) (stops_reading secrets_after c.in_err-input.field-0.0 _ _ _ c.in_err-input.ensures.err)
+
+pub returns-in_err-input-clause-known : goal.returns-in_err-input-clause-known
+returns-in_err-input-clause-known g c = input_known secrets_after _ _ _ _ _ (returns-in_err-input-clause-runs g c)
+
+pub returns-clause-runs : goal.returns-clause-runs
+returns-clause-runs g c =
+    runs_taken secrets_after c.in_ok-input.ensures.ok c.as_slice.ensures.value c.secrets_text.ensures.runs c.secrets_text.ensures.reads
+
+pub returns-clause-known : goal.returns-clause-known
+returns-clause-known g c = input_known secrets_after _ _ _ _ _ (returns-clause-runs g c)

@@ -1,0 +1,43 @@
+-- On whom each file rests that not everyone may read: the text of a flat state.
+use Rattle.std.specs.Prelude.{ℕ, Bool, not, ◌&&◌, List, [], ◌++◌, codes, None, if◌then◌else◌}
+use Rattle.std.specs.List.{flat_map}
+use Rattle.histar_flat.specs.Words.{Name, Path, ProcName}
+use Rattle.histar_flat.specs.Sessions.{Session}
+use Rattle.histar_flat.specs.Classes.{Class}
+use Rattle.histar_flat.specs.FlatState.{Flat, Node, is_dir}
+use Rattle.histar_flat.specs.Texts.{path_text, process_text}
+use Rattle.histar_script.specs.Script.{Reading}
+use Rattle.histar_access.specs.Session.{state_before}
+use Rattle.histar_trust.specs.TrustText.{confined_by, is_for_everyone, login_readers, trusted_with}
+
+-- what is no directory, and not each process may read
+abbrev pub is_secret : Bool → Class → Bool
+is_secret is_directory class = not is_directory && not (is_for_everyone class)
+
+-- a process behind a space, a word and a colon
+abbrev pub process_mark : List ℕ → ProcName × Name → List ℕ
+process_mark word p = codes " " ++ word ++ codes ":" ++ process_text p.0
+
+-- a user behind a space, a word and a colon
+abbrev pub user_mark : List ℕ → Name → List ℕ
+user_mark word user = codes " " ++ word ++ codes ":" ++ user
+
+module _ (session : Session) (f : Flat) where
+  -- who `trust` says is trusted with what is of the class, who is confined, and who could log in as a reader
+  abbrev pub members_text : Class → List ℕ
+  members_text class =
+      flat_map (process_mark (codes "trusted")) (trusted_with session f class)
+      ++ flat_map (process_mark (codes "confined")) (confined_by session f class)
+      ++ flat_map (user_mark (codes "login")) (login_readers session f class)
+
+  -- of a file that not each process may read its path and these, and of all else nothing
+  abbrev pub secret_text : Path × Node → List ℕ
+  secret_text e = if is_secret (is_dir e.1) e.1.class then path_text e.0 ++ members_text e.1.class ++ codes "\n" else []
+
+  -- these lines, in the order of paths
+  abbrev pub secrets_text : List ℕ
+  secrets_text = flat_map secret_text f.files.entries
+
+-- the text of the flat state after all calls of a script
+abbrev pub secrets_after : Reading → List ℕ
+secrets_after script = secrets_text script.session (state_before None script)

@@ -1,0 +1,144 @@
+//! The lines on the files that not everyone may read.
+ghost use Rattle.std.specs.Prelude.{◌≡◌, ◌++◌, [], ◌∷◌, codes, IfOk, OnOk};
+ghost use Rattle.std.specs.List.{flat_map};
+ghost use Rattle.histar_layout.specs.Listing.{is_directory};
+ghost use Rattle.histar_secrecy.specs.ShownStandings.{flat_class};
+ghost use Rattle.histar_trust.specs.Findings.{AddsSecrets, HasState, ShowsSecrets, shown_members};
+ghost use Rattle.histar_trust.specs.Secrets.{is_secret, process_mark, user_mark};
+
+use crate::members::{members_among, processes, user_names};
+use crate::output::is_for_everyone;
+use crate::way::file_class;
+use histar_flat::{Name, ProcName};
+use histar_label::LabelStore;
+use histar_layout::UserTable;
+use histar_secrecy::{FileClass, Member, Standing, login_readers, with_standing};
+use histar_shell::{Machine, push_path, push_process};
+use histar_tree::TreeNode;
+use std::alloc::{AllocError, Global};
+
+/// Returns a line for each file of a machine that not every process may read, by rising paths.
+///
+/// The tree and the processes are read once, and of each such file the standing of each process is looked at.
+pub fn secret_lines<S: LabelStore + Drop>(
+    alloc: Global,
+    machine: &Machine<S>,
+) -> Result<Vec<u8>, AllocError>
+    requires { HasState machine.now }
+    ensures { IfOk result (λ text. ShowsSecrets machine.now text.items) }
+{
+    let tree = machine.tree(alloc)?;
+    let processes = processes(alloc, machine)?;
+    let members = members_among(alloc, processes.as_slice())?;
+    let mut text = Vec::new(alloc);
+    push_secrets(
+        alloc,
+        &mut text,
+        machine.users(),
+        members.as_slice(),
+        tree.as_slice(),
+    )?;
+    Ok(text)
+}
+
+/// Adds the lines of the files of a tree that not every process may read.
+fn push_secrets(
+    alloc: Global,
+    text: &mut Vec<u8>,
+    users: &UserTable,
+    members: &[Member],
+    tree: &[TreeNode],
+) -> Result<(), AllocError>
+    ensures { OnOk result (AddsSecrets users.now members.now tree.now text.old.items text.new.items) }
+{
+    'nodes: for node in tree {
+        push_secret(alloc, text, users, members, node)?;
+    }
+    Ok(())
+}
+
+/// Adds the line of a file, unless each process may read it. Of a directory nothing is added.
+fn push_secret(
+    alloc: Global,
+    text: &mut Vec<u8>,
+    users: &UserTable,
+    members: &[Member],
+    node: &TreeNode,
+) -> Result<(), AllocError>
+    ensures { OnOk result (AddsSecrets users.now members.now (node.now ∷ []) text.old.items text.new.items) }
+{
+    let class = file_class(alloc, &node.class)?;
+    let secret = is_secret(node, &class);
+    if !secret {
+        return Ok(());
+    }
+    push_path(text, &node.path)?;
+    push_members(alloc, text, users, members, &class)?;
+    text.extend_from_slice(b"\n")
+}
+
+/// Checks whether a node is a file of the class, and not every process may read it.
+fn is_secret(node: &TreeNode, class: &FileClass) -> bool
+    ensures { result ≡ is_secret (is_directory node.now.target) (flat_class class.now) }
+{
+    !node.stat().is_directory && !is_for_everyone(class)
+}
+
+/// Adds each process that is trusted with a file of the class, each that is confined, and each user as whom
+/// one could log in as a reader.
+fn push_members(
+    alloc: Global,
+    text: &mut Vec<u8>,
+    users: &UserTable,
+    members: &[Member],
+    class: &FileClass,
+) -> Result<(), AllocError>
+    ensures { OnOk result (text.new.items
+        ≡ text.old.items ++ shown_members users.now members.now (flat_class class.now)) }
+{
+    let groups = users.groups();
+    let trusted = with_standing(alloc, groups, class, Standing::Trusted, members)?;
+    push_processes(text, b"trusted", trusted.as_slice())?;
+    let confined = with_standing(alloc, groups, class, Standing::Confined, members)?;
+    push_processes(text, b"confined", confined.as_slice())?;
+    let names = user_names(alloc, users)?;
+    let readers = login_readers(alloc, groups, class, names.as_slice())?;
+    push_users(text, b"login", readers.as_slice())
+}
+
+/// Adds each process behind a space, the word and a colon.
+fn push_processes(
+    text: &mut Vec<u8>,
+    word: &[u8],
+    processes: &[(ProcName, Name)],
+) -> Result<(), AllocError>
+    ensures { OnOk result (text.new.items
+        ≡ text.old.items ++ flat_map (process_mark word.now) processes.now) }
+{
+    for process in processes {
+        push_mark(text, word)?;
+        push_process(text, &process.0)?;
+    }
+    Ok(())
+}
+
+/// Adds each user behind a space, the word and a colon.
+fn push_users(text: &mut Vec<u8>, word: &[u8], users: &[Name]) -> Result<(), AllocError>
+    ensures { OnOk result (text.new.items
+        ≡ text.old.items ++ flat_map (user_mark word.now) users.now) }
+{
+    for user in users {
+        push_mark(text, word)?;
+        text.extend_from_slice(user.as_bytes())?;
+    }
+    Ok(())
+}
+
+/// Adds a space, the word and a colon.
+fn push_mark(text: &mut Vec<u8>, word: &[u8]) -> Result<(), AllocError>
+    ensures { OnOk result (text.new.items ≡ text.old.items ++ codes " " ++ word.now ++ codes ":") }
+{
+    text.extend_from_slice(b" ")?;
+    text.extend_from_slice(word)?;
+    text.extend_from_slice(b":")
+}
