@@ -231,6 +231,16 @@ fn answers_in_turn<S: LabelStore>(
     assert!(rt; answer);
     let answer = store.below(secret, owner);
     assert!(rt; !answer);
+    Ok(())
+}
+
+/// So has each comparison with a label of many exceptions.
+fn answers_of_many<S: LabelStore>(
+    rt: &impl Abort,
+    alloc: Global,
+    store: &mut S,
+) -> Result<(), OutOfMemory> {
+    let open = store.put(Label::new(alloc, Level::L1))?;
     let long = store.put(at_many(alloc, Level::L3)?)?;
     let answer = store.below(open, long);
     assert!(rt; answer);
@@ -262,6 +272,7 @@ fn answers_that_are_driven_out(rt: HostRuntime) -> Result<(), Fail> {
     for &cache in &CACHES {
         let mut store = InternStore::new(rt.alloc(), cache)?;
         answers_in_turn(&rt, rt.alloc(), &mut store)?;
+        answers_of_many(&rt, rt.alloc(), &mut store)?;
     }
     Ok(())
 }
