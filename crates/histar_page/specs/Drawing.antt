@@ -99,6 +99,10 @@ is_within [] (b ∷ bs) = b == 46
 is_within (a ∷ job) [] = false
 is_within (a ∷ job) (b ∷ bs) = (a == b) && is_within job bs
 
+-- a process is in one of these jobs
+abbrev pub is_in_a_job : List (List ℕ) → List ℕ → Bool
+is_in_a_job jobs process = list_any (λ job. is_within job process) jobs
+
 -- the first process of the job that a call with this reply has begun, if it has begun one
 abbrev pub job_begun : List (List ℕ) → List (List ℕ) → List (List ℕ)
 job_begun (process ∷ word ∷ rest) (ok ∷ job ∷ []) = if bytes_eq word (codes "wrap") then job ∷ [] else []

@@ -1,11 +1,48 @@
 -- The files on a page, with the rights of processes.
-use Rattle.std.specs.Prelude.{ℕ, List, [], ◌∷◌, ◌++◌, ◌==◌, map, unwrap_or, if◌then◌else◌}
+use Rattle.std.specs.Prelude.{ℕ, Bool, true, false, List, [], ◌∷◌, ◌++◌, ◌==◌, map, unwrap_or, if◌then◌else◌}
 use Rattle.std.specs.List.{flat_map}
 use Rattle.histar_flat.specs.Words.{split_at_first}
 use Rattle.histar_page.specs.declared.kind.Kind.{Kind}
-use Rattle.histar_page.specs.declared.kind.Kind.TheVariants.{Column, Path, Stat, Process, Granted, Withheld}
+use Rattle.histar_page.specs.declared.kind.Kind.TheVariants.{ColumnUser, Column, JobColumn, Path, Stat, Process, JobProcess, Granted, Withheld}
 use Rattle.histar_page.specs.Items.{Item}
-use Rattle.histar_page.specs.Lines.{words_of}
+use Rattle.histar_page.specs.Lines.{without_first, words_of}
+use Rattle.histar_page.specs.Drawing.{first_cells, is_in_a_job, process_of}
+
+-- ---- the columns
+
+-- the user of a word, which is behind its colon
+abbrev pub user_item : List ℕ → Item
+user_item word = (ColumnUser, unwrap_or (split_at_first 58 word).1 [])
+
+-- the processes with their users: the words of the first line of the secrets, behind the word that it begins with
+abbrev pub runners_of : List (List ℕ) → List (List ℕ)
+runners_of [] = []
+runners_of (line ∷ lines) = without_first (words_of line)
+
+-- the process of a cell is in one of these jobs
+abbrev pub is_job_cell : List (List ℕ) → List ℕ → Bool
+is_job_cell jobs cell = is_in_a_job jobs (process_of cell)
+
+-- whether the first column is of a job
+abbrev pub first_flag : List Bool → Bool
+first_flag [] = false
+first_flag (flag ∷ flags) = flag
+
+-- and whether the columns behind it are
+abbrev pub later_flags : List Bool → List Bool
+later_flags [] = []
+later_flags (flag ∷ flags) = flags
+
+-- a column of a job is set off
+abbrev pub column_kind : Bool → Kind
+column_kind in_job = if in_job then JobColumn else Column
+
+-- the process of each column
+abbrev pub column_items : List Bool → List (List ℕ) → List Item
+column_items flags [] = []
+column_items flags (cell ∷ cells) = (column_kind (first_flag flags), process_of cell) ∷ column_items (later_flags flags) cells
+
+-- ---- the lines
 
 -- a hyphen stands for a right that is withheld
 abbrev pub right_kind : ℕ → Kind
@@ -19,33 +56,34 @@ right_item letter = (right_kind letter, letter ∷ [])
 abbrev pub stat_item : List ℕ → Item
 stat_item word = (Stat, word)
 
--- the process of a cell, which is before its colon
-abbrev pub column_item : List ℕ → Item
-column_item cell = (Column, (split_at_first 58 cell).0)
+-- a cell of a job is set off
+abbrev pub process_kind : Bool → Kind
+process_kind in_job = if in_job then JobProcess else Process
 
 -- a process, and each letter of its rights
-abbrev pub cell_items : List ℕ → List Item
-cell_items cell = (Process, (split_at_first 58 cell).0) ∷ map right_item (unwrap_or (split_at_first 58 cell).1 [])
+abbrev pub cell_items : Bool → List ℕ → List Item
+cell_items in_job cell = (process_kind in_job, process_of cell) ∷ map right_item (unwrap_or (split_at_first 58 cell).1 [])
+
+-- the cells of columns
+abbrev pub cells_items : List Bool → List (List ℕ) → List Item
+cells_items flags [] = []
+cells_items flags (cell ∷ cells) = cell_items (first_flag flags) cell ++ cells_items (later_flags flags) cells
 
 -- the words of a line of the table: a path, what it is, its owner, its mode, and then the cells
-abbrev pub row_items : List (List ℕ) → List Item
-row_items (path ∷ kind ∷ owner ∷ mode ∷ cells) = (Path, path) ∷ stat_item kind ∷ stat_item owner ∷ stat_item mode ∷ flat_map cell_items cells
-row_items words = map stat_item words
+abbrev pub row_items : List Bool → List (List ℕ) → List Item
+row_items flags (path ∷ kind ∷ owner ∷ mode ∷ cells) = (Path, path) ∷ stat_item kind ∷ stat_item owner ∷ stat_item mode ∷ cells_items flags cells
+row_items flags words = map stat_item words
 
 -- a line of the table
-abbrev pub line_items : List ℕ → List Item
-line_items line = row_items (words_of line)
+abbrev pub line_items : List Bool → List ℕ → List Item
+line_items flags line = row_items flags (words_of line)
 
--- the processes of the cells of a line
-abbrev pub column_items : List (List ℕ) → List Item
-column_items (path ∷ kind ∷ owner ∷ mode ∷ cells) = map column_item cells
-column_items words = []
+-- ---- the table
 
--- the processes of the first line
-abbrev pub head_row_items : List (List ℕ) → List Item
-head_row_items [] = []
-head_row_items (line ∷ lines) = column_items (words_of line)
+-- the process of each column, and then each line of the table
+abbrev pub table_items : List Bool → List (List ℕ) → List Item
+table_items flags lines = column_items flags (first_cells lines) ++ flat_map (line_items flags) lines
 
--- the processes, and then each line of the table
-abbrev pub files_items : List (List ℕ) → List Item
-files_items lines = head_row_items lines ++ flat_map line_items lines
+-- the users of these words, and the table below them, with the columns of processes in these jobs set off
+abbrev pub files_items : List (List ℕ) → List (List ℕ) → List (List ℕ) → List Item
+files_items jobs runners lines = map user_item runners ++ table_items (map (is_job_cell jobs) (first_cells lines)) lines

@@ -52,6 +52,11 @@ begins_granted (b ∷ bs) = if b == 111 then true else b == 61
 abbrev pub is_refused : List ℕ → Bool
 is_refused line = not (begins_granted (after_word line))
 
+-- texts without the first of them
+abbrev pub without_first : List (List ℕ) → List (List ℕ)
+without_first [] = []
+without_first (text ∷ texts) = texts
+
 -- the words of a line: each is ended by a space, which the last may lack
 unfoldable pub words_of : List ℕ → List (List ℕ)
 words_of [] = []

@@ -7,9 +7,9 @@ use Rattle.histar_page.specs.Items.{Item, items_of}
 use Rattle.histar_page.specs.Rendering.{rendered}
 use Rattle.histar_page.specs.Head.{head_items}
 use Rattle.histar_page.specs.Session.{IsSession}
-use Rattle.histar_page.specs.Files.{files_items}
+use Rattle.histar_page.specs.Files.{files_items, runners_of}
 use Rattle.histar_page.specs.Secrets.{secrets_items}
-use Rattle.histar_page.specs.Drawing.{drawing_items}
+use Rattle.histar_page.specs.Drawing.{drawing_items, jobs_of}
 
 -- the texts that a page is made of
 pub record Sources : Type 0 where
@@ -27,7 +27,8 @@ sources_of texts = record { name = texts.name.now; version = texts.version.now; 
 -- What a page shows: its head, the session, the files, the secrets and the drawing.
 pub record IsReport (sources : Sources) (items : List Item) : Type 0 where
   pub session : List Item
-  pub parts : items ≡ head_items sources.name sources.version (lines_of sources.output) ++ session ++ files_items (lines_of sources.table)
+  pub parts : items ≡ head_items sources.name sources.version (lines_of sources.output) ++ session
+      ++ files_items (jobs_of (lines_of sources.script) (lines_of sources.output)) (runners_of (lines_of sources.secrets)) (lines_of sources.table)
       ++ secrets_items (lines_of sources.secrets)
       ++ drawing_items (lines_of sources.script) (lines_of sources.output) (lines_of sources.table)
   pub is_session : IsSession (lines_of sources.script) (lines_of sources.output) session

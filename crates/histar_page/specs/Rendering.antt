@@ -4,9 +4,9 @@ use Rattle.std.specs.List.{flat_map}
 use Rattle.histar_html.specs.Escape.{escaped}
 use Rattle.histar_page.specs.declared.markup.TheConstants.{STYLE}
 use Rattle.histar_page.specs.declared.kind.Kind.{Kind}
-use Rattle.histar_page.specs.declared.kind.Kind.TheVariants.{Title, FileName, Calls, Refusals, Denials, Version, LineNumber, OtherLine, Call, Reply, Refusal, RawCall, DeniedCall, Explanation, Column, Path, Stat, Process, Granted, Withheld, Secret, Trusted, Confined, LoginReader, DrawnHeight, ProcessBand, FileBand, ReadEdge, WriteEdge, BothEdge, EdgeEnd, EdgeProcess, EdgeFile, ProcessNode, FileNode, NodeName}
+use Rattle.histar_page.specs.declared.kind.Kind.TheVariants.{Title, FileName, Calls, Refusals, Denials, Version, LineNumber, OtherLine, Call, Reply, Refusal, RawCall, DeniedCall, Explanation, ColumnUser, Column, JobColumn, Path, Stat, Process, JobProcess, Granted, Withheld, Secret, Trusted, Confined, LoginReader, DrawnHeight, ProcessBand, FileBand, ReadEdge, WriteEdge, BothEdge, EdgeEnd, EdgeProcess, EdgeFile, ProcessNode, FileNode, NodeName}
 use Rattle.histar_page.specs.declared.markup.Markup.{Markup}
-use Rattle.histar_page.specs.declared.markup.Markup.TheVariants.{Begin, Style, BeginCounts, EndHead, BeginSession, BeginBoot, BeginOther, BeginCall, BeginBehind, EndCall, BeginBare, EndBare, EndSession, BeginFiles, EndColumns, BeginRow, BeginCell, EndCell, EndRow, EndFiles, BeginSecrets, NoSecrets, OnSecrets, BeginSecret, EndSecret, EndSecrets, BeginLabels, NotDrawn, BeginDrawing, Arrows, EndDrawing, End}
+use Rattle.histar_page.specs.declared.markup.Markup.TheVariants.{Begin, Style, BeginCounts, EndHead, BeginSession, BeginBoot, BeginOther, BeginCall, BeginBehind, EndCall, BeginBare, EndBare, EndSession, BeginFiles, EndUsers, EndColumns, BeginRow, EndCell, EndRow, EndFiles, BeginSecrets, NoSecrets, OnSecrets, BeginSecret, EndSecret, EndSecrets, BeginLabels, NotDrawn, BeginDrawing, Arrows, EndDrawing, End}
 use Rattle.histar_page.specs.declared.piece.Piece.{Piece}
 use Rattle.histar_page.specs.declared.piece.Piece.TheVariants.{Fixed, Shown, Counted, Letter}
 
@@ -26,10 +26,13 @@ opening Refusal = codes "<code class=\"refusal\">"
 opening RawCall = codes "<code class=\"raw\">"
 opening DeniedCall = codes "<code class=\"raw denied\">"
 opening Explanation = codes "<code class=\"why\">"
+opening ColumnUser = codes "<th scope=\"col\">"
 opening Column = codes "<th scope=\"col\">"
+opening JobColumn = codes "<th scope=\"col\" class=\"job\">"
 opening Path = codes "<th scope=\"row\">"
 opening Stat = codes "<td class=\"stat\">"
-opening Process = codes "<small>"
+opening Process = codes "<td class=\"rights\"><small>"
+opening JobProcess = codes "<td class=\"rights job\"><small>"
 opening Granted = codes "<b>"
 opening Withheld = codes "<i>"
 opening Secret = codes "<code>"
@@ -65,10 +68,13 @@ closing Refusal = codes "</code>\n"
 closing RawCall = codes "</code>\n"
 closing DeniedCall = codes "</code>\n"
 closing Explanation = codes "</code>\n"
+closing ColumnUser = codes "</th>"
 closing Column = codes "</th>"
+closing JobColumn = codes "</th>"
 closing Path = codes "</th>"
 closing Stat = codes "</td>"
 closing Process = codes "</small>"
+closing JobProcess = codes "</small>"
 closing Granted = codes "</b>"
 closing Withheld = codes "</i>"
 closing Secret = codes "</code>\n"
@@ -103,10 +109,10 @@ markup_text EndCall = codes "</div>\n</details>\n"
 markup_text BeginBare = codes "<div class=\"bare\">"
 markup_text EndBare = codes "</div>\n"
 markup_text EndSession = codes "</section>\n"
-markup_text BeginFiles = codes "<section id=\"files\">\n<h2>Files</h2>\n<p>Who may do what at the end: s to see it, r to read it, w to write it, d to take it away.</p>\n<div class=\"wide\">\n<table>\n<thead>\n<tr><th scope=\"col\">Path</th><th scope=\"col\">Kind</th><th scope=\"col\">Owner</th><th scope=\"col\">Mode</th>"
+markup_text BeginFiles = codes "<section id=\"files\">\n<h2>Files</h2>\n<p>Who may do what at the end: s to see it, r to read it, w to write it, d to take it away. Above each process is its user; the tinted columns are of processes in jobs.</p>\n<div class=\"wide\">\n<table>\n<thead>\n<tr class=\"users\"><td colspan=\"4\"></td>"
+markup_text EndUsers = codes "</tr>\n<tr><th scope=\"col\">Path</th><th scope=\"col\">Kind</th><th scope=\"col\">Owner</th><th scope=\"col\">Mode</th>"
 markup_text EndColumns = codes "</tr>\n</thead>\n<tbody>\n"
 markup_text BeginRow = codes "<tr>"
-markup_text BeginCell = codes "<td class=\"rights\">"
 markup_text EndCell = codes "</td>"
 markup_text EndRow = codes "</tr>\n"
 markup_text EndFiles = codes "</tbody>\n</table>\n</div>\n</section>\n"

@@ -6,7 +6,7 @@ use Rattle.histar_flat.specs.Words.{split_at_first}
 use Rattle.histar_page.specs.declared.kind.Kind.{Kind}
 use Rattle.histar_page.specs.declared.kind.Kind.TheVariants.{Secret, Trusted, Confined, LoginReader}
 use Rattle.histar_page.specs.Items.{Item}
-use Rattle.histar_page.specs.Lines.{words_of}
+use Rattle.histar_page.specs.Lines.{without_first, words_of}
 
 -- what a process or a user is to a file, by the word before it
 abbrev pub member_kind : List ℕ → Kind
@@ -28,6 +28,6 @@ secret_items (path ∷ members) = (Secret, path) ∷ map member_item members
 abbrev pub secret_line_items : List ℕ → List Item
 secret_line_items line = secret_items (words_of line)
 
--- each line of the secrets
+-- each line of the secrets behind the first, which has the processes
 abbrev pub secrets_items : List (List ℕ) → List Item
-secrets_items lines = flat_map secret_line_items lines
+secrets_items lines = flat_map secret_line_items (without_first lines)

@@ -5,13 +5,13 @@ ghost use Rattle.histar_script.specs.Lines.{lines_of};
 ghost use Rattle.histar_page.specs.Texts.{texts};
 ghost use Rattle.histar_page.specs.Items.{items_of};
 ghost use Rattle.histar_page.specs.Drawing.{drawing_items, drawn_items, file_nodes, first_cells, is_drawn, is_narrow};
-ghost use Rattle.histar_page.specs.Drawing.{jobs_of, line_cells, process_nodes};
+ghost use Rattle.histar_page.specs.Drawing.{line_cells, process_nodes};
 
 use crate::bands::push_jobs;
 use crate::edges::push_edges;
-use crate::jobs::{jobs_in, process_of};
+use crate::jobs::{jobs_of, process_of};
 use crate::kind::Kind;
-use crate::lines::{lines_in, replies_among, words_in};
+use crate::lines::{lines_in, words_in};
 use crate::markup::Markup;
 use crate::piece::{Piece, count, fix, show};
 use crate::places::{MOST_DRAWN_FILES, MOST_DRAWN_PROCESSES, drawn_height, file_top, process_top};
@@ -42,21 +42,6 @@ pub(crate) fn drawing_pieces<'a>(
     }
     fix(&mut pieces, Markup::End)?;
     Ok(pieces)
-}
-
-/// Returns the jobs of a session, in the order of their beginnings.
-fn jobs_of<'a>(
-    alloc: Global,
-    script: &'a [u8],
-    output: &'a [u8],
-) -> Result<Vec<&'a [u8]>, AllocError>
-    ensures { IfOk result (λ jobs.
-        texts jobs.items ≡ jobs_of (lines_of script.entry.now) (lines_of output.entry.now)) }
-{
-    let script = lines_in(alloc, script)?;
-    let output = lines_in(alloc, output)?;
-    let replies = replies_among(alloc, output.as_slice())?;
-    jobs_in(alloc, script.as_slice(), replies.as_slice())
 }
 
 /// Checks whether a session with this table is drawn.

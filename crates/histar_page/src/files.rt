@@ -4,12 +4,15 @@ ghost use Rattle.std.specs.List.{flat_map};
 ghost use Rattle.histar_script.specs.Lines.{lines_of};
 ghost use Rattle.histar_page.specs.Texts.{texts};
 ghost use Rattle.histar_page.specs.Items.{items_of};
-ghost use Rattle.histar_page.specs.Files.{cell_items, column_items, files_items, head_row_items};
-ghost use Rattle.histar_page.specs.Files.{line_items, right_item, right_kind, row_items, stat_item};
+ghost use Rattle.histar_page.specs.Drawing.{first_cells};
+ghost use Rattle.histar_page.specs.Files.{cell_items, cells_items, column_items, column_kind, files_items, first_flag};
+ghost use Rattle.histar_page.specs.Files.{is_job_cell, later_flags, line_items, process_kind, right_item, right_kind};
+ghost use Rattle.histar_page.specs.Files.{row_items, runners_of, stat_item, user_item};
 ghost use Rattle.histar_page.specs.Lines.{words_of};
 
+use crate::jobs::{is_in_a_job, process_of};
 use crate::kind::Kind;
-use crate::lines::{lines_in, or_nothing, words_in};
+use crate::lines::{lines_in, or_nothing, without_first, words_in};
 use crate::markup::Markup;
 use crate::piece::{Piece, fix, show, spell};
 use histar_flat::split_at_first;
@@ -21,64 +24,154 @@ pub(crate) const COLON: u8 = b':';
 /// The letter of a right that is withheld.
 const WITHHELD: u8 = b'-';
 
-/// Returns the pieces of the part of a page that shows files.
-pub(crate) fn files_pieces<'a>(alloc: Global, table: &'a [u8]) -> Result<Vec<Piece<'a>>, AllocError>
-    ensures { IfOk result (λ pieces. items_of pieces.items ≡ files_items (lines_of table.entry.now)) }
+/// Returns the pieces of the part of a page that shows files, with the columns of processes in these jobs set off.
+///
+/// Each job is looked at once for each column at most, and not for each cell.
+pub(crate) fn files_pieces<'a>(
+    alloc: Global,
+    jobs: &[&'a [u8]],
+    secrets: &'a [u8],
+    table: &'a [u8],
+) -> Result<Vec<Piece<'a>>, AllocError>
+    ensures { IfOk result (λ pieces. items_of pieces.items ≡ files_items (texts jobs.now)
+        (runners_of (lines_of secrets.entry.now)) (lines_of table.entry.now)) }
 {
     let lines = lines_in(alloc, table)?;
+    let cells = first_cells(alloc, lines.as_slice())?;
+    let flags = job_flags(alloc, jobs, cells.as_slice())?;
+    let runners = runners_in(alloc, secrets)?;
     let mut pieces = Vec::new(alloc);
     fix(&mut pieces, Markup::BeginFiles)?;
-    push_heads(alloc, &mut pieces, lines.as_slice())?;
+    push_users(&mut pieces, runners.as_slice())?;
+    fix(&mut pieces, Markup::EndUsers)?;
+    push_columns(&mut pieces, flags.as_slice(), cells.as_slice())?;
     fix(&mut pieces, Markup::EndColumns)?;
-    push_rows(alloc, &mut pieces, lines.as_slice())?;
+    push_rows(alloc, &mut pieces, flags.as_slice(), lines.as_slice())?;
     fix(&mut pieces, Markup::EndFiles)?;
     Ok(pieces)
 }
 
-/// Adds the process of each column, as the first line has them.
-fn push_heads<'a>(
-    alloc: Global,
-    pieces: &mut Vec<Piece<'a>>,
-    lines: &[&'a [u8]],
-) -> Result<(), AllocError>
-    ensures { OnOk result (items_of pieces.new.items
-        ≡ items_of pieces.old.items ++ head_row_items (texts lines.now)) }
+/// Returns the cells of the first line.
+fn first_cells<'a>(alloc: Global, lines: &[&'a [u8]]) -> Result<Vec<&'a [u8]>, AllocError>
+    ensures { IfOk result (λ cells. texts cells.items ≡ first_cells (texts lines.now)) }
 {
     let [first, ..] = lines else {
-        return Ok(());
+        return Ok(Vec::new(alloc));
     };
     let words = words_in(alloc, first)?;
-    push_columns(pieces, words.as_slice())
+    let [_, _, _, _, cells @ ..] = words.as_slice() else {
+        return Ok(Vec::new(alloc));
+    };
+    Vec::from_slice(alloc, cells)
+}
+
+/// Returns for each cell whether its process is in one of these jobs.
+fn job_flags(alloc: Global, jobs: &[&[u8]], cells: &[&[u8]]) -> Result<Vec<bool>, AllocError>
+    ensures { IfOk result (λ flags.
+        flags.items ≡ map (is_job_cell (texts jobs.now)) (texts cells.now)) }
+{
+    let mut flags = Vec::new(alloc);
+    let mut rest = cells;
+    'cells: while let [cell, more @ ..] = rest {
+        flags.push(is_in_a_job(jobs, process_of(cell)))?;
+        rest = more;
+    }
+    Ok(flags)
+}
+
+/// Returns the processes with their users, as the first line of the secrets has them.
+fn runners_in<'a>(alloc: Global, secrets: &'a [u8]) -> Result<Vec<&'a [u8]>, AllocError>
+    ensures { IfOk result (λ runners.
+        texts runners.items ≡ runners_of (lines_of secrets.entry.now)) }
+{
+    let lines = lines_in(alloc, secrets)?;
+    let [first, ..] = lines.as_slice() else {
+        return Ok(Vec::new(alloc));
+    };
+    let words = words_in(alloc, first)?;
+    Vec::from_slice(alloc, without_first(words.as_slice()))
+}
+
+/// Adds the user of each of these words.
+fn push_users<'a>(pieces: &mut Vec<Piece<'a>>, runners: &[&'a [u8]]) -> Result<(), AllocError>
+    ensures { OnOk result (items_of pieces.new.items
+        ≡ items_of pieces.old.items ++ map user_item (texts runners.now)) }
+{
+    let mut rest = runners;
+    'runners: while let [runner, more @ ..] = rest {
+        show(
+            pieces,
+            Kind::ColumnUser,
+            or_nothing(split_at_first(runner, COLON).1),
+        )?;
+        rest = more;
+    }
+    Ok(())
+}
+
+/// Adds the process of each column.
+fn push_columns<'a>(
+    pieces: &mut Vec<Piece<'a>>,
+    flags: &[bool],
+    cells: &[&'a [u8]],
+) -> Result<(), AllocError>
+    ensures { OnOk result (items_of pieces.new.items
+        ≡ items_of pieces.old.items ++ column_items flags.now (texts cells.now)) }
+{
+    let mut rest = cells;
+    let mut later = flags;
+    'cells: while let [cell, more @ ..] = rest {
+        show(pieces, column_kind(first_flag(later)), process_of(cell))?;
+        rest = more;
+        later = later_flags(later);
+    }
+    Ok(())
+}
+
+/// Returns whether the first column is of a job.
+fn first_flag(flags: &[bool]) -> bool
+    ensures { result ≡ first_flag flags.now }
+{
+    match flags {
+        [] => false,
+        [flag, ..] => *flag,
+    }
+}
+
+/// Returns for the columns behind the first whether they are of a job.
+fn later_flags(flags: &[bool]) -> &[bool]
+    ensures { result.now ≡ later_flags flags.entry.now }
+{
+    match flags {
+        [] => flags,
+        [_, later @ ..] => later,
+    }
+}
+
+/// Returns what the process of a column is.
+fn column_kind(in_job: bool) -> Kind
+    ensures { result ≡ column_kind in_job }
+{
+    if in_job {
+        Kind::JobColumn
+    } else {
+        Kind::Column
+    }
 }
 
 /// Adds the lines of the table.
 fn push_rows<'a>(
     alloc: Global,
     pieces: &mut Vec<Piece<'a>>,
+    flags: &[bool],
     lines: &[&'a [u8]],
 ) -> Result<(), AllocError>
     ensures { OnOk result (items_of pieces.new.items
-        ≡ items_of pieces.old.items ++ flat_map line_items (texts lines.now)) }
+        ≡ items_of pieces.old.items ++ flat_map (line_items flags.now) (texts lines.now)) }
 {
     let mut rest = lines;
     'lines: while let [line, more @ ..] = rest {
-        push_row(alloc, pieces, line)?;
-        rest = more;
-    }
-    Ok(())
-}
-
-/// Adds the process of each cell of a line.
-fn push_columns<'a>(pieces: &mut Vec<Piece<'a>>, words: &[&'a [u8]]) -> Result<(), AllocError>
-    ensures { OnOk result (items_of pieces.new.items
-        ≡ items_of pieces.old.items ++ column_items (texts words.now)) }
-{
-    let [_, _, _, _, cells @ ..] = words else {
-        return Ok(());
-    };
-    let mut rest = cells;
-    'cells: while let [cell, more @ ..] = rest {
-        show(pieces, Kind::Column, split_at_first(cell, COLON).0)?;
+        push_row(alloc, pieces, flags, line)?;
         rest = more;
     }
     Ok(())
@@ -88,21 +181,26 @@ fn push_columns<'a>(pieces: &mut Vec<Piece<'a>>, words: &[&'a [u8]]) -> Result<(
 fn push_row<'a>(
     alloc: Global,
     pieces: &mut Vec<Piece<'a>>,
+    flags: &[bool],
     line: &'a [u8],
 ) -> Result<(), AllocError>
     ensures { OnOk result (items_of pieces.new.items
-        ≡ items_of pieces.old.items ++ row_items (words_of line.now)) }
+        ≡ items_of pieces.old.items ++ row_items flags.now (words_of line.now)) }
 {
     let words = words_in(alloc, line)?;
     fix(pieces, Markup::BeginRow)?;
-    push_words(pieces, words.as_slice())?;
+    push_words(pieces, flags, words.as_slice())?;
     fix(pieces, Markup::EndRow)
 }
 
 /// Adds the words of a line of the table.
-fn push_words<'a>(pieces: &mut Vec<Piece<'a>>, words: &[&'a [u8]]) -> Result<(), AllocError>
+fn push_words<'a>(
+    pieces: &mut Vec<Piece<'a>>,
+    flags: &[bool],
+    words: &[&'a [u8]],
+) -> Result<(), AllocError>
     ensures { OnOk result (items_of pieces.new.items
-        ≡ items_of pieces.old.items ++ row_items (texts words.now)) }
+        ≡ items_of pieces.old.items ++ row_items flags.now (texts words.now)) }
 {
     let [path, kind, owner, mode, cells @ ..] = words else {
         return push_short(pieces, words);
@@ -111,7 +209,7 @@ fn push_words<'a>(pieces: &mut Vec<Piece<'a>>, words: &[&'a [u8]]) -> Result<(),
     show(pieces, Kind::Stat, kind)?;
     show(pieces, Kind::Stat, owner)?;
     show(pieces, Kind::Stat, mode)?;
-    push_cells(pieces, cells)
+    push_cells(pieces, flags, cells)
 }
 
 /// Adds the words of a line that has too few.
@@ -128,27 +226,48 @@ fn push_short<'a>(pieces: &mut Vec<Piece<'a>>, words: &[&'a [u8]]) -> Result<(),
 }
 
 /// Adds processes with their rights.
-fn push_cells<'a>(pieces: &mut Vec<Piece<'a>>, cells: &[&'a [u8]]) -> Result<(), AllocError>
+fn push_cells<'a>(
+    pieces: &mut Vec<Piece<'a>>,
+    flags: &[bool],
+    cells: &[&'a [u8]],
+) -> Result<(), AllocError>
     ensures { OnOk result (items_of pieces.new.items
-        ≡ items_of pieces.old.items ++ flat_map cell_items (texts cells.now)) }
+        ≡ items_of pieces.old.items ++ cells_items flags.now (texts cells.now)) }
 {
     let mut rest = cells;
+    let mut later = flags;
     'cells: while let [cell, more @ ..] = rest {
-        push_cell(pieces, cell)?;
+        push_cell(pieces, first_flag(later), cell)?;
         rest = more;
+        later = later_flags(later);
     }
     Ok(())
 }
 
 /// Adds a process and its rights.
-fn push_cell<'a>(pieces: &mut Vec<Piece<'a>>, cell: &'a [u8]) -> Result<(), AllocError>
-    ensures { OnOk result (items_of pieces.new.items ≡ items_of pieces.old.items ++ cell_items cell.now) }
+fn push_cell<'a>(
+    pieces: &mut Vec<Piece<'a>>,
+    in_job: bool,
+    cell: &'a [u8],
+) -> Result<(), AllocError>
+    ensures { OnOk result (items_of pieces.new.items
+        ≡ items_of pieces.old.items ++ cell_items in_job cell.now) }
 {
     let (process, rights) = split_at_first(cell, COLON);
-    fix(pieces, Markup::BeginCell)?;
-    show(pieces, Kind::Process, process)?;
+    show(pieces, process_kind(in_job), process)?;
     push_rights(pieces, or_nothing(rights))?;
     fix(pieces, Markup::EndCell)
+}
+
+/// Returns what the process of a cell is.
+fn process_kind(in_job: bool) -> Kind
+    ensures { result ≡ process_kind in_job }
+{
+    if in_job {
+        Kind::JobProcess
+    } else {
+        Kind::Process
+    }
 }
 
 /// Adds the letters of rights.

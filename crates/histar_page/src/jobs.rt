@@ -1,12 +1,13 @@
 //! The jobs of a session.
 ghost use Rattle.std.specs.Prelude.{◌≡◌, ◌++◌, IfOk, OnOk};
 ghost use Rattle.std.specs.List.{flat_map};
+ghost use Rattle.histar_script.specs.Lines.{lines_of};
 ghost use Rattle.histar_page.specs.Texts.{texts};
 ghost use Rattle.histar_page.specs.Lines.{words_of};
-ghost use Rattle.histar_page.specs.Drawing.{has_letter, is_within, job_begun, job_on, process_of};
+ghost use Rattle.histar_page.specs.Drawing.{has_letter, is_in_a_job, is_within, job_begun, job_on, jobs_of, process_of};
 
 use crate::files::COLON;
-use crate::lines::{after_word, or_nothing, words_in};
+use crate::lines::{after_word, lines_in, or_nothing, replies_among, words_in};
 use crate::session::call_on;
 use histar_flat::split_at_first;
 use std::alloc::{AllocError, Global};
@@ -14,8 +15,23 @@ use std::alloc::{AllocError, Global};
 /// The call that begins a job.
 const WRAP: &[u8] = b"wrap";
 
+/// Returns the jobs of a session, in the order of their beginnings.
+pub(crate) fn jobs_of<'a>(
+    alloc: Global,
+    script: &'a [u8],
+    output: &'a [u8],
+) -> Result<Vec<&'a [u8]>, AllocError>
+    ensures { IfOk result (λ jobs.
+        texts jobs.items ≡ jobs_of (lines_of script.entry.now) (lines_of output.entry.now)) }
+{
+    let script = lines_in(alloc, script)?;
+    let output = lines_in(alloc, output)?;
+    let replies = replies_among(alloc, output.as_slice())?;
+    jobs_in(alloc, script.as_slice(), replies.as_slice())
+}
+
 /// Returns the first processes of the jobs that calls have begun, by their replies.
-pub(crate) fn jobs_in<'a>(
+fn jobs_in<'a>(
     alloc: Global,
     script: &[&'a [u8]],
     replies: &[&'a [u8]],
@@ -82,6 +98,20 @@ pub(crate) fn is_within(job: &[u8], process: &[u8]) -> bool
             [other, process @ ..] => *first == *other && is_within(job, process),
         },
     }
+}
+
+/// Checks whether a process is in one of these jobs.
+pub(crate) fn is_in_a_job(jobs: &[&[u8]], process: &[u8]) -> bool
+    ensures { result ≡ is_in_a_job (texts jobs.now) process.now }
+{
+    let mut rest = jobs;
+    'jobs: while let [job, more @ ..] = rest {
+        if is_within(job, process) {
+            return true;
+        }
+        rest = more;
+    }
+    false
 }
 
 /// Returns the process of a cell.

@@ -20,12 +20,18 @@ pub enum Kind {
     RawCall,
     DeniedCall,
     Explanation,
+    /// The user of the process of a column, above it.
+    ColumnUser,
     /// A process at the head of a column.
     Column,
+    /// A process in a job at the head of a column.
+    JobColumn,
     Path,
     Stat,
     /// A process at a cell.
     Process,
+    /// A process in a job at a cell.
+    JobProcess,
     Granted,
     Withheld,
     /// A file that not everyone may read.
@@ -82,10 +88,12 @@ impl Kind {
             Kind::RawCall => b"<code class=\"raw\">",
             Kind::DeniedCall => b"<code class=\"raw denied\">",
             Kind::Explanation => b"<code class=\"why\">",
-            Kind::Column => b"<th scope=\"col\">",
+            Kind::ColumnUser | Kind::Column => b"<th scope=\"col\">",
+            Kind::JobColumn => b"<th scope=\"col\" class=\"job\">",
             Kind::Path => b"<th scope=\"row\">",
             Kind::Stat => b"<td class=\"stat\">",
-            Kind::Process => b"<small>",
+            Kind::Process => b"<td class=\"rights\"><small>",
+            Kind::JobProcess => b"<td class=\"rights job\"><small>",
             Kind::Granted => b"<b>",
             Kind::Withheld => b"<i>",
             Kind::Secret => b"<code>",
@@ -124,9 +132,9 @@ impl Kind {
             Kind::OtherLine | Kind::Granted => b"</b>",
             Kind::Call | Kind::Reply | Kind::Refusal => b"</code>\n",
             Kind::RawCall | Kind::DeniedCall | Kind::Explanation | Kind::Secret => b"</code>\n",
-            Kind::Column | Kind::Path => b"</th>",
+            Kind::ColumnUser | Kind::Column | Kind::JobColumn | Kind::Path => b"</th>",
             Kind::Stat => b"</td>",
-            Kind::Process => b"</small>",
+            Kind::Process | Kind::JobProcess => b"</small>",
             Kind::Withheld => b"</i>",
             Kind::Trusted | Kind::Confined | Kind::LoginReader => b"</b></span>\n",
             Kind::DrawnHeight => b"\" role=\"img\" aria-label=\"Processes and files\">\n",

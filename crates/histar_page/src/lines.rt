@@ -4,7 +4,7 @@ ghost use Rattle.std.specs.List.{prefix_len};
 ghost use Rattle.std.specs.Option.{option_copied};
 ghost use Rattle.histar_script.specs.Lines.{lines_of};
 ghost use Rattle.histar_page.specs.Texts.{texts};
-ghost use Rattle.histar_page.specs.Lines.{after_word, front_number, has_mark, is_denied, is_own, is_reply, mark_number, words_of};
+ghost use Rattle.histar_page.specs.Lines.{after_word, front_number, has_mark, is_denied, is_own, is_reply, mark_number, without_first, words_of};
 
 use histar_flat::read_number;
 use histar_script::{split_line, split_word};
@@ -49,6 +49,16 @@ fn has_mark(mark: u8, line: &[u8]) -> bool
     match line {
         [] => false,
         [first, ..] => *first == mark,
+    }
+}
+
+/// Returns texts without the first of them.
+pub(crate) fn without_first<'s, 'a>(lines: &'s [&'a [u8]]) -> &'s [&'a [u8]]
+    ensures { texts result.now ≡ without_first (texts lines.entry.now) }
+{
+    match lines {
+        [] => lines,
+        [_, later @ ..] => later,
     }
 }
 

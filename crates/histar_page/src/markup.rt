@@ -5,10 +5,10 @@ ghost use Rattle.histar_page.specs.Rendering.{markup_text};
 /// How the page looks: in light and dark, on small screens, and on paper.
 const STYLE: &[u8] = b"<style>
 :root { color-scheme: light dark; --ink: #1b1f24; --dim: #59636e; --page: #fff; --panel: #f3f5f8; --line: #d5dae0;
-  --good: #17652f; --bad: #a40e1f; --bad-panel: #fdeaec; --s: #cfe3ff; --r: #cdefd6; --w: #ffe2b8; --d: #ffd1d6; --letter: #1b1f24;
+  --good: #17652f; --bad: #a40e1f; --bad-panel: #fdeaec; --job: #e6e2f6; --s: #cfe3ff; --r: #cdefd6; --w: #ffe2b8; --d: #ffd1d6; --letter: #1b1f24;
   --reads: #2c8a4b; --writes: #c26a00; --both: #7a4fb5 }
 @media (prefers-color-scheme: dark) { :root { --ink: #e6e9ed; --dim: #a0a9b4; --page: #14171b; --panel: #1e2329; --line: #39414b;
-  --good: #7fd69a; --bad: #ff9aa2; --bad-panel: #3d1d22; --s: #234a7a; --r: #22583a; --w: #6b4a12; --d: #74303a; --letter: #f4f6f8;
+  --good: #7fd69a; --bad: #ff9aa2; --bad-panel: #3d1d22; --job: #372f5c; --s: #234a7a; --r: #22583a; --w: #6b4a12; --d: #74303a; --letter: #f4f6f8;
   --reads: #6fd08d; --writes: #f0a34a; --both: #b99cf0 } }
 * { box-sizing: border-box }
 body { margin: 0 auto; max-width: 76rem; padding: 1rem; background: var(--page); color: var(--ink); font: 16px/1.5 system-ui, sans-serif }
@@ -40,6 +40,10 @@ th, td { padding: .2rem .6rem .2rem 0; border-top: 1px solid var(--line); text-a
 thead th { border: 0; color: var(--dim); font-weight: normal; font-size: .85rem }
 tbody th { font: .85rem/1.7 ui-monospace, monospace; white-space: normal; overflow-wrap: anywhere }
 .stat, small { color: var(--dim) }
+.users th, .users + tr th:nth-child(n + 5), .rights { padding: .2rem .3rem }
+thead .users td { border: 0 }
+thead .users th { color: var(--ink) }
+th.job, td.job { background: var(--job) }
 .rights small { display: none }
 .rights b, .rights i { display: inline-block; width: 1.25rem; margin-right: 1px; text-align: center; font-style: normal; font-weight: normal; color: var(--letter); background: var(--panel) }
 .rights i { color: var(--dim) }
@@ -57,7 +61,7 @@ tbody th { font: .85rem/1.7 ui-monospace, monospace; white-space: normal; overfl
 svg { display: block; width: 58.5rem; font: 13px ui-monospace, monospace }
 .node rect { fill: var(--panel); stroke: var(--line) }
 .node text { fill: var(--ink) }
-.job { fill: var(--s); opacity: .55 }
+rect.job { fill: var(--job); opacity: .7 }
 line { stroke-width: 1.4; opacity: .75 }
 line.reads { stroke: var(--reads) }
 line.writes { stroke: var(--writes) }
@@ -74,7 +78,7 @@ path.both { fill: var(--both) }
   tr { padding: .3rem 0; border-top: 1px solid var(--line) }
   th, td { border: 0; padding: 0 .6rem 0 0 }
   td { display: inline-block; white-space: nowrap }
-  .rights { padding: .1rem .8rem .1rem 0 }
+  .rights { padding: .1rem .5rem .1rem .3rem }
   .rights small { display: inline; margin-right: .3rem }
 }
 @media print {
@@ -82,7 +86,7 @@ path.both { fill: var(--both) }
   body { max-width: none; padding: 0; font-size: 10pt }
   nav { display: none }
   tr, summary, .bare { break-inside: avoid }
-  .rights b, .refusal, .behind { print-color-adjust: exact; -webkit-print-color-adjust: exact }
+  .rights b, .job, .refusal, .behind { print-color-adjust: exact; -webkit-print-color-adjust: exact }
 }
 </style>
 </head>
@@ -107,9 +111,9 @@ pub enum Markup {
     EndBare,
     EndSession,
     BeginFiles,
+    EndUsers,
     EndColumns,
     BeginRow,
-    BeginCell,
     EndCell,
     EndRow,
     EndFiles,
@@ -157,14 +161,15 @@ impl Markup {
             Markup::EndSession => b"</section>\n",
             Markup::BeginFiles => b"<section id=\"files\">
 <h2>Files</h2>
-<p>Who may do what at the end: s to see it, r to read it, w to write it, d to take it away.</p>
+<p>Who may do what at the end: s to see it, r to read it, w to write it, d to take it away. Above each process is its user; the tinted columns are of processes in jobs.</p>
 <div class=\"wide\">
 <table>
 <thead>
+<tr class=\"users\"><td colspan=\"4\"></td>",
+            Markup::EndUsers => b"</tr>
 <tr><th scope=\"col\">Path</th><th scope=\"col\">Kind</th><th scope=\"col\">Owner</th><th scope=\"col\">Mode</th>",
             Markup::EndColumns => b"</tr>\n</thead>\n<tbody>\n",
             Markup::BeginRow => b"<tr>",
-            Markup::BeginCell => b"<td class=\"rights\">",
             Markup::EndCell => b"</td>",
             Markup::EndRow => b"</tr>\n",
             Markup::EndFiles => b"</tbody>\n</table>\n</div>\n</section>\n",

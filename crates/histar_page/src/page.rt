@@ -5,6 +5,7 @@ ghost use Rattle.histar_page.specs.Page.{IsPage, sources_of};
 use crate::drawing::drawing_pieces;
 use crate::files::files_pieces;
 use crate::head::head_pieces;
+use crate::jobs::jobs_of;
 use crate::piece::render;
 use crate::secrets::secrets_pieces;
 use crate::session::session_pieces;
@@ -22,7 +23,8 @@ pub struct Texts<'a> {
     pub output: &'a [u8],
     /// What `access` writes of the script.
     pub table: &'a [u8],
-    /// What is written of its secrets: a line for each file that not everyone may read.
+    /// What is written of its secrets: a line of the processes with their users, and then one for each file that
+    /// not everyone may read.
     pub secrets: &'a [u8],
 }
 
@@ -32,7 +34,8 @@ pub fn page_text(alloc: Global, texts: &Texts) -> Result<Vec<u8>, AllocError>
 {
     let head = head_pieces(alloc, texts.name, texts.version, texts.output)?;
     let session = session_pieces(alloc, texts.script, texts.output)?;
-    let files = files_pieces(alloc, texts.table)?;
+    let jobs = jobs_of(alloc, texts.script, texts.output)?;
+    let files = files_pieces(alloc, jobs.as_slice(), texts.secrets, texts.table)?;
     let secrets = secrets_pieces(alloc, texts.secrets)?;
     let drawing = drawing_pieces(alloc, texts.script, texts.output, texts.table)?;
     let mut page = Vec::new(alloc);

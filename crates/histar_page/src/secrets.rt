@@ -9,7 +9,7 @@ ghost use Rattle.histar_page.specs.Secrets.{member_item, member_kind, secret_ite
 
 use crate::files::COLON;
 use crate::kind::Kind;
-use crate::lines::{lines_in, or_nothing, words_in};
+use crate::lines::{lines_in, or_nothing, without_first, words_in};
 use crate::markup::Markup;
 use crate::piece::{Piece, fix, show};
 use histar_flat::split_at_first;
@@ -21,7 +21,7 @@ const TRUSTED: &[u8] = b"trusted";
 /// The word before a process that is confined.
 const CONFINED: &[u8] = b"confined";
 
-/// Returns the pieces of the part of a page that shows secrets.
+/// Returns the pieces of the part of a page that shows secrets: each line behind the first.
 pub(crate) fn secrets_pieces<'a>(
     alloc: Global,
     secrets: &'a [u8],
@@ -30,10 +30,11 @@ pub(crate) fn secrets_pieces<'a>(
         items_of pieces.items ≡ secrets_items (lines_of secrets.entry.now)) }
 {
     let lines = lines_in(alloc, secrets)?;
+    let files = without_first(lines.as_slice());
     let mut pieces = Vec::new(alloc);
     fix(&mut pieces, Markup::BeginSecrets)?;
-    fix(&mut pieces, note_on(lines.as_slice()))?;
-    push_secrets(alloc, &mut pieces, lines.as_slice())?;
+    fix(&mut pieces, note_on(files))?;
+    push_secrets(alloc, &mut pieces, files)?;
     fix(&mut pieces, Markup::EndSecrets)?;
     Ok(pieces)
 }

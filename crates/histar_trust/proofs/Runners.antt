@@ -14,7 +14,8 @@ use Rattle.histar_rights.specs.Running.{Named, and_children, itself, running_fro
 use Rattle.histar_secrecy.specs.declared.standing.Member.{Member}
 use Rattle.histar_secrecy.specs.ShownStandings.{with_user}
 use Rattle.histar_tree.specs.ProcessLines.{ProcessLine, flat_life, flat_processes, with_children}
-use Rattle.histar_trust.specs.Findings.{Runner, living, runner_of}
+use Rattle.histar_trust.specs.Findings.{Runner, living, runner_of, shown_runner}
+use Rattle.histar_trust.specs.Secrets.{runner_mark, running_mark}
 
 -- a shown process, where it runs
 abbrev pub running_line : ProcessLine → Option Runner
@@ -119,6 +120,17 @@ module _ (f : Flat) (category : Categories) where
       ≡ (if b then named_user c ∷ map named_user cs else map named_user cs)
   mapped_named true c cs = refl
   mapped_named false c cs = refl
+
+  -- the members are printed as the processes that run
+  pub runners_shown : (ms : List Member) (cs : List Named) → map runner_of ms ≡ map numbered cs
+      → flat_map shown_runner ms ≡ flat_map running_mark cs
+  unfolding first_runner rest_runners
+  runners_shown [] [] same = refl
+  runners_shown [] (c ∷ cs) same = absurd (cc)
+  runners_shown (m ∷ ms) [] same = absurd (cc)
+  runners_shown (m ∷ ms) (c ∷ cs) same =
+      let one : runner_of m ≡ numbered c = ap (first_runner (runner_of m)) same in
+      λ i. runner_mark (one i).name (one i).user ++ runners_shown ms cs (ap rest_runners same) i
 
   -- those that pass one test are those that pass another, where the tests agree on each
   pub picked : (test : Member → Bool) (of_flat : Named → Bool)

@@ -18,6 +18,7 @@ use Rattle.histar_flat.specs.FlatState.{Flat, Node}
 use Rattle.histar_flat.specs.Texts.{path_text}
 use Rattle.histar_flat.proofs.Finding.{is_less}
 use Rattle.histar_isolation.proofs.Unions.{find_here, find_past, holds}
+use Rattle.histar_rights.specs.Running.{running_in}
 use Rattle.histar_object.specs.State.{State}
 use Rattle.histar_syscall.specs.KernelModel.{state}
 use Rattle.histar_layout.specs.Listing.{is_directory}
@@ -33,12 +34,12 @@ use Rattle.histar_tree.specs.TreeEntries.{TreeEntry, flat_entry, tree_entry}
 use Rattle.histar_tree.specs.TreeLines.{TreeLine, flat_line, line_at}
 use Rattle.histar_shell.specs.Ending.{IsTreeIn}
 use Rattle.histar_shell.specs.Machine.{MachineModel}
-use Rattle.histar_trust.specs.Findings.{AddsSecrets, ShowsReached, class_flat, shown_members, shown_secret}
-use Rattle.histar_trust.specs.Secrets.{is_secret, members_text, process_mark, secret_text, secrets_text, user_mark}
+use Rattle.histar_trust.specs.Findings.{AddsSecrets, ShowsReached, class_flat, shown_members, shown_runners, shown_secret}
+use Rattle.histar_trust.specs.Secrets.{is_secret, members_text, process_mark, runners_line, secret_text, secrets_text, user_mark}
 use Rattle.histar_trust.specs.TrustText.{is_for_everyone}
 use Rattle.histar_trust.proofs.Places.{IsAt, first_of_list, number_of, rest_of_list, same_class, same_everyone}
-use Rattle.histar_trust.proofs.Runners.{AllOf}
-use Rattle.histar_trust.proofs.ShownTrust.{AreMembers, chosen, confined_same, is_so, own_tree, same_names, same_tree, trusted_same}
+use Rattle.histar_trust.proofs.Runners.{AllOf, runners_shown}
+use Rattle.histar_trust.proofs.ShownTrust.{AreMembers, chosen, confined_same, members_are as all_members, is_so, own_tree, same_names, same_tree, trusted_same}
 
 -- ---- entries
 
@@ -208,11 +209,16 @@ module _ {session : Session} {m : MachineModel} {f : Flat} (r : ShowsReached ses
       ap₂ (λ (a b : List ℕ). a ++ b) (one_secret node e class is all.0 (ap (first_of_list (flat_class class)) same))
       (secrets_are nodes es (ap rest_of_list entries) (ap rest_of_list lines) all.1 classes (ap rest_of_list same))
 
-  pub secrets_there : (tree : List TreeNode) → IsTreeIn m tree → {text : List ℕ} → AddsSecrets m.users members tree [] text → text ≡ secrets_text session f
+  -- the line of the processes is that of the flat state
+  runners_are : shown_runners members ≡ runners_line f
+  runners_are = λ i. codes "running" ++ runners_shown f category members (running_in f) (all_members r members found) i ++ codes "\n"
+
+  pub secrets_there : (tree : List TreeNode) → IsTreeIn m tree → {text : List ℕ} → AddsSecrets m.users members tree (shown_runners members) text
+      → text ≡ secrets_text session f
   secrets_there tree is h =
       let same : (own_tree r tree is).tree ≡ tree = same_tree r tree is in
-      h.added ∙ ap (λ (users : Session). flat_map (shown_secret users members) tree) r.shows.users
-      ∙ secrets_are tree f.files.entries
+      h.added ∙ (λ i. runners_are i ++ flat_map (shown_secret (r.shows.users i) members) tree)
+      ∙ ap (λ t. runners_line f ++ t) (secrets_are tree f.files.entries
       (ap (map (tree_entry s)) (sym same) ∙ (own_tree r tree is).same)
       (ap (map (line_at s)) (sym same) ∙ (own_tree r tree is).lines)
-      (each_found f.files.entries (holds (is_sorted path_cmp f.files.entries) f.files.sorted)) h.classes h.are
+      (each_found f.files.entries (holds (is_sorted path_cmp f.files.entries) f.files.sorted)) h.classes h.are)

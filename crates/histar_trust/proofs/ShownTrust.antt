@@ -170,7 +170,7 @@ module _ {session : Session} {m : MachineModel} {f : Flat} (r : ShowsReached ses
         own.are_processes
 
     -- the members are those that run
-    members_are : map runner_of members ≡ map (numbered f l.category) (running_in f)
+    pub members_are : map runner_of members ≡ map (numbered f l.category) (running_in f)
     unfolding running_in
     members_are =
         found_members.runners ∙ ap (filter_map running_node) same_processes ∙ sym (filter_map_map running_line process_line own.processes)

@@ -27,7 +27,7 @@ use Rattle.histar_tree.specs.declared.tree.TreeNode.{TreeNode}
 use Rattle.histar_tree.specs.TreeLines.{node_stat}
 use Rattle.histar_shell.specs.Machine.{MachineModel}
 use Rattle.histar_shell.specs.Meaning.{Shows}
-use Rattle.histar_trust.specs.Secrets.{is_secret, process_mark, secrets_text, user_mark}
+use Rattle.histar_trust.specs.Secrets.{is_secret, process_mark, runner_mark, secrets_text, user_mark}
 use Rattle.histar_trust.specs.TrustText.{is_for_everyone, process_lines, trust_text, user_lines}
 
 -- a process that runs: its user, the jobs that it is in, and those that it holds, by the numbers of their categories
@@ -49,6 +49,14 @@ living name jobs (Exited number) = None
 -- what is shown of a process, where it runs
 abbrev pub running_node : ProcessNode → Option Runner
 running_node node = living node.name node.chain node.life
+
+-- a process that runs and its user, as they are printed
+abbrev pub shown_runner : Member → List ℕ
+shown_runner m = runner_mark m.name m.user
+
+-- the line of the processes that run, as it is printed
+abbrev pub shown_runners : List Member → List ℕ
+shown_runners members = codes "running" ++ flat_map shown_runner members ++ codes "\n"
 
 -- the names of users
 abbrev pub names_of : Session → List Name
@@ -138,6 +146,6 @@ HasState m = (session : Session) × (f : Flat) × ShowsReached session m f
 abbrev pub ShowsTrust : MachineModel → Path → List ℕ → Type 0
 ShowsTrust m path text = (session : Session) (f : Flat) → ShowsReached session m f → text ≡ trust_text session f path
 
--- whatever such state a machine represents, this is the text on its files
+-- whatever such state a machine represents, this is the text on its processes and files
 abbrev pub ShowsSecrets : MachineModel → List ℕ → Type 0
 ShowsSecrets m text = (session : Session) (f : Flat) → ShowsReached session m f → text ≡ secrets_text session f

@@ -1,4 +1,4 @@
--- On whom each file rests that not everyone may read: the text of a flat state.
+-- Who runs, and on whom each file rests that not everyone may read: the text of a flat state.
 use Rattle.std.specs.Prelude.{ℕ, Bool, not, ◌&&◌, List, [], ◌++◌, codes, None, if◌then◌else◌}
 use Rattle.std.specs.List.{flat_map}
 use Rattle.histar_flat.specs.Words.{Name, Path, ProcName}
@@ -6,6 +6,7 @@ use Rattle.histar_flat.specs.Sessions.{Session}
 use Rattle.histar_flat.specs.Classes.{Class}
 use Rattle.histar_flat.specs.FlatState.{Flat, Node, is_dir}
 use Rattle.histar_flat.specs.Texts.{path_text, process_text}
+use Rattle.histar_rights.specs.Running.{Named, running_in}
 use Rattle.histar_script.specs.Script.{Reading}
 use Rattle.histar_access.specs.Session.{state_before}
 use Rattle.histar_trust.specs.TrustText.{confined_by, is_for_everyone, login_readers, trusted_with}
@@ -22,6 +23,18 @@ process_mark word p = codes " " ++ word ++ codes ":" ++ process_text p.0
 abbrev pub user_mark : List ℕ → Name → List ℕ
 user_mark word user = codes " " ++ word ++ codes ":" ++ user
 
+-- a process behind a space, and its user behind a colon
+abbrev pub runner_mark : ProcName → Name → List ℕ
+runner_mark process user = codes " " ++ process_text process ++ codes ":" ++ user
+
+-- a process that runs, and its user
+abbrev pub running_mark : Named → List ℕ
+running_mark c = runner_mark c.0 c.1.user
+
+-- the word `running`, and then each process that runs, in the order of names, with its user
+abbrev pub runners_line : Flat → List ℕ
+runners_line f = codes "running" ++ flat_map running_mark (running_in f) ++ codes "\n"
+
 module _ (session : Session) (f : Flat) where
   -- who `trust` says is trusted with what is of the class, who is confined, and who could log in as a reader
   abbrev pub members_text : Class → List ℕ
@@ -34,9 +47,9 @@ module _ (session : Session) (f : Flat) where
   abbrev pub secret_text : Path × Node → List ℕ
   secret_text e = if is_secret (is_dir e.1) e.1.class then path_text e.0 ++ members_text e.1.class ++ codes "\n" else []
 
-  -- these lines, in the order of paths
+  -- the line of the processes, and then these lines, in the order of paths
   abbrev pub secrets_text : List ℕ
-  secrets_text = flat_map secret_text f.files.entries
+  secrets_text = runners_line f ++ flat_map secret_text f.files.entries
 
 -- the text of the flat state after all calls of a script
 abbrev pub secrets_after : Reading → List ℕ

@@ -1,9 +1,9 @@
-//! The lines on the files that not everyone may read.
+//! The line on the processes that run, and the lines on the files that not everyone may read.
 ghost use Rattle.std.specs.Prelude.{◌≡◌, ◌++◌, [], ◌∷◌, codes, IfOk, OnOk};
 ghost use Rattle.std.specs.List.{flat_map};
 ghost use Rattle.histar_layout.specs.Listing.{is_directory};
 ghost use Rattle.histar_secrecy.specs.ShownStandings.{flat_class};
-ghost use Rattle.histar_trust.specs.Findings.{AddsSecrets, HasState, ShowsSecrets, shown_members};
+ghost use Rattle.histar_trust.specs.Findings.{AddsSecrets, HasState, ShowsSecrets, shown_members, shown_runner, shown_runners};
 ghost use Rattle.histar_trust.specs.Secrets.{is_secret, process_mark, user_mark};
 
 use crate::members::{members_among, processes, user_names};
@@ -17,7 +17,8 @@ use histar_shell::{Machine, push_path, push_process};
 use histar_tree::TreeNode;
 use std::alloc::{AllocError, Global};
 
-/// Returns a line for each file of a machine that not every process may read, by rising paths.
+/// Returns a line with the processes that run on a machine, and then one for each file that not every process
+/// may read, by rising paths.
 ///
 /// The tree and the processes are read once, and of each such file the standing of each process is looked at.
 pub fn secret_lines<S: LabelStore + Drop>(
@@ -31,6 +32,7 @@ pub fn secret_lines<S: LabelStore + Drop>(
     let processes = processes(alloc, machine)?;
     let members = members_among(alloc, processes.as_slice())?;
     let mut text = Vec::new(alloc);
+    push_runners(&mut text, members.as_slice())?;
     push_secrets(
         alloc,
         &mut text,
@@ -39,6 +41,35 @@ pub fn secret_lines<S: LabelStore + Drop>(
         tree.as_slice(),
     )?;
     Ok(text)
+}
+
+/// Adds the line of the processes that run.
+fn push_runners(text: &mut Vec<u8>, members: &[Member]) -> Result<(), AllocError>
+    ensures { OnOk result (text.new.items ≡ text.old.items ++ shown_runners members.now) }
+{
+    text.extend_from_slice(b"running")?;
+    push_each_runner(text, members)?;
+    text.extend_from_slice(b"\n")
+}
+
+/// Adds each process behind a space, and its user behind a colon.
+fn push_each_runner(text: &mut Vec<u8>, members: &[Member]) -> Result<(), AllocError>
+    ensures { OnOk result (text.new.items ≡ text.old.items ++ flat_map shown_runner members.now) }
+{
+    for member in members {
+        push_runner(text, member)?;
+    }
+    Ok(())
+}
+
+/// Adds a process behind a space, and its user behind a colon.
+fn push_runner(text: &mut Vec<u8>, member: &Member) -> Result<(), AllocError>
+    ensures { OnOk result (text.new.items ≡ text.old.items ++ shown_runner member.now) }
+{
+    text.extend_from_slice(b" ")?;
+    push_process(text, &member.name)?;
+    text.extend_from_slice(b":")?;
+    text.extend_from_slice(member.user.as_bytes())
 }
 
 /// Adds the lines of the files of a tree that not every process may read.

@@ -67,8 +67,8 @@ fn trust_text<W: Sink>(
     Ok(())
 }
 
-/// Reads a script, runs it on a machine of its own, and writes a line for each file that not everyone may read
-/// then: its path, each process that is trusted with it, each that is confined, and each user as whom one could
+/// Reads a script, runs it on a machine of its own, and writes a line with each process that runs then and its
+/// user, and then a line for each file that not everyone may read: its path, each process that is trusted with it, each that is confined, and each user as whom one could
 /// log in as a reader.
 ///
 /// The whole script is read and checked before the first call. It doesn't flush the sink.

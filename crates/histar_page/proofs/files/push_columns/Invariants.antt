@@ -1,7 +1,7 @@
-use Rattle.std.proofs.Common.{◌≡◌, ◌++◌, length, map}
+use Rattle.std.proofs.Common.{◌≡◌, ◌++◌, length}
 use Rattle.histar_page.specs.Items.{items_of}
 use Rattle.histar_page.specs.Texts.{texts}
-use Rattle.histar_page.specs.Files.{column_item, column_items}
+use Rattle.histar_page.specs.Files.{column_items}
 use Rattle.histar_page.proofs.files.push_columns.Given as goal
 
 abbrev pub decreases-cells : goal.decreases-cells
@@ -9,4 +9,4 @@ decreases-cells l = length l.rest
 
 abbrev pub invariant-cells : goal.invariant-cells
 invariant-cells l =
-    items_of l.pieces.items ++ map column_item (texts l.rest) ≡ items_of l.fn.pieces.items ++ column_items (texts l.words)
+    items_of l.pieces.items ++ column_items l.later (texts l.rest) ≡ items_of l.fn.pieces.items ++ column_items l.flags (texts l.cells)

@@ -10,4 +10,5 @@ decreases-lines l = length l.rest
 
 abbrev pub invariant-lines : goal.invariant-lines
 invariant-lines l =
-    items_of l.pieces.items ++ flat_map line_items (texts l.rest) ≡ items_of l.fn.pieces.items ++ flat_map line_items (texts l.lines)
+    items_of l.pieces.items ++ flat_map (line_items l.flags) (texts l.rest)
+    ≡ items_of l.fn.pieces.items ++ flat_map (line_items l.flags) (texts l.lines)
