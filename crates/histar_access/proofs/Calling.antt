@@ -15,7 +15,7 @@ use Rattle.histar_access.specs.Session.{ShowsAfter, calls_before, is_before}
 pub after_call : (old new : MachineModel) (line : ℕ) (process : ProcName) (call : UnixCall) (reply : Reply)
     → FollowsMeaning old new line process call (Ok reply)
     → ShowsAfter old new (record { line = line; process = process; call = call } ∷ [])
-after_call old new line process call reply means session f shows = (means session f shows).shows
+after_call old new line process call reply means accounts f shows = (means accounts f shows).shows
 
 -- the calls before a line, with one more behind them
 before_more : (at : Option ℕ) (calls : List CallLine) (c : CallLine) (more : List CallLine) → calls_before at (c ∷ []) ≡ more
@@ -27,16 +27,16 @@ before_more at calls c more is = filter-append (λ (d : CallLine). is_before at 
 pub made_more : (at : Option ℕ) (first mid new : MachineModel) (calls : List CallLine) (c : CallLine) → is_before at c.line ≡ true
     → ShowsAfter first mid (calls_before at calls) → ShowsAfter mid new (c ∷ [])
     → ShowsAfter first new (calls_before at (calls ++ c ∷ []))
-made_more at first mid new calls c before earlier later session f shows =
+made_more at first mid new calls c before earlier later accounts f shows =
     let one : calls_before at (c ∷ []) ≡ c ∷ [] = grind (arith, before) in
-    subst (Shows session new) (sym (ap (flat_end session f) (before_more at calls c (c ∷ []) one)
-    ∙ states_go_on session f (calls_before at calls) (c ∷ [])))
-    (later session (flat_end session f (calls_before at calls)) (earlier session f shows))
+    subst (Shows accounts new) (sym (ap (flat_end accounts f) (before_more at calls c (c ∷ []) one)
+    ∙ states_go_on accounts f (calls_before at calls) (c ∷ [])))
+    (later accounts (flat_end accounts f (calls_before at calls)) (earlier accounts f shows))
 
 -- one more that is not
 pub left_more : (at : Option ℕ) (first mid : MachineModel) (calls : List CallLine) (c : CallLine) → is_before at c.line ≡ false
     → ShowsAfter first mid (calls_before at calls) → ShowsAfter first mid (calls_before at (calls ++ c ∷ []))
-left_more at first mid calls c before earlier session f shows =
+left_more at first mid calls c before earlier accounts f shows =
     let none : calls_before at (c ∷ []) ≡ [] = grind (arith, before) in
-    subst (λ (cs : List CallLine). Shows session mid (flat_end session f cs)) (sym (before_more at calls c [] none
-    ∙ append-nil (calls_before at calls))) (earlier session f shows)
+    subst (λ (cs : List CallLine). Shows accounts mid (flat_end accounts f cs)) (sym (before_more at calls c [] none
+    ∙ append-nil (calls_before at calls))) (earlier accounts f shows)

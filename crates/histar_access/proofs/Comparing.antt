@@ -6,14 +6,14 @@ use Rattle.std.specs.Io.KnownBytes.{Appends, Keeps}
 use Rattle.std.proofs.lemmas.Bool.{false≢true}
 use Rattle.std.proofs.lemmas.Bool.Decides.{nat_tests}
 use Rattle.std.proofs.KnownBytes.{Keeps-refl}
-use Rattle.histar_devices.specs.declared.input.InputError.{InputError}
-use Rattle.histar_devices.specs.declared.input.InputError.TheVariants as input
-use Rattle.histar_devices.specs.Device.{CountsFailure}
-use Rattle.histar_devices.specs.Input.{TakesAll, TakesSome, is_read_failed as fails_to_read}
-use Rattle.histar_devices.specs.Writing.{AppendsFront}
+use Rattle.histar_io.specs.declared.input.InputError.{InputError}
+use Rattle.histar_io.specs.declared.input.InputError.TheVariants as input
+use Rattle.histar_io.specs.Device.{CountsFailure}
+use Rattle.histar_io.specs.Input.{TakesAll, TakesSome, is_read_failed as fails_to_read}
+use Rattle.histar_io.specs.Writing.{AppendsFront}
 use Rattle.histar_script.specs.declared.fault.Fault.{Fault}
 use Rattle.histar_script.specs.declared.fault.Fault.TheVariants.{BadScript, TooLong, OutOfMemory, ReadFailed, WriteFailed}
-use Rattle.histar_script.specs.Script.{Reading}
+use Rattle.histar_script.specs.Script.{ScriptModel}
 use Rattle.histar_script.specs.Outcome.{Gives, input_fault}
 use Rattle.histar_script.specs.Reading.{script_of}
 use Rattle.histar_script.specs.Runs.{IsOutputFault, is_read_failed}
@@ -44,13 +44,13 @@ module _ (at : Option ℕ) where
   table_is text m t is shows = record {
     script = is.script;
     is_read = is.is_read;
-    shows = shows is.script.session
+    shows = shows is.script.accounts
         (state_before at is.script) is.shows is.named;
   }
 
   -- it is in order
   pub table_rises : (text : List ℕ) (t : Table) → IsTableOf at text t → IsTable t
-  table_rises text t is = shown_tables_rise is.script.session (calls_before at is.script.calls) t is.shows
+  table_rises text t is = shown_tables_rise is.script.accounts (calls_before at is.script.calls) t is.shows
 
   -- ---- a text that is no script
 
@@ -60,15 +60,15 @@ module _ (at : Option ℕ) where
     no_memory = record { faults = tt; writes = inl (Keeps-refl w) }
 
     -- a fault of the old one
-    pub old_fault : (f : Fault) → Gives {A = Reading} (Err f) (script_of a) → ComparesTexts at a b w w (Err f)
-    old_fault (BadScript n) given = record { faults = ap (λ (r : Result Reading Fault). both_read r (script_of b)) given; writes = Keeps-refl w }
-    old_fault TooLong given = record { faults = ap (λ (r : Result Reading Fault). both_read r (script_of b)) given; writes = Keeps-refl w }
+    pub old_fault : (f : Fault) → Gives {A = ScriptModel} (Err f) (script_of a) → ComparesTexts at a b w w (Err f)
+    old_fault (BadScript n) given = record { faults = ap (λ (r : Result ScriptModel Fault). both_read r (script_of b)) given; writes = Keeps-refl w }
+    old_fault TooLong given = record { faults = ap (λ (r : Result ScriptModel Fault). both_read r (script_of b)) given; writes = Keeps-refl w }
     old_fault OutOfMemory given = no_memory
     old_fault ReadFailed given = absurd given
     old_fault WriteFailed given = absurd given
 
     -- a fault of the new one, where the old one is a script
-    pub new_fault : (old : Reading) → script_of a ≡ Ok old → (f : Fault) → Gives {A = Reading} (Err f) (script_of b)
+    pub new_fault : (old : ScriptModel) → script_of a ≡ Ok old → (f : Fault) → Gives {A = ScriptModel} (Err f) (script_of b)
         → ComparesTexts at a b w w (Err f)
     new_fault old is (BadScript n) given = record { faults = λ i. both_read (is i) (given i); writes = Keeps-refl w }
     new_fault old is TooLong given = record { faults = λ i. both_read (is i) (given i); writes = Keeps-refl w }
@@ -93,7 +93,7 @@ module _ (at : Option ℕ) where
   are_changes {ds = ds} c =
       let old = c.is_before.script in
       let new = c.is_after.script in
-      differences_are_changes old.session new.session (calls_before at old.calls) (calls_before at new.calls) c.before c.after ds c.is_before.shows
+      differences_are_changes old.accounts new.accounts (calls_before at old.calls) (calls_before at new.calls) c.before c.after ds c.is_before.shows
       c.is_after.shows c.exact
 
   -- the lines were written

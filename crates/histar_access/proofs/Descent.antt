@@ -13,7 +13,7 @@ use Rattle.histar_flat.specs.Files.{get}
 use Rattle.histar_flat.specs.FlatState.{Flat, Node, is_dir}
 use Rattle.histar_flat.proofs.FileLemmas.{same_path_found}
 use Rattle.histar_flat.proofs.Finding.{first, second, find_first, find_later}
-use Rattle.histar_tree.specs.FlatTree.{nodes_in, walked}
+use Rattle.histar_readout.specs.FlatTree.{nodes_in, walked}
 use Rattle.histar_access.specs.Rows.{last_or, rows_from}
 
 -- the last of a list that ends so

@@ -8,7 +8,7 @@ use Rattle.std.specs.FinMap.Entries.{below_all}
 use Rattle.histar_flat.specs.Words.{Name, Path}
 use Rattle.histar_flat.specs.PathOrder.{path_cmp}
 use Rattle.histar_flat.specs.PathOrderLaws.{path_cmp_total, path_cmp_exact}
-use Rattle.histar_flat.specs.Sessions.{Session}
+use Rattle.histar_flat.specs.Accounts.{Accounts}
 use Rattle.histar_flat.specs.Files.{get}
 use Rattle.histar_flat.specs.Classes.{may_read, may_write}
 use Rattle.histar_flat.specs.FlatState.{Flat, Node}
@@ -25,25 +25,25 @@ use Rattle.histar_refinement.specs.Guards.{Guard, guard_label}
 use Rattle.histar_refinement.specs.NumberedClasses.{numbered_class}
 use Rattle.histar_refinement.specs.Labels.{class_guard}
 use Rattle.histar_refinement.specs.Represents.{ObjectsMatch}
-use Rattle.histar_refinement.specs.Sessions.{IsSession}
-use Rattle.histar_refinement.specs.Stands.{bare, kind_bare}
+use Rattle.histar_refinement.specs.Accounts.{AreAccounts}
+use Rattle.histar_refinement.specs.Agrees.{bare, kind_bare}
 use Rattle.histar_refinement.proofs.ClassFound.{label_of_class}
 use Rattle.histar_refinement.proofs.ClassLaws.{observes_guarded, modifies_guarded}
-use Rattle.histar_refinement.proofs.Standing.{guard_at}
-use Rattle.histar_tree.specs.declared.tree.TreeNode.{TreeNode}
-use Rattle.histar_tree.specs.Tree.{AreListed, IsBelow, IsNodeAt, IsTreeAt, Listed}
-use Rattle.histar_tree.specs.TreeEntries.{TreeEntry, flat_entry, tree_entry}
-use Rattle.histar_tree.specs.TreeLines.{TreeLine, flat_line, line_at, node_stat}
+use Rattle.histar_refinement.proofs.Agreeing.{guard_at}
+use Rattle.histar_readout.specs.declared.tree.TreeNode.{TreeNode}
+use Rattle.histar_readout.specs.Tree.{AreListed, IsBelow, IsNodeAt, IsTreeAt, Listed}
+use Rattle.histar_readout.specs.TreeEntries.{TreeEntry, flat_entry, tree_entry}
+use Rattle.histar_readout.specs.TreeLines.{TreeLine, flat_line, line_at, node_stat}
 use Rattle.histar_access.proofs.Visiting.{Visitor}
 
 -- ---- the labels of the nodes of a tree
 
-module _ (session : Session) (s : State) where
+module _ (accounts : Accounts) (s : State) where
   -- the object of a node has a label, which is of the node's class
   pub record IsLabelled (node : TreeNode) : Type 0 where
     pub label : Levels
     pub is : label_there (s.objects (object_of node.target)) ≡ Some label
-    pub of_class : IsClassLabel session node.class label
+    pub of_class : IsClassLabel accounts node.class label
 
   -- each has
   abbrev pub AreLabelled : List TreeNode → Type 0
@@ -54,7 +54,7 @@ module _ (session : Session) (s : State) where
   both_labelled [] b h k = k
   both_labelled (node ∷ a) b h k = (h.0, both_labelled a b h.1 k)
 
-  node_labelled : (q : Path) (target : Target) (node : TreeNode) → IsNodeAt session s q target node → IsLabelled node
+  node_labelled : (q : Path) (target : Target) (node : TreeNode) → IsNodeAt accounts s q target node → IsLabelled node
   node_labelled q target node is = record {
     label = is.label;
     is = ap (λ (t : Target). label_there (s.objects (object_of t))) is.target_is
@@ -76,11 +76,11 @@ module _ (session : Session) (s : State) where
   below_labelled is_tree each q (File file) trees is = subst AreLabelled (sym is) tt
   below_labelled is_tree each q (Directory container listing) trees is = listed_labelled is_tree each q (maps.entries is.0) trees is.2
 
-  pub tree_labelled : (levels : ℕ) → AllLabelled (IsTreeAt levels session s)
+  pub tree_labelled : (levels : ℕ) → AllLabelled (IsTreeAt levels accounts s)
   tree_labelled zero q target tree is = absurd is
   tree_labelled (suc levels) q target tree is =
       subst AreLabelled (sym is.4)
-      (node_labelled q target is.0 is.2, below_labelled (IsTreeAt levels session s) (tree_labelled levels) q target is.1 is.3)
+      (node_labelled q target is.0 is.2, below_labelled (IsTreeAt levels accounts s) (tree_labelled levels) q target is.1 is.3)
 
 -- an object with a label
 with_label : (o : Found) (label : Levels) → label_there o ≡ Some label
@@ -89,15 +89,15 @@ with_label None label e = absurd (none-some label e)
 with_label (Some o) label e =
     (kind_bare o.kind, ap (λ (k : Levels). Some (record { label = k; kind = kind_bare o.kind })) (same_Some o.label label e))
 
-module _ (session : Session) (s : State) (f : Flat) (l : ObjectsMatch session s f) (ok : IsSession session) where
+module _ (accounts : Accounts) (s : State) (f : Flat) (l : ObjectsMatch accounts s f) (ok : AreAccounts accounts) where
   -- a node of the tree and what the flat state has there: the same is shown, and labels allow each process what the flat rules do
   pub record IsMatch (node : TreeNode) (e : Path × Node) : Type 0 where
     pub path : node.path ≡ e.0
     pub stat : node_stat node ≡ (flat_line e).stat
-    pub observed : (v : Visitor session s f l)
-        → observes (s.objects v.thread) (s.objects (object_of node.target)) ≡ may_read session v.process e.1.class
-    pub modified : (v : Visitor session s f l)
-        → modifies (s.objects v.thread) (s.objects (object_of node.target)) ≡ may_write session v.process e.1.class
+    pub observed : (v : Visitor accounts s f l)
+        → observes (s.objects v.thread) (s.objects (object_of node.target)) ≡ may_read accounts v.process e.1.class
+    pub modified : (v : Visitor accounts s f l)
+        → modifies (s.objects v.thread) (s.objects (object_of node.target)) ≡ may_write accounts v.process e.1.class
 
   -- one by one
   abbrev pub AreMatched : List TreeNode → List (Path × Node) → Type 0
@@ -108,14 +108,14 @@ module _ (session : Session) (s : State) (f : Flat) (l : ObjectsMatch session s 
 
   -- the label of a node is that of the class that the flat state has
   labelled_so : (node : TreeNode) (q : Path) (there : Node) (at : get f.files q ≡ Some there) → node.class ≡ numbered_class l.category there.class
-      → IsLabelled session s node
-      → (g : Guard) × (class_guard session there.class ≡ Some g) × (label_there (s.objects (object_of node.target)) ≡ Some (guard_label l.category g))
+      → IsLabelled accounts s node
+      → (g : Guard) × (class_guard accounts there.class ≡ Some g) × (label_there (s.objects (object_of node.target)) ≡ Some (guard_label l.category g))
   labelled_so node q there at class labelled =
-      let g = guard_at session s f l q there at in
-      let same = sym labelled.of_class.is ∙ ap (class_label session) class ∙ (label_of_class session s f l q there at g.0 g.1).is in
+      let g = guard_at accounts s f l q there at in
+      let same = sym labelled.of_class.is ∙ ap (class_label accounts) class ∙ (label_of_class accounts s f l q there at g.0 g.1).is in
       (g.0, g.1, labelled.is ∙ same)
 
-  one_match : (node : TreeNode) (e : Path × Node) → get f.files e.0 ≡ Some e.1 → IsLabelled session s node
+  one_match : (node : TreeNode) (e : Path × Node) → get f.files e.0 ≡ Some e.1 → IsLabelled accounts s node
       → tree_entry s node ≡ flat_entry l.category e → line_at s node ≡ flat_line e → IsMatch node e
   one_match node e at labelled entry line =
       let so = labelled_so node e.0 e.1 at (ap (λ (t : TreeEntry). t.class) entry) labelled in
@@ -123,15 +123,15 @@ module _ (session : Session) (s : State) (f : Flat) (l : ObjectsMatch session s 
       record {
         path = ap (λ (t : TreeLine). t.path) line;
         stat = ap (λ (t : TreeLine). t.stat) line;
-        observed = λ v. observes_guarded session s f l ok v.name v.process v.runs.0 v.runs.1 v.thread v.runs.2 e.1.class so.0 so.1
+        observed = λ v. observes_guarded accounts s f l ok v.name v.process v.runs.0 v.runs.1 v.thread v.runs.2 e.1.class so.0 so.1
             (object_of node.target) object.0 object.1;
-        modified = λ v. modifies_guarded session s f l ok v.name v.process v.runs.0 v.runs.1 v.thread v.runs.2 e.1.class so.0 so.1
+        modified = λ v. modifies_guarded accounts s f l ok v.name v.process v.runs.0 v.runs.1 v.thread v.runs.2 e.1.class so.0 so.1
             (object_of node.target) object.0 object.1;
       }
 
   all_match : (tree : List TreeNode) (es : List (Path × Node)) → T (is_sorted path_cmp es)
       → ((r : Path) (x : Node) → find path_cmp r es ≡ Some x → get f.files r ≡ Some x)
-      → AreLabelled session s tree → map (tree_entry s) tree ≡ map (flat_entry l.category) es → map
+      → AreLabelled accounts s tree → map (tree_entry s) tree ≡ map (flat_entry l.category) es → map
       (line_at s) tree ≡ map flat_line es → AreMatched tree es
   all_match [] [] sorted lead labelled entries lines = tt
   all_match [] (e ∷ es) sorted lead labelled entries lines = absurd (cc)
@@ -161,7 +161,7 @@ module _ (session : Session) (s : State) (f : Flat) (l : ObjectsMatch session s 
       rest_lines (y ∷ ys) = ys
 
   -- a tree that shows what the flat state has matches it
-  pub tree_matched : (tree : List TreeNode) → AreLabelled session s tree → map (tree_entry s) tree ≡ map (flat_entry l.category) f.files.entries
+  pub tree_matched : (tree : List TreeNode) → AreLabelled accounts s tree → map (tree_entry s) tree ≡ map (flat_entry l.category) f.files.entries
       → map (line_at s) tree ≡ map flat_line f.files.entries
       → AreMatched tree f.files.entries
   tree_matched tree labelled entries lines = all_match tree f.files.entries f.files.sorted (λ r x is. is) labelled entries lines

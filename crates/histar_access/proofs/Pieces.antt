@@ -2,7 +2,7 @@
 use Rattle.std.proofs.Common.{◌≡◌, ℕ, List, [], ◌++◌, Option, sym, ap, ◌∙◌, subst, refl, append-nil, append_assoc}
 use Rattle.std.specs.Io.KnownBytes.{Appends}
 use Rattle.std.proofs.KnownBytes.{Appends-nil, Appends-trans}
-use Rattle.histar_devices.specs.Writing.{AppendsFront}
+use Rattle.histar_io.specs.Writing.{AppendsFront}
 use Rattle.histar_shell.proofs.AnswerLemmas.{front_after}
 
 module _ (whole : List ℕ) where

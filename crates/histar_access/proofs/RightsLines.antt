@@ -11,8 +11,8 @@ use Rattle.histar_diff.specs.declared.table.Table.{Table}
 use Rattle.histar_diff.specs.declared.table.TableLine.{TableLine}
 use Rattle.histar_diff.specs.Shown.{rights_line}
 use Rattle.histar_diff.specs.Tables.{by_path}
-use Rattle.histar_tree.specs.declared.process.ProcessNode.{ProcessNode}
-use Rattle.histar_tree.specs.declared.tree.TreeNode.{TreeNode}
+use Rattle.histar_readout.specs.declared.process.ProcessNode.{ProcessNode}
+use Rattle.histar_readout.specs.declared.tree.TreeNode.{TreeNode}
 use Rattle.histar_shell.specs.Ending.{IsTreeIn}
 use Rattle.histar_shell.specs.Machine.{MachineModel}
 use Rattle.histar_access.specs.declared.cells.Cell.{Cell}
@@ -63,10 +63,10 @@ module _ (m : MachineModel) where
   -- the table of these processes and lines shows the rights of the flat state
   pub table_shows : (tree : List TreeNode) → IsTreeIn m tree → (processes : List ProcessNode) → AreProcessesIn m processes → (t : Table)
       → t.processes.items ≡ filter_map runner_of processes
-      → by_path t.lines.items ≡ map rights_line (lines_from (state m.kernel) (visitors_among (state m.kernel) m.places processes) [] tree)
+      → by_path t.lines.items ≡ map rights_line (lines_from (state m.kernel) (visitors_among (state m.kernel) m.roots processes) [] tree)
       → ShowsTable m t
-  table_shows tree is processes are t running lines session f shows named = record {
-    processes = running ∙ runners_found session m f shows named processes are;
+  table_shows tree is processes are t running lines accounts f shows named = record {
+    processes = running ∙ runners_found accounts m f shows named processes are;
     lines = lines ∙ ap (map rights_line)
-        (machine_table session m f shows named tree is (visitors_among (state m.kernel) m.places processes) (processes, are, refl));
+        (machine_table accounts m f shows named tree is (visitors_among (state m.kernel) m.roots processes) (processes, are, refl));
   }

@@ -12,7 +12,7 @@ use Rattle.histar_refinement.specs.Categories.{Categories}
 use Rattle.histar_rights.specs.Running.{and_children, itself, running_from}
 use Rattle.histar_diff.specs.declared.table.Runner.{Runner}
 use Rattle.histar_diff.specs.Shown.{runner}
-use Rattle.histar_tree.specs.ProcessLines.{ProcessLine, flat_life, flat_processes, with_children}
+use Rattle.histar_readout.specs.ProcessLines.{ProcessLine, flat_life, flat_processes, with_children}
 use Rattle.histar_access.specs.RightsTable.{runner_by}
 
 -- a shown process and its user, where it runs

@@ -6,13 +6,13 @@ use Rattle.std.specs.Io.KnownBytes.{Keeps}
 use Rattle.std.proofs.lemmas.Bool.{cases_lt, false≢true}
 use Rattle.std.proofs.lemmas.List.{length-append}
 use Rattle.std.proofs.KnownBytes.{Keeps-refl}
-use Rattle.histar_devices.specs.declared.input.InputError.{InputError}
-use Rattle.histar_devices.specs.declared.input.InputError.TheVariants as input
-use Rattle.histar_devices.specs.Input.{most_taken, TakesAll, TakesSome}
+use Rattle.histar_io.specs.declared.input.InputError.{InputError}
+use Rattle.histar_io.specs.declared.input.InputError.TheVariants as input
+use Rattle.histar_io.specs.Input.{most_taken, TakesAll, TakesSome}
 use Rattle.histar_flat.specs.Meaning.{boot}
 use Rattle.histar_script.specs.declared.fault.Fault.{Fault}
 use Rattle.histar_script.specs.declared.fault.Fault.TheVariants.{BadScript, TooLong, OutOfMemory, ReadFailed, WriteFailed}
-use Rattle.histar_script.specs.Script.{Reading}
+use Rattle.histar_script.specs.Script.{ScriptModel}
 use Rattle.histar_script.specs.Outcome.{Gives, input_fault}
 use Rattle.histar_script.specs.Lines.{most_script_bytes}
 use Rattle.histar_script.specs.Reading.{script_of}
@@ -43,14 +43,14 @@ no_read_fails (Ok done) h = refl
 no_read_fails (Err f) h = no_read_failed f h
 
 -- reading a script calls no device
-pub reads_none : (f : Fault) (read : Result Reading Fault) → Gives (Err f) read → is_read_failed {A = Unit {0}} (Err f) ≡ false
+pub reads_none : (f : Fault) (read : Result ScriptModel Fault) → Gives (Err f) read → is_read_failed {A = Unit {0}} (Err f) ≡ false
 reads_none (BadScript n) read given = refl
 reads_none TooLong read given = refl
 reads_none OutOfMemory read given = refl
 reads_none ReadFailed read given = absurd given
 reads_none WriteFailed read given = refl
 
-pub writes_none : (f : Fault) (read : Result Reading Fault) → Gives (Err f) read → is_write_failed {A = Unit {0}} (Err f) ≡ false
+pub writes_none : (f : Fault) (read : Result ScriptModel Fault) → Gives (Err f) read → is_write_failed {A = Unit {0}} (Err f) ≡ false
 writes_none (BadScript n) read given = refl
 writes_none TooLong read given = refl
 writes_none OutOfMemory read given = refl
@@ -66,7 +66,7 @@ module _ (at : Option ℕ) where
   -- ---- a text that is a script or none
 
   -- what reading the script answers is the fault in it, or out of memory
-  script_fault_agrees : (f : Fault) (read : Result Reading Fault) → Gives (Err f) read → IsFaultAt read f
+  script_fault_agrees : (f : Fault) (read : Result ScriptModel Fault) → Gives (Err f) read → IsFaultAt read f
   script_fault_agrees (BadScript n) read given = given
   script_fault_agrees TooLong read given = given
   script_fault_agrees OutOfMemory read given = tt
@@ -74,7 +74,7 @@ module _ (at : Option ℕ) where
   script_fault_agrees WriteFailed read given = absurd given
 
   -- and nothing was written then
-  script_fault_writes : (f : Fault) (w : Option (List ℕ)) (read : Result Reading Fault) → Gives (Err f) read → WritesAtFault at w w read f
+  script_fault_writes : (f : Fault) (w : Option (List ℕ)) (read : Result ScriptModel Fault) → Gives (Err f) read → WritesAtFault at w w read f
   script_fault_writes (BadScript n) w read given = Keeps-refl w
   script_fault_writes TooLong w read given = Keeps-refl w
   script_fault_writes OutOfMemory w read given = inl (Keeps-refl w)
@@ -96,32 +96,32 @@ module _ (at : Option ℕ) where
   -- ---- a machine after the calls
 
   -- a machine that was booted for a script and made its calls represents the flat state after them
-  pub machine_of : (text : List ℕ) (script : Reading) → script_of text ≡ Ok script → (start end : MachineModel) → ShowsStart script.session start
+  pub machine_of : (text : List ℕ) (script : ScriptModel) → script_of text ≡ Ok script → (start end : MachineModel) → ShowsStart script.accounts start
       → ShowsAfter start end (calls_before at script.calls) → IsMachineOf at text end
   machine_of text script given start end starts after = record {
     script = script;
     is_read = given;
-    shows = after script.session (boot script.session) starts;
-    named = processes_are_named script.session (calls_before at script.calls);
+    shows = after script.accounts (boot script.accounts) starts;
+    named = processes_are_named script.accounts (calls_before at script.calls);
   }
 
   module _ (text : List ℕ) (end : MachineModel) (is : IsMachineOf at text end) where
     -- so it represents some flat state
     pub is_shown : IsShown end
-    is_shown = (is.script.session, state_before at is.script, is.shows, is.named)
+    is_shown = (is.script.accounts, state_before at is.script, is.shows, is.named)
 
     -- the text of its table was written
     pub written_text : (old new : Option (List ℕ)) → AppendsTable end old new → AccessText at text old new (Ok tt)
     written_text old new h = record {
       faults = ap is_ok is.is_read;
-      writes = record { script = is.script; is_read = is.is_read; written = h is.script.session (state_before at is.script) is.shows is.named };
+      writes = record { script = is.script; is_read = is.is_read; written = h is.script.accounts (state_before at is.script) is.shows is.named };
     }
 
     begins : (old new : Option (List ℕ)) → BeginsTable end old new → BeginsToWrite at old new (script_of text)
     begins old new h = record {
       script = is.script;
       is_read = is.is_read;
-      written = h is.script.session
+      written = h is.script.accounts
           (state_before at is.script) is.shows is.named;
     }
 
@@ -185,8 +185,8 @@ module _ (at : Option ℕ) where
   same_run : (input taken : List ℕ) (old new : Option (List ℕ)) (result : Answer) → script_of taken ≡ script_of input
       → AccessText at taken old new result → AccessText at input old new result
   same_run input taken old new result same runs = record {
-    faults = subst (λ (read : Result Reading Fault). AgreesWith read result) same runs.faults;
-    writes = subst (λ (read : Result Reading Fault). MatchResult result (λ _. WritesTable at old new read)
+    faults = subst (λ (read : Result ScriptModel Fault). AgreesWith read result) same runs.faults;
+    writes = subst (λ (read : Result ScriptModel Fault). MatchResult result (λ _. WritesTable at old new read)
         (WritesAtFault at old new read)) same runs.writes;
   }
 

@@ -3,7 +3,7 @@ use Rattle.std.specs.Prelude.{◌≡◌, ℕ, suc, ◌≤◌, true, List, [], �
 use Rattle.std.specs.List.{filter_map}
 use Rattle.std.proofs.Common.{ap, sym, ◌∙◌, subst, arith}
 use Rattle.histar_flat.specs.Words.{Name, Path, ProcName, most_names}
-use Rattle.histar_flat.specs.Sessions.{Session}
+use Rattle.histar_flat.specs.Accounts.{Accounts}
 use Rattle.histar_flat.specs.Files.{get}
 use Rattle.histar_flat.specs.Classes.{Class, may_read, may_write}
 use Rattle.histar_flat.specs.FlatState.{Content, Flat, IsTree, Node, bytes_of, is_dir, is_dir_at, is_some_and, is_there}
@@ -12,32 +12,32 @@ use Rattle.histar_flat.specs.FlatCalls.{most_bytes}
 use Rattle.histar_object.specs.State.{State}
 use Rattle.histar_syscall.specs.KernelModel.{state}
 use Rattle.histar_layout.specs.declared.entry.Target.TheVariants.{Directory}
-use Rattle.histar_calls.specs.declared.places.Places.{Places}
-use Rattle.histar_login.specs.Start.{places_of}
+use Rattle.histar_calls.specs.declared.roots.Roots.{Roots}
+use Rattle.histar_login.specs.Start.{roots_of}
 use Rattle.histar_refinement.specs.Represents.{ObjectsMatch}
-use Rattle.histar_refinement.specs.Sessions.{IsSession}
-use Rattle.histar_refinement.proofs.Standing.{parent_is_dir, root_is_dir}
+use Rattle.histar_refinement.specs.Accounts.{AreAccounts}
+use Rattle.histar_refinement.proofs.Agreeing.{parent_is_dir, root_is_dir}
 use Rattle.histar_rights.specs.Rights.{rights_below}
 use Rattle.histar_rights.specs.Running.{HaveShownNames, Named, running_in}
 use Rattle.histar_rights.specs.Table.{access_table, line_of}
 use Rattle.histar_rights.specs.Laws.{HaveFewBytes, rights_above, rights_or}
 use Rattle.histar_rights.proofs.Giving.{directories_give_rights}
 use Rattle.histar_diff.specs.Shown.{runner}
-use Rattle.histar_tree.specs.declared.process.ProcessNode.{ProcessNode}
-use Rattle.histar_tree.specs.declared.tree.TreeNode.{TreeNode}
-use Rattle.histar_tree.specs.Laws.{HasProcessesOf, HasTreeOf}
-use Rattle.histar_tree.specs.Processes.{AreProcessesOf, levels_at as process_levels}
-use Rattle.histar_tree.specs.ProcessLines.{ProcessLine, flat_processes, process_line}
-use Rattle.histar_tree.specs.Tree.{IsTreeOf, levels_at as tree_levels}
-use Rattle.histar_tree.proofs.FlatTree.{walks_meet_all}
-use Rattle.histar_tree.proofs.OneTree.{states_have_one_tree}
-use Rattle.histar_tree.proofs.ProcessesLaid.{flat_states_have_their_processes}
-use Rattle.histar_tree.proofs.TreeLaid.{flat_states_have_their_trees}
+use Rattle.histar_readout.specs.declared.process.ProcessNode.{ProcessNode}
+use Rattle.histar_readout.specs.declared.tree.TreeNode.{TreeNode}
+use Rattle.histar_readout.specs.Laws.{HasProcessesOf, HasTreeOf}
+use Rattle.histar_readout.specs.Processes.{AreProcessesOf, levels_at as process_levels}
+use Rattle.histar_readout.specs.ProcessLines.{ProcessLine, flat_processes, process_line}
+use Rattle.histar_readout.specs.Tree.{IsTreeOf, levels_at as tree_levels}
+use Rattle.histar_readout.proofs.FlatTree.{walks_meet_all}
+use Rattle.histar_readout.proofs.OneTree.{states_have_one_tree}
+use Rattle.histar_readout.proofs.ProcessesMatched.{flat_states_have_their_processes}
+use Rattle.histar_readout.proofs.TreeMatched.{flat_states_have_their_trees}
 use Rattle.histar_shell.specs.Ending.{HasTree, IsTreeIn}
 use Rattle.histar_shell.specs.Machine.{MachineModel}
 use Rattle.histar_shell.specs.Meaning.{Shows}
 use Rattle.histar_shell.proofs.SameUsers.{tree_unproved}
-use Rattle.histar_shell.proofs.Users.{is_session}
+use Rattle.histar_shell.proofs.Users.{is_accounts}
 use Rattle.histar_access.specs.declared.cells.Cell.{Cell}
 use Rattle.histar_access.specs.Cells.{lines_from, visitors_among}
 use Rattle.histar_access.specs.RightsTable.{runner_of}
@@ -51,57 +51,57 @@ use Rattle.histar_access.proofs.Tables.{flat_below, lines_matched, map_twice, st
 use Rattle.histar_access.proofs.Visiting.{Visitor, cell_by, cells_are, filter_map_map, named_are, named_by, named_of, running_listed}
 use Rattle.histar_access.proofs.Visiting.{start_cell, visitors}
 
-module _ (session : Session) (s : State) (f : Flat) (l : ObjectsMatch session s f) where
+module _ (accounts : Accounts) (s : State) (f : Flat) (l : ObjectsMatch accounts s f) where
   -- the paths are a tree
   pub are_tree : IsTree f
   are_tree = record {
-    root = ap (λ (o : Option Node). is_some_and o is_dir) (root_is_dir session s f l).1;
+    root = ap (λ (o : Option Node). is_some_and o is_dir) (root_is_dir accounts s f l).1;
     below = λ n d is. by n d (get f.files (n ∷ d)) refl is;
   }
     where
       by : (n : Name) (d : Path) (o : Option Node) → get f.files (n ∷ d) ≡ o → is_some_and o (λ x. true) ≡ true → is_dir_at f d ≡ true
       by n d None e is = absurd (cc)
-      by n d (Some there) e is = parent_is_dir session s f l n d there e
+      by n d (Some there) e is = parent_is_dir accounts s f l n d there e
 
   -- each process finds at a path what its directory gives
-  module _ (small : HaveFewBytes f) (ok : IsSession session) (vs : List (Visitor session s f l)) where
-    above_is : (q : Path) (v : Visitor session s f l)
-        → found_above f (start session s f l ok vs) (flat_below session s f l ok vs)
-        (value session s f l ok vs) q v ≡ rights_above session f v.name v.process q
+  module _ (small : HaveFewBytes f) (ok : AreAccounts accounts) (vs : List (Visitor accounts s f l)) where
+    above_is : (q : Path) (v : Visitor accounts s f l)
+        → found_above f (start accounts s f l ok vs) (flat_below accounts s f l ok vs)
+        (value accounts s f l ok vs) q v ≡ rights_above accounts f v.name v.process q
     above_is [] v = refl
     above_is (n ∷ d) v = by (get f.files d)
       where
         by : (o : Option Node)
-            → found_at f (start session s f l ok vs) (flat_below session s f l ok vs)
-            (value session s f l ok vs) d o v ≡ rights_or session f v.name v.process d o
+            → found_at f (start accounts s f l ok vs) (flat_below accounts s f l ok vs)
+            (value accounts s f l ok vs) d o v ≡ rights_or accounts f v.name v.process d o
         by None = refl
         by (Some above) = refl
 
     is_given : (q : Path) (node : Node) → get f.files q ≡ Some node
-        → flat_below session s f l ok vs (q, node)
-        (found_above f (start session s f l ok vs) (flat_below session s f l ok vs)
-        (value session s f l ok vs) q) ≡ value session s f l ok vs q node
+        → flat_below accounts s f l ok vs (q, node)
+        (found_above f (start accounts s f l ok vs) (flat_below accounts s f l ok vs)
+        (value accounts s f l ok vs) q) ≡ value accounts s f l ok vs q node
     is_given q node at = λ i v.
-        (ap (λ r. rights_below r (may_read session v.process node.class) (may_write session v.process node.class)) (above_is q v)
-        ∙ sym (directories_give_rights session f are_tree small v.name v.process q node at)) i
+        (ap (λ r. rights_below r (may_read accounts v.process node.class) (may_write accounts v.process node.class)) (above_is q v)
+        ∙ sym (directories_give_rights accounts f are_tree small v.name v.process q node at)) i
 
     -- so the lines of a tree that matches are those of the table
     lines_are : (shallow : (q : Path) → is_there f q ≡ true → length q ≤ most_names) (tree : List TreeNode)
-        → AreMatched session s f l ok tree f.files.entries → map (named_of session s f l) vs ≡ running_in f
-        → lines_from s (map (start_cell session s f l) vs) [] tree ≡ access_table session f
+        → AreMatched accounts s f l ok tree f.files.entries → map (named_of accounts s f l) vs ≡ running_in f
+        → lines_from s (map (start_cell accounts s f l) vs) [] tree ≡ access_table accounts f
     lines_are shallow tree match named =
         let es = f.files.entries in
-        let root = root_is_dir session s f l in
+        let root = root_is_dir accounts s f l in
         let met = walks_meet_all f are_tree most_names shallow (record { class = root.0; content = Dir }) root.1 in
-        let rows = rows_from (λ (e : Path × Node). length e.0) (flat_below session s f l ok vs) (start session s f l ok vs) [] in
-        let found : rows es ≡ map (λ (e : Path × Node). value session s f l ok vs e.0 e.1) es =
+        let rows = rows_from (λ (e : Path × Node). length e.0) (flat_below accounts s f l ok vs) (start accounts s f l ok vs) [] in
+        let found : rows es ≡ map (λ (e : Path × Node). value accounts s f l ok vs e.0 e.1) es =
         ap rows (sym met)
-        ∙ descent f (start session s f l ok vs) (flat_below session s f l ok vs) (value session s f l ok vs) is_given (suc most_names)
+        ∙ descent f (start accounts s f l ok vs) (flat_below accounts s f l ok vs) (value accounts s f l ok vs) is_given (suc most_names)
         (record { class = root.0; content = Dir }) root.1
-        ∙ ap (map (λ (e : Path × Node). value session s f l ok vs e.0 e.1)) met in
-        lines_matched session s f l ok vs tree es match [] ∙ ap (zipped session s f l ok vs es) found ∙ zipped_values session s f l ok vs es
-        ∙ table_lines session s f l ok vs es
-        ∙ ap (λ (ps : List Named). map (line_of session f ps) es) named
+        ∙ ap (map (λ (e : Path × Node). value accounts s f l ok vs e.0 e.1)) met in
+        lines_matched accounts s f l ok vs tree es match [] ∙ ap (zipped accounts s f l ok vs es) found ∙ zipped_values accounts s f l ok vs es
+        ∙ table_lines accounts s f l ok vs es
+        ∙ ap (λ (ps : List Named). map (line_of accounts f ps) es) named
 
 -- files have few bytes
 pub few_bytes : (f : Flat)
@@ -118,40 +118,40 @@ few_bytes f small q = by (get f.files q) refl
     by None e = omega arith
     by (Some node) e = of_content node.class node.content e
 
-module _ (session : Session) (m : MachineModel) (f : Flat) (shows : Shows session m f) (named : HaveShownNames f) where
+module _ (accounts : Accounts) (m : MachineModel) (f : Flat) (shows : Shows accounts m f) (named : HaveShownNames f) where
   abbrev s : State
   s = state m.kernel
 
-  abbrev l : ObjectsMatch session s f
-  l = shows.represents.laid
+  abbrev l : ObjectsMatch accounts s f
+  l = shows.represents.matched
 
-  abbrev ok : IsSession session
-  ok = is_session session shows.declared
+  abbrev ok : AreAccounts accounts
+  ok = is_accounts accounts shows.declared
 
   -- the tree and the processes of the flat state
-  has_tree : HasTreeOf session s f l.category
-  has_tree = flat_states_have_their_trees session s f shows.represents shows.shallow
+  has_tree : HasTreeOf accounts s f l.category
+  has_tree = flat_states_have_their_trees accounts s f shows.represents shows.shallow
 
   tree_here : IsTreeIn m has_tree.tree
   tree_here =
-      subst (λ (users : Session). IsTreeOf users s m.places has_tree.tree) (sym shows.users)
-      (tree_unproved session s m.places has_tree.tree
-      (subst (λ (places : Places). IsTreeOf session s places has_tree.tree) (sym shows.places) has_tree.is_tree))
+      subst (λ (users : Accounts). IsTreeOf users s m.roots has_tree.tree) (sym shows.users)
+      (tree_unproved accounts s m.roots has_tree.tree
+      (subst (λ (roots : Roots). IsTreeOf accounts s roots has_tree.tree) (sym shows.roots) has_tree.is_tree))
 
   -- so the machine has a tree
   pub tree_there : HasTree m
   tree_there = (has_tree.tree, tree_here)
 
-  has_processes : HasProcessesOf session s f l.category
-  has_processes = flat_states_have_their_processes session s f shows.represents named
+  has_processes : HasProcessesOf accounts s f l.category
+  has_processes = flat_states_have_their_processes accounts s f shows.represents named
 
   -- and processes
   pub processes_there : HasProcesses m
   processes_there = (
     has_processes.processes,
-    subst (λ (users : Session). AreProcessesOf users s m.places has_processes.processes) (sym shows.users)
-        (processes_proved session s m.places has_processes.processes
-        (subst (λ (places : Places). AreProcessesOf session s places has_processes.processes) (sym shows.places) has_processes.are_processes)),
+    subst (λ (users : Accounts). AreProcessesOf users s m.roots has_processes.processes) (sym shows.users)
+        (processes_proved accounts s m.roots has_processes.processes
+        (subst (λ (roots : Roots). AreProcessesOf accounts s roots has_processes.processes) (sym shows.roots) has_processes.are_processes)),
   )
 
   -- the names of processes
@@ -159,26 +159,26 @@ module _ (session : Session) (m : MachineModel) (f : Flat) (shows : Shows sessio
   names processes = map (λ (node : ProcessNode). node.name) processes
 
   -- the cells of the processes that are found
-  module _ (processes : List ProcessNode) (are : AreProcessesOf m.users s m.places processes) where
+  module _ (processes : List ProcessNode) (are : AreProcessesOf m.users s m.roots processes) where
     same : processes ≡ has_processes.processes
-    same = one_list session s (places_of (length session.users)) processes has_processes.processes
-        (subst (λ (places : Places). AreProcessesOf session s places processes) shows.places
-        (processes_unproved session s m.places processes (subst (λ (users : Session). AreProcessesOf users s m.places processes) shows.users are)))
+    same = one_list accounts s (roots_of (length accounts.users)) processes has_processes.processes
+        (subst (λ (roots : Roots). AreProcessesOf accounts s roots processes) shows.roots
+        (processes_unproved accounts s m.roots processes (subst (λ (users : Accounts). AreProcessesOf users s m.roots processes) shows.users are)))
         has_processes.are_processes
 
-    pub cells_found : visitors_among s m.places processes ≡ map (start_cell session s f l) (visitors session s f l (names processes))
+    pub cells_found : visitors_among s m.roots processes ≡ map (start_cell accounts s f l) (visitors accounts s f l (names processes))
     cells_found =
-        ap (λ (places : Places). visitors_among s places processes) shows.places
-        ∙ sym (filter_map_map (cell_by session s f l) (λ (node : ProcessNode). node.name) processes) ∙ cells_are session s f l (names processes)
+        ap (λ (roots : Roots). visitors_among s roots processes) shows.roots
+        ∙ sym (filter_map_map (cell_by accounts s f l) (λ (node : ProcessNode). node.name) processes) ∙ cells_are accounts s f l (names processes)
 
-    pub named_found : map (named_of session s f l) (visitors session s f l (names processes)) ≡ running_in f
+    pub named_found : map (named_of accounts s f l) (visitors accounts s f l (names processes)) ≡ running_in f
     unfolding running_in
     named_found =
-        sym (named_are session s f l (names processes))
-        ∙ ap (filter_map (named_by session s f l)) (sym (map_twice (λ (line : ProcessLine). line.name) process_line processes)
+        sym (named_are accounts s f l (names processes))
+        ∙ ap (filter_map (named_by accounts s f l)) (sym (map_twice (λ (line : ProcessLine). line.name) process_line processes)
         ∙ ap (λ (ps : List ProcessNode). map (λ (line : ProcessLine). line.name) (map process_line ps)) same
         ∙ ap (map (λ (line : ProcessLine). line.name)) has_processes.lines)
-        ∙ filter_map_map (named_by session s f l) (λ (line : ProcessLine). line.name) (flat_processes l.category (process_levels []) f [])
+        ∙ filter_map_map (named_by accounts s f l) (λ (line : ProcessLine). line.name) (flat_processes l.category (process_levels []) f [])
         ∙ running_listed f l.category (process_levels []) []
 
     -- those of them that run, with their users, are those of the flat state
@@ -192,13 +192,13 @@ module _ (session : Session) (m : MachineModel) (f : Flat) (shows : Shows sessio
 
   -- the lines of the machine are the table of the flat state
   pub machine_table : (tree : List TreeNode) → IsTreeIn m tree → (cells : List Cell) → AreVisitors m cells
-      → lines_from s cells [] tree ≡ access_table session f
+      → lines_from s cells [] tree ≡ access_table accounts f
   unfolding IsTreeOf
   machine_table tree is cells are =
-      let vs = visitors session s f l (names are.0) in
-      let labelled = tree_labelled session s (tree_levels []) []
-      (Directory (places_of (length session.users)).slash.container
-      (places_of (length session.users)).slash.listing) has_tree.tree has_tree.is_tree in
-      let match = tree_matched session s f l ok has_tree.tree labelled has_tree.same has_tree.lines in
-      (λ i. lines_from s ((are.2 ∙ cells_found are.0 are.1) i) [] (states_have_one_tree m.users s m.places tree has_tree.tree is tree_here i))
-      ∙ lines_are session s f l (few_bytes f shows.small) ok vs shows.shallow has_tree.tree match (named_found are.0 are.1)
+      let vs = visitors accounts s f l (names are.0) in
+      let labelled = tree_labelled accounts s (tree_levels []) []
+      (Directory (roots_of (length accounts.users)).slash.container
+      (roots_of (length accounts.users)).slash.listing) has_tree.tree has_tree.is_tree in
+      let match = tree_matched accounts s f l ok has_tree.tree labelled has_tree.same has_tree.lines in
+      (λ i. lines_from s ((are.2 ∙ cells_found are.0 are.1) i) [] (states_have_one_tree m.users s m.roots tree has_tree.tree is tree_here i))
+      ∙ lines_are accounts s f l (few_bytes f shows.small) ok vs shows.shallow has_tree.tree match (named_found are.0 are.1)

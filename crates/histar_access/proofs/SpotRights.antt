@@ -5,7 +5,7 @@ use Rattle.std.proofs.lemmas.Bool.{true≢false}
 use Rattle.std.proofs.lemmas.Option.{none-some, same_Some}
 use Rattle.std.specs.FinMap as map
 use Rattle.histar_flat.specs.Words.{Path, ProcName}
-use Rattle.histar_flat.specs.Sessions.{Session}
+use Rattle.histar_flat.specs.Accounts.{Accounts}
 use Rattle.histar_flat.specs.Files.{get}
 use Rattle.histar_flat.specs.Classes.{Class, Process}
 use Rattle.histar_flat.specs.FlatState.{Content, Flat, Node, is_dir, is_some_and}
@@ -19,34 +19,34 @@ use Rattle.histar_layout.specs.Listing.{object_of}
 use Rattle.histar_layout.specs.declared.entry.Target.{Target}
 use Rattle.histar_layout.specs.declared.entry.Target.TheVariants as targets
 use Rattle.histar_layout.proofs.DirectoryLemmas.{same_directory}
-use Rattle.histar_calls.specs.declared.places.Places.{Places}
+use Rattle.histar_calls.specs.declared.roots.Roots.{Roots}
 use Rattle.histar_process.specs.declared.caller.Caller.{Caller}
 use Rattle.histar_process.specs.Caller.{caller_at}
-use Rattle.histar_login.specs.Start.{places_of}
+use Rattle.histar_login.specs.Start.{roots_of}
 use Rattle.histar_refinement.specs.Addresses.{address_of}
 use Rattle.histar_refinement.specs.Addresses.Step.{Listing, Slash}
 use Rattle.histar_refinement.specs.Directories.{directory_of, target_for}
 use Rattle.histar_refinement.specs.Represents.{ObjectsMatch}
 use Rattle.histar_refinement.specs.Lines.{IsDirectoryAt}
-use Rattle.histar_refinement.specs.Sessions.{IsSession}
+use Rattle.histar_refinement.specs.Accounts.{AreAccounts}
 use Rattle.histar_refinement.proofs.CallerFound.{callers_are_found, callers_are_there}
 use Rattle.histar_refinement.proofs.ClassLaws.{modifies_path, observes_path}
 use Rattle.histar_refinement.proofs.DirectoryLaws.{get_directory}
-use Rattle.histar_refinement.proofs.LinesLaid.{directory_back, holds_directory}
+use Rattle.histar_refinement.proofs.LinesMatched.{directory_back, holds_directory}
 use Rattle.histar_refinement.proofs.SameLines.{container_in, listing_in}
-use Rattle.histar_refinement.proofs.Standing.{parent_is_dir}
+use Rattle.histar_refinement.proofs.Agreeing.{parent_is_dir}
 use Rattle.histar_rights.specs.declared.rights.Rights.{Rights}
 use Rattle.histar_rights.specs.Laws.{HaveFewBytes, rights_above, rights_or}
 use Rattle.histar_rights.specs.Rights.{rights_at, rights_below}
 use Rattle.histar_rights.proofs.Giving.{directories_give_rights}
 use Rattle.histar_diff.specs.Shown.{rights_if}
 use Rattle.histar_diff.specs.Tables.{no_rights}
-use Rattle.histar_tree.specs.Laws.{LeadsToNode}
-use Rattle.histar_tree.specs.Resolve.{LeadsNowhere}
-use Rattle.histar_tree.proofs.PathsLaid.{flat_states_are_resolved}
-use Rattle.histar_tree.proofs.TreeLaid.{led_to_directory, led_to_file}
+use Rattle.histar_readout.specs.Laws.{LeadsToNode}
+use Rattle.histar_readout.specs.Resolve.{LeadsNowhere}
+use Rattle.histar_readout.proofs.PathsMatched.{flat_states_are_resolved}
+use Rattle.histar_readout.proofs.TreeMatched.{led_to_directory, led_to_file}
 use Rattle.histar_shell.specs.Machine.{MachineModel}
-use Rattle.histar_shell.proofs.Users.{is_session}
+use Rattle.histar_shell.proofs.Users.{is_accounts}
 use Rattle.histar_access.specs.declared.cells.Cell.{Cell}
 use Rattle.histar_access.specs.declared.one_path.Spot.{Spot}
 use Rattle.histar_access.specs.Cells.{cell_below, visitor, visitor_at}
@@ -55,21 +55,21 @@ use Rattle.histar_access.proofs.ShownTables.{are_tree, few_bytes}
 use Rattle.histar_access.proofs.Spots.{leads_there}
 use Rattle.histar_access.proofs.Visiting.{Visitor, runs_there, start_cell}
 
-module _ (session : Session) (s : State) where
-  abbrev places : Places
-  places = places_of (length session.users)
+module _ (accounts : Accounts) (s : State) where
+  abbrev roots : Roots
+  roots = roots_of (length accounts.users)
 
   -- a spot of a directory is where the directory segments list that
-  directory_reached : (start : Cell) (q : Path) (spot : Spot) → Reaches s places start q spot → (c g : ℕ) → spot.target ≡ targets.Directory c g
-      → IsDirectoryAt session s q c g
+  directory_reached : (start : Cell) (q : Path) (spot : Spot) → Reaches s roots start q spot → (c g : ℕ) → spot.target ≡ targets.Directory c g
+      → IsDirectoryAt accounts s q c g
   directory_reached start [] spot is c g at =
       let slash = sym at ∙ ap (λ (x : Spot). x.target) is in
       (ap container_in slash, ap listing_in slash)
   directory_reached start (n ∷ d) spot is c g at = by is.0.target refl is.3 (directory_reached start d is.0 is.2)
     where
       by : (above : Target) → is.0.target ≡ above → Lists s above n is.1
-          → ((container listing : ℕ) → is.0.target ≡ targets.Directory container listing → IsDirectoryAt session s d container listing)
-          → IsDirectoryAt session s (n ∷ d) c g
+          → ((container listing : ℕ) → is.0.target ≡ targets.Directory container listing → IsDirectoryAt accounts s d container listing)
+          → IsDirectoryAt accounts s (n ∷ d) c g
       by (targets.File file) same lists there = absurd lists
       by (targets.Directory container listing) same lists there = (
         container,
@@ -80,7 +80,7 @@ module _ (session : Session) (s : State) where
         lists.2 ∙ ap (λ (t : Target). Some t) (sym (ap (λ (x : Spot). x.target) is.4) ∙ at),
       )
 
-  module _ (f : Flat) (l : ObjectsMatch session s f) where
+  module _ (f : Flat) (l : ObjectsMatch accounts s f) where
     -- what leads to what stands at a path has its number
     number_led : (q : Path) (class : Class) (content : Content) (target : Target)
         → target_for l.naming.number (q, record { class = class; content = content }) ≡ Some target
@@ -93,7 +93,7 @@ module _ (session : Session) (s : State) where
         to.2 ∙ ap (λ (t : Target). Some (object_of t)) to.1
 
     -- so does a spot where something stands
-    number_reached : (start : Cell) (q : Path) (spot : Spot) → Reaches s places start q spot → (node : Node) → get f.files q ≡ Some node
+    number_reached : (start : Cell) (q : Path) (spot : Spot) → Reaches s roots start q spot → (node : Node) → get f.files q ≡ Some node
         → l.naming.number (address_of q) ≡ Some (object_of spot.target)
     number_reached start [] spot is node at =
         l.as_booted (Slash ∷ []) _ refl ∙ ap (λ (x : Spot). Some (object_of x.target)) (sym is)
@@ -102,60 +102,60 @@ module _ (session : Session) (s : State) where
         by : (above : Target) → is.0.target ≡ above → Lists s above n is.1 → l.naming.number (address_of (n ∷ d)) ≡ Some (object_of spot.target)
         by (targets.File file) same lists = absurd lists
         by (targets.Directory container listing) same lists =
-            let back = directory_back session s f l d container listing (directory_reached start d is.0 is.2 container listing same) in
+            let back = directory_back accounts s f l d container listing (directory_reached start d is.0 is.2 container listing same) in
             let dirs = same_directory (bytes_in (s.objects listing)) (directory_of f.files l.naming.number d) lists.0
-            (holds_directory session s f l d listing back.0 back.2) lists.1 in
+            (holds_directory accounts s f l d listing back.0 back.2) lists.1 in
             let leads : target_for l.naming.number (n ∷ d, node) ≡ Some is.1 =
             sym (ap (option_and_then (λ (there : Node). target_for l.naming.number (n ∷ d, there))) at)
             ∙ sym (get_directory f.files l.naming.number d n) ∙ ap (λ (dir : Entries). map.get dir n) dirs ∙ lists.2 in
             number_led (n ∷ d) node.class node.content is.1 leads ∙ ap (λ (x : Spot). Some (object_of x.target)) (sym is.4)
 
-    module _ (small : HaveFewBytes f) (ok : IsSession session) (v : Visitor session s f l) where
+    module _ (small : HaveFewBytes f) (ok : AreAccounts accounts) (v : Visitor accounts s f l) where
       -- the process with these rights
       abbrev cell : Rights → Cell
       cell r = record { process = v.name; thread = v.thread; rights = r }
 
       -- what the directory of a path gives are the rights there
       given_there : (q : Path) (node : Node) → get f.files q ≡ Some node → (o : ℕ) → l.naming.number (address_of q) ≡ Some o
-          → cell_below s o (cell (rights_above session f v.name v.process q)) ≡ cell (rights_at session f v.name v.process q node)
+          → cell_below s o (cell (rights_above accounts f v.name v.process q)) ≡ cell (rights_at accounts f v.name v.process q node)
       given_there q node at o numbered =
-          let observed = observes_path session s f l ok v.name v.process v.runs.0 v.runs.1 v.thread v.runs.2 q node at o (inl numbered) in
-          let modified = modifies_path session s f l ok v.name v.process v.runs.0 v.runs.1 v.thread v.runs.2 q node at o (inl numbered) in
-          (λ i. cell (rights_below (rights_above session f v.name v.process q) (observed i) (modified i)))
-          ∙ ap cell (sym (directories_give_rights session f (are_tree session s f l) small v.name v.process q node at))
+          let observed = observes_path accounts s f l ok v.name v.process v.runs.0 v.runs.1 v.thread v.runs.2 q node at o (inl numbered) in
+          let modified = modifies_path accounts s f l ok v.name v.process v.runs.0 v.runs.1 v.thread v.runs.2 q node at o (inl numbered) in
+          (λ i. cell (rights_below (rights_above accounts f v.name v.process q) (observed i) (modified i)))
+          ∙ ap cell (sym (directories_give_rights accounts f (are_tree accounts s f l) small v.name v.process q node at))
 
       -- so are those of its spot
-      rights_reached : (q : Path) (spot : Spot) → Reaches s places (start_cell session s f l v) q spot → (node : Node) → get f.files q ≡ Some node
-          → spot.cell ≡ cell (rights_at session f v.name v.process q node)
+      rights_reached : (q : Path) (spot : Spot) → Reaches s roots (start_cell accounts s f l v) q spot → (node : Node) → get f.files q ≡ Some node
+          → spot.cell ≡ cell (rights_at accounts f v.name v.process q node)
       rights_reached [] spot is node at =
-          ap (λ (x : Spot). x.cell) is ∙ given_there [] node at places.slash.container (l.as_booted (Slash ∷ []) _ refl)
+          ap (λ (x : Spot). x.cell) is ∙ given_there [] node at roots.slash.container (l.as_booted (Slash ∷ []) _ refl)
       rights_reached (n ∷ d) spot is node at = by (get f.files d) refl (rights_reached d is.0 is.2)
         where
           numbered : l.naming.number (address_of (n ∷ d)) ≡ Some (object_of is.1)
-          numbered = number_reached (start_cell session s f l v) (n ∷ d) spot is node at ∙ ap (λ (x : Spot). Some (object_of x.target)) is.4
+          numbered = number_reached (start_cell accounts s f l v) (n ∷ d) spot is node at ∙ ap (λ (x : Spot). Some (object_of x.target)) is.4
 
           by : (o : Option Node) → get f.files d ≡ o
-              → ((above : Node) → get f.files d ≡ Some above → is.0.cell ≡ cell (rights_at session f v.name v.process d above))
-              → spot.cell ≡ cell (rights_at session f v.name v.process (n ∷ d) node)
-          by None e given = absurd (true≢false (sym (parent_is_dir session s f l n d node at) ∙ ap (λ (o : Option Node). is_some_and o is_dir) e))
+              → ((above : Node) → get f.files d ≡ Some above → is.0.cell ≡ cell (rights_at accounts f v.name v.process d above))
+              → spot.cell ≡ cell (rights_at accounts f v.name v.process (n ∷ d) node)
+          by None e given = absurd (true≢false (sym (parent_is_dir accounts s f l n d node at) ∙ ap (λ (o : Option Node). is_some_and o is_dir) e))
           by (Some above) e given =
-              let from : is.0.cell ≡ cell (rights_above session f v.name v.process (n ∷ d)) =
-              given above e ∙ ap (λ (o : Option Node). cell (rights_or session f v.name v.process d o)) (sym e) in
+              let from : is.0.cell ≡ cell (rights_above accounts f v.name v.process (n ∷ d)) =
+              given above e ∙ ap (λ (o : Option Node). cell (rights_or accounts f v.name v.process d o)) (sym e) in
               ap (λ (x : Spot). x.cell) is.4 ∙ ap (cell_below s (object_of is.1)) from ∙ given_there (n ∷ d) node at (object_of is.1) numbered
 
     -- the process of a name that is found to run
     record FoundAs (me : ProcName) (found : Cell) : Type 0 where
-      visitor : Visitor session s f l
+      visitor : Visitor accounts s f l
       name : visitor.name ≡ me
-      cell : start_cell session s f l visitor ≡ found
+      cell : start_cell accounts s f l visitor ≡ found
 
-    found_as : (me : ProcName) (found : Cell) → visitor_at s places me ≡ Some found → FoundAs me found
-    found_as me found is = by (caller_at s places.home me) refl is
+    found_as : (me : ProcName) (found : Cell) → visitor_at s roots me ≡ Some found → FoundAs me found
+    found_as me found is = by (caller_at s roots.home me) refl is
       where
-        by : (o : Option Caller) → caller_at s places.home me ≡ o → option_map (visitor me) o ≡ Some found → FoundAs me found
+        by : (o : Option Caller) → caller_at s roots.home me ≡ o → option_map (visitor me) o ≡ Some found → FoundAs me found
         by None e h = absurd (none-some found h)
         by (Some caller) e h =
-            let there = (callers_are_found session s f l me caller).0 e in
+            let there = (callers_are_found accounts s f l me caller).0 e in
             record {
               visitor = record { name = me; process = there.0; thread = caller.thread; runs = there.1.runs };
               name = refl;
@@ -165,33 +165,33 @@ module _ (session : Session) (s : State) where
 -- ---- of a machine
 
 -- what was found in a machine's own kernel
-pub found_there : (m : MachineModel) (q : Path) (kernel : KernelModel) (at : Places) (names : Path) (start : Cell) (found : Option Spot)
-    → kernel ≡ m.kernel → at ≡ m.places → names ≡ q → FindsSpot (state kernel) at start names found → FindsSpot (state m.kernel) m.places start q found
-found_there m q kernel at names start found same_kernel same_places same_names is =
-    subst (λ (x : KernelModel × Places × Path). FindsSpot (state x.0) x.1 start x.2 found) (λ i. (same_kernel i, same_places i, same_names i)) is
+pub found_there : (m : MachineModel) (q : Path) (kernel : KernelModel) (at : Roots) (names : Path) (start : Cell) (found : Option Spot)
+    → kernel ≡ m.kernel → at ≡ m.roots → names ≡ q → FindsSpot (state kernel) at start names found → FindsSpot (state m.kernel) m.roots start q found
+found_there m q kernel at names start found same_kernel same_roots same_names is =
+    subst (λ (x : KernelModel × Roots × Path). FindsSpot (state x.0) x.1 start x.2 found) (λ i. (same_kernel i, same_roots i, same_names i)) is
 
 -- where nothing stands there are no rights
-none_there : (session : Session) (f : Flat) (q : Path) (me : ProcName) (process : Option Process) → no_rights ≡ rights_if session f q me None process
-none_there session f q me process = refl
+none_there : (accounts : Accounts) (f : Flat) (q : Path) (me : ProcName) (process : Option Process) → no_rights ≡ rights_if accounts f q me None process
+none_there accounts f q me process = refl
 
 -- nor are there any of who doesn't run
-none_runs : (session : Session) (f : Flat) (q : Path) (me : ProcName) (node : Option Node) → no_rights ≡ rights_if session f q me node None
-none_runs session f q me None = refl
-none_runs session f q me (Some node) = refl
+none_runs : (accounts : Accounts) (f : Flat) (q : Path) (me : ProcName) (node : Option Node) → no_rights ≡ rights_if accounts f q me node None
+none_runs accounts f q me None = refl
+none_runs accounts f q me (Some node) = refl
 
 module _ (m : MachineModel) (q : Path) (me : ProcName) where
   abbrev s : State
   s = state m.kernel
 
   -- who isn't found doesn't run
-  pub not_running : visitor_at s m.places me ≡ None → AreRightsOf m q me no_rights
-  not_running none session f shows =
-      let l = shows.represents.laid in
-      let there = callers_are_there session s f l me in
-      let lost : is_some (caller_at s (places session s).home me) ≡ is_some (visitor_at s (places session s) me) =
-      same_there (caller_at s (places session s).home me) in
-      let gone = sym there ∙ lost ∙ ap (λ (p : Places). is_some (visitor_at s p me)) (sym shows.places) ∙ ap is_some none in
-      none_runs session f q me (get f.files q) ∙ ap (rights_if session f q me (get f.files q)) (sym (not_some (running f me) gone))
+  pub not_running : visitor_at s m.roots me ≡ None → AreRightsOf m q me no_rights
+  not_running none accounts f shows =
+      let l = shows.represents.matched in
+      let there = callers_are_there accounts s f l me in
+      let lost : is_some (caller_at s (roots accounts s).home me) ≡ is_some (visitor_at s (roots accounts s) me) =
+      same_there (caller_at s (roots accounts s).home me) in
+      let gone = sym there ∙ lost ∙ ap (λ (p : Roots). is_some (visitor_at s p me)) (sym shows.roots) ∙ ap is_some none in
+      none_runs accounts f q me (get f.files q) ∙ ap (rights_if accounts f q me (get f.files q)) (sym (not_some (running f me) gone))
     where
       same_there : (o : Option Caller) → is_some o ≡ is_some (option_map (visitor me) o)
       same_there None = refl
@@ -201,38 +201,38 @@ module _ (m : MachineModel) (q : Path) (me : ProcName) where
       not_some None e = refl
       not_some (Some p) e = absurd (true≢false e)
 
-  module _ (start : Cell) (found : visitor_at s m.places me ≡ Some start) where
+  module _ (start : Cell) (found : visitor_at s m.roots me ≡ Some start) where
     -- at a path that leads nowhere nothing stands
-    pub nowhere : FindsSpot s m.places start q None → AreRightsOf m q me no_rights
+    pub nowhere : FindsSpot s m.roots start q None → AreRightsOf m q me no_rights
     unfolding FindsSpot
-    nowhere none session f shows =
-        let lost : LeadsNowhere s (places session s) q = subst (λ (p : Places). LeadsNowhere s p q) shows.places none in
-        by session f (get f.files q) refl (flat_states_are_resolved session s f shows.represents q) lost
+    nowhere none accounts f shows =
+        let lost : LeadsNowhere s (roots accounts s) q = subst (λ (p : Roots). LeadsNowhere s p q) shows.roots none in
+        by accounts f (get f.files q) refl (flat_states_are_resolved accounts s f shows.represents q) lost
       where
-        by : (session : Session) (f : Flat) (o : Option Node) → get f.files q ≡ o
-            → MatchOption o (LeadsNowhere s (places session s) q) (LeadsToNode s (places session s) q) → LeadsNowhere s (places session s) q
-            → no_rights ≡ rights_if session f q me o (running f me)
-        by session f None e resolved lost = refl
-        by session f (Some node) e resolved lost = absurd (lost resolved.target resolved.leads)
+        by : (accounts : Accounts) (f : Flat) (o : Option Node) → get f.files q ≡ o
+            → MatchOption o (LeadsNowhere s (roots accounts s) q) (LeadsToNode s (roots accounts s) q) → LeadsNowhere s (roots accounts s) q
+            → no_rights ≡ rights_if accounts f q me o (running f me)
+        by accounts f None e resolved lost = refl
+        by accounts f (Some node) e resolved lost = absurd (lost resolved.target resolved.leads)
 
     -- at one that leads somewhere the rights are those of its spot
-    pub spot_rights : (spot : Spot) → FindsSpot s m.places start q (Some spot) → AreRightsOf m q me spot.cell.rights
+    pub spot_rights : (spot : Spot) → FindsSpot s m.roots start q (Some spot) → AreRightsOf m q me spot.cell.rights
     unfolding FindsSpot
-    spot_rights spot reached session f shows = by (get f.files q) refl (flat_states_are_resolved session s f shows.represents q)
+    spot_rights spot reached accounts f shows = by (get f.files q) refl (flat_states_are_resolved accounts s f shows.represents q)
       where
-        found_so : FoundAs session s f shows.represents.laid me start
-        found_so = found_as session s f shows.represents.laid me start (ap (λ (p : Places). visitor_at s p me) (sym shows.places) ∙ found)
+        found_so : FoundAs accounts s f shows.represents.matched me start
+        found_so = found_as accounts s f shows.represents.matched me start (ap (λ (p : Roots). visitor_at s p me) (sym shows.roots) ∙ found)
 
-        led : Reaches s (places session s) (start_cell session s f shows.represents.laid found_so.visitor) q spot
-        led = subst (λ (p : Places). Reaches s p (start_cell session s f shows.represents.laid found_so.visitor) q spot) shows.places
-            (subst (λ (c : Cell). Reaches s m.places c q spot) (sym found_so.cell) reached)
+        led : Reaches s (roots accounts s) (start_cell accounts s f shows.represents.matched found_so.visitor) q spot
+        led = subst (λ (p : Roots). Reaches s p (start_cell accounts s f shows.represents.matched found_so.visitor) q spot) shows.roots
+            (subst (λ (c : Cell). Reaches s m.roots c q spot) (sym found_so.cell) reached)
 
-        by : (o : Option Node) → get f.files q ≡ o → MatchOption o (LeadsNowhere s (places session s) q) (LeadsToNode s (places session s) q)
-            → spot.cell.rights ≡ rights_if session f q me (get f.files q) (running f me)
+        by : (o : Option Node) → get f.files q ≡ o → MatchOption o (LeadsNowhere s (roots accounts s) q) (LeadsToNode s (roots accounts s) q)
+            → spot.cell.rights ≡ rights_if accounts f q me (get f.files q) (running f me)
         by None e none =
-            absurd (none spot.target (leads_there s (places session s) (start_cell session s f shows.represents.laid found_so.visitor) q spot led))
+            absurd (none spot.target (leads_there s (roots accounts s) (start_cell accounts s f shows.represents.matched found_so.visitor) q spot led))
         by (Some node) e resolved =
-            let there = rights_reached session s f shows.represents.laid (few_bytes f shows.small) (is_session session shows.declared) found_so.visitor q spot led node e in
-            let runs = runs_there session s f shows.represents.laid found_so.visitor.name found_so.visitor.process found_so.visitor.runs.0 found_so.visitor.runs.1 in
-            ap (λ (c : Cell). c.rights) there ∙ (λ i. rights_if session f q found_so.visitor.name (sym e i) (sym runs i))
-            ∙ ap (λ (n : ProcName). rights_if session f q n (get f.files q) (running f n)) found_so.name
+            let there = rights_reached accounts s f shows.represents.matched (few_bytes f shows.small) (is_accounts accounts shows.declared) found_so.visitor q spot led node e in
+            let runs = runs_there accounts s f shows.represents.matched found_so.visitor.name found_so.visitor.process found_so.visitor.runs.0 found_so.visitor.runs.1 in
+            ap (λ (c : Cell). c.rights) there ∙ (λ i. rights_if accounts f q found_so.visitor.name (sym e i) (sym runs i))
+            ∙ ap (λ (n : ProcName). rights_if accounts f q n (get f.files q) (running f n)) found_so.name

@@ -13,9 +13,9 @@ use Rattle.histar_layout.specs.declared.checked.NotADirectory.{NotADirectory}
 use Rattle.histar_layout.specs.declared.entry.Target.{Target}
 use Rattle.histar_layout.specs.declared.entry.Target.TheVariants.{File, Directory}
 use Rattle.histar_layout.proofs.DirectoryLemmas.{same_directory}
-use Rattle.histar_calls.specs.declared.places.Places.{Places}
-use Rattle.histar_tree.specs.Resolve.{LeadsNowhere, LeadsTo}
-use Rattle.histar_tree.proofs.OneTarget.{paths_lead_to_one_target}
+use Rattle.histar_calls.specs.declared.roots.Roots.{Roots}
+use Rattle.histar_readout.specs.Resolve.{LeadsNowhere, LeadsTo}
+use Rattle.histar_readout.proofs.OneTarget.{paths_lead_to_one_target}
 use Rattle.histar_access.specs.declared.cells.Cell.{Cell}
 use Rattle.histar_access.specs.declared.one_path.Spot.{Spot}
 use Rattle.histar_access.specs.OnePath.{FindsEntry, FindsSpot, Lists, Reaches, spot_below}
@@ -52,24 +52,24 @@ module _ (s : State) (above : Target) (name : Name) (container listing : ℕ) (i
 
 -- ---- one name after another
 
-module _ (s : State) (places : Places) where
+module _ (s : State) (roots : Roots) where
   -- a path leads on to what its last name is listed with
-  led_on : (name : Name) (d : Path) (above target : Target) → LeadsTo s places d above → Lists s above name target → LeadsTo s places (name ∷ d) target
+  led_on : (name : Name) (d : Path) (above target : Target) → LeadsTo s roots d above → Lists s above name target → LeadsTo s roots (name ∷ d) target
   led_on name d (File file) target leads lists = absurd lists
   led_on name d (Directory container listing) target leads lists = (container, listing, lists.0, leads, lists.1, lists.2)
 
   -- a path leads to its spot
-  pub leads_there : (start : Cell) (q : Path) (spot : Spot) → Reaches s places start q spot → LeadsTo s places q spot.target
+  pub leads_there : (start : Cell) (q : Path) (spot : Spot) → Reaches s roots start q spot → LeadsTo s roots q spot.target
   leads_there start [] spot is = ap (λ (x : Spot). x.target) is
   leads_there start (name ∷ d) spot is =
-      subst (LeadsTo s places (name ∷ d)) (sym (ap (λ (x : Spot). x.target) is.4))
+      subst (LeadsTo s roots (name ∷ d)) (sym (ap (λ (x : Spot). x.target) is.4))
       (led_on name d is.0.target is.1 (leads_there start d is.0 is.2) is.3)
 
   -- what leads on is listed where the path above leads
-  listed_on : (name : Name) (d : Path) (above target : Target) → LeadsTo s places d above → LeadsTo s places (name ∷ d) target
+  listed_on : (name : Name) (d : Path) (above target : Target) → LeadsTo s roots d above → LeadsTo s roots (name ∷ d) target
       → Lists s above name target
   listed_on name d above target leads led =
-      subst (λ (t : Target). Lists s t name target) (paths_lead_to_one_target s places d (Directory led.0 led.1) above led.3 leads)
+      subst (λ (t : Target). Lists s t name target) (paths_lead_to_one_target s roots d (Directory led.0 led.1) above led.3 leads)
       (led.2, led.4, led.5)
 
 -- the names of a path above its last one
@@ -83,14 +83,14 @@ parts (n ∷ d) name some first =
     let whole : take (length (n ∷ d) - 1) d ≡ d = take_all (length (n ∷ d) - 1) d (omega arith) in
     λ i. first i ∷ whole i
 
-module _ (s : State) (places : Places) (start : Cell) (q : Path) where
+module _ (s : State) (roots : Roots) (start : Cell) (q : Path) where
   -- `/` is where boot left it
-  pub slash_found : length q < 1 → (spot : Spot) → spot ≡ spot_below s start (Directory places.slash.container places.slash.listing)
-      → FindsSpot s places start q (Some spot)
+  pub slash_found : length q < 1 → (spot : Spot) → spot ≡ spot_below s start (Directory roots.slash.container roots.slash.listing)
+      → FindsSpot s roots start q (Some spot)
   unfolding FindsSpot
   slash_found none spot is = by q none
     where
-      by : (p : Path) → length p < 1 → Reaches s places start p spot
+      by : (p : Path) → length p < 1 → Reaches s roots start p spot
       by [] none = is
       by (n ∷ d) none = absurd (omega arith)
 
@@ -99,25 +99,25 @@ module _ (s : State) (places : Places) (start : Cell) (q : Path) where
     above = names_above q
 
     -- a path below one that leads nowhere leads nowhere
-    pub nowhere_above : FindsSpot s places start above None → (found : Option Spot) → found ≡ None → FindsSpot s places start q found
+    pub nowhere_above : FindsSpot s roots start above None → (found : Option Spot) → found ≡ None → FindsSpot s roots start q found
     unfolding FindsSpot
     nowhere_above none found is =
-        subst (FindsSpot s places start q) (sym is)
-        (subst (LeadsNowhere s places) (parts q name some first) (λ target led. none (Directory led.0 led.1) led.3))
+        subst (FindsSpot s roots start q) (sym is)
+        (subst (LeadsNowhere s roots) (parts q name some first) (λ target led. none (Directory led.0 led.1) led.3))
 
-    module _ (directory : Spot) (reached : FindsSpot s places start above (Some directory)) where
+    module _ (directory : Spot) (reached : FindsSpot s roots start above (Some directory)) where
       -- so does one whose last name isn't listed
-      pub nowhere_listed : FindsEntry s directory.target name None → (found : Option Spot) → found ≡ None → FindsSpot s places start q found
+      pub nowhere_listed : FindsEntry s directory.target name None → (found : Option Spot) → found ≡ None → FindsSpot s roots start q found
       unfolding FindsSpot
       nowhere_listed none found is =
-          subst (FindsSpot s places start q) (sym is)
-          (subst (LeadsNowhere s places) (parts q name some first)
+          subst (FindsSpot s roots start q) (sym is)
+          (subst (LeadsNowhere s roots) (parts q name some first)
           (λ target led. none target
-          (listed_on s places name above directory.target target (leads_there s places start above directory reached) led)))
+          (listed_on s roots name above directory.target target (leads_there s roots start above directory reached) led)))
 
       -- a path leads on to where its last name is listed
       pub spot_found : (target : Target) → Lists s directory.target name target → (spot : Spot) → spot ≡ spot_below s directory.cell target
-          → FindsSpot s places start q (Some spot)
+          → FindsSpot s roots start q (Some spot)
       unfolding FindsSpot
       spot_found target lists spot is =
-          subst (λ (p : Path). Reaches s places start p spot) (parts q name some first) (directory, target, reached, lists, is)
+          subst (λ (p : Path). Reaches s roots start p spot) (parts q name some first) (directory, target, reached, lists, is)

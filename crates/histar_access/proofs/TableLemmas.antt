@@ -2,10 +2,10 @@
 use Rattle.std.proofs.Common.{ℕ, List, [], Option, ap, subst, refl}
 use Rattle.std.specs.Io.KnownBytes.{Appends}
 use Rattle.std.proofs.KnownBytes.{Appends-nil}
-use Rattle.histar_devices.specs.Writing.{AppendsFront}
+use Rattle.histar_io.specs.Writing.{AppendsFront}
 use Rattle.histar_syscall.specs.KernelModel.{state}
 use Rattle.histar_rights.specs.Table.{access_table, access_text}
-use Rattle.histar_tree.specs.declared.tree.TreeNode.{TreeNode}
+use Rattle.histar_readout.specs.declared.tree.TreeNode.{TreeNode}
 use Rattle.histar_shell.specs.Ending.{HasTree, IsTreeIn}
 use Rattle.histar_shell.specs.Machine.{MachineModel}
 use Rattle.histar_access.specs.declared.cells.Cell.{Cell}
@@ -25,11 +25,11 @@ module _ (m : MachineModel) where
   shown_processes is = processes_there is.0 m is.1 is.2 is.3
 
   pub unbegun : (w : Option (List ℕ)) → BeginsTable m w w
-  unbegun w session f shows named = nothing_begun w (access_text (access_table session f))
+  unbegun w accounts f shows named = nothing_begun w (access_text (access_table accounts f))
 
   module _ (tree : List TreeNode) (is : IsTreeIn m tree) (cells : List Cell) (are : AreVisitors m cells) (old new : Option (List ℕ)) where
     pub table_written : Appends old new (whole (state m.kernel) cells tree) → AppendsTable m old new
-    table_written h session f shows named = subst (Appends old new) (ap access_text (machine_table session m f shows named tree is cells are)) h
+    table_written h accounts f shows named = subst (Appends old new) (ap access_text (machine_table accounts m f shows named tree is cells are)) h
 
     pub table_begun : AppendsFront old new (whole (state m.kernel) cells tree) → BeginsTable m old new
-    table_begun h session f shows named = subst (AppendsFront old new) (ap access_text (machine_table session m f shows named tree is cells are)) h
+    table_begun h accounts f shows named = subst (AppendsFront old new) (ap access_text (machine_table accounts m f shows named tree is cells are)) h

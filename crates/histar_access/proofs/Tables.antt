@@ -3,18 +3,18 @@ use Rattle.std.specs.Prelude.{◌≡◌, List, [], ◌∷◌, ◌++◌, length, 
 use Rattle.std.proofs.Common.{ap, sym, ◌∙◌}
 use Rattle.std.proofs.lemmas.List.{map-append, take-map}
 use Rattle.histar_flat.specs.Words.{Path}
-use Rattle.histar_flat.specs.Sessions.{Session}
+use Rattle.histar_flat.specs.Accounts.{Accounts}
 use Rattle.histar_flat.specs.Classes.{may_read, may_write}
 use Rattle.histar_flat.specs.FlatState.{Flat, Node}
 use Rattle.histar_object.specs.State.{State}
 use Rattle.histar_layout.specs.Listing.{object_of}
 use Rattle.histar_refinement.specs.Represents.{ObjectsMatch}
-use Rattle.histar_refinement.specs.Sessions.{IsSession}
+use Rattle.histar_refinement.specs.Accounts.{AreAccounts}
 use Rattle.histar_rights.specs.declared.rights.Rights.{Rights}
 use Rattle.histar_rights.specs.Rights.{above_root, rights_at, rights_below}
 use Rattle.histar_rights.specs.Table.{AccessLine, Cell as NamedRights, cell_at, line_of}
-use Rattle.histar_tree.specs.declared.tree.TreeNode.{TreeNode}
-use Rattle.histar_tree.specs.TreeLines.{flat_line}
+use Rattle.histar_readout.specs.declared.tree.TreeNode.{TreeNode}
+use Rattle.histar_readout.specs.TreeLines.{flat_line}
 use Rattle.histar_access.specs.declared.cells.Cell.{Cell}
 use Rattle.histar_access.specs.Cells.{cell_below, line_of_node, lines_from, row_below, shown}
 use Rattle.histar_access.specs.Rows.{last_or, rows_from}
@@ -31,14 +31,14 @@ last_made : {A B : Type 0} (g : A → B) (x : A) (xs : List A) → last_or (g x)
 last_made g x [] = refl
 last_made g x (y ∷ ys) = last_made g y ys
 
-module _ (session : Session) (s : State) (f : Flat) (l : ObjectsMatch session s f) (ok : IsSession session) (vs : List (Visitor session s f l)) where
+module _ (accounts : Accounts) (s : State) (f : Flat) (l : ObjectsMatch accounts s f) (ok : AreAccounts accounts) (vs : List (Visitor accounts s f l)) where
   -- the rights of each process at a path
   abbrev pub Row : Type 0
-  Row = Visitor session s f l → Rights
+  Row = Visitor accounts s f l → Rights
 
   -- a row as cells
   abbrev pub cells : Row → List Cell
-  cells r = map (λ (v : Visitor session s f l). record { process = v.name; thread = v.thread; rights = r v }) vs
+  cells r = map (λ (v : Visitor accounts s f l). record { process = v.name; thread = v.thread; rights = r v }) vs
 
   -- the rights above `/`
   abbrev pub start : Row
@@ -46,11 +46,11 @@ module _ (session : Session) (s : State) (f : Flat) (l : ObjectsMatch session s 
 
   -- what a directory gives, by the flat rules
   abbrev pub flat_below : Path × Node → Row → Row
-  flat_below e r v = rights_below (r v) (may_read session v.process e.1.class) (may_write session v.process e.1.class)
+  flat_below e r v = rights_below (r v) (may_read accounts v.process e.1.class) (may_write accounts v.process e.1.class)
 
   -- a row as it is shown
   abbrev pub shown_row : Row → List NamedRights
-  shown_row r = map (λ (v : Visitor session s f l). record { process = v.name; rights = r v }) vs
+  shown_row r = map (λ (v : Visitor accounts s f l). record { process = v.name; rights = r v }) vs
 
   abbrev pub flat_row_line : Path × Node → Row → AccessLine
   flat_row_line e r = record { path = e.0; stat = (flat_line e).stat; cells = shown_row r }
@@ -62,12 +62,12 @@ module _ (session : Session) (s : State) (f : Flat) (l : ObjectsMatch session s 
   zipped (e ∷ es) (r ∷ rs) = flat_row_line e r ∷ zipped es rs
 
   -- the cells below those of a row
-  row_made : (node : TreeNode) (e : Path × Node) → IsMatch session s f l ok node e → (r : Row)
+  row_made : (node : TreeNode) (e : Path × Node) → IsMatch accounts s f l ok node e → (r : Row)
       → row_below s (object_of node.target) (cells r) ≡ cells (flat_below e r)
   row_made node e match r =
       map_twice (cell_below s (object_of node.target))
-      (λ (v : Visitor session s f l). record { process = v.name; thread = v.thread; rights = r v }) vs
-      ∙ (λ i. map (λ (v : Visitor session s f l). record {
+      (λ (v : Visitor accounts s f l). record { process = v.name; thread = v.thread; rights = r v }) vs
+      ∙ (λ i. map (λ (v : Visitor accounts s f l). record {
         process = v.name;
         thread = v.thread;
         rights = rights_below (r v) (match.observed v i)
@@ -75,7 +75,7 @@ module _ (session : Session) (s : State) (f : Flat) (l : ObjectsMatch session s 
       }) vs)
 
   -- the lines of a tree are those of the entries that match it
-  pub lines_matched : (tree : List TreeNode) (es : List (Path × Node)) → AreMatched session s f l ok tree es → (way : List Row)
+  pub lines_matched : (tree : List TreeNode) (es : List (Path × Node)) → AreMatched accounts s f l ok tree es → (way : List Row)
       → lines_from s (cells start) (map cells way) tree ≡ zipped es (rows_from (λ (e : Path × Node). length e.0) flat_below start way es)
   unfolding zipped
   lines_matched [] [] match way = refl
@@ -95,13 +95,13 @@ module _ (session : Session) (s : State) (f : Flat) (l : ObjectsMatch session s 
       let line_is : line_of_node node row ≡ flat_row_line e flat_row =
       (λ i. record { path = match.0.path i; stat = match.0.stat i; cells = map shown (row_is i) })
       ∙ ap (λ (c : List NamedRights). record { path = e.0; stat = (flat_line e).stat; cells = c })
-      (map_twice shown (λ (v : Visitor session s f l). record { process = v.name; thread = v.thread; rights = flat_row v }) vs) in
+      (map_twice shown (λ (v : Visitor accounts s f l). record { process = v.name; thread = v.thread; rights = flat_row v }) vs) in
       (λ i. line_is i ∷ lines_from s (cells start) (next_is i) tree)
       ∙ ap (λ (ls : List AccessLine). flat_row_line e flat_row ∷ ls) (lines_matched tree es match.1 (flat_kept ++ flat_row ∷ []))
 
   -- the rights of each process at a path, by the flat rules
   abbrev pub value : Path → Node → Row
-  value q node v = rights_at session f v.name v.process q node
+  value q node v = rights_at accounts f v.name v.process q node
 
   pub zipped_values : (es : List (Path × Node))
       → zipped es (map (λ (e : Path × Node). value e.0 e.1) es) ≡ map (λ (e : Path × Node). flat_row_line e (value e.0 e.1)) es
@@ -110,10 +110,10 @@ module _ (session : Session) (s : State) (f : Flat) (l : ObjectsMatch session s 
   zipped_values (e ∷ es) = ap (λ (ls : List AccessLine). flat_row_line e (value e.0 e.1) ∷ ls) (zipped_values es)
 
   -- a line of the table
-  table_line : (e : Path × Node) → flat_row_line e (value e.0 e.1) ≡ line_of session f (map (named_of session s f l) vs) e
+  table_line : (e : Path × Node) → flat_row_line e (value e.0 e.1) ≡ line_of accounts f (map (named_of accounts s f l) vs) e
   table_line e = ap (λ (c : List NamedRights). record { path = e.0; stat = (flat_line e).stat; cells = c })
-      (sym (map_twice (cell_at session f e) (named_of session s f l) vs))
+      (sym (map_twice (cell_at accounts f e) (named_of accounts s f l) vs))
 
   pub table_lines : (es : List (Path × Node))
-      → map (λ (e : Path × Node). flat_row_line e (value e.0 e.1)) es ≡ map (line_of session f (map (named_of session s f l) vs)) es
+      → map (λ (e : Path × Node). flat_row_line e (value e.0 e.1)) es ≡ map (line_of accounts f (map (named_of accounts s f l) vs)) es
   table_lines es = λ i. map (λ (e : Path × Node). table_line e i) es

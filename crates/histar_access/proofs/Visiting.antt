@@ -5,22 +5,22 @@ use Rattle.std.proofs.Common.{ap, sym, ◌∙◌}
 use Rattle.std.proofs.lemmas.Bool.{true≢false}
 use Rattle.std.proofs.lemmas.List.Elements.{filter_map-append}
 use Rattle.histar_flat.specs.Words.{ProcName}
-use Rattle.histar_flat.specs.Sessions.{Session}
+use Rattle.histar_flat.specs.Accounts.{Accounts}
 use Rattle.histar_flat.specs.Classes.{Process}
 use Rattle.histar_flat.specs.FlatState.{Flat}
 use Rattle.histar_flat.specs.FlatCalls.{if_running, running}
 use Rattle.histar_object.specs.State.{State}
-use Rattle.histar_calls.specs.declared.places.Home.{Home}
+use Rattle.histar_calls.specs.declared.roots.Home.{Home}
 use Rattle.histar_process.specs.declared.caller.Caller.{Caller}
 use Rattle.histar_process.specs.Caller.{caller_at}
-use Rattle.histar_login.specs.Start.{places_of}
+use Rattle.histar_login.specs.Start.{roots_of}
 use Rattle.histar_refinement.specs.Categories.{Categories}
 use Rattle.histar_refinement.specs.Represents.{ObjectsMatch}
 use Rattle.histar_refinement.specs.Laws.{RunsAs}
 use Rattle.histar_refinement.proofs.CallerFound.{callers_are_found, callers_are_there}
 use Rattle.histar_rights.specs.Rights.{above_root}
 use Rattle.histar_rights.specs.Running.{Named, and_children, itself, running_from}
-use Rattle.histar_tree.specs.ProcessLines.{ProcessLine, flat_processes, with_children}
+use Rattle.histar_readout.specs.ProcessLines.{ProcessLine, flat_processes, with_children}
 use Rattle.histar_access.specs.declared.cells.Cell.{Cell}
 
 -- what a function makes of what another makes
@@ -28,17 +28,17 @@ pub filter_map_map : {A B C : Type 0} (g : B → Option C) (h : A → B) (xs : L
 filter_map_map g h [] = refl
 filter_map_map g h (x ∷ xs) = ap (cons_option (g (h x))) (filter_map_map g h xs)
 
-module _ (session : Session) (s : State) (f : Flat) (l : ObjectsMatch session s f) where
+module _ (accounts : Accounts) (s : State) (f : Flat) (l : ObjectsMatch accounts s f) where
   -- a process that runs, with its thread
   pub record Visitor : Type 0 where
     pub name : ProcName
     pub process : Process
     pub thread : ℕ
-    pub runs : RunsAs session s f l name process thread
+    pub runs : RunsAs accounts s f l name process thread
 
   -- where process 0 is
   abbrev pub first : Home
-  first = (places_of (length session.users)).home
+  first = (roots_of (length accounts.users)).home
 
   -- a process as it starts
   abbrev pub start_cell : Visitor → Cell
@@ -52,7 +52,7 @@ module _ (session : Session) (s : State) (f : Flat) (l : ObjectsMatch session s 
   visitor_by : (me : ProcName) (o : Option Caller) → caller_at s first me ≡ o → Option Visitor
   visitor_by me None e = None
   visitor_by me (Some caller) e =
-      let found = (callers_are_found session s f l me caller).0 e in
+      let found = (callers_are_found accounts s f l me caller).0 e in
       Some (record { name = me; process = found.0; thread = caller.thread; runs = found.1.runs })
 
   -- the processes of these names that run
@@ -97,10 +97,10 @@ module _ (session : Session) (s : State) (f : Flat) (l : ObjectsMatch session s 
       → cons_option (named_by me) ps ≡ map named_of (cons_option (visitor_by me o e) rest)
   unfolding visitor_by
   one_named me None e rest ps same =
-      ap (λ (o : Option Process). cons_option (option_map (λ p. (me, p)) o) ps) (none_runs (running f me) (sym (callers_are_there session s f l me)
+      ap (λ (o : Option Process). cons_option (option_map (λ p. (me, p)) o) ps) (none_runs (running f me) (sym (callers_are_there accounts s f l me)
       ∙ ap is_some e)) ∙ same
   one_named me (Some caller) e rest ps same =
-      let found = (callers_are_found session s f l me caller).0 e in
+      let found = (callers_are_found accounts s f l me caller).0 e in
       let runs = runs_there me found.0 found.1.runs.0 found.1.runs.1 in
       (λ i. cons_option (option_map (λ p. (me, p)) (runs i)) (same i))
 

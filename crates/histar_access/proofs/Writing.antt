@@ -6,12 +6,12 @@ use Rattle.std.specs.List.{flat_map}
 use Rattle.std.specs.Io.KnownBytes.{Appends}
 use Rattle.std.proofs.KnownBytes.{Appends-trans}
 use Rattle.std.proofs.lemmas.List.{drop_more, length-drop, nil_from_length}
-use Rattle.histar_devices.specs.Writing.{AppendsFront}
+use Rattle.histar_io.specs.Writing.{AppendsFront}
 use Rattle.histar_shell.proofs.AnswerLemmas.{front_after}
 use Rattle.histar_object.specs.State.{State}
 use Rattle.histar_layout.specs.Listing.{object_of}
 use Rattle.histar_rights.specs.Table.{access_line_text, access_text, cell_text}
-use Rattle.histar_tree.specs.declared.tree.TreeNode.{TreeNode}
+use Rattle.histar_readout.specs.declared.tree.TreeNode.{TreeNode}
 use Rattle.histar_access.specs.declared.cells.Cell.{Cell}
 use Rattle.histar_access.specs.Cells.{line_of_node, lines_from, row_below, shown, shown_text}
 use Rattle.histar_access.specs.Rows.{last_or}

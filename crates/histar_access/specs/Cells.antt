@@ -4,15 +4,15 @@ use Rattle.std.specs.List.{filter_map}
 use Rattle.histar_flat.specs.Words.{ProcName}
 use Rattle.histar_object.specs.State.{State, observes, modifies}
 use Rattle.histar_layout.specs.Listing.{object_of}
-use Rattle.histar_calls.specs.declared.places.Places.{Places}
+use Rattle.histar_calls.specs.declared.roots.Roots.{Roots}
 use Rattle.histar_process.specs.declared.caller.Caller.{Caller}
 use Rattle.histar_process.specs.Caller.{caller_at}
 use Rattle.histar_rights.specs.declared.rights.Rights.{Rights}
 use Rattle.histar_rights.specs.Rights.{above_root, rights_below}
 use Rattle.histar_rights.specs.Table.{AccessLine, Cell as NamedRights, cell_text}
-use Rattle.histar_tree.specs.declared.process.ProcessNode.{ProcessNode}
-use Rattle.histar_tree.specs.declared.tree.TreeNode.{TreeNode}
-use Rattle.histar_tree.specs.TreeLines.{node_stat}
+use Rattle.histar_readout.specs.declared.process.ProcessNode.{ProcessNode}
+use Rattle.histar_readout.specs.declared.tree.TreeNode.{TreeNode}
+use Rattle.histar_readout.specs.TreeLines.{node_stat}
 use Rattle.histar_access.specs.declared.cells.Cell.{Cell}
 use Rattle.histar_access.specs.Rows.{last_or}
 
@@ -21,16 +21,16 @@ abbrev pub visitor : ProcName → Caller → Cell
 visitor me caller = record { process = me; thread = caller.thread; rights = above_root }
 
 -- the process of a name, where it is found to run
-abbrev pub visitor_at : State → Places → ProcName → Option Cell
-visitor_at s places me = option_map (visitor me) (caller_at s places.home me)
+abbrev pub visitor_at : State → Roots → ProcName → Option Cell
+visitor_at s roots me = option_map (visitor me) (caller_at s roots.home me)
 
 -- a process, where it is found to run
-abbrev pub visitor_of : State → Places → ProcessNode → Option Cell
-visitor_of s places node = visitor_at s places node.name
+abbrev pub visitor_of : State → Roots → ProcessNode → Option Cell
+visitor_of s roots node = visitor_at s roots node.name
 
 -- those of these processes that run
-abbrev pub visitors_among : State → Places → List ProcessNode → List Cell
-visitors_among s places processes = filter_map (visitor_of s places) processes
+abbrev pub visitors_among : State → Roots → List ProcessNode → List Cell
+visitors_among s roots processes = filter_map (visitor_of s roots) processes
 
 -- the rights at what lies in the directory of a cell, by what the labels of the thread and of this object allow
 abbrev pub cell_below : State → ℕ → Cell → Cell

@@ -1,10 +1,10 @@
 -- What `diff` answers and writes, by the inputs of which the two scripts are read.
 use Rattle.std.specs.Prelude.{◌≡◌, ◌↔◌, ℕ, ◌⊎◌, Bool, true, not, ◌&&◌, List, [], Option, Result, Ok, Err, IsOk, MatchResult}
 use Rattle.std.specs.Io.KnownBytes.{Appends, Keeps}
-use Rattle.histar_devices.specs.Device.{CountsFailure}
-use Rattle.histar_devices.specs.Input.{TakesAll, TakesSome}
-use Rattle.histar_devices.specs.Writing.{AppendsFront}
-use Rattle.histar_script.specs.Script.{Reading}
+use Rattle.histar_io.specs.Device.{CountsFailure}
+use Rattle.histar_io.specs.Input.{TakesAll, TakesSome}
+use Rattle.histar_io.specs.Writing.{AppendsFront}
+use Rattle.histar_script.specs.Script.{ScriptModel}
 use Rattle.histar_script.specs.Outcome.{Gives}
 use Rattle.histar_script.specs.Reading.{script_of}
 use Rattle.histar_script.specs.declared.fault.Fault.{Fault}
@@ -20,10 +20,10 @@ use Rattle.histar_access.specs.Session.{state_before}
 
 -- the old script and the new one
 abbrev pub Scripts : Type 0
-Scripts = Reading × Reading
+Scripts = ScriptModel × ScriptModel
 
 -- both scripts, or the fault of the old one, or else that of the new one
-abbrev pub both_read : Result Reading Fault → Result Reading Fault → Result Scripts Fault
+abbrev pub both_read : Result ScriptModel Fault → Result ScriptModel Fault → Result Scripts Fault
 both_read (Ok old) (Ok new) = Ok (old, new)
 both_read (Ok old) (Err fault) = Err fault
 both_read (Err fault) new = Err fault
@@ -34,7 +34,7 @@ scripts_of old new = both_read (script_of old) (script_of new)
 
 -- these are exactly the changes between the flat states of two scripts, each after its calls before this line
 abbrev pub AreChangesOf : Option ℕ → Scripts → List Difference → Type 0
-AreChangesOf at scripts cs = AreChanges scripts.0.session (state_before at scripts.0) scripts.1.session (state_before at scripts.1) cs
+AreChangesOf at scripts cs = AreChanges scripts.0.accounts (state_before at scripts.0) scripts.1.accounts (state_before at scripts.1) cs
 
 -- ---- what is written
 
@@ -117,11 +117,11 @@ CountsOneFailure old old_after new new_after has_failed =
 
 -- the text is a script, and the table shows the rights of its flat state before this line
 pub record IsTableOf (at : Option ℕ) (text : List ℕ) (t : Table) : Type 0 where
-  pub script : Reading
+  pub script : ScriptModel
   pub is_read : script_of text ≡ Ok script
-  pub shows : ShowsRights script.session (state_before at script) t
+  pub shows : ShowsRights script.accounts (state_before at script) t
 
 -- the text was read as a script, and this is the table of it, or its fault is the answer
 abbrev pub ReadsTable : Option ℕ → List ℕ → Result Table Fault → Type 0
 ReadsTable at text (Ok t) = IsTableOf at text t
-ReadsTable at text (Err fault) = Gives {A = Reading} (Err fault) (script_of text)
+ReadsTable at text (Err fault) = Gives {A = ScriptModel} (Err fault) (script_of text)

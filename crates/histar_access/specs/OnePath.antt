@@ -2,7 +2,7 @@
 use Rattle.std.specs.Prelude.{◌≡◌, [], ◌∷◌, Option, Some, MatchOption}
 use Rattle.std.specs.FinMap as map
 use Rattle.histar_flat.specs.Words.{Name, Path, ProcName}
-use Rattle.histar_flat.specs.Sessions.{Session}
+use Rattle.histar_flat.specs.Accounts.{Accounts}
 use Rattle.histar_flat.specs.FlatState.{Flat}
 use Rattle.histar_object.specs.Objects.{bytes_in}
 use Rattle.histar_object.specs.State.{State}
@@ -10,10 +10,10 @@ use Rattle.histar_layout.specs.Directory.{Entries, IsDirectory}
 use Rattle.histar_layout.specs.Listing.{object_of}
 use Rattle.histar_layout.specs.declared.entry.Target.{Target}
 use Rattle.histar_layout.specs.declared.entry.Target.TheVariants.{File, Directory}
-use Rattle.histar_calls.specs.declared.places.Places.{Places}
+use Rattle.histar_calls.specs.declared.roots.Roots.{Roots}
 use Rattle.histar_rights.specs.declared.rights.Rights.{Rights}
 use Rattle.histar_diff.specs.Shown.{rights_of}
-use Rattle.histar_tree.specs.Resolve.{LeadsNowhere}
+use Rattle.histar_readout.specs.Resolve.{LeadsNowhere}
 use Rattle.histar_shell.specs.Machine.{MachineModel}
 use Rattle.histar_shell.specs.Meaning.{Shows}
 use Rattle.histar_access.specs.declared.cells.Cell.{Cell}
@@ -35,16 +35,16 @@ spot_below s above target = record { target = target; cell = cell_below s (objec
 
 -- A path leads to this spot, where a process has the rights of this cell above `/`: `/` is where boot left it, and another is where the
 -- directory above it lists its last name.
-abbrev pub Reaches : State → Places → Cell → Path → Spot → Type 0
-Reaches s places start [] spot = spot ≡ spot_below s start (Directory places.slash.container places.slash.listing)
-Reaches s places start (name ∷ d) spot =
+abbrev pub Reaches : State → Roots → Cell → Path → Spot → Type 0
+Reaches s roots start [] spot = spot ≡ spot_below s start (Directory roots.slash.container roots.slash.listing)
+Reaches s roots start (name ∷ d) spot =
     (above : Spot) × (target : Target)
-    × Reaches s places start d above × Lists s above.target name target × (spot ≡ spot_below s above.cell target)
+    × Reaches s roots start d above × Lists s above.target name target × (spot ≡ spot_below s above.cell target)
 
 -- what was found is the spot that the path leads to, and nothing was found exactly where it leads nowhere
-unfoldable pub FindsSpot : State → Places → Cell → Path → Option Spot → Type 0
-FindsSpot s places start q found = MatchOption found (LeadsNowhere s places q) (Reaches s places start q)
+unfoldable pub FindsSpot : State → Roots → Cell → Path → Option Spot → Type 0
+FindsSpot s roots start q found = MatchOption found (LeadsNowhere s roots q) (Reaches s roots start q)
 
 -- whatever flat state the machine represents, these are the rights of a process at a path in it
 abbrev pub AreRightsOf : MachineModel → Path → ProcName → Rights → Type 0
-AreRightsOf m q me rights = (session : Session) (f : Flat) → Shows session m f → rights ≡ rights_of session f q me
+AreRightsOf m q me rights = (accounts : Accounts) (f : Flat) → Shows accounts m f → rights ≡ rights_of accounts f q me

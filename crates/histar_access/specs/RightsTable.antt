@@ -1,7 +1,7 @@
 -- The table of a machine as a value.
 use Rattle.std.specs.Prelude.{List, Option, None, Some}
 use Rattle.histar_flat.specs.Words.{Path}
-use Rattle.histar_flat.specs.Sessions.{Session}
+use Rattle.histar_flat.specs.Accounts.{Accounts}
 use Rattle.histar_flat.specs.FlatState.{Flat}
 use Rattle.histar_rights.specs.declared.rights.Rights.{Rights}
 use Rattle.histar_rights.specs.Running.{HaveShownNames}
@@ -9,9 +9,9 @@ use Rattle.histar_diff.specs.declared.table.Runner.{Runner}
 use Rattle.histar_diff.specs.declared.table.Table.{Table}
 use Rattle.histar_diff.specs.declared.table.TableLine.{TableLine}
 use Rattle.histar_diff.specs.Shown.{ShowsRights}
-use Rattle.histar_tree.specs.declared.process.Life.{Life}
-use Rattle.histar_tree.specs.declared.process.Life.TheVariants.{Running, Exited}
-use Rattle.histar_tree.specs.declared.process.ProcessNode.{ProcessNode}
+use Rattle.histar_readout.specs.declared.process.Life.{Life}
+use Rattle.histar_readout.specs.declared.process.Life.TheVariants.{Running, Exited}
+use Rattle.histar_readout.specs.declared.process.ProcessNode.{ProcessNode}
 use Rattle.histar_flat.specs.Words.{ProcName}
 use Rattle.histar_shell.specs.Machine.{MachineModel}
 use Rattle.histar_shell.specs.Meaning.{Shows}
@@ -31,4 +31,4 @@ line_rights line = (line.path, line.rights.items)
 
 -- Whatever flat state the machine represents, the table shows the rights of that.
 abbrev pub ShowsTable : MachineModel → Table → Type 0
-ShowsTable m t = (session : Session) (f : Flat) → Shows session m f → HaveShownNames f → ShowsRights session f t
+ShowsTable m t = (accounts : Accounts) (f : Flat) → Shows accounts m f → HaveShownNames f → ShowsRights accounts f t

@@ -2,12 +2,12 @@
 use Rattle.std.specs.Prelude.{◌≡◌, ℕ, ◌⊎◌, Bool, true, nat_lt, List, Option, None, Some, Result, Ok, Err, MatchResult}
 use Rattle.std.specs.List.{filter}
 use Rattle.std.specs.Io.KnownBytes.{Appends, Keeps}
-use Rattle.histar_devices.specs.Writing.{AppendsFront}
+use Rattle.histar_io.specs.Writing.{AppendsFront}
 use Rattle.histar_flat.specs.declared.calls.CallLine.{CallLine}
-use Rattle.histar_flat.specs.Sessions.{Session}
+use Rattle.histar_flat.specs.Accounts.{Accounts}
 use Rattle.histar_flat.specs.FlatState.{Flat}
 use Rattle.histar_flat.specs.Meaning.{boot, flat_end}
-use Rattle.histar_script.specs.Script.{Reading}
+use Rattle.histar_script.specs.Script.{ScriptModel}
 use Rattle.histar_script.specs.Outcome.{Gives}
 use Rattle.histar_script.specs.Reading.{script_of}
 use Rattle.histar_script.specs.declared.fault.Fault.{Fault}
@@ -28,43 +28,43 @@ abbrev pub calls_before : Option ℕ → List CallLine → List CallLine
 calls_before at calls = filter (λ c. is_before at c.line) calls
 
 -- the flat state after these calls of a script
-abbrev pub state_before : Option ℕ → Reading → Flat
-state_before at script = flat_end script.session (boot script.session) (calls_before at script.calls)
+abbrev pub state_before : Option ℕ → ScriptModel → Flat
+state_before at script = flat_end script.accounts (boot script.accounts) (calls_before at script.calls)
 
 -- the text of the table of that state
-abbrev pub table_text : Option ℕ → Reading → List ℕ
-table_text at script = access_text (access_table script.session (state_before at script))
+abbrev pub table_text : Option ℕ → ScriptModel → List ℕ
+table_text at script = access_text (access_table script.accounts (state_before at script))
 
 -- whatever flat state a machine represented, it represents the one after these calls
 abbrev pub ShowsAfter : MachineModel → MachineModel → List CallLine → Type 0
-ShowsAfter old new calls = (session : Session) (f : Flat) → Shows session old f → Shows session new (flat_end session f calls)
+ShowsAfter old new calls = (accounts : Accounts) (f : Flat) → Shows accounts old f → Shows accounts new (flat_end accounts f calls)
 
 -- the text is a script, and the machine represents the flat state before this line, in which processes have names that can be shown
 pub record IsMachineOf (at : Option ℕ) (text : List ℕ) (m : MachineModel) : Type 0 where
-  pub script : Reading
+  pub script : ScriptModel
   pub is_read : script_of text ≡ Ok script
-  pub shows : Shows script.session m (state_before at script)
+  pub shows : Shows script.accounts m (state_before at script)
   pub named : HaveShownNames (state_before at script)
 
 -- The text was read as a script and run up to this line, or its fault is the answer.
 abbrev pub RunsText : Option ℕ → List ℕ → Result MachineModel Fault → Type 0
 RunsText at text (Ok m) = IsMachineOf at text m
-RunsText at text (Err fault) = Gives {A = Reading} (Err fault) (script_of text)
+RunsText at text (Err fault) = Gives {A = ScriptModel} (Err fault) (script_of text)
 
 -- the reading is of a script, and the text of its table was written
-pub record WritesTable (at : Option ℕ) (old new : Option (List ℕ)) (read : Result Reading Fault) : Type 0 where
-  pub script : Reading
+pub record WritesTable (at : Option ℕ) (old new : Option (List ℕ)) (read : Result ScriptModel Fault) : Type 0 where
+  pub script : ScriptModel
   pub is_read : read ≡ Ok script
   pub written : Appends old new (table_text at script)
 
 -- the reading is of a script, and a beginning of the text of its table was written
-pub record BeginsToWrite (at : Option ℕ) (old new : Option (List ℕ)) (read : Result Reading Fault) : Type 0 where
-  pub script : Reading
+pub record BeginsToWrite (at : Option ℕ) (old new : Option (List ℕ)) (read : Result ScriptModel Fault) : Type 0 where
+  pub script : ScriptModel
   pub is_read : read ≡ Ok script
   pub written : AppendsFront old new (table_text at script)
 
 -- At a failed write a beginning of the text was written, where memory runs out that or nothing, at the other faults nothing.
-abbrev pub WritesAtFault : Option ℕ → Option (List ℕ) → Option (List ℕ) → Result Reading Fault → Fault → Type 0
+abbrev pub WritesAtFault : Option ℕ → Option (List ℕ) → Option (List ℕ) → Result ScriptModel Fault → Fault → Type 0
 WritesAtFault at old new read OutOfMemory = Keeps old new ⊎ BeginsToWrite at old new read
 WritesAtFault at old new read WriteFailed = BeginsToWrite at old new read
 WritesAtFault at old new read fault = Keeps old new

@@ -1,14 +1,14 @@
 -- The table of a machine that represents a flat state.
 use Rattle.std.specs.Prelude.{◌≡◌, ℕ, List, Option}
 use Rattle.std.specs.Io.KnownBytes.{Appends}
-use Rattle.histar_devices.specs.Writing.{AppendsFront}
-use Rattle.histar_flat.specs.Sessions.{Session}
+use Rattle.histar_io.specs.Writing.{AppendsFront}
+use Rattle.histar_flat.specs.Accounts.{Accounts}
 use Rattle.histar_flat.specs.FlatState.{Flat}
 use Rattle.histar_syscall.specs.KernelModel.{state}
 use Rattle.histar_rights.specs.Running.{HaveShownNames}
 use Rattle.histar_rights.specs.Table.{access_table, access_text}
-use Rattle.histar_tree.specs.declared.process.ProcessNode.{ProcessNode}
-use Rattle.histar_tree.specs.Processes.{AreProcessesOf}
+use Rattle.histar_readout.specs.declared.process.ProcessNode.{ProcessNode}
+use Rattle.histar_readout.specs.Processes.{AreProcessesOf}
 use Rattle.histar_shell.specs.Machine.{MachineModel}
 use Rattle.histar_shell.specs.Meaning.{Shows}
 use Rattle.histar_access.specs.declared.cells.Cell.{Cell}
@@ -16,11 +16,11 @@ use Rattle.histar_access.specs.Cells.{visitors_among}
 
 -- a machine represents some flat state, whose processes have names that can be shown
 abbrev pub IsShown : MachineModel → Type 0
-IsShown m = (session : Session) × (f : Flat) × Shows session m f × HaveShownNames f
+IsShown m = (accounts : Accounts) × (f : Flat) × Shows accounts m f × HaveShownNames f
 
 -- the objects of a machine's kernel list these processes from process 0 on
 abbrev pub AreProcessesIn : MachineModel → List ProcessNode → Type 0
-AreProcessesIn m processes = AreProcessesOf m.users (state m.kernel) m.places processes
+AreProcessesIn m processes = AreProcessesOf m.users (state m.kernel) m.roots processes
 
 -- they list processes
 abbrev pub HasProcesses : MachineModel → Type 0
@@ -28,7 +28,7 @@ HasProcesses m = (processes : List ProcessNode) × AreProcessesIn m processes
 
 -- those of these processes of a machine that run
 abbrev pub visitors_in : MachineModel → List ProcessNode → List Cell
-visitors_in m processes = visitors_among (state m.kernel) m.places processes
+visitors_in m processes = visitors_among (state m.kernel) m.roots processes
 
 -- those of the processes of a machine that run
 abbrev pub AreVisitors : MachineModel → List Cell → Type 0
@@ -36,10 +36,10 @@ AreVisitors m visitors = (processes : List ProcessNode) × AreProcessesIn m proc
 
 -- Whatever flat state the machine represents, the text of its table was written.
 abbrev pub AppendsTable : MachineModel → Option (List ℕ) → Option (List ℕ) → Type 0
-AppendsTable m old new = (session : Session) (f : Flat) → Shows session m f → HaveShownNames f → Appends old new
-    (access_text (access_table session f))
+AppendsTable m old new = (accounts : Accounts) (f : Flat) → Shows accounts m f → HaveShownNames f → Appends old new
+    (access_text (access_table accounts f))
 
 -- a beginning of it was written
 abbrev pub BeginsTable : MachineModel → Option (List ℕ) → Option (List ℕ) → Type 0
-BeginsTable m old new = (session : Session) (f : Flat) → Shows session m f → HaveShownNames f → AppendsFront old new
-    (access_text (access_table session f))
+BeginsTable m old new = (accounts : Accounts) (f : Flat) → Shows accounts m f → HaveShownNames f → AppendsFront old new
+    (access_text (access_table accounts f))

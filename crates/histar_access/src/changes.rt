@@ -1,16 +1,16 @@
 //! What changed between two scripts, from bytes to bytes.
 ghost use Rattle.std.specs.Prelude.{◌≡◌, false, IfErr, IfSome, OnErr, OnOk};
 ghost use Rattle.std.specs.Io.KnownBytes.{Appends};
-ghost use Rattle.histar_devices.specs.Device.{CountsFailure};
-ghost use Rattle.histar_devices.specs.Writing.{AppendsFront};
+ghost use Rattle.histar_io.specs.Device.{CountsFailure};
+ghost use Rattle.histar_io.specs.Writing.{AppendsFront};
 ghost use Rattle.histar_script.specs.Runs.{IsOutputFault, LeavesSink, is_read_failed, is_write_failed};
 ghost use Rattle.histar_diff.specs.Texts.{differences_text};
 ghost use Rattle.histar_access.specs.Diff.{ComparesInputs, ComparesTexts, CountsOneFailure, ReadsTable};
 
 use crate::rights_table::table_of;
 use crate::session::machine_before;
-use histar_devices::{Sink, Source, read_input, write_bytes};
 use histar_diff::{Difference, Table, differences_between, push_difference};
+use histar_io::{Sink, Source, read_input, write_bytes};
 use histar_script::Fault;
 use std::alloc::Global;
 

@@ -5,7 +5,7 @@ ghost use Rattle.histar_access.specs.OnePath.{AreRightsOf, FindsEntry, FindsSpot
 
 use crate::cells::Cell;
 use crate::table::visitor_at;
-use histar_calls::Places;
+use histar_calls::Roots;
 use histar_flat::{Name, Path, ProcName};
 use histar_label::LabelStore;
 use histar_layout::{Target, look_up_checked};
@@ -35,7 +35,7 @@ pub fn rights_of<S: LabelStore + Drop>(
     let Some(visitor) = visitor_at(machine, process) else {
         return Rights::NONE;
     };
-    match spot_at(machine.kernel(), machine.places(), &visitor, path.names()) {
+    match spot_at(machine.kernel(), machine.roots(), &visitor, path.names()) {
         Some(spot) => spot.cell.rights,
         None => Rights::NONE,
     }
@@ -45,17 +45,17 @@ pub fn rights_of<S: LabelStore + Drop>(
 /// process there, by those above `/`.
 fn spot_at<S: LabelStore + Drop>(
     kernel: &Kernel<S>,
-    places: &Places,
+    roots: &Roots,
     visitor: &Cell,
     names: &[Name],
 ) -> Option<Spot>
-    ensures { FindsSpot (state kernel.now) places.now visitor.now names.now result }
+    ensures { FindsSpot (state kernel.now) roots.now visitor.now names.now result }
 {
     let [name, above @ ..] = names else {
-        let slash = Target::Directory(places.slash.container, places.slash.listing);
+        let slash = Target::Directory(roots.slash.container, roots.slash.listing);
         return Some(spot_below(kernel, visitor, slash));
     };
-    let directory = spot_at(kernel, places, visitor, above)?;
+    let directory = spot_at(kernel, roots, visitor, above)?;
     let target = entry_at(kernel, &directory.target, name)?;
     Some(spot_below(kernel, &directory.cell, target))
 }

@@ -12,9 +12,9 @@ use crate::cells::{Cell, row_below};
 use crate::table::{last_row, processes, visitors_among};
 use histar_diff::{Runner, Table, TableLine};
 use histar_label::LabelStore;
+use histar_readout::{Life, ProcessNode, TreeNode};
 use histar_rights::Rights;
 use histar_shell::Machine;
-use histar_tree::{Life, ProcessNode, TreeNode};
 use std::alloc::{AllocError, Global};
 
 /// Returns who may do what in a machine: the processes that run, with their users, and their rights

@@ -1,13 +1,13 @@
 //! The rights after the calls of a script, from bytes to bytes.
 ghost use Rattle.std.specs.Prelude.{◌≡◌, false, IfErr, IfSome, OnOk, [], ◌∷◌};
-ghost use Rattle.histar_devices.specs.Device.{CountsFailure};
+ghost use Rattle.histar_io.specs.Device.{CountsFailure};
 ghost use Rattle.histar_script.specs.Runs.{LeavesSink, is_read_failed, is_write_failed, RunsInput};
 ghost use Rattle.histar_access.specs.Session.{AccessText, calls_before, is_before, RunsText, ShowsAfter};
 
 use crate::table::write_table;
 use histar_calls::Stopped;
-use histar_devices::{Sink, Source, read_input};
 use histar_flat::CallLine;
+use histar_io::{Sink, Source, read_input};
 use histar_label::{InternStore, LabelStore};
 use histar_script::{Fault, read_script};
 use histar_shell::Machine;
@@ -74,8 +74,8 @@ pub fn machine_before(
 {
     let store = InternStore::new(alloc, REMEMBERED_ANSWERS)?;
     let script = read_script(alloc, text)?;
-    let (session, calls) = script.into_parts();
-    let Ok(mut machine) = Machine::boot(alloc, store, session) else {
+    let (accounts, calls) = script.into_parts();
+    let Ok(mut machine) = Machine::boot(alloc, store, accounts) else {
         return Err(Fault::OutOfMemory);
     };
     let Ok(()) = make_calls(alloc, &mut machine, calls, at) else {

@@ -1,8 +1,8 @@
 //! Writing the table of a machine.
 ghost use Rattle.std.specs.Prelude.{◌≡◌, IfErr, IfOk, OnErr, OnOk, [], map};
 ghost use Rattle.std.specs.Io.KnownBytes.{Appends};
-ghost use Rattle.histar_devices.specs.Device.{CountsFailure};
-ghost use Rattle.histar_devices.specs.Writing.{AppendsFront};
+ghost use Rattle.histar_io.specs.Device.{CountsFailure};
+ghost use Rattle.histar_io.specs.Writing.{AppendsFront};
 ghost use Rattle.histar_rights.specs.Table.{access_line_text, access_text};
 ghost use Rattle.histar_script.specs.Runs.{IsOutputFault, is_write_failed};
 ghost use Rattle.histar_syscall.specs.KernelModel.{state};
@@ -12,14 +12,14 @@ ghost use Rattle.histar_access.specs.Shown.{AppendsTable, AreProcessesIn, Begins
 ghost use Rattle.histar_access.specs.Shown.{HasProcesses, IsShown, visitors_in};
 
 use crate::cells::{Cell, push_cells, row_below};
-use histar_devices::{Sink, write_bytes};
 use histar_flat::ProcName;
+use histar_io::{Sink, write_bytes};
 use histar_label::LabelStore;
 use histar_process::find_caller;
+use histar_readout::{ProcessNode, TreeNode, procs_of};
 use histar_rights::Rights;
 use histar_script::Fault;
 use histar_shell::{Machine, push_path, push_stat};
-use histar_tree::{ProcessNode, TreeNode, procs_of};
 use std::alloc::{AllocError, Global};
 
 /// Writes a line for each file and directory of a machine, by rising paths, with the rights of each process
@@ -52,7 +52,7 @@ pub(crate) fn processes<S: LabelStore + Drop>(
     requires { HasProcesses machine.now }
     ensures { IfOk result (λ processes. AreProcessesIn machine.now processes.items) }
 {
-    match procs_of(alloc, machine.kernel(), machine.places(), machine.users())? {
+    match procs_of(alloc, machine.kernel(), machine.roots(), machine.users())? {
         Some(processes) => Ok(processes),
         None => unreachable!(),
     }
@@ -80,9 +80,9 @@ pub(crate) fn visitor_at<S: LabelStore + Drop>(
     machine: &Machine<S>,
     process: &ProcName,
 ) -> Option<Cell>
-    ensures { result ≡ visitor_at (state machine.now.kernel) machine.now.places process.now }
+    ensures { result ≡ visitor_at (state machine.now.kernel) machine.now.roots process.now }
 {
-    let caller = find_caller(machine.kernel(), machine.places().home, process)?;
+    let caller = find_caller(machine.kernel(), machine.roots().home, process)?;
     Some(Cell {
         process: *process,
         thread: caller.thread,

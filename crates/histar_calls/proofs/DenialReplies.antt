@@ -44,27 +44,27 @@ no_reply : (p : Program) (old new : KernelModel) (t : ℕ) (reply : Reply) → p
 no_reply p old new t reply stops runs = subst (λ (q : Program). Completes q old new t reply) stops runs
 
 restores : (p : Program) (old new : KernelModel) (t : ℕ) (denied : Denied) (reply : Reply) → RepliesToDenial denied p → Completes p old new t reply → Restores old new t denied reply
-restores (Answers said) old new t denied reply tells runs = record {
+restores (Answers said) old new t denied reply obeys runs = record {
   entries = [];
   ran = record { trace = runs.0.trace ∙ sym (append-nil old.trace); run = runs.0.state; own = tt; line = runs.0.line };
   restoring = tt;
-  access = tells.0 ∙ ap is_no_access (sym runs.1);
-  permission = tells.1 ∙ ap is_no_permission (sym runs.1);
+  access = obeys.0 ∙ ap is_no_access (sym runs.1);
+  permission = obeys.1 ∙ ap is_no_permission (sym runs.1);
 }
-restores (Asks call next) old new t denied reply tells runs = (elim runs.1 as (λ (o : Outcome call). Asked old runs.0 t call o → Completes (next o) runs.0 new t reply → Restores old new t denied reply) [
+restores (Asks call next) old new t denied reply obeys runs = (elim runs.1 as (λ (o : Outcome call). Asked old runs.0 t call o → Completes (next o) runs.0 new t reply → Restores old new t denied reply) [
   | Ok answer ↦ λ asked rest.
-      let later = restores (next (Ok answer)) runs.0 new t denied reply (tells.1 answer) rest in
+      let later = restores (next (Ok answer)) runs.0 new t denied reply (obeys.1 answer) rest in
       record {
         entries = entry_of old.line t call None ∷ later.entries;
         ran = ran_more old runs.0 new t call None later.entries asked.0 later.ran;
-        restoring = ((refl, tells.0), later.restoring);
+        restoring = ((refl, obeys.0), later.restoring);
         access = later.access;
         permission = later.permission;
       }
-  | Err other ↦ λ asked rest. absurd (no_reply (next (Err other)) runs.0 new t reply (tells.2 other) rest)
+  | Err other ↦ λ asked rest. absurd (no_reply (next (Err other)) runs.0 new t reply (obeys.2 other) rest)
 ]) runs.2 runs.3
-restores (Lists bytes next) old new t denied reply tells runs = absurd tells
-restores Stops old new t denied reply tells runs = absurd runs
+restores (Lists bytes next) old new t denied reply obeys runs = absurd obeys
+restores Stops old new t denied reply obeys runs = absurd runs
 
 -- a denial, and what was run after it
 or_none : (a b : Bool) → b ≡ false → (a || b) ≡ a
@@ -73,16 +73,16 @@ or_none false b is = is
 
 -- what its raw calls came to
 pub replies : (p : Program) → RepliesToRefusals p → (old new : KernelModel) (t : ℕ) (reply : Reply) → Completes p old new t reply → Replies old new t reply
-replies (Answers said) tells old new t reply runs = record {
+replies (Answers said) obeys old new t reply runs = record {
   entries = [];
   ran = record { trace = runs.0.trace ∙ sym (append-nil old.trace); run = runs.0.state; own = tt; line = runs.0.line };
-  access = sym tells.0 ∙ ap is_no_access (sym runs.1);
-  permission = sym tells.1 ∙ ap is_no_permission (sym runs.1);
+  access = sym obeys.0 ∙ ap is_no_access (sym runs.1);
+  permission = sym obeys.1 ∙ ap is_no_permission (sym runs.1);
   once = tt;
 }
-replies (Asks call next) tells old new t reply runs = (elim runs.1 as (λ (o : Outcome call). Asked old runs.0 t call o → Completes (next o) runs.0 new t reply → Replies old new t reply) [
+replies (Asks call next) obeys old new t reply runs = (elim runs.1 as (λ (o : Outcome call). Asked old runs.0 t call o → Completes (next o) runs.0 new t reply → Replies old new t reply) [
   | Ok answer ↦ λ asked rest.
-      let later = replies (next (Ok answer)) (tells.0 answer) runs.0 new t reply rest in
+      let later = replies (next (Ok answer)) (obeys.0 answer) runs.0 new t reply rest in
       record {
         entries = entry_of old.line t call None ∷ later.entries;
         ran = ran_more old runs.0 new t call None later.entries asked.0 later.ran;
@@ -91,7 +91,7 @@ replies (Asks call next) tells old new t reply runs = (elim runs.1 as (λ (o : O
         once = later.once;
       }
   | Err denied ↦ λ asked rest.
-      let later = restores (next (Err denied)) runs.0 new t denied reply (tells.1 denied) rest in
+      let later = restores (next (Err denied)) runs.0 new t denied reply (obeys.1 denied) rest in
       let none = none_refused later.entries later.restoring in
       record {
         entries = entry_of old.line t call (Some denied) ∷ later.entries;
@@ -101,5 +101,5 @@ replies (Asks call next) tells old new t reply runs = (elim runs.1 as (λ (o : O
         once = later.restoring;
       }
 ]) runs.2 runs.3
-replies (Lists bytes next) tells old new t reply runs = replies (next runs.0) (tells runs.0) old new t reply runs.2
-replies Stops tells old new t reply runs = absurd runs
+replies (Lists bytes next) obeys old new t reply runs = replies (next runs.0) (obeys runs.0) old new t reply runs.2
+replies Stops obeys old new t reply runs = absurd runs

@@ -8,12 +8,12 @@ use Rattle.histar_syscall.specs.KernelModel.{KernelModel, Answered}
 use Rattle.histar_layout.specs.Directory.{Entries, IsDirectory}
 use Rattle.histar_layout.specs.Found.{found_in}
 use Rattle.histar_layout.specs.declared.entry.Target.{Target}
-use Rattle.histar_calls.specs.declared.places.Place.{Place}
-use Rattle.histar_calls.specs.declared.places.Places.{Places}
+use Rattle.histar_calls.specs.declared.roots.Place.{Place}
+use Rattle.histar_calls.specs.declared.roots.Roots.{Roots}
 use Rattle.histar_calls.specs.declared.directory.Directory.{Directory}
-use Rattle.histar_calls.specs.declared.ending.Ending.{Ending}
-use Rattle.histar_calls.specs.declared.ending.Ending.TheVariants.{Refused, Stopped}
-use Rattle.histar_calls.specs.Refusals.{write_errno_of, or_ending}
+use Rattle.histar_calls.specs.declared.call_error.CallError.{CallError}
+use Rattle.histar_calls.specs.declared.call_error.CallError.TheVariants.{Refused, Stopped}
+use Rattle.histar_calls.specs.Refusals.{write_errno_of, or_call_error}
 use Rattle.histar_calls.specs.Programs.{Program, Part, Begins, RunsPart}
 use Rattle.histar_calls.specs.Parts.{ask, list, given, read_directory, directory_at, look_in, find_place, walk_to, write_entries}
 use Rattle.histar_syscall.proofs.Runs.{same_kernel}
@@ -25,17 +25,17 @@ after_bytes place bytes rest = list bytes (λ entries. rest (record { place = pl
 
 module _ (t : ℕ) (old new : KernelModel) (place : Place) where
   -- the directory segment was not read
-  pub read_fails : (ending : Ending) → RunsPart (ask (Read place.container place.listing)) old new t (Err ending) → RunsPart (read_directory place) old new t (Err ending)
+  pub read_fails : (call_error : CallError) → RunsPart (ask (Read place.container place.listing)) old new t (Err call_error) → RunsPart (read_directory place) old new t (Err call_error)
   unfolding read_directory
-  read_fails ending first = part_fails t (ask (Read place.container place.listing)) old new (after_bytes place) ending first
+  read_fails call_error first = part_fails t (ask (Read place.container place.listing)) old new (after_bytes place) call_error first
 
   module _ (bytes : List ℕ) (first : RunsPart (ask (Read place.container place.listing)) old new t (Ok bytes)) where
     -- its bytes are no directory, or memory ran out
-    pub list_fails : (ending : Ending) → RunsPart (list bytes) new new t (Err ending) → RunsPart (read_directory place) old new t (Err ending)
+    pub list_fails : (call_error : CallError) → RunsPart (list bytes) new new t (Err call_error) → RunsPart (read_directory place) old new t (Err call_error)
     unfolding read_directory
-    list_fails ending second =
-        then_part t (ask (Read place.container place.listing)) old new (after_bytes place) new bytes first (Err ending)
-        (part_fails t (list bytes) new new (λ (entries : Entries) (rest : Directory → _). rest (record { place = place; entries = entries })) ending second)
+    list_fails call_error second =
+        then_part t (ask (Read place.container place.listing)) old new (after_bytes place) new bytes first (Err call_error)
+        (part_fails t (list bytes) new new (λ (entries : Entries) (rest : Directory → _). rest (record { place = place; entries = entries })) call_error second)
 
     -- its bytes are a directory
     pub reads : (entries : Entries) → RunsPart (list bytes) new new t (Ok entries) → RunsPart (read_directory place) old new t (Ok (record { place = place; entries = entries }))
@@ -64,9 +64,9 @@ no_names (x ∷ xs) none = absurd (omega arith)
 
 module _ (t : ℕ) (old new : KernelModel) (place : Place) (name : Name) where
   -- its segment was not read
-  pub look_refused : (ending : Ending) → RunsPart (ask (Read place.container place.listing)) old new t (Err ending) → RunsPart (look_in place name) old new t (Err ending)
+  pub look_refused : (call_error : CallError) → RunsPart (ask (Read place.container place.listing)) old new t (Err call_error) → RunsPart (look_in place name) old new t (Err call_error)
   unfolding look_in
-  look_refused ending first = part_fails t (ask (Read place.container place.listing)) old new (λ bytes (rest : Option Target → _). rest (found_in bytes name)) ending first
+  look_refused call_error first = part_fails t (ask (Read place.container place.listing)) old new (λ bytes (rest : Option Target → _). rest (found_in bytes name)) call_error first
 
   -- it was read, and the name leads there
   pub looks : (bytes : List ℕ) → RunsPart (ask (Read place.container place.listing)) old new t (Ok bytes) → (found : Option Target) → found ≡ found_in bytes name → RunsPart (look_in place name) old new t (Ok found)
@@ -83,11 +83,11 @@ into name above rest = look_in above name (λ target. given (directory_at target
 
 module _ (t : ℕ) (old new : KernelModel) (name : Name) (above : Place) where
   -- the name was not looked up
-  pub into_fails : (ending : Ending) → RunsPart (look_in above name) old new t (Err ending) → RunsPart (into name above) old new t (Err ending)
-  into_fails ending first = part_fails t (look_in above name) old new (λ target. given (directory_at target)) ending first
+  pub into_fails : (call_error : CallError) → RunsPart (look_in above name) old new t (Err call_error) → RunsPart (into name above) old new t (Err call_error)
+  into_fails call_error first = part_fails t (look_in above name) old new (λ target. given (directory_at target)) call_error first
 
   module _ (target : Option Target) (first : RunsPart (look_in above name) old new t (Ok target)) where
-    then_given : (found : Result Place Errno) → found ≡ directory_at target → (result : Result Place Ending) → RunsPart (given found) new new t result → RunsPart (into name above) old new t result
+    then_given : (found : Result Place Errno) → found ≡ directory_at target → (result : Result Place CallError) → RunsPart (given found) new new t result → RunsPart (into name above) old new t result
     then_given found is result runs =
         then_part t (look_in above name) old new (λ target. given (directory_at target)) new target first result
         (subst (λ (f : Result Place Errno). RunsPart (given f) new new t result) is runs)
@@ -100,53 +100,53 @@ module _ (t : ℕ) (old new : KernelModel) (name : Name) (above : Place) where
     pub into_none : (errno : Errno) → Err errno ≡ directory_at target → RunsPart (into name above) old new t (Err (Refused errno))
     into_none errno is = then_given (Err errno) is (Err (Refused errno)) (gives_not t Place new errno)
 
-module _ (t : ℕ) (places : Places) (old new : KernelModel) (names : List Name) where
+module _ (t : ℕ) (roots : Roots) (old new : KernelModel) (names : List Name) where
   -- the place of `/`
-  pub finds_slash : names ≡ [] → RunsPart (find_place places names) old old t (Ok places.slash)
+  pub finds_slash : names ≡ [] → RunsPart (find_place roots names) old old t (Ok roots.slash)
   unfolding find_place
-  finds_slash none = subst (λ (n : List Name). RunsPart (find_place places n) old old t (Ok places.slash)) (sym none) (hands t old places.slash)
+  finds_slash none = subst (λ (n : List Name). RunsPart (find_place roots n) old old t (Ok roots.slash)) (sym none) (hands t old roots.slash)
 
   module _ (name : Name) (parent : Path) (split : names ≡ name ∷ parent) where
-    here : (result : Result Place Ending) → RunsPart (λ rest. find_place places parent (λ above. into name above rest)) old new t result → RunsPart (find_place places names) old new t result
+    here : (result : Result Place CallError) → RunsPart (λ rest. find_place roots parent (λ above. into name above rest)) old new t result → RunsPart (find_place roots names) old new t result
     unfolding find_place
-    here result runs = subst (λ (n : List Name). RunsPart (find_place places n) old new t result) (sym split) runs
+    here result runs = subst (λ (n : List Name). RunsPart (find_place roots n) old new t result) (sym split) runs
 
     -- the place of the parent was not found
-    pub find_fails : (ending : Ending) → RunsPart (find_place places parent) old new t (Err ending) → RunsPart (find_place places names) old new t (Err ending)
-    find_fails ending first = here (Err ending) (part_fails t (find_place places parent) old new (into name) ending first)
+    pub find_fails : (call_error : CallError) → RunsPart (find_place roots parent) old new t (Err call_error) → RunsPart (find_place roots names) old new t (Err call_error)
+    find_fails call_error first = here (Err call_error) (part_fails t (find_place roots parent) old new (into name) call_error first)
 
     -- it was found, and the name is looked up there
-    pub finds_on : (mid : KernelModel) (above : Place) → RunsPart (find_place places parent) old mid t (Ok above) → (result : Result Place Ending) → RunsPart (into name above) mid new t result → RunsPart (find_place places names) old new t result
-    finds_on mid above first result second = here result (then_part t (find_place places parent) old new (into name) mid above first result second)
+    pub finds_on : (mid : KernelModel) (above : Place) → RunsPart (find_place roots parent) old mid t (Ok above) → (result : Result Place CallError) → RunsPart (into name above) mid new t result → RunsPart (find_place roots names) old new t result
+    finds_on mid above first result second = here result (then_part t (find_place roots parent) old new (into name) mid above first result second)
 
 -- ---- a walk
 
-module _ (t : ℕ) (places : Places) (old new : KernelModel) (names : Path) where
+module _ (t : ℕ) (roots : Roots) (old new : KernelModel) (names : Path) where
   -- the place was not found
-  pub walk_fails : (ending : Ending) → RunsPart (find_place places names) old new t (Err ending) → RunsPart (walk_to places names) old new t (Err ending)
+  pub walk_fails : (call_error : CallError) → RunsPart (find_place roots names) old new t (Err call_error) → RunsPart (walk_to roots names) old new t (Err call_error)
   unfolding walk_to
-  walk_fails ending first = part_fails t (find_place places names) old new (λ (place : Place). read_directory place) ending first
+  walk_fails call_error first = part_fails t (find_place roots names) old new (λ (place : Place). read_directory place) call_error first
 
   -- it was found, and the directory is read
-  pub walk_ends : (mid : KernelModel) (place : Place) → RunsPart (find_place places names) old mid t (Ok place) → (result : Result Directory Ending) → RunsPart (read_directory place) mid new t result → RunsPart (walk_to places names) old new t result
+  pub walk_ends : (mid : KernelModel) (place : Place) → RunsPart (find_place roots names) old mid t (Ok place) → (result : Result Directory CallError) → RunsPart (read_directory place) mid new t result → RunsPart (walk_to roots names) old new t result
   unfolding walk_to
-  walk_ends mid place first result second = then_part t (find_place places names) old new (λ (place : Place). read_directory place) mid place first result second
+  walk_ends mid place first result second = then_part t (find_place roots names) old new (λ (place : Place). read_directory place) mid place first result second
 
 -- bytes that spell a directory's entries are written
 pub writes : (t : ℕ) (old new : KernelModel) (place : Place) (entries : Entries) (bytes : List ℕ) → IsDirectory bytes entries → (answer : Result (Unit {0}) Refusal) → Answered old new t (Write place.container place.listing 0 bytes) answer (λ _. Unit {0})
-    → (result : Result (Unit {0}) Ending) → result ≡ or_ending write_errno_of answer → RunsPart (write_entries place entries) old new t result
+    → (result : Result (Unit {0}) CallError) → result ≡ or_call_error write_errno_of answer → RunsPart (write_entries place entries) old new t result
 writes t old new place entries bytes spells answer answered result is =
     part_as t (write_entries place entries) old new (ask (Write place.container place.listing 0 bytes)) (λ i. ask (Write place.container place.listing 0 (sym spells.spelled i))) result
     (asks t (Write place.container place.listing 0 bytes) old new answer answered result is)
 
 -- memory ran out before the place of a directory is found
-before_place : (t : ℕ) (places : Places) (path : Path) (k : KernelModel) (first : Place → Program) → ((place : Place) → Begins (first place) k k t) → Begins (find_place places path first) k k t
+before_place : (t : ℕ) (roots : Roots) (path : Path) (k : KernelModel) (first : Place → Program) → ((place : Place) → Begins (first place) k k t) → Begins (find_place roots path first) k k t
 unfolding find_place look_in
-before_place t places [] k first begins = begins places.slash
-before_place t places (name ∷ parent) k first begins =
-    before_place t places parent k (λ above. look_in above name (λ target. given (directory_at target) first)) (λ above. inl (same_kernel k))
+before_place t roots [] k first begins = begins roots.slash
+before_place t roots (name ∷ parent) k first begins =
+    before_place t roots parent k (λ above. look_in above name (λ target. given (directory_at target) first)) (λ above. inl (same_kernel k))
 
 -- and so before a walk
-pub before_walk : (t : ℕ) (places : Places) (path : Path) (k : KernelModel) → RunsPart (walk_to places path) k k t (Err Stopped)
+pub before_walk : (t : ℕ) (roots : Roots) (path : Path) (k : KernelModel) → RunsPart (walk_to roots path) k k t (Err Stopped)
 unfolding RunsPart walk_to read_directory
-before_walk t places path k = λ rest. before_place t places path k (λ place. read_directory place rest) (λ place. inl (same_kernel k))
+before_walk t roots path k = λ rest. before_place t roots path k (λ place. read_directory place rest) (λ place. inl (same_kernel k))

@@ -4,8 +4,8 @@ use Rattle.histar_flat.specs.declared.replies.Reply.{Reply}
 use Rattle.histar_syscall.specs.KernelModel.{KernelModel}
 use Rattle.histar_calls.specs.Programs.{Part, Program, Runs, RunsPart}
 use Rattle.histar_calls.specs.Refusals.{settled}
-use Rattle.histar_calls.specs.declared.ending.Ending.{Ending}
-use Rattle.histar_calls.specs.declared.ending.Stopped.{Stopped}
+use Rattle.histar_calls.specs.declared.call_error.CallError.{CallError}
+use Rattle.histar_calls.specs.declared.call_error.Stopped.{Stopped}
 use Rattle.histar_calls.proofs.Running.{then_call, call_fails}
 
 -- What is left of a program at a state of the kernel: whoever runs this has run the whole.
@@ -18,5 +18,5 @@ module _ {t : ℕ} {whole : Program} {old k : KernelModel} {A : Type 0} (part : 
   further mid x first = record { leads = λ new result on. way.leads new result (then_call t part k new rest mid x first result on) }
 
   -- the next part failed, and with it the call
-  pub ends : (new : KernelModel) (ending : Ending) → RunsPart part k new t (Err ending) → Runs whole old new t (settled (Err ending))
-  ends new ending first = way.leads new (settled (Err ending)) (call_fails t part k new rest ending first)
+  pub ends : (new : KernelModel) (call_error : CallError) → RunsPart part k new t (Err call_error) → Runs whole old new t (settled (Err call_error))
+  ends new call_error first = way.leads new (settled (Err call_error)) (call_fails t part k new rest call_error first)

@@ -4,17 +4,17 @@ use Rattle.std.specs.FinMap as map
 use Rattle.histar_flat.specs.Words.{Path}
 use Rattle.histar_flat.specs.declared.calls.Mode.{Mode}
 use Rattle.histar_flat.specs.declared.replies.Reply.TheVariants.{Done}
-use Rattle.histar_flat.specs.Sessions.{Session}
+use Rattle.histar_flat.specs.Accounts.{Accounts}
 use Rattle.histar_label.specs.Levels.{Levels}
 use Rattle.histar_rules.specs.declared.raw.RawCall.TheVariants.{OwnLabel, MakeContainer, MakeSegment}
 use Rattle.histar_syscall.specs.KernelModel.{KernelModel}
 use Rattle.histar_layout.specs.Categories.{label_made}
 use Rattle.histar_layout.specs.Directory.{Entries}
 use Rattle.histar_layout.specs.declared.entry.Target.TheVariants.{Directory}
-use Rattle.histar_calls.specs.declared.ending.Ending.{Ending}
-use Rattle.histar_calls.specs.declared.ending.Ending.TheVariants.{Stopped}
+use Rattle.histar_calls.specs.declared.call_error.CallError.{CallError}
+use Rattle.histar_calls.specs.declared.call_error.CallError.TheVariants.{Stopped}
 use Rattle.histar_calls.specs.declared.find.Room.{Room}
-use Rattle.histar_calls.specs.declared.places.Places.{Places}
+use Rattle.histar_calls.specs.declared.roots.Roots.{Roots}
 use Rattle.histar_calls.specs.Programs.{Program, Part, RunsPart}
 use Rattle.histar_calls.specs.Programs.Program.{Answers}
 use Rattle.histar_calls.specs.Parts.{ask, find_room, write_entries}
@@ -23,7 +23,7 @@ use Rattle.histar_calls.proofs.Exits.{Leaves}
 use Rattle.histar_calls.proofs.Running.{before_ask, part_fails, then_part}
 
 -- a container is made with the label that is due
-pub makes_container : (t : ℕ) (old new : KernelModel) (d : ℕ) (label due : Levels) → label ≡ due → (result : Result ℕ Ending)
+pub makes_container : (t : ℕ) (old new : KernelModel) (d : ℕ) (label due : Levels) → label ≡ due → (result : Result ℕ CallError)
     → RunsPart {A = ℕ} (ask (MakeContainer d label)) old new t result → RunsPart {A = ℕ} (ask (MakeContainer d due)) old new t result
 makes_container t old new d label due same result runs = subst (λ (part : Part ℕ). RunsPart {A = ℕ} part old new t result) (ap (λ (x : Levels). ask (MakeContainer d x)) same) runs
 
@@ -42,20 +42,20 @@ module _ (t : ℕ) (label : Levels) (room : Room) (old new : KernelModel) where
   after_container container rest = ask (MakeSegment container label []) (λ listing. after_listing container listing rest)
 
   -- no container was made
-  pub without_container : (ending : Ending) → RunsPart (ask (MakeContainer room.place.container label)) old new t (Err ending) → RunsPart (add_directory label room) old new t (Err ending)
-  without_container ending first = part_fails t (ask (MakeContainer room.place.container label)) old new after_container ending first
+  pub without_container : (call_error : CallError) → RunsPart (ask (MakeContainer room.place.container label)) old new t (Err call_error) → RunsPart (add_directory label room) old new t (Err call_error)
+  without_container call_error first = part_fails t (ask (MakeContainer room.place.container label)) old new after_container call_error first
 
   module _ (mid : KernelModel) (container : ℕ) (first : RunsPart (ask (MakeContainer room.place.container label)) old mid t (Ok container)) where
     -- one was
-    with_container : (result : Result (Unit {0}) Ending) → RunsPart (after_container container) mid new t result → RunsPart (add_directory label room) old new t result
+    with_container : (result : Result (Unit {0}) CallError) → RunsPart (after_container container) mid new t result → RunsPart (add_directory label room) old new t result
     with_container result second = then_part t (ask (MakeContainer room.place.container label)) old new after_container mid container first result second
 
     -- no directory segment was made
-    pub without_listing : (ending : Ending) → RunsPart (ask (MakeSegment container label [])) mid new t (Err ending) → RunsPart (add_directory label room) old new t (Err ending)
-    without_listing ending second = with_container (Err ending) (part_fails t (ask (MakeSegment container label [])) mid new (after_listing container) ending second)
+    pub without_listing : (call_error : CallError) → RunsPart (ask (MakeSegment container label [])) mid new t (Err call_error) → RunsPart (add_directory label room) old new t (Err call_error)
+    without_listing call_error second = with_container (Err call_error) (part_fails t (ask (MakeSegment container label [])) mid new (after_listing container) call_error second)
 
     -- one was, and the entry is made, or not
-    pub with_listing : (late : KernelModel) (listing : ℕ) → RunsPart (ask (MakeSegment container label [])) mid late t (Ok listing) → (result : Result (Unit {0}) Ending)
+    pub with_listing : (late : KernelModel) (listing : ℕ) → RunsPart (ask (MakeSegment container label [])) mid late t (Ok listing) → (result : Result (Unit {0}) CallError)
         → RunsPart (write_entries room.place (grown container listing)) late new t result → RunsPart (add_directory label room) old new t result
     with_listing late listing second result third = with_container result (then_part t (ask (MakeSegment container label [])) mid new (after_listing container) late listing second result third)
 
@@ -64,20 +64,20 @@ pub before_adding : (t : ℕ) (label : Levels) (room : Room) (k : KernelModel) �
 before_adding t label room k = without_container t label room k k Stopped (before_ask t (MakeContainer room.place.container label) k)
 
 -- a directory is added with the label that is due
-pub adds_so : (t : ℕ) (old new : KernelModel) (label due : Levels) (room : Room) → label ≡ due → (result : Result (Unit {0}) Ending)
+pub adds_so : (t : ℕ) (old new : KernelModel) (label due : Levels) (room : Room) → label ≡ due → (result : Result (Unit {0}) CallError)
     → RunsPart (add_directory label room) old new t result → RunsPart (add_directory due room) old new t result
 adds_so t old new label due room same result runs = subst (λ (l : Levels). RunsPart {A = Unit {0}} (add_directory l room) old new t result) same runs
 
-module _ (session : Session) (places : Places) (path : Path) (mode : Mode) where
+module _ (accounts : Accounts) (roots : Roots) (path : Path) (mode : Mode) where
   -- what is still to do once the thread's label is known
   abbrev pub after_label : Room → Levels × Levels → Program
-  after_label room own = add_directory (label_made session own.0 mode) room (λ (done : Unit {0}). Answers Done)
+  after_label room own = add_directory (label_made accounts own.0 mode) room (λ (done : Unit {0}). Answers Done)
 
   -- and once there is room
   abbrev pub after_room : Room → Program
   after_room room = ask OwnLabel (after_label room)
 
   -- at first all is left
-  pub begun : (t : ℕ) (old : KernelModel) → Leaves t (mkdir_program session places path mode) old (find_room places path after_room) old
+  pub begun : (t : ℕ) (old : KernelModel) → Leaves t (mkdir_program accounts roots path mode) old (find_room roots path after_room) old
   unfolding mkdir_program
   begun t old = record { leads = λ new result on. on }

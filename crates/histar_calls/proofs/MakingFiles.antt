@@ -4,17 +4,17 @@ use Rattle.std.specs.FinMap as map
 use Rattle.histar_flat.specs.Words.{Path}
 use Rattle.histar_flat.specs.declared.calls.Mode.{Mode}
 use Rattle.histar_flat.specs.declared.replies.Reply.TheVariants.{Done}
-use Rattle.histar_flat.specs.Sessions.{Session}
+use Rattle.histar_flat.specs.Accounts.{Accounts}
 use Rattle.histar_label.specs.Levels.{Levels}
 use Rattle.histar_rules.specs.declared.raw.RawCall.TheVariants.{OwnLabel, MakeSegment}
 use Rattle.histar_syscall.specs.KernelModel.{KernelModel}
 use Rattle.histar_layout.specs.Categories.{label_made}
 use Rattle.histar_layout.specs.Directory.{Entries}
 use Rattle.histar_layout.specs.declared.entry.Target.TheVariants.{File}
-use Rattle.histar_calls.specs.declared.ending.Ending.{Ending}
-use Rattle.histar_calls.specs.declared.ending.Ending.TheVariants.{Stopped}
+use Rattle.histar_calls.specs.declared.call_error.CallError.{CallError}
+use Rattle.histar_calls.specs.declared.call_error.CallError.TheVariants.{Stopped}
 use Rattle.histar_calls.specs.declared.find.Room.{Room}
-use Rattle.histar_calls.specs.declared.places.Places.{Places}
+use Rattle.histar_calls.specs.declared.roots.Roots.{Roots}
 use Rattle.histar_calls.specs.Programs.{Program, Part, RunsPart}
 use Rattle.histar_calls.specs.Programs.Program.{Answers}
 use Rattle.histar_calls.specs.Parts.{ask, find_room, write_entries}
@@ -33,11 +33,11 @@ module _ (t : ℕ) (label : Levels) (room : Room) (old new : KernelModel) where
   after_segment file = write_entries room.place (grown file)
 
   -- no segment was made
-  pub without_segment : (ending : Ending) → RunsPart (ask (MakeSegment room.place.container label [])) old new t (Err ending) → RunsPart (add_file label room) old new t (Err ending)
-  without_segment ending first = part_fails t (ask (MakeSegment room.place.container label [])) old new after_segment ending first
+  pub without_segment : (call_error : CallError) → RunsPart (ask (MakeSegment room.place.container label [])) old new t (Err call_error) → RunsPart (add_file label room) old new t (Err call_error)
+  without_segment call_error first = part_fails t (ask (MakeSegment room.place.container label [])) old new after_segment call_error first
 
   -- one was, and the entry is made, or not
-  pub with_segment : (mid : KernelModel) (file : ℕ) → RunsPart (ask (MakeSegment room.place.container label [])) old mid t (Ok file) → (result : Result (Unit {0}) Ending)
+  pub with_segment : (mid : KernelModel) (file : ℕ) → RunsPart (ask (MakeSegment room.place.container label [])) old mid t (Ok file) → (result : Result (Unit {0}) CallError)
       → RunsPart (write_entries room.place (grown file)) mid new t result → RunsPart (add_file label room) old new t result
   with_segment mid file first result second = then_part t (ask (MakeSegment room.place.container label [])) old new after_segment mid file first result second
 
@@ -46,20 +46,20 @@ pub before_adding : (t : ℕ) (label : Levels) (room : Room) (k : KernelModel) �
 before_adding t label room k = without_segment t label room k k Stopped (before_ask t (MakeSegment room.place.container label []) k)
 
 -- a file is added with the label that is due
-pub adds_so : (t : ℕ) (old new : KernelModel) (label due : Levels) (room : Room) → label ≡ due → (result : Result (Unit {0}) Ending)
+pub adds_so : (t : ℕ) (old new : KernelModel) (label due : Levels) (room : Room) → label ≡ due → (result : Result (Unit {0}) CallError)
     → RunsPart (add_file label room) old new t result → RunsPart (add_file due room) old new t result
 adds_so t old new label due room same result runs = subst (λ (l : Levels). RunsPart {A = Unit {0}} (add_file l room) old new t result) same runs
 
-module _ (session : Session) (places : Places) (path : Path) (mode : Mode) where
+module _ (accounts : Accounts) (roots : Roots) (path : Path) (mode : Mode) where
   -- what is still to do once the thread's label is known
   abbrev pub after_label : Room → Levels × Levels → Program
-  after_label room own = add_file (label_made session own.0 mode) room (λ (done : Unit {0}). Answers Done)
+  after_label room own = add_file (label_made accounts own.0 mode) room (λ (done : Unit {0}). Answers Done)
 
   -- and once there is room
   abbrev pub after_room : Room → Program
   after_room room = ask OwnLabel (after_label room)
 
   -- at first all is left
-  pub begun : (t : ℕ) (old : KernelModel) → Leaves t (create_program session places path mode) old (find_room places path after_room) old
+  pub begun : (t : ℕ) (old : KernelModel) → Leaves t (create_program accounts roots path mode) old (find_room roots path after_room) old
   unfolding create_program
   begun t old = record { leads = λ new result on. on }

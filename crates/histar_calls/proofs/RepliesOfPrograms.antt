@@ -15,9 +15,9 @@ use Rattle.histar_layout.specs.Found.{found_in}
 use Rattle.histar_layout.specs.Listing.{is_directory, object_of}
 use Rattle.histar_layout.specs.declared.entry.Target.{Target}
 use Rattle.histar_layout.specs.declared.entry.Target.TheVariants as targets
-use Rattle.histar_flat.specs.Sessions.{Session}
-use Rattle.histar_calls.specs.declared.places.Place.{Place}
-use Rattle.histar_calls.specs.declared.places.Places.{Places}
+use Rattle.histar_flat.specs.Accounts.{Accounts}
+use Rattle.histar_calls.specs.declared.roots.Place.{Place}
+use Rattle.histar_calls.specs.declared.roots.Roots.{Roots}
 use Rattle.histar_calls.specs.declared.directory.Directory.{Directory}
 use Rattle.histar_calls.specs.declared.find.FoundFile.{FoundFile}
 use Rattle.histar_calls.specs.declared.find.Room.{Room}
@@ -74,101 +74,101 @@ denial_of_call_has_reply (LabelOf container object) d = denial_has_reply d
 
 -- a raw call that is asked, where what follows its answer replies to its refusals
 pub ask_replies : (call : RawCall) (rest : AnswerOf call → Program) → ((answer : AnswerOf call) → RepliesToRefusals (rest answer)) → RepliesToRefusals (ask call rest)
-ask_replies call rest tells = (tells, denial_of_call_has_reply call)
+ask_replies call rest obeys = (obeys, denial_of_call_has_reply call)
 
 pub read_replies : (place : Place) (rest : Directory → Program) → ((directory : Directory) → RepliesToRefusals (rest directory)) → RepliesToRefusals (read_directory place rest)
 unfolding read_directory
-read_replies place rest tells = ((λ bytes listed. by listed), denial_of_call_has_reply (Read place.container place.listing))
+read_replies place rest obeys = ((λ bytes listed. by listed), denial_of_call_has_reply (Read place.container place.listing))
   where
     by : (listed : Option Entries) → RepliesToRefusals (if_there (λ (entries : Entries). rest (record { place = place; entries = entries })) listed)
     by None = tt
-    by (Some entries) = tells (record { place = place; entries = entries })
+    by (Some entries) = obeys (record { place = place; entries = entries })
 
 -- a look-up replies to its refusals
 pub look_replies : (place : Place) (name : Name) (rest : Option Target → Program) → ((target : Option Target) → RepliesToRefusals (rest target)) → RepliesToRefusals (look_in place name rest)
 unfolding look_in
-look_replies place name rest tells = ((λ bytes. tells (found_in bytes name)), denial_of_call_has_reply (Read place.container place.listing))
+look_replies place name rest obeys = ((λ bytes. obeys (found_in bytes name)), denial_of_call_has_reply (Read place.container place.listing))
 
 into_replies : (target : Option Target) (rest : Place → Program) → ((place : Place) → RepliesToRefusals (rest place)) → RepliesToRefusals (given (directory_at target) rest)
-into_replies None rest tells = (refl, refl)
-into_replies (Some (targets.File file)) rest tells = (refl, refl)
-into_replies (Some (targets.Directory container listing)) rest tells = tells (record { container = container; listing = listing })
+into_replies None rest obeys = (refl, refl)
+into_replies (Some (targets.File file)) rest obeys = (refl, refl)
+into_replies (Some (targets.Directory container listing)) rest obeys = obeys (record { container = container; listing = listing })
 
 -- and so does the search for the place of a directory
-pub place_replies : (places : Places) (path : Path) (rest : Place → Program) → ((place : Place) → RepliesToRefusals (rest place)) → RepliesToRefusals (find_place places path rest)
+pub place_replies : (roots : Roots) (path : Path) (rest : Place → Program) → ((place : Place) → RepliesToRefusals (rest place)) → RepliesToRefusals (find_place roots path rest)
 unfolding find_place
-place_replies places [] rest tells = tells places.slash
-place_replies places (name ∷ parent) rest tells = place_replies places parent _ (λ above. look_replies above name _ (λ target. into_replies target rest tells))
+place_replies roots [] rest obeys = obeys roots.slash
+place_replies roots (name ∷ parent) rest obeys = place_replies roots parent _ (λ above. look_replies above name _ (λ target. into_replies target rest obeys))
 
 -- a walk replies to its refusals
-pub walk_replies : (places : Places) (path : Path) (rest : Directory → Program) → ((directory : Directory) → RepliesToRefusals (rest directory)) → RepliesToRefusals (walk_to places path rest)
+pub walk_replies : (roots : Roots) (path : Path) (rest : Directory → Program) → ((directory : Directory) → RepliesToRefusals (rest directory)) → RepliesToRefusals (walk_to roots path rest)
 unfolding walk_to
-walk_replies places path rest tells = place_replies places path _ (λ place. read_replies place rest tells)
+walk_replies roots path rest obeys = place_replies roots path _ (λ place. read_replies place rest obeys)
 
 -- and so does the search for a file
-pub file_replies : (places : Places) (path : Path) (rest : FoundFile → Program) → ((file : FoundFile) → RepliesToRefusals (rest file)) → RepliesToRefusals (find_file places path rest)
+pub file_replies : (roots : Roots) (path : Path) (rest : FoundFile → Program) → ((file : FoundFile) → RepliesToRefusals (rest file)) → RepliesToRefusals (find_file roots path rest)
 unfolding find_file
-file_replies places [] rest tells = (refl, refl)
-file_replies places (name ∷ parent) rest tells = place_replies places parent _ (λ place. look_replies place name _ (λ target. by place target))
+file_replies roots [] rest obeys = (refl, refl)
+file_replies roots (name ∷ parent) rest obeys = place_replies roots parent _ (λ place. look_replies place name _ (λ target. by place target))
   where
     by : (place : Place) (target : Option Target) → RepliesToRefusals (given (file_at target) (λ segment. rest (record { container = place.container; segment = segment })))
     by place None = (refl, refl)
-    by place (Some (targets.File file)) = tells (record { container = place.container; segment = file })
+    by place (Some (targets.File file)) = obeys (record { container = place.container; segment = file })
     by place (Some (targets.Directory container listing)) = (refl, refl)
 
 -- and for room
-pub room_replies : (places : Places) (path : Path) (rest : Room → Program) → ((room : Room) → RepliesToRefusals (rest room)) → RepliesToRefusals (find_room places path rest)
+pub room_replies : (roots : Roots) (path : Path) (rest : Room → Program) → ((room : Room) → RepliesToRefusals (rest room)) → RepliesToRefusals (find_room roots path rest)
 unfolding find_room
-room_replies places [] rest tells = (refl, refl)
-room_replies places (name ∷ parent) rest tells = walk_replies places parent _ (λ directory. by directory (target_named directory name) (map.len directory.entries == most_entries))
+room_replies roots [] rest obeys = (refl, refl)
+room_replies roots (name ∷ parent) rest obeys = walk_replies roots parent _ (λ directory. by directory (target_named directory name) (map.len directory.entries == most_entries))
   where
     by : (directory : Directory) (target : Option Target) (full : Bool) → RepliesToRefusals (given (room_at target full) (λ _. rest (record { place = directory.place; entries = directory.entries; name = name })))
     by directory (Some target) full = (refl, refl)
     by directory None true = (refl, refl)
-    by directory None false = tells (record { place = directory.place; entries = directory.entries; name = name })
+    by directory None false = obeys (record { place = directory.place; entries = directory.entries; name = name })
 
 -- and for an object
-object_replies : (places : Places) (path : Path) (rest : FoundObject → Program) → ((object : FoundObject) → RepliesToRefusals (rest object)) → RepliesToRefusals (find_object places path rest)
+object_replies : (roots : Roots) (path : Path) (rest : FoundObject → Program) → ((object : FoundObject) → RepliesToRefusals (rest object)) → RepliesToRefusals (find_object roots path rest)
 unfolding find_object
-object_replies places [] rest tells = tells (record { container = root_number; object = places.slash.container; is_directory = true })
-object_replies places (name ∷ parent) rest tells = place_replies places parent _ (λ place. look_replies place name _ (λ target. by place target))
+object_replies roots [] rest obeys = obeys (record { container = root_number; object = roots.slash.container; is_directory = true })
+object_replies roots (name ∷ parent) rest obeys = place_replies roots parent _ (λ place. look_replies place name _ (λ target. by place target))
   where
     by : (place : Place) (target : Option Target) → RepliesToRefusals (given (entry_at target) (λ found. rest (record { container = place.container; object = object_of found; is_directory = is_directory found })))
     by place None = (refl, refl)
-    by place (Some target) = tells (record { container = place.container; object = object_of target; is_directory = is_directory target })
+    by place (Some target) = obeys (record { container = place.container; object = object_of target; is_directory = is_directory target })
 
 -- what is denial_has_reply of a class is no refusal
 class_replies : (is_directory : Bool) (class : Option ShownClass) → RepliesToRefusals (class_reply is_directory class)
 class_replies is_directory None = tt
 class_replies is_directory (Some class) = (refl, refl)
 
-read_program_replies : (places : Places) (path : Path) → RepliesToRefusals (read_program places path)
+read_program_replies : (roots : Roots) (path : Path) → RepliesToRefusals (read_program roots path)
 unfolding read_program
-read_program_replies places path = file_replies places path _ (λ file. ((λ bytes. (refl, refl)), denial_has_reply))
+read_program_replies roots path = file_replies roots path _ (λ file. ((λ bytes. (refl, refl)), denial_has_reply))
 
-write_program_replies : (places : Places) (path : Path) (bytes : List ℕ) → RepliesToRefusals (write_program places path bytes)
+write_program_replies : (roots : Roots) (path : Path) (bytes : List ℕ) → RepliesToRefusals (write_program roots path bytes)
 unfolding write_program
-write_program_replies places path bytes = file_replies places path _ (λ file. ((λ done. (refl, refl)), denial_of_write_has_reply))
+write_program_replies roots path bytes = file_replies roots path _ (λ file. ((λ done. (refl, refl)), denial_of_write_has_reply))
 
-create_program_replies : (session : Session) (places : Places) (path : Path) (mode : Mode) → RepliesToRefusals (create_program session places path mode)
+create_program_replies : (accounts : Accounts) (roots : Roots) (path : Path) (mode : Mode) → RepliesToRefusals (create_program accounts roots path mode)
 unfolding create_program
-create_program_replies session places path mode = room_replies places path _ (λ room. ((λ own. ((λ file. ((λ done. (refl, refl)), denial_of_write_has_reply)), denial_has_reply)), denial_has_reply))
+create_program_replies accounts roots path mode = room_replies roots path _ (λ room. ((λ own. ((λ file. ((λ done. (refl, refl)), denial_of_write_has_reply)), denial_has_reply)), denial_has_reply))
 
-append_program_replies : (places : Places) (path : Path) (bytes : List ℕ) → RepliesToRefusals (append_program places path bytes)
+append_program_replies : (roots : Roots) (path : Path) (bytes : List ℕ) → RepliesToRefusals (append_program roots path bytes)
 unfolding append_program
-append_program_replies places path bytes = file_replies places path _ (λ file. ((λ done. (refl, refl)), denial_of_write_has_reply))
+append_program_replies roots path bytes = file_replies roots path _ (λ file. ((λ done. (refl, refl)), denial_of_write_has_reply))
 
-mkdir_program_replies : (session : Session) (places : Places) (path : Path) (mode : Mode) → RepliesToRefusals (mkdir_program session places path mode)
+mkdir_program_replies : (accounts : Accounts) (roots : Roots) (path : Path) (mode : Mode) → RepliesToRefusals (mkdir_program accounts roots path mode)
 unfolding mkdir_program
-mkdir_program_replies session places path mode = room_replies places path _ (λ room. ((λ own. ((λ container. ((λ listing. ((λ done. (refl, refl)), denial_of_write_has_reply)), denial_has_reply)), denial_has_reply)), denial_has_reply))
+mkdir_program_replies accounts roots path mode = room_replies roots path _ (λ room. ((λ own. ((λ container. ((λ listing. ((λ done. (refl, refl)), denial_of_write_has_reply)), denial_has_reply)), denial_has_reply)), denial_has_reply))
 
-list_program_replies : (places : Places) (path : Path) → RepliesToRefusals (list_program places path)
+list_program_replies : (roots : Roots) (path : Path) → RepliesToRefusals (list_program roots path)
 unfolding list_program
-list_program_replies places path = walk_replies places path _ (λ directory. (refl, refl))
+list_program_replies roots path = walk_replies roots path _ (λ directory. (refl, refl))
 
-stat_program_replies : (session : Session) (places : Places) (path : Path) → RepliesToRefusals (stat_program session places path)
+stat_program_replies : (accounts : Accounts) (roots : Roots) (path : Path) → RepliesToRefusals (stat_program accounts roots path)
 unfolding stat_program
-stat_program_replies session places path = object_replies places path _ (λ object. ((λ label. class_replies object.is_directory (class_shown session label)), denial_has_reply))
+stat_program_replies accounts roots path = object_replies roots path _ (λ object. ((λ label. class_replies object.is_directory (class_shown accounts label)), denial_has_reply))
 
 -- the programs of the calls reply to their refusals
 pub calls_reply_to_refusals : CallsReplyToRefusals

@@ -11,10 +11,10 @@ use Rattle.histar_rules.specs.declared.raw.Refusal.TheVariants as refusals
 use Rattle.histar_syscall.specs.KernelModel.{KernelModel, state, Called, Answered}
 use Rattle.histar_syscall.proofs.Runs.{same_kernel}
 use Rattle.histar_layout.specs.Directory.{Entries, IsDirectory}
-use Rattle.histar_calls.specs.declared.ending.Stopped.{Stopped}
-use Rattle.histar_calls.specs.declared.ending.Ending.{Ending}
-use Rattle.histar_calls.specs.declared.ending.Ending.TheVariants.{Refused, Stopped as HasStopped}
-use Rattle.histar_calls.specs.Refusals.{errno_for, ending_with, ending_of, or_ending, settled}
+use Rattle.histar_calls.specs.declared.call_error.Stopped.{Stopped}
+use Rattle.histar_calls.specs.declared.call_error.CallError.{CallError}
+use Rattle.histar_calls.specs.declared.call_error.CallError.TheVariants.{Refused, Stopped as HasStopped}
+use Rattle.histar_calls.specs.Refusals.{errno_for, call_error_with, call_error_of, or_call_error, settled}
 use Rattle.histar_calls.specs.Programs.{AnswerOf, IsAnswer, Outcome, Program, Asked, IsListed, Runs, Part, LeadsTo, RunsPart}
 use Rattle.histar_calls.specs.Programs.Program.{Answers, Asks, Lists, Stops}
 use Rattle.histar_calls.specs.Parts.{refused_with, or_refused, ask, if_there, list, given}
@@ -51,20 +51,20 @@ module _ (t : ℕ) where
   grants call old new answer called right = λ rest. asked call (or_refused (errno_for call) rest) old new (Ok answer) (called, right)
 
   -- a raw call that was refused
-  pub refuses : {A : Type 0} (call : RawCall) (old new : KernelModel) (P : A → Type 0) (refusal : Refusal) → Answered {A = A} old new t call (Err refusal) P → RunsPart (ask call) old new t (Err (ending_of (errno_for call) refusal))
+  pub refuses : {A : Type 0} (call : RawCall) (old new : KernelModel) (P : A → Type 0) (refusal : Refusal) → Answered {A = A} old new t call (Err refusal) P → RunsPart (ask call) old new t (Err (call_error_of (errno_for call) refusal))
   unfolding RunsPart
   refuses call old new P (refusals.Denied denied) called = by (errno_for call denied) refl
     where
       to : (rest : AnswerOf call → Program) (errno : Option Errno) → errno_for call denied ≡ errno → LeadsTo (ask call rest) old (refused_with errno) new t
       to rest errno is = subst (λ (e : Option Errno). LeadsTo (ask call rest) old (refused_with e) new t) is (asked call (or_refused (errno_for call) rest) old new (Err denied) called)
 
-      by : (errno : Option Errno) → errno_for call denied ≡ errno → RunsPart (ask call) old new t (Err (ending_with errno))
+      by : (errno : Option Errno) → errno_for call denied ≡ errno → RunsPart (ask call) old new t (Err (call_error_with errno))
       by None is = λ rest. (to rest None is).begins new (same_kernel new)
       by (Some errno) is = λ rest. to rest (Some errno) is
   refuses call old new P refusals.OutOfMemory same = λ rest. inl same
 
   -- a raw call, by what the kernel answered
-  pub asks : (call : RawCall) (old new : KernelModel) (answer : Result (AnswerOf call) Refusal) → Answered old new t call answer (IsAnswer (state old) t call) → (result : Result (AnswerOf call) Ending) → result ≡ or_ending (errno_for call) answer → RunsPart (ask call) old new t result
+  pub asks : (call : RawCall) (old new : KernelModel) (answer : Result (AnswerOf call) Refusal) → Answered old new t call answer (IsAnswer (state old) t call) → (result : Result (AnswerOf call) CallError) → result ≡ or_call_error (errno_for call) answer → RunsPart (ask call) old new t result
   asks call old new (Ok answer) answered result is = subst (RunsPart (ask call) old new t) (sym is) (grants call old new answer answered.0 answered.1)
   asks call old new (Err refusal) answered result is = subst (RunsPart (ask call) old new t) (sym is) (refuses call old new (IsAnswer (state old) t call) refusal answered)
 
@@ -102,24 +102,24 @@ module _ (t : ℕ) where
 
   module _ {A : Type 0} (part : Part A) (old new : KernelModel) where
     -- an error that came by `?`
-    pub fails_so : (ending : Ending) (result : Result A Ending) → IsErrAnd result (λ e. e ≡ ending) → RunsPart part old new t (Err ending) → RunsPart part old new t result
-    fails_so ending result gave fails =
+    pub fails_so : (call_error : CallError) (result : Result A CallError) → IsErrAnd result (λ e. e ≡ call_error) → RunsPart part old new t (Err call_error) → RunsPart part old new t result
+    fails_so call_error result gave fails =
         let error = err_from_is_err_and result gave in
         subst (RunsPart part old new t) (sym (error.1 ∙ ap Err error.2)) fails
 
     -- a part that is another
-    pub part_as : (other : Part A) → part ≡ other → (result : Result A Ending) → RunsPart other old new t result → RunsPart part old new t result
+    pub part_as : (other : Part A) → part ≡ other → (result : Result A CallError) → RunsPart other old new t result → RunsPart part old new t result
     part_as other same result runs = subst (λ (p : Part A). RunsPart p old new t result) (sym same) runs
 
     -- a part, and a part after it
     module _ {B : Type 0} (after : A → Part B) where
-      pub then_part : (mid : KernelModel) (x : A) → RunsPart part old mid t (Ok x) → (result : Result B Ending) → RunsPart (after x) mid new t result → RunsPart (λ rest. part (λ y. after y rest)) old new t result
+      pub then_part : (mid : KernelModel) (x : A) → RunsPart part old mid t (Ok x) → (result : Result B CallError) → RunsPart (after x) mid new t result → RunsPart (λ rest. part (λ y. after y rest)) old new t result
       unfolding RunsPart
       then_part mid x first (Ok y) second = λ rest. onward (first (λ z. after z rest)) (second rest)
       then_part mid x first (Err (Refused errno)) second = λ rest. onward (first (λ z. after z rest)) (second rest)
       then_part mid x first (Err HasStopped) second = λ rest. (first (λ z. after z rest)).begins new (second rest)
 
-      pub part_fails : (ending : Ending) → RunsPart part old new t (Err ending) → RunsPart (λ rest. part (λ y. after y rest)) old new t (Err ending)
+      pub part_fails : (call_error : CallError) → RunsPart part old new t (Err call_error) → RunsPart (λ rest. part (λ y. after y rest)) old new t (Err call_error)
       unfolding RunsPart
       part_fails (Refused errno) first = λ rest. first (λ z. after z rest)
       part_fails HasStopped first = λ rest. first (λ z. after z rest)
@@ -131,7 +131,7 @@ module _ (t : ℕ) where
       then_call mid x first (Ok reply) second = (first rest).completes new reply second
       then_call mid x first (Err stopped) second = (first rest).begins new second
 
-      pub call_fails : (ending : Ending) → RunsPart part old new t (Err ending) → Runs (part rest) old new t (settled (Err ending))
+      pub call_fails : (call_error : CallError) → RunsPart part old new t (Err call_error) → Runs (part rest) old new t (settled (Err call_error))
       unfolding RunsPart Runs
       call_fails (Refused errno) first = (first rest).completes new (replies.Refused errno) (same_kernel new, refl)
       call_fails HasStopped first = first rest
@@ -142,10 +142,10 @@ module _ (t : ℕ) where
   says k reply = (same_kernel k, refl)
 
   -- an error of a whole call that came by `?`
-  pub call_fails_so : (p : Program) (old new : KernelModel) (ending : Ending) (result : Result Reply Ending) → IsErrAnd result (λ e. e ≡ ending) → Runs p old new t (settled (Err ending)) → Runs p old new t (settled result)
-  call_fails_so p old new ending result gave fails =
+  pub call_fails_so : (p : Program) (old new : KernelModel) (call_error : CallError) (result : Result Reply CallError) → IsErrAnd result (λ e. e ≡ call_error) → Runs p old new t (settled (Err call_error)) → Runs p old new t (settled result)
+  call_fails_so p old new call_error result gave fails =
       let error = err_from_is_err_and result gave in
-      subst (λ (r : Result Reply Ending). Runs p old new t (settled r)) (sym (error.1 ∙ ap Err error.2)) fails
+      subst (λ (r : Result Reply CallError). Runs p old new t (settled r)) (sym (error.1 ∙ ap Err error.2)) fails
 
   -- a call whose program is another
   pub runs_as : (a b : Program) (old new : KernelModel) (result : Result Reply Stopped) → a ≡ b → Runs b old new t result → Runs a old new t result

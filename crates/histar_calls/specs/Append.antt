@@ -4,14 +4,14 @@ use Rattle.histar_flat.specs.Words.{Path}
 use Rattle.histar_flat.specs.FlatCalls.{most_bytes}
 use Rattle.histar_flat.specs.declared.replies.Reply.TheVariants.{Done}
 use Rattle.histar_rules.specs.declared.raw.RawCall.TheVariants.{Write}
-use Rattle.histar_calls.specs.declared.places.Places.{Places}
+use Rattle.histar_calls.specs.declared.roots.Roots.{Roots}
 use Rattle.histar_calls.specs.Programs.{Program}
 use Rattle.histar_calls.specs.Programs.Program.{Answers}
 use Rattle.histar_calls.specs.Parts.{◌>>=◌, ◌>>◌, ask, find_file}
 
 -- the file of the path is found, and the bytes are put behind all that its segment holds
-unfoldable pub append_program : Places → Path → List ℕ → Program
-append_program places path bytes = do
-  file ← find_file places path
+unfoldable pub append_program : Roots → Path → List ℕ → Program
+append_program roots path bytes = do
+  file ← find_file roots path
   ask (Write file.container file.segment most_bytes bytes)
   Answers Done

@@ -2,13 +2,13 @@
 use Rattle.std.specs.Prelude.{◌≡◌, ℕ, true, false, Option, Some, Ok, Err, List}
 use Rattle.histar_flat.specs.Words.{Path}
 use Rattle.histar_flat.specs.declared.calls.Mode.{Mode}
-use Rattle.histar_flat.specs.Sessions.{Session}
+use Rattle.histar_flat.specs.Accounts.{Accounts}
 use Rattle.histar_flat.specs.declared.replies.Reply.{Reply}
 use Rattle.histar_rules.specs.declared.raw.Denied.{Denied}
 use Rattle.histar_layout.specs.Directory.{Entries}
 use Rattle.histar_syscall.specs.KernelModel.{KernelModel}
 use Rattle.histar_syscall.specs.Runs.{is_label_refusal, is_range_refusal}
-use Rattle.histar_calls.specs.declared.places.Places.{Places}
+use Rattle.histar_calls.specs.declared.roots.Roots.{Roots}
 use Rattle.histar_calls.specs.Replies.{is_no_access, is_no_permission, sets_labels, Replies}
 use Rattle.histar_calls.specs.Programs.{AnswerOf, Program, Completes}
 use Rattle.histar_calls.specs.Programs.Program.{Answers, Asks, Lists, Stops}
@@ -43,10 +43,10 @@ RefusalsHaveReplies = (program : Program) → RepliesToRefusals program → (old
 
 -- the programs of the calls reply to their refusals
 pub record CallsReplyToRefusals : Type 0 where
-  pub read : (places : Places) (path : Path) → RepliesToRefusals (read_program places path)
-  pub write : (places : Places) (path : Path) (bytes : List ℕ) → RepliesToRefusals (write_program places path bytes)
-  pub create : (session : Session) (places : Places) (path : Path) (mode : Mode) → RepliesToRefusals (create_program session places path mode)
-  pub append : (places : Places) (path : Path) (bytes : List ℕ) → RepliesToRefusals (append_program places path bytes)
-  pub mkdir : (session : Session) (places : Places) (path : Path) (mode : Mode) → RepliesToRefusals (mkdir_program session places path mode)
-  pub list : (places : Places) (path : Path) → RepliesToRefusals (list_program places path)
-  pub stat : (session : Session) (places : Places) (path : Path) → RepliesToRefusals (stat_program session places path)
+  pub read : (roots : Roots) (path : Path) → RepliesToRefusals (read_program roots path)
+  pub write : (roots : Roots) (path : Path) (bytes : List ℕ) → RepliesToRefusals (write_program roots path bytes)
+  pub create : (accounts : Accounts) (roots : Roots) (path : Path) (mode : Mode) → RepliesToRefusals (create_program accounts roots path mode)
+  pub append : (roots : Roots) (path : Path) (bytes : List ℕ) → RepliesToRefusals (append_program roots path bytes)
+  pub mkdir : (accounts : Accounts) (roots : Roots) (path : Path) (mode : Mode) → RepliesToRefusals (mkdir_program accounts roots path mode)
+  pub list : (roots : Roots) (path : Path) → RepliesToRefusals (list_program roots path)
+  pub stat : (accounts : Accounts) (roots : Roots) (path : Path) → RepliesToRefusals (stat_program accounts roots path)

@@ -2,14 +2,14 @@
 use Rattle.std.specs.Prelude.{[]}
 use Rattle.std.specs.FinMap as map
 use Rattle.histar_flat.specs.Words.{Path}
-use Rattle.histar_flat.specs.Sessions.{Session}
+use Rattle.histar_flat.specs.Accounts.{Accounts}
 use Rattle.histar_flat.specs.declared.calls.Mode.{Mode}
 use Rattle.histar_flat.specs.declared.replies.Reply.TheVariants.{Done}
 use Rattle.histar_label.specs.Levels.{Levels}
 use Rattle.histar_rules.specs.declared.raw.RawCall.TheVariants.{OwnLabel, MakeContainer, MakeSegment}
 use Rattle.histar_layout.specs.declared.entry.Target.TheVariants.{Directory}
 use Rattle.histar_calls.specs.declared.find.Room.{Room}
-use Rattle.histar_calls.specs.declared.places.Places.{Places}
+use Rattle.histar_calls.specs.declared.roots.Roots.{Roots}
 use Rattle.histar_layout.specs.Categories.{label_made}
 use Rattle.histar_calls.specs.Programs.{Part, Program}
 use Rattle.histar_calls.specs.Programs.Program.{Answers}
@@ -24,9 +24,9 @@ add_directory label room rest = do
   rest tt
 
 -- Room for the entry is found. The thread asks for its own label, and adds a directory with the label of what it makes in this mode.
-unfoldable pub mkdir_program : Session → Places → Path → Mode → Program
-mkdir_program session places path mode = do
-  room ← find_room places path
+unfoldable pub mkdir_program : Accounts → Roots → Path → Mode → Program
+mkdir_program accounts roots path mode = do
+  room ← find_room roots path
   own ← ask OwnLabel
-  add_directory (label_made session own.0 mode) room
+  add_directory (label_made accounts own.0 mode) room
   Answers Done

@@ -13,11 +13,11 @@ use Rattle.histar_flat.specs.FlatCalls.{most_entries}
 use Rattle.histar_layout.specs.Found.{found_in}
 use Rattle.histar_layout.specs.declared.entry.Target.{Target}
 use Rattle.histar_layout.specs.declared.entry.Target.TheVariants.{File, Directory as DirectoryAt}
-use Rattle.histar_calls.specs.declared.places.Places.{Places}
+use Rattle.histar_calls.specs.declared.roots.Roots.{Roots}
 use Rattle.histar_calls.specs.declared.directory.Directory.{Directory}
 use Rattle.histar_calls.specs.declared.find.FoundFile.{FoundFile}
 use Rattle.histar_calls.specs.declared.find.Room.{Room}
-use Rattle.histar_calls.specs.declared.places.Place.{Place}
+use Rattle.histar_calls.specs.declared.roots.Place.{Place}
 use Rattle.histar_calls.specs.Refusals.{errno_for}
 use Rattle.histar_calls.specs.Programs.{AnswerOf, Program, Part}
 use Rattle.histar_calls.specs.Programs.Program.{Answers, Asks, Lists, Stops}
@@ -101,34 +101,34 @@ look_in place name rest = do
   rest (found_in bytes name)
 
 -- the place of a directory: from `/` on each one on the way to it is read, and the next name is looked up in it
-unfoldable pub find_place : Places → Path → Part Place
-find_place places [] rest = rest places.slash
-find_place places (name ∷ parent) rest = do
-  above ← find_place places parent
+unfoldable pub find_place : Roots → Path → Part Place
+find_place roots [] rest = rest roots.slash
+find_place roots (name ∷ parent) rest = do
+  above ← find_place roots parent
   target ← look_in above name
   place ← given (directory_at target)
   rest place
 
 -- a walk finds the place of the directory, and reads its entries
-unfoldable pub walk_to : Places → Path → Part Directory
-walk_to places path rest = do
-  place ← find_place places path
+unfoldable pub walk_to : Roots → Path → Part Directory
+walk_to roots path rest = do
+  place ← find_place roots path
   read_directory place rest
 
 -- the file of a path: `/` is none; else the walk is made, and the last name must lead to a file
-unfoldable pub find_file : Places → Path → Part FoundFile
-find_file places [] rest = Answers (Refused EISDIR)
-find_file places (name ∷ parent) rest = do
-  place ← find_place places parent
+unfoldable pub find_file : Roots → Path → Part FoundFile
+find_file roots [] rest = Answers (Refused EISDIR)
+find_file roots (name ∷ parent) rest = do
+  place ← find_place roots parent
   target ← look_in place name
   segment ← given (file_at target)
   rest (record { container = place.container; segment = segment })
 
 -- the place of a new entry: `/` stands already; else the walk is made, and the directory must have room for the last name
-unfoldable pub find_room : Places → Path → Part Room
-find_room places [] rest = Answers (Refused EEXIST)
-find_room places (name ∷ parent) rest = do
-  directory ← walk_to places parent
+unfoldable pub find_room : Roots → Path → Part Room
+find_room roots [] rest = Answers (Refused EEXIST)
+find_room roots (name ∷ parent) rest = do
+  directory ← walk_to roots parent
   given (room_at (target_named directory name) (map.len directory.entries == most_entries))
   rest (record { place = directory.place; entries = directory.entries; name = name })
 

@@ -7,9 +7,9 @@ use Rattle.histar_rules.specs.declared.raw.RawCall.{RawCall}
 pub use Rattle.histar_rules.specs.RawAnswers.{AnswerOf, IsAnswer}
 use Rattle.histar_syscall.specs.KernelModel.{KernelModel, state, Called, IsUnchanged}
 use Rattle.histar_layout.specs.Directory.{Entries, IsDirectory}
-use Rattle.histar_calls.specs.declared.ending.Ending.{Ending}
-use Rattle.histar_calls.specs.declared.ending.Ending.TheVariants.{Refused, Stopped as HasStopped}
-use Rattle.histar_calls.specs.declared.ending.Stopped.{Stopped}
+use Rattle.histar_calls.specs.declared.call_error.CallError.{CallError}
+use Rattle.histar_calls.specs.declared.call_error.CallError.TheVariants.{Refused, Stopped as HasStopped}
+use Rattle.histar_calls.specs.declared.call_error.Stopped.{Stopped}
 
 -- what a raw call comes to: its answer, or why it is denied
 abbrev pub Outcome : RawCall → Type 0
@@ -66,7 +66,7 @@ pub record LeadsTo (first : Program) (old : KernelModel) (later : Program) (mid 
 
 -- Code runs a part of a program: it has made the raw calls of the part and hands this on; or it has made them and the call is
 -- refused; or it has made a beginning of them and the call stops.
-unfoldable pub RunsPart : {A : Type 0} → Part A → KernelModel → KernelModel → ℕ → Result A Ending → Type 0
+unfoldable pub RunsPart : {A : Type 0} → Part A → KernelModel → KernelModel → ℕ → Result A CallError → Type 0
 RunsPart {A} part old new thread (Ok found) = (rest : A → Program) → LeadsTo (part rest) old (rest found) new thread
 RunsPart {A} part old new thread (Err (Refused errno)) = (rest : A → Program) → LeadsTo (part rest) old (Answers (replies.Refused errno)) new thread
 RunsPart {A} part old new thread (Err HasStopped) = (rest : A → Program) → Begins (part rest) old new thread

@@ -10,9 +10,9 @@ use Rattle.histar_rules.specs.declared.raw.RawCall.{RawCall}
 use Rattle.histar_rules.specs.declared.raw.RawCall.TheVariants.{MakeCategory, OwnLabel, SetLabel, SetClearance, MakeSegment, MakeContainer, MakeThread, MakeGate, Enter, Read, Write, Unlink, LabelOf}
 use Rattle.histar_rules.specs.declared.raw.Refusal.{Refusal}
 use Rattle.histar_rules.specs.declared.raw.Refusal.TheVariants as refusals
-use Rattle.histar_calls.specs.declared.ending.Ending.{Ending}
-use Rattle.histar_calls.specs.declared.ending.Ending.TheVariants.{Refused, Stopped as HasStopped}
-use Rattle.histar_calls.specs.declared.ending.Stopped.{Stopped}
+use Rattle.histar_calls.specs.declared.call_error.CallError.{CallError}
+use Rattle.histar_calls.specs.declared.call_error.CallError.TheVariants.{Refused, Stopped as HasStopped}
+use Rattle.histar_calls.specs.declared.call_error.Stopped.{Stopped}
 
 -- the errno of a denial: EACCES where labels forbid it, EPERM where a label lies outside its range
 abbrev pub errno_of : Denied → Option Errno
@@ -51,22 +51,22 @@ errno_for (Unlink container object) denied = errno_of denied
 errno_for (LabelOf container object) denied = errno_of denied
 
 -- with an errno the call is refused, and without one it stops
-abbrev pub ending_with : Option Errno → Ending
-ending_with None = HasStopped
-ending_with (Some errno) = Refused errno
+abbrev pub call_error_with : Option Errno → CallError
+call_error_with None = HasStopped
+call_error_with (Some errno) = Refused errno
 
 -- how a refusal ends a call, where denials have these errnos
-abbrev pub ending_of : (Denied → Option Errno) → Refusal → Ending
-ending_of errno (refusals.Denied denied) = ending_with (errno denied)
-ending_of errno refusals.OutOfMemory = HasStopped
+abbrev pub call_error_of : (Denied → Option Errno) → Refusal → CallError
+call_error_of errno (refusals.Denied denied) = call_error_with (errno denied)
+call_error_of errno refusals.OutOfMemory = HasStopped
 
 -- what was answered, or how its refusal ends the call
-abbrev pub or_ending : {A : Type 0} → (Denied → Option Errno) → Result A Refusal → Result A Ending
-or_ending errno (Ok answer) = Ok answer
-or_ending errno (Err refusal) = Err (ending_of errno refusal)
+abbrev pub or_call_error : {A : Type 0} → (Denied → Option Errno) → Result A Refusal → Result A CallError
+or_call_error errno (Ok answer) = Ok answer
+or_call_error errno (Err refusal) = Err (call_error_of errno refusal)
 
 -- what a call replies that ended so
-abbrev pub settled : Result Reply Ending → Result Reply Stopped
+abbrev pub settled : Result Reply CallError → Result Reply Stopped
 settled (Ok reply) = Ok reply
 settled (Err (Refused errno)) = Ok (replies.Refused errno)
 settled (Err HasStopped) = Err (record {})

@@ -1,12 +1,12 @@
 -- The program of `stat PATH`.
 use Rattle.std.specs.Prelude.{Bool, true, [], ◌∷◌, Option, None, Some}
 use Rattle.histar_flat.specs.Words.{Path}
-use Rattle.histar_flat.specs.Sessions.{Session}
+use Rattle.histar_flat.specs.Accounts.{Accounts}
 use Rattle.histar_flat.specs.declared.replies.Reply.TheVariants.{Stats}
 use Rattle.histar_rules.specs.Sound.{root_number}
 use Rattle.histar_rules.specs.declared.raw.RawCall.TheVariants.{LabelOf}
 use Rattle.histar_layout.specs.Listing.{is_directory, object_of}
-use Rattle.histar_calls.specs.declared.places.Places.{Places}
+use Rattle.histar_calls.specs.declared.roots.Roots.{Roots}
 use Rattle.histar_layout.specs.declared.shown.ShownClass.{ShownClass}
 use Rattle.histar_calls.specs.declared.stat.FoundObject.{FoundObject}
 use Rattle.histar_layout.specs.ShownClass.{class_shown, stat_of}
@@ -16,10 +16,10 @@ use Rattle.histar_calls.specs.Parts.{◌>>=◌, ask, given, entry_at, find_place
 
 -- The object of what stands at a path, and the container that links it. `/` is linked by the root container; else the walk is made,
 -- and the last name must lead somewhere.
-unfoldable pub find_object : Places → Path → Part FoundObject
-find_object places [] rest = rest (record { container = root_number; object = places.slash.container; is_directory = true })
-find_object places (name ∷ parent) rest = do
-  place ← find_place places parent
+unfoldable pub find_object : Roots → Path → Part FoundObject
+find_object roots [] rest = rest (record { container = root_number; object = roots.slash.container; is_directory = true })
+find_object roots (name ∷ parent) rest = do
+  place ← find_place roots parent
   found ← look_in place name
   target ← given (entry_at found)
   rest (record { container = place.container; object = object_of target; is_directory = is_directory target })
@@ -30,8 +30,8 @@ class_reply is_directory None = Stops
 class_reply is_directory (Some class) = Answers (Stats (stat_of class is_directory))
 
 -- the object is found, and its label is asked for, which shows the class
-unfoldable pub stat_program : Session → Places → Path → Program
-stat_program session places path = do
-  object ← find_object places path
+unfoldable pub stat_program : Accounts → Roots → Path → Program
+stat_program accounts roots path = do
+  object ← find_object roots path
   label ← ask (LabelOf object.container object.object)
-  class_reply object.is_directory (class_shown session label)
+  class_reply object.is_directory (class_shown accounts label)

@@ -3,14 +3,14 @@ use Rattle.std.specs.Prelude.{ℕ, List}
 use Rattle.histar_flat.specs.Words.{Path}
 use Rattle.histar_flat.specs.declared.replies.Reply.TheVariants.{Done}
 use Rattle.histar_rules.specs.declared.raw.RawCall.TheVariants.{Write}
-use Rattle.histar_calls.specs.declared.places.Places.{Places}
+use Rattle.histar_calls.specs.declared.roots.Roots.{Roots}
 use Rattle.histar_calls.specs.Programs.{Program}
 use Rattle.histar_calls.specs.Programs.Program.{Answers}
 use Rattle.histar_calls.specs.Parts.{◌>>=◌, ◌>>◌, ask, find_file}
 
 -- the file of the path is found, and the bytes are put in the place of what its segment holds
-unfoldable pub write_program : Places → Path → List ℕ → Program
-write_program places path bytes = do
-  file ← find_file places path
+unfoldable pub write_program : Roots → Path → List ℕ → Program
+write_program roots path bytes = do
+  file ← find_file roots path
   ask (Write file.container file.segment 0 bytes)
   Answers Done

@@ -5,8 +5,8 @@ ghost use Rattle.histar_flat.specs.FlatCalls.{most_entries};
 ghost use Rattle.histar_calls.specs.Programs.{RunsPart};
 ghost use Rattle.histar_calls.specs.Parts.{read_directory, walk_to, directory_at, file_at, entry_at, look_in, find_place, room_at, target_named, write_entries};
 
-use crate::ending::{Ending, written};
-use crate::places::{Place, Places};
+use crate::call_error::{CallError, written};
+use crate::roots::{Place, Roots};
 use histar_flat::{Errno, Name};
 use histar_label::LabelStore;
 use histar_layout::{Dir, Target, look_up};
@@ -49,12 +49,12 @@ impl Directory {
         kernel: &mut Kernel<S>,
         thread: ObjId,
         place: Place,
-    ) -> Result<Directory, Ending>
+    ) -> Result<Directory, CallError>
         ensures { RunsPart (read_directory place) kernel.old kernel.new thread result }
     {
         let bytes = kernel.read_copy(alloc, thread, place.container, place.listing)?;
         let Some(entries) = Dir::from_bytes(bytes) else {
-            return Err(Ending::Stopped);
+            return Err(CallError::Stopped);
         };
         Ok(Directory { place, entries })
     }
@@ -105,7 +105,7 @@ pub fn look_in<S: LabelStore + Drop>(
     thread: ObjId,
     place: Place,
     name: &Name,
-) -> Result<Option<Target>, Ending>
+) -> Result<Option<Target>, CallError>
     ensures { RunsPart (look_in place name.now) kernel.old kernel.new thread result }
 {
     let bytes = kernel.read(thread, place.container, place.listing)?;
@@ -120,7 +120,7 @@ pub fn write_entries<S: LabelStore + Drop>(
     thread: ObjId,
     place: Place,
     entries: Dir,
-) -> Result<(), Ending>
+) -> Result<(), CallError>
     ensures { RunsPart (write_entries place entries) kernel.old kernel.new thread result }
 {
     let bytes = entries.into_bytes();
@@ -132,16 +132,16 @@ pub fn write_entries<S: LabelStore + Drop>(
 /// where it leads to a file.
 pub fn find_place<S: LabelStore + Drop>(
     kernel: &mut Kernel<S>,
-    places: &Places,
+    roots: &Roots,
     thread: ObjId,
     names: &[Name],
-) -> Result<Place, Ending>
-    ensures { RunsPart (find_place places.now names.now) kernel.old kernel.new thread result }
+) -> Result<Place, CallError>
+    ensures { RunsPart (find_place roots.now names.now) kernel.old kernel.new thread result }
 {
     let [name, parent @ ..] = names else {
-        return Ok(places.slash);
+        return Ok(roots.slash);
     };
-    let above = find_place(kernel, places, thread, parent)?;
+    let above = find_place(kernel, roots, thread, parent)?;
     let target = look_in(kernel, thread, above, name)?;
     let place = directory_at(target)?;
     Ok(place)
@@ -152,12 +152,12 @@ pub fn find_place<S: LabelStore + Drop>(
 pub fn walk<S: LabelStore + Drop>(
     alloc: Global,
     kernel: &mut Kernel<S>,
-    places: &Places,
+    roots: &Roots,
     thread: ObjId,
     names: &[Name],
-) -> Result<Directory, Ending>
-    ensures { RunsPart (walk_to places.now names.now) kernel.old kernel.new thread result }
+) -> Result<Directory, CallError>
+    ensures { RunsPart (walk_to roots.now names.now) kernel.old kernel.new thread result }
 {
-    let place = find_place(kernel, places, thread, names)?;
+    let place = find_place(kernel, roots, thread, names)?;
     Directory::read(alloc, kernel, thread, place)
 }

@@ -5,9 +5,9 @@ ghost use Rattle.histar_flat.specs.FlatCalls.{most_entries};
 ghost use Rattle.histar_calls.specs.Programs.{RunsPart};
 ghost use Rattle.histar_calls.specs.Parts.{find_file, find_room};
 
+use crate::call_error::CallError;
 use crate::directory::{Directory, file_at, find_place, look_in, walk};
-use crate::ending::Ending;
-use crate::places::{Place, Places};
+use crate::roots::{Place, Roots};
 use histar_flat::{Errno, Name};
 use histar_label::LabelStore;
 use histar_layout::Dir;
@@ -36,16 +36,16 @@ pub struct Room {
 /// stands there, and what refuses the walk.
 pub fn find_file<S: LabelStore + Drop>(
     kernel: &mut Kernel<S>,
-    places: &Places,
+    roots: &Roots,
     thread: ObjId,
     path: &[Name],
-) -> Result<FoundFile, Ending>
-    ensures { RunsPart (find_file places.now path.now) kernel.old kernel.new thread result }
+) -> Result<FoundFile, CallError>
+    ensures { RunsPart (find_file roots.now path.now) kernel.old kernel.new thread result }
 {
     let [name, parent @ ..] = path else {
-        return Err(Ending::Refused(Errno::EISDIR));
+        return Err(CallError::Refused(Errno::EISDIR));
     };
-    let place = find_place(kernel, places, thread, parent)?;
+    let place = find_place(kernel, roots, thread, parent)?;
     let container = place.container;
     let target = look_in(kernel, thread, place, name)?;
     let segment = file_at(target)?;
@@ -57,17 +57,17 @@ pub fn find_file<S: LabelStore + Drop>(
 pub fn find_room<S: LabelStore + Drop>(
     alloc: Global,
     kernel: &mut Kernel<S>,
-    places: &Places,
+    roots: &Roots,
     thread: ObjId,
     path: &[Name],
-) -> Result<Room, Ending>
-    ensures runs { RunsPart (find_room places.now path.now) kernel.old kernel.new thread result }
+) -> Result<Room, CallError>
+    ensures runs { RunsPart (find_room roots.now path.now) kernel.old kernel.new thread result }
     ensures room { IfOk result (λ room. map.len room.entries < most_entries) }
 {
     let [name, parent @ ..] = path else {
-        return Err(Ending::Refused(Errno::EEXIST));
+        return Err(CallError::Refused(Errno::EEXIST));
     };
-    let directory = walk(alloc, kernel, places, thread, parent)?;
+    let directory = walk(alloc, kernel, roots, thread, parent)?;
     directory.room_at(name)?;
     let Directory { place, entries } = directory;
     Ok(Room {

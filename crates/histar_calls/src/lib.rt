@@ -6,19 +6,19 @@
 #![tactic(auto)]
 
 pub mod append;
+mod call_error;
 pub mod create;
 mod directory;
-mod ending;
 mod find;
 pub mod list;
 pub mod mkdir;
-mod places;
 pub mod program_laws;
 pub mod read;
+mod roots;
 pub mod stat;
 pub mod write;
 
+pub use call_error::{CallError, Stopped, settle, written};
 pub use directory::{Directory, walk, write_entries};
-pub use ending::{Ending, Stopped, settle, written};
 pub use find::{Room, find_room};
-pub use places::{Home, Place, Places};
+pub use roots::{Home, Place, Roots};

@@ -3,9 +3,9 @@ ghost use Rattle.histar_calls.specs.ListCall.{list_program};
 ghost use Rattle.histar_calls.specs.Programs.{Runs};
 ghost use Rattle.histar_calls.specs.Refusals.{settled};
 
+use crate::call_error::{CallError, Stopped, settle};
 use crate::directory::walk;
-use crate::ending::{Ending, Stopped, settle};
-use crate::places::Places;
+use crate::roots::Roots;
 use histar_flat::{Listing, Name, Reply};
 use histar_label::LabelStore;
 use histar_layout::MOST_ENTRIES;
@@ -19,27 +19,27 @@ use std::alloc::Global;
 pub fn list<S: LabelStore + Drop>(
     alloc: Global,
     kernel: &mut Kernel<S>,
-    places: &Places,
+    roots: &Roots,
     thread: ObjId,
     path: &[Name],
 ) -> Result<Reply, Stopped>
-    ensures { Runs (list_program places.now path.now) kernel.old kernel.new thread result }
+    ensures { Runs (list_program roots.now path.now) kernel.old kernel.new thread result }
 {
-    settle(list_entries(alloc, kernel, places, thread, path))
+    settle(list_entries(alloc, kernel, roots, thread, path))
 }
 
 fn list_entries<S: LabelStore + Drop>(
     alloc: Global,
     kernel: &mut Kernel<S>,
-    places: &Places,
+    roots: &Roots,
     thread: ObjId,
     path: &[Name],
-) -> Result<Reply, Ending>
-    ensures { Runs (list_program places.now path.now) kernel.old kernel.new thread (settled result) }
+) -> Result<Reply, CallError>
+    ensures { Runs (list_program roots.now path.now) kernel.old kernel.new thread (settled result) }
 {
     let mut entries = Vec::new(alloc);
     entries.reserve(MOST_ENTRIES)?;
-    let directory = walk(alloc, kernel, places, thread, path)?;
+    let directory = walk(alloc, kernel, roots, thread, path)?;
     directory.entries.list(&mut entries);
     Ok(Reply::Entries(Listing::new(entries)))
 }

@@ -6,10 +6,10 @@ ghost use Rattle.histar_calls.specs.Mkdir.{add_directory, mkdir_program};
 ghost use Rattle.histar_calls.specs.Programs.{Runs, RunsPart};
 ghost use Rattle.histar_calls.specs.Refusals.{settled};
 
+use crate::call_error::{CallError, Stopped, settle};
 use crate::directory::write_entries;
-use crate::ending::{Ending, Stopped, settle};
 use crate::find::{Room, find_room};
-use crate::places::Places;
+use crate::roots::Roots;
 use histar_base::Bytes;
 use histar_flat::{Mode, Name, Reply};
 use histar_label::{Label, LabelStore};
@@ -23,29 +23,29 @@ use std::alloc::Global;
 pub fn mkdir<S: LabelStore + Drop>(
     alloc: Global,
     kernel: &mut Kernel<S>,
-    places: &Places,
+    roots: &Roots,
     users: &UserTable,
     thread: ObjId,
     path: &[Name],
     mode: Mode,
 ) -> Result<Reply, Stopped>
-    ensures { Runs (mkdir_program users.now places.now path.now mode) kernel.old kernel.new thread result }
+    ensures { Runs (mkdir_program users.now roots.now path.now mode) kernel.old kernel.new thread result }
 {
-    settle(make_directory(alloc, kernel, places, users, thread, path, mode))
+    settle(make_directory(alloc, kernel, roots, users, thread, path, mode))
 }
 
 fn make_directory<S: LabelStore + Drop>(
     alloc: Global,
     kernel: &mut Kernel<S>,
-    places: &Places,
+    roots: &Roots,
     users: &UserTable,
     thread: ObjId,
     path: &[Name],
     mode: Mode,
-) -> Result<Reply, Ending>
-    ensures { Runs (mkdir_program users.now places.now path.now mode) kernel.old kernel.new thread (settled result) }
+) -> Result<Reply, CallError>
+    ensures { Runs (mkdir_program users.now roots.now path.now mode) kernel.old kernel.new thread (settled result) }
 {
-    let room = find_room(alloc, kernel, places, thread, path)?;
+    let room = find_room(alloc, kernel, roots, thread, path)?;
     let (own, _) = kernel.own_label(thread)?;
     let label = label_made(alloc, &own, users, mode)?;
     add_directory(alloc, kernel, thread, room, label)?;
@@ -59,7 +59,7 @@ fn add_directory<S: LabelStore + Drop>(
     thread: ObjId,
     room: Room,
     label: Label,
-) -> Result<(), Ending>
+) -> Result<(), CallError>
     requires { map.len room.entries < most_entries }
     ensures { RunsPart (add_directory label room) kernel.old kernel.new thread result }
 {

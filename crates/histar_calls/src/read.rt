@@ -3,9 +3,9 @@ ghost use Rattle.histar_calls.specs.Programs.{Runs};
 ghost use Rattle.histar_calls.specs.Read.{read_program};
 ghost use Rattle.histar_calls.specs.Refusals.{settled};
 
-use crate::ending::{Ending, Stopped, settle};
+use crate::call_error::{CallError, Stopped, settle};
 use crate::find::find_file;
-use crate::places::Places;
+use crate::roots::Roots;
 use histar_flat::{Name, Reply};
 use histar_label::LabelStore;
 use histar_object::ObjId;
@@ -18,25 +18,25 @@ use std::alloc::Global;
 pub fn read<S: LabelStore + Drop>(
     alloc: Global,
     kernel: &mut Kernel<S>,
-    places: &Places,
+    roots: &Roots,
     thread: ObjId,
     path: &[Name],
 ) -> Result<Reply, Stopped>
-    ensures { Runs (read_program places.now path.now) kernel.old kernel.new thread result }
+    ensures { Runs (read_program roots.now path.now) kernel.old kernel.new thread result }
 {
-    settle(read_file(alloc, kernel, places, thread, path))
+    settle(read_file(alloc, kernel, roots, thread, path))
 }
 
 fn read_file<S: LabelStore + Drop>(
     alloc: Global,
     kernel: &mut Kernel<S>,
-    places: &Places,
+    roots: &Roots,
     thread: ObjId,
     path: &[Name],
-) -> Result<Reply, Ending>
-    ensures { Runs (read_program places.now path.now) kernel.old kernel.new thread (settled result) }
+) -> Result<Reply, CallError>
+    ensures { Runs (read_program roots.now path.now) kernel.old kernel.new thread (settled result) }
 {
-    let file = find_file(kernel, places, thread, path)?;
+    let file = find_file(kernel, roots, thread, path)?;
     let bytes = kernel.read_copy(alloc, thread, file.container, file.segment)?;
     Ok(Reply::Data(bytes))
 }

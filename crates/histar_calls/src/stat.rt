@@ -3,9 +3,9 @@ ghost use Rattle.histar_calls.specs.Programs.{Runs, RunsPart};
 ghost use Rattle.histar_calls.specs.Refusals.{settled};
 ghost use Rattle.histar_calls.specs.StatCall.{find_object, stat_program};
 
+use crate::call_error::{CallError, Stopped, settle};
 use crate::directory::{entry_at, find_place, look_in};
-use crate::ending::{Ending, Stopped, settle};
-use crate::places::Places;
+use crate::roots::Roots;
 use histar_flat::{Name, Reply};
 use histar_label::LabelStore;
 use histar_layout::{UserTable, shown_class};
@@ -29,29 +29,29 @@ pub struct FoundObject {
 /// where nothing stands there.
 pub fn stat<S: LabelStore + Drop>(
     kernel: &mut Kernel<S>,
-    places: &Places,
+    roots: &Roots,
     users: &UserTable,
     thread: ObjId,
     path: &[Name],
 ) -> Result<Reply, Stopped>
-    ensures { Runs (stat_program users.now places.now path.now) kernel.old kernel.new thread result }
+    ensures { Runs (stat_program users.now roots.now path.now) kernel.old kernel.new thread result }
 {
-    settle(stat_object(kernel, places, users, thread, path))
+    settle(stat_object(kernel, roots, users, thread, path))
 }
 
 fn stat_object<S: LabelStore + Drop>(
     kernel: &mut Kernel<S>,
-    places: &Places,
+    roots: &Roots,
     users: &UserTable,
     thread: ObjId,
     path: &[Name],
-) -> Result<Reply, Ending>
-    ensures { Runs (stat_program users.now places.now path.now) kernel.old kernel.new thread (settled result) }
+) -> Result<Reply, CallError>
+    ensures { Runs (stat_program users.now roots.now path.now) kernel.old kernel.new thread (settled result) }
 {
-    let found = find_object(kernel, places, thread, path)?;
+    let found = find_object(kernel, roots, thread, path)?;
     let label = kernel.label_of(thread, found.container, found.object)?;
     let Some(class) = shown_class(&label, users) else {
-        return Err(Ending::Stopped);
+        return Err(CallError::Stopped);
     };
     Ok(Reply::Stats(class.stat(found.is_directory)))
 }
@@ -59,20 +59,20 @@ fn stat_object<S: LabelStore + Drop>(
 /// What stands at a path: ENOENT where nothing does, and what refuses the walk.
 fn find_object<S: LabelStore + Drop>(
     kernel: &mut Kernel<S>,
-    places: &Places,
+    roots: &Roots,
     thread: ObjId,
     path: &[Name],
-) -> Result<FoundObject, Ending>
-    ensures { RunsPart (find_object places.now path.now) kernel.old kernel.new thread result }
+) -> Result<FoundObject, CallError>
+    ensures { RunsPart (find_object roots.now path.now) kernel.old kernel.new thread result }
 {
     let [name, parent @ ..] = path else {
         return Ok(FoundObject {
             container: ObjId::new(ROOT),
-            object: places.slash.container,
+            object: roots.slash.container,
             is_directory: true,
         });
     };
-    let place = find_place(kernel, places, thread, parent)?;
+    let place = find_place(kernel, roots, thread, parent)?;
     let container = place.container;
     let found = look_in(kernel, thread, place, name)?;
     let target = entry_at(found)?;

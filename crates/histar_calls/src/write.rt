@@ -3,9 +3,9 @@ ghost use Rattle.histar_calls.specs.Programs.{Runs};
 ghost use Rattle.histar_calls.specs.Write.{write_program};
 ghost use Rattle.histar_calls.specs.Refusals.{settled};
 
-use crate::ending::{Ending, Stopped, settle, written};
+use crate::call_error::{CallError, Stopped, settle, written};
 use crate::find::find_file;
-use crate::places::Places;
+use crate::roots::Roots;
 use histar_base::Bytes;
 use histar_flat::{Name, Reply};
 use histar_label::LabelStore;
@@ -19,27 +19,27 @@ use std::alloc::Global;
 pub fn write<S: LabelStore + Drop>(
     alloc: Global,
     kernel: &mut Kernel<S>,
-    places: &Places,
+    roots: &Roots,
     thread: ObjId,
     path: &[Name],
     bytes: Bytes,
 ) -> Result<Reply, Stopped>
-    ensures { Runs (write_program places.now path.now bytes) kernel.old kernel.new thread result }
+    ensures { Runs (write_program roots.now path.now bytes) kernel.old kernel.new thread result }
 {
-    settle(write_file(alloc, kernel, places, thread, path, bytes))
+    settle(write_file(alloc, kernel, roots, thread, path, bytes))
 }
 
 fn write_file<S: LabelStore + Drop>(
     alloc: Global,
     kernel: &mut Kernel<S>,
-    places: &Places,
+    roots: &Roots,
     thread: ObjId,
     path: &[Name],
     bytes: Bytes,
-) -> Result<Reply, Ending>
-    ensures { Runs (write_program places.now path.now bytes) kernel.old kernel.new thread (settled result) }
+) -> Result<Reply, CallError>
+    ensures { Runs (write_program roots.now path.now bytes) kernel.old kernel.new thread (settled result) }
 {
-    let file = find_file(kernel, places, thread, path)?;
+    let file = find_file(kernel, roots, thread, path)?;
     written(kernel.write(alloc, thread, file.container, file.segment, 0, bytes))?;
     Ok(Reply::Done)
 }

@@ -3,16 +3,16 @@ use Rattle.std.proofs.Common.{◌≡◌, ℕ, List, [], ◌∷◌, map, Result, 
 use Rattle.std.specs.Prelude.{◌==◌, if◌then◌else◌}
 use Rattle.histar_flat.specs.Words.{ProcName}
 use Rattle.histar_flat.specs.Texts.{reply_text}
-use Rattle.histar_flat.specs.Meaning.{Answered, meaning, without}
+use Rattle.histar_flat.specs.Meaning.{RepliedCall, meaning, without}
 use Rattle.histar_script.specs.declared.fault.Fault.{Fault}
 use Rattle.histar_script.specs.declared.fault.Fault.TheVariants.{BadScript, TooLong, OutOfMemory, ReadFailed, WriteFailed}
 use Rattle.histar_script.specs.Outcome.{Gives}
-use Rattle.histar_script.specs.Script.{Reading}
+use Rattle.histar_script.specs.Script.{ScriptModel}
 use Rattle.histar_script.specs.Reading.{script_of}
-use Rattle.histar_isolation.specs.declared.verdict.Verdict.{Verdict}
-use Rattle.histar_isolation.specs.declared.verdict.Verdict.TheVariants.{Same, NoJob, Line, Tree}
-use Rattle.histar_isolation.specs.Comparison.{outsiders, verdict}
-use Rattle.histar_isolation.specs.Replies.{shown}
+use Rattle.histar_noninterference.specs.declared.verdict.Verdict.{Verdict}
+use Rattle.histar_noninterference.specs.declared.verdict.Verdict.TheVariants.{Same, NoJob, Line, Tree}
+use Rattle.histar_noninterference.specs.Comparison.{outsiders, verdict}
+use Rattle.histar_noninterference.specs.Replies.{shown}
 use Rattle.histar_comparison.specs.declared.explained.Explained.{Explained}
 use Rattle.histar_comparison.specs.Observation.{observation}
 use Rattle.histar_comparison.specs.Replies.{no_replies}
@@ -29,8 +29,8 @@ fault_again ReadFailed a b e = e
 fault_again WriteFailed a b e = e
 
 -- the fault of a text that is no script is that of what is made of its script
-pub fault_passes : {B : Type 0} (f : Result Reading Fault → Result B Fault) → ((fault : Fault) → f (Err fault) ≡ Err fault)
-    → (fault : Fault) (read : Result Reading Fault) → Gives {A = Reading} (Err fault) read → Gives {A = B} (Err fault) (f read)
+pub fault_passes : {B : Type 0} (f : Result ScriptModel Fault → Result B Fault) → ((fault : Fault) → f (Err fault) ≡ Err fault)
+    → (fault : Fault) (read : Result ScriptModel Fault) → Gives {A = ScriptModel} (Err fault) read → Gives {A = B} (Err fault) (f read)
 fault_passes f passes (BadScript n) read e = ap f e ∙ passes (BadScript n)
 fault_passes f passes TooLong read e = ap f e ∙ passes TooLong
 fault_passes f passes OutOfMemory read e = tt
@@ -39,30 +39,30 @@ fault_passes f passes WriteFailed read e = e
 
 module _ (job : ProcName) where
   -- the reply that was kept is the one that is printed
-  kept_reply : (answers : List Answered) (n : ℕ) → kept_on n (map shown answers) ≡ reply_on n answers
+  kept_reply : (answers : List RepliedCall) (n : ℕ) → kept_on n (map shown answers) ≡ reply_on n answers
   kept_reply [] n = refl
   kept_reply (a ∷ answers) n = ap (λ (rest : List ℕ). if a.call.line == n then reply_text a.reply else rest) (kept_reply answers n)
 
   -- what was seen of a run is what it prints
-  pub seen_printed : (script : Reading) (v : Verdict) → seen_of (observation job script) v ≡ printed_of job script.session script.calls v
+  pub seen_printed : (script : ScriptModel) (v : Verdict) → seen_of (observation job script) v ≡ printed_of job script.accounts script.calls v
   seen_printed script Same = refl
   seen_printed script NoJob = refl
   seen_printed script (Line n) =
-      ap (kept_on n) (kept job no_replies (meaning script.session script.calls)) ∙ kept_reply (outsiders job (meaning script.session script.calls)) n
+      ap (kept_on n) (kept job no_replies (meaning script.accounts script.calls)) ∙ kept_reply (outsiders job (meaning script.accounts script.calls)) n
   seen_printed script (Tree q) = refl
 
-  module _ (text : List ℕ) (script : Reading) (is_read : script_of text ≡ Ok script) where
+  module _ (text : List ℕ) (script : ScriptModel) (is_read : script_of text ≡ Ok script) where
     -- the verdict of the script is the one that was found
-    pub verdict_is : (v : Verdict) → comparison job text ≡ Ok v → verdict script.session script.calls job ≡ v
+    pub verdict_is : (v : Verdict) → comparison job text ≡ Ok v → verdict script.accounts script.calls job ≡ v
     verdict_is v e = ok_inner (sym (ap (verdict_of job) is_read) ∙ e)
 
     -- so the text has this explanation
-    pub explained_as : (v : Verdict) (a b : List ℕ) → verdict script.session script.calls job ≡ v
-        → a ≡ printed_of job script.session script.calls v → b ≡ printed_of job script.session (without job script.calls) v
+    pub explained_as : (v : Verdict) (a b : List ℕ) → verdict script.accounts script.calls job ≡ v
+        → a ≡ printed_of job script.accounts script.calls v → b ≡ printed_of job script.accounts (without job script.calls) v
         → explanation job text ≡ Ok (record { verdict = v; with_job = a; without_job = b })
     explained_as v a b is first second =
         ap (explanation_of job) is_read
-        ∙ ap (λ (x : Verdict). explained_by x (printed_of job script.session script.calls x) (printed_of job script.session (without job script.calls) x)) is
+        ∙ ap (λ (x : Verdict). explained_by x (printed_of job script.accounts script.calls x) (printed_of job script.accounts (without job script.calls) x)) is
         ∙ (λ i. explained_by v (sym first i) (sym second i))
       where
         explained_by : Verdict → List ℕ → List ℕ → Result Explained Fault

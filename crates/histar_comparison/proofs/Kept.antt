@@ -7,9 +7,9 @@ use Rattle.histar_flat.specs.declared.calls.UnixCall.TheVariants.{Unlink, Rmdir,
 use Rattle.histar_flat.specs.declared.replies.Reply.{Reply}
 use Rattle.histar_flat.specs.declared.replies.Reply.TheVariants.{Done, Data, Entries, Stats, Child, Running, Exited, User, Refused, Gone}
 use Rattle.histar_flat.specs.Words.{Path, ProcName}
-use Rattle.histar_flat.specs.Meaning.{Answered}
-use Rattle.histar_isolation.specs.Comparison.{is_wrap_reply}
-use Rattle.histar_isolation.specs.Following.{is_done, left_without, after_reply}
+use Rattle.histar_flat.specs.Meaning.{RepliedCall}
+use Rattle.histar_noninterference.specs.Comparison.{is_wrap_reply}
+use Rattle.histar_noninterference.specs.Following.{is_done, left_without, after_reply}
 use Rattle.histar_shell.specs.Machine.{MachineModel}
 use Rattle.histar_shell.proofs.AnswerLemmas.{calls_more, in_turn_more}
 use Rattle.histar_comparison.specs.Replies.{RepliesModel, with_reply, with_replies, shown_by, wrap_path, once_done, is_start, directory_after}
@@ -75,7 +75,7 @@ module _ (job : ProcName) where
   directory_is directory _ reply = stays directory reply
 
   -- a reply that was followed and shown is kept
-  pub reply_kept : (old mid new : RepliesModel) (a : Answered) (wraps granted : Option Path) → wraps ≡ wrap_path a.call.call → granted ≡ once_done old.directory a.call.call
+  pub reply_kept : (old mid new : RepliesModel) (a : RepliedCall) (wraps granted : Option Path) → wraps ≡ wrap_path a.call.call → granted ≡ once_done old.directory a.call.call
       → mid ≡ record { is_started = old.is_started || is_start job wraps a.reply; shown = old.shown; directory = directory_after job old.directory wraps granted a.reply }
       → new ≡ record mid { shown = shown_by job mid.shown a.call.line a.call.process a.reply } → new ≡ with_reply job old a
   reply_kept old mid new a wraps granted wrapped moved followed shown =
@@ -87,14 +87,14 @@ module _ (job : ProcName) where
       ∙ (λ i. record { is_started = old.is_started || started i; shown = shown_by job old.shown line process a.reply; directory = directory i })
 
   -- one reply more
-  replies_more : (old : RepliesModel) (answers : List Answered) (a : Answered) → with_replies job old (answers ++ a ∷ []) ≡ with_reply job (with_replies job old answers) a
+  replies_more : (old : RepliesModel) (answers : List RepliedCall) (a : RepliedCall) → with_replies job old (answers ++ a ∷ []) ≡ with_reply job (with_replies job old answers) a
   replies_more old [] a = refl
   replies_more old (b ∷ answers) a = replies_more (with_reply job old b) answers a
 
   -- one line more
   pub keeps_more : (first mid last : MachineModel) (old now new : RepliesModel) (calls : List CallLine) (call : CallLine) → KeepsReplies job first mid old now calls → KeepsReply job mid last now new call → KeepsReplies job first last old new (calls ++ call ∷ [])
   keeps_more first mid last old now new calls call so_far one =
-      let next : Answered = record { call = call; reply = one.reply } in record {
+      let next : RepliedCall = record { call = call; reply = one.reply } in record {
         answers = so_far.answers ++ next ∷ [];
         each = calls_more so_far.answers next ∙ ap (λ (l : List CallLine). l ++ call ∷ []) so_far.each;
         in_turn = in_turn_more first mid last so_far.answers next so_far.in_turn one.answered;

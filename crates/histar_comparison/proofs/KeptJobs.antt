@@ -2,13 +2,13 @@
 use Rattle.std.proofs.Common.{◌≡◌, List, [], ◌∷◌, ◌++◌, Option, None, Some, refl, sym, ap, ◌∙◌, append_assoc}
 use Rattle.histar_flat.specs.declared.calls.CallLine.{CallLine}
 use Rattle.histar_flat.specs.Words.{ProcName}
-use Rattle.histar_flat.specs.Meaning.{Answered}
+use Rattle.histar_flat.specs.Meaning.{RepliedCall}
 use Rattle.histar_shell.specs.Machine.{MachineModel}
 use Rattle.histar_shell.proofs.AnswerLemmas.{calls_more, in_turn_more}
-use Rattle.histar_shell.proofs.CallRows.{calls_refine}
+use Rattle.histar_shell.proofs.CallRefinements.{calls_refine}
 use Rattle.histar_shell.proofs.SessionMeanings.{all_replies}
 use Rattle.histar_shell.specs.Machine.{IsStart}
-use Rattle.histar_script.specs.Script.{Reading}
+use Rattle.histar_script.specs.Script.{ScriptModel}
 use Rattle.histar_flat.specs.Meaning.{meaning}
 use Rattle.histar_comparison.specs.Observation.{CanRun}
 use Rattle.histar_comparison.specs.Jobs.{KeepsJob, KeepsJobs, is_wrap, job_started, jobs_started}
@@ -19,18 +19,18 @@ one_job None = []
 one_job (Some job) = job ∷ []
 
 -- the jobs of an answer and of those behind it
-jobs_cons : (a : Answered) (answers : List Answered) (o : Option ProcName) → job_started (is_wrap a.call.call) a.reply ≡ o
+jobs_cons : (a : RepliedCall) (answers : List RepliedCall) (o : Option ProcName) → job_started (is_wrap a.call.call) a.reply ≡ o
     → jobs_started (a ∷ answers) ≡ one_job o ++ jobs_started answers
 jobs_cons a answers None e = rw e refl
 jobs_cons a answers (Some job) e = rw e refl
 
 -- the job of one answer
-pub job_of_one : (a : Answered) (o : Option ProcName) → job_started (is_wrap a.call.call) a.reply ≡ o → jobs_started (a ∷ []) ≡ one_job o
+pub job_of_one : (a : RepliedCall) (o : Option ProcName) → job_started (is_wrap a.call.call) a.reply ≡ o → jobs_started (a ∷ []) ≡ one_job o
 job_of_one a None e = jobs_cons a [] None e
 job_of_one a (Some job) e = jobs_cons a [] (Some job) e
 
 -- the jobs of one answer more
-jobs_more : (answers : List Answered) (a : Answered) → jobs_started (answers ++ a ∷ []) ≡ jobs_started answers ++ jobs_started (a ∷ [])
+jobs_more : (answers : List RepliedCall) (a : RepliedCall) → jobs_started (answers ++ a ∷ []) ≡ jobs_started answers ++ jobs_started (a ∷ [])
 jobs_more [] a = refl
 jobs_more (b ∷ answers) a =
     let o = job_started (is_wrap b.call.call) b.reply in
@@ -42,7 +42,7 @@ jobs_more (b ∷ answers) a =
 pub keeps_job : (first mid last : MachineModel) (old now new : List ProcName) (calls : List CallLine) (call : CallLine)
     → KeepsJobs first mid old now calls → KeepsJob mid last now new call → KeepsJobs first last old new (calls ++ call ∷ [])
 keeps_job first mid last old now new calls call so_far one =
-    let next : Answered = record { call = call; reply = one.reply } in record {
+    let next : RepliedCall = record { call = call; reply = one.reply } in record {
       answers = so_far.answers ++ next ∷ [];
       each = calls_more so_far.answers next ∙ ap (λ (l : List CallLine). l ++ call ∷ []) so_far.each;
       in_turn = in_turn_more first mid last so_far.answers next so_far.in_turn one.answered;
@@ -53,8 +53,8 @@ keeps_job first mid last old now new calls call so_far one =
     }
 
 -- the jobs that are kept of a whole script are those that its meaning starts
-pub jobs_are : (script : Reading) → CanRun script → (start end : MachineModel) → IsStart script.session start → (old new : List ProcName)
-    → KeepsJobs start end old new script.calls → old ≡ [] → new ≡ jobs_started (meaning script.session script.calls)
+pub jobs_are : (script : ScriptModel) → CanRun script → (start end : MachineModel) → IsStart script.accounts start → (old new : List ProcName)
+    → KeepsJobs start end old new script.calls → old ≡ [] → new ≡ jobs_started (meaning script.accounts script.calls)
 jobs_are script can start end starts old new kept none =
     kept.kept ∙ ap (λ (l : List ProcName). l ++ jobs_started kept.answers) none
     ∙ ap jobs_started (all_replies calls_refine script can.declared can.calls start starts end kept.answers kept.each kept.in_turn)

@@ -3,15 +3,15 @@ use Rattle.std.proofs.Common.{◌≡◌, List, [], ◌∷◌, map, refl, sym, ap
 use Rattle.histar_flat.specs.Words.{Path, ProcName}
 use Rattle.histar_flat.specs.FlatState.{Node}
 use Rattle.histar_flat.specs.Meaning.{meaning}
-use Rattle.histar_script.specs.Script.{Reading}
+use Rattle.histar_script.specs.Script.{ScriptModel}
 use Rattle.histar_syscall.specs.KernelModel.{state}
-use Rattle.histar_tree.specs.TreeLines.{flat_line, line_at}
-use Rattle.histar_isolation.specs.Comparison.{node_text}
-use Rattle.histar_isolation.specs.Trees.{PathText, tree_lines}
+use Rattle.histar_readout.specs.TreeLines.{flat_line, line_at}
+use Rattle.histar_noninterference.specs.Comparison.{node_text}
+use Rattle.histar_noninterference.specs.Trees.{PathText, tree_lines}
 use Rattle.histar_shell.specs.Machine.{MachineModel, IsStart}
 use Rattle.histar_shell.specs.Ending.{HasTree}
 use Rattle.histar_shell.specs.Meaning.{Shows, last_state}
-use Rattle.histar_shell.proofs.CallRows.{calls_refine}
+use Rattle.histar_shell.proofs.CallRefinements.{calls_refine}
 use Rattle.histar_shell.proofs.SessionMeanings.{all_replies, shows_end}
 use Rattle.histar_shell.proofs.ShownTrees.{shown_tree, same_lines}
 use Rattle.histar_comparison.specs.Replies.{RepliesModel, no_replies, with_replies}
@@ -26,19 +26,19 @@ map_twice f g (x ∷ xs) = ap (λ l. f (g x) ∷ l) (map_twice f g xs)
 lines_of_flat : (entries : List (Path × Node)) → map line_text (map flat_line entries) ≡ map (λ e. (e.0, node_text e.0 e.1)) entries
 lines_of_flat entries = sym (map_twice line_text flat_line entries)
 
-module _ (job : ProcName) (script : Reading) (can : CanRun script) (start end : MachineModel) (starts : IsStart script.session start) (old new : RepliesModel) (kept : KeepsReplies job start end old new script.calls) where
+module _ (job : ProcName) (script : ScriptModel) (can : CanRun script) (start end : MachineModel) (starts : IsStart script.accounts start) (old new : RepliesModel) (kept : KeepsReplies job start end old new script.calls) where
   -- the flat state at the end is shown
-  shows : Shows script.session end (last_state script)
+  shows : Shows script.accounts end (last_state script)
   shows = shows_end calls_refine script can.declared can.calls start starts end kept.answers kept.each kept.in_turn
 
   -- so there is a tree
   pub has_tree : HasTree end
-  has_tree = shown_tree script.session end (last_state script) shows
+  has_tree = shown_tree script.accounts end (last_state script) shows
 
   -- the replies are those that the script means
-  pub replies_are : old ≡ no_replies → new ≡ with_replies job no_replies (meaning script.session script.calls)
+  pub replies_are : old ≡ no_replies → new ≡ with_replies job no_replies (meaning script.accounts script.calls)
   replies_are empty = kept.kept ∙ (λ i. with_replies job (empty i) (all_replies calls_refine script can.declared can.calls start starts end kept.answers kept.each kept.in_turn i))
 
   -- and the lines are those of the tree
   pub tree_is : (lines : List PathText) → ShowsTree end lines → lines ≡ tree_lines (last_state script)
-  tree_is lines told = told.2 ∙ map_twice line_text (line_at (state end.kernel)) told.0 ∙ ap (map line_text) (same_lines script.session end (last_state script) shows told.0 told.1) ∙ lines_of_flat (last_state script).files.entries
+  tree_is lines revealed = revealed.2 ∙ map_twice line_text (line_at (state end.kernel)) revealed.0 ∙ ap (map line_text) (same_lines script.accounts end (last_state script) shows revealed.0 revealed.1) ∙ lines_of_flat (last_state script).files.entries

@@ -9,18 +9,18 @@ use Rattle.histar_flat.specs.PathOrder.{under_process}
 use Rattle.histar_flat.specs.Calls.{IsCall}
 use Rattle.histar_shell.specs.Meaning.{last_state}
 use Rattle.histar_shell.proofs.Users.{script_says}
-use Rattle.histar_flat.specs.Meaning.{Answered, meaning}
+use Rattle.histar_flat.specs.Meaning.{RepliedCall, meaning}
 use Rattle.histar_script.specs.declared.fault.Fault.{Fault}
-use Rattle.histar_script.specs.Script.{Reading, without_job}
+use Rattle.histar_script.specs.Script.{ScriptModel, without_job}
 use Rattle.histar_script.specs.Reading.{script_of}
-use Rattle.histar_isolation.specs.declared.verdict.Verdict.{Verdict}
-use Rattle.histar_isolation.specs.declared.verdict.Verdict.TheVariants.{NoJob, Same}
-use Rattle.histar_isolation.specs.Comparison.{is_outsider, is_wrap_reply, line_verdict, outsiders, starts, tree_verdict, verdict}
-use Rattle.histar_isolation.specs.Following.{directory_of}
-use Rattle.histar_isolation.specs.Isolation.{IsolatesJobs}
-use Rattle.histar_isolation.specs.Trees.{FindsFirstPath, first_difference, is_below_either, tree_lines}
-use Rattle.histar_isolation.specs.Replies.{first_shown, shown}
-use Rattle.histar_isolation.proofs.ShownReplies.{finds_first_line}
+use Rattle.histar_noninterference.specs.declared.verdict.Verdict.{Verdict}
+use Rattle.histar_noninterference.specs.declared.verdict.Verdict.TheVariants.{NoJob, Same}
+use Rattle.histar_noninterference.specs.Comparison.{is_outsider, is_wrap_reply, line_verdict, outsiders, starts, tree_verdict, verdict}
+use Rattle.histar_noninterference.specs.Following.{directory_of}
+use Rattle.histar_noninterference.specs.Isolation.{IsolatesJobs}
+use Rattle.histar_noninterference.specs.Trees.{FindsFirstPath, first_difference, is_below_either, tree_lines}
+use Rattle.histar_noninterference.specs.Replies.{first_shown, shown}
+use Rattle.histar_noninterference.proofs.ShownReplies.{finds_first_line}
 use Rattle.histar_comparison.specs.Replies.{RepliesModel, no_replies, with_reply, with_replies}
 use Rattle.histar_comparison.specs.Observation.{CanRun, ObservationModel, observation}
 use Rattle.histar_comparison.specs.Compared.{difference, verdict_of, comparison, IsQuietScript}
@@ -47,22 +47,22 @@ pub ok_inner : {A : Type 0} {x y : A} → ◌≡◌ {A = Result A Fault} (Ok x) 
 ok_inner {A} {x} e = ap (λ (r : Result A Fault). elim r [ Ok z ↦ z | Err f ↦ x ]) e
 
 -- a text is one script
-pub read_again : (text : List ℕ) (a b : Reading) → script_of text ≡ Ok a → script_of text ≡ Ok b → b ≡ a
+pub read_again : (text : List ℕ) (a b : ScriptModel) → script_of text ≡ Ok a → script_of text ≡ Ok b → b ≡ a
 read_again text a b is again = ok_inner (sym again ∙ is)
 
 module _ (job : ProcName) where
   -- whether a `wrap` started the job was kept
-  started : (r : RepliesModel) (answers : List Answered) → (with_replies job r answers).is_started ≡ (r.is_started || starts job answers)
+  started : (r : RepliesModel) (answers : List RepliedCall) → (with_replies job r answers).is_started ≡ (r.is_started || starts job answers)
   started r [] = sym (or-false r.is_started)
   started r (a ∷ answers) = started (with_reply job r a) answers ∙ or_assoc r.is_started (is_wrap_reply job a.call.call a.reply) (starts job answers)
 
   -- the directory was followed
-  directory : (r : RepliesModel) (answers : List Answered) → (with_replies job r answers).directory ≡ directory_of job r.directory answers
+  directory : (r : RepliesModel) (answers : List RepliedCall) → (with_replies job r answers).directory ≡ directory_of job r.directory answers
   directory r [] = refl
   directory r (a ∷ answers) = directory (with_reply job r a) answers
 
   -- the replies to outsiders were kept
-  pub kept : (r : RepliesModel) (answers : List Answered) → (with_replies job r answers).shown ≡ r.shown ++ map shown (outsiders job answers)
+  pub kept : (r : RepliesModel) (answers : List RepliedCall) → (with_replies job r answers).shown ≡ r.shown ++ map shown (outsiders job answers)
   kept r [] = sym (append-nil r.shown)
   kept r (a ∷ answers) = kept (with_reply job r a) answers ∙ by (is_outsider job a.call.process)
     where
@@ -71,35 +71,35 @@ module _ (job : ProcName) where
       by false = refl
 
   -- what is left of a script can be run
-  pub rest_runs : (script : Reading) → CanRun script → CanRun (without_job job script)
+  pub rest_runs : (script : ScriptModel) → CanRun script → CanRun (without_job job script)
   rest_runs script can = record { declared = can.declared; calls = left_pass (λ (c : CallLine). IsCall c.call) (λ (c : CallLine). not (under_process job c.process)) script.calls can.calls }
 
   -- a `wrap` started the job where that was kept
-  starts_as : (script : Reading) (b : Bool) → (observation job script).replies.is_started ≡ b → starts job (meaning script.session script.calls) ≡ b
-  starts_as script b e = sym (started no_replies (meaning script.session script.calls)) ∙ e
+  starts_as : (script : ScriptModel) (b : Bool) → (observation job script).replies.is_started ≡ b → starts job (meaning script.accounts script.calls) ≡ b
+  starts_as script b e = sym (started no_replies (meaning script.accounts script.calls)) ∙ e
 
   -- where no `wrap` started the job, that is the verdict
-  no_job : (script : Reading) → (observation job script).replies.is_started ≡ false → verdict script.session script.calls job ≡ NoJob
-  no_job script none = other (starts job (meaning script.session script.calls)) _ NoJob (starts_as script false none)
+  no_job : (script : ScriptModel) → (observation job script).replies.is_started ≡ false → verdict script.accounts script.calls job ≡ NoJob
+  no_job script none = other (starts job (meaning script.accounts script.calls)) _ NoJob (starts_as script false none)
 
   -- and else what is found is
-  found : FindsFirstPath → (script : Reading) → (observation job script).replies.is_started ≡ true → difference (observation job script) (observation job (without_job job script)) ≡ verdict script.session script.calls job
+  found : FindsFirstPath → (script : ScriptModel) → (observation job script).replies.is_started ≡ true → difference (observation job script) (observation job (without_job job script)) ≡ verdict script.accounts script.calls job
   found finds script some =
       let rest = without_job job script in
-      let as' = meaning script.session script.calls in
-      let bs = meaning script.session rest.calls in
+      let as' = meaning script.accounts script.calls in
+      let bs = meaning script.accounts rest.calls in
       let lines = (λ i. first_shown (kept no_replies as' i) (kept no_replies bs i)) ∙ sym (finds_first_line (outsiders job as') (outsiders job bs)) in
       let trees = (λ i. first_difference (is_below_either (directory no_replies as' i) (directory no_replies bs i)) (tree_lines (last_state script)) (tree_lines (last_state rest)))
-      ∙ sym (finds script.session script.calls rest.calls job) in
+      ∙ sym (finds script.accounts script.calls rest.calls job) in
       (λ i. line_verdict (lines i) (tree_verdict (trees i))) ∙ sym (chosen (starts job as') _ NoJob (starts_as script true some))
 
-  module _ (text : List ℕ) (script : Reading) (is_read : script_of text ≡ Ok script) where
+  module _ (text : List ℕ) (script : ScriptModel) (is_read : script_of text ≡ Ok script) where
     -- the script can be run
     pub can_run : CanRun script
     can_run = let says = script_says text script is_read in record { declared = says.0; calls = says.1 }
 
     -- a text is compared as the script that it is
-    compared : (v : Verdict) → verdict script.session script.calls job ≡ v → comparison job text ≡ Ok v
+    compared : (v : Verdict) → verdict script.accounts script.calls job ≡ v → comparison job text ≡ Ok v
     compared v e = ap (verdict_of job) is_read ∙ ap (λ (x : Verdict). Ok x) e
 
     -- where no `wrap` started the job
@@ -115,5 +115,5 @@ module _ (job : ProcName) where
   -- what is found in a quiet script is nothing
   pub quiet_is_same : IsolatesJobs → (text : List ℕ) (v : Verdict) → IsQuietScript job text → comparison job text ≡ Ok v → v ≡ Same
   quiet_is_same isolates text v quiet e =
-      let same : Ok v ≡ Ok (verdict quiet.script.session quiet.script.calls job) = sym e ∙ ap (verdict_of job) quiet.is_read in
-      ok_inner same ∙ isolates quiet.script.session quiet.script.calls job quiet.starts quiet.quiet
+      let same : Ok v ≡ Ok (verdict quiet.script.accounts quiet.script.calls job) = sym e ∙ ap (verdict_of job) quiet.is_read in
+      ok_inner same ∙ isolates quiet.script.accounts quiet.script.calls job quiet.starts quiet.quiet

@@ -3,13 +3,13 @@ use Rattle.std.specs.Prelude.{◌≡◌, ℕ, true, List, Result, Ok, Err}
 use Rattle.histar_flat.specs.Words.{ProcName}
 use Rattle.histar_flat.specs.Meaning.{meaning}
 use Rattle.histar_script.specs.declared.fault.Fault.{Fault}
-use Rattle.histar_script.specs.Script.{Reading}
+use Rattle.histar_script.specs.Script.{ScriptModel}
 use Rattle.histar_script.specs.Reading.{script_of}
-use Rattle.histar_isolation.specs.declared.verdict.Verdict.{Verdict}
-use Rattle.histar_isolation.specs.Comparison.{line_verdict, starts, tree_verdict, verdict}
-use Rattle.histar_isolation.specs.Isolation.{after_start, is_quiet}
-use Rattle.histar_isolation.specs.Trees.{first_difference, is_below_either}
-use Rattle.histar_isolation.specs.Replies.{first_shown}
+use Rattle.histar_noninterference.specs.declared.verdict.Verdict.{Verdict}
+use Rattle.histar_noninterference.specs.Comparison.{line_verdict, starts, tree_verdict, verdict}
+use Rattle.histar_noninterference.specs.Isolation.{after_start, is_quiet}
+use Rattle.histar_noninterference.specs.Trees.{first_difference, is_below_either}
+use Rattle.histar_noninterference.specs.Replies.{first_shown}
 use Rattle.histar_comparison.specs.Observation.{ObservationModel}
 
 -- what is found in what two runs show
@@ -18,8 +18,8 @@ difference first second = line_verdict (first_shown first.replies.shown second.r
     (tree_verdict (first_difference (is_below_either first.replies.directory second.replies.directory) first.tree second.tree))
 
 -- the verdict of the script that a text is, or the fault in it
-abbrev pub verdict_of : ProcName → Result Reading Fault → Result Verdict Fault
-verdict_of job (Ok script) = Ok (verdict script.session script.calls job)
+abbrev pub verdict_of : ProcName → Result ScriptModel Fault → Result Verdict Fault
+verdict_of job (Ok script) = Ok (verdict script.accounts script.calls job)
 verdict_of job (Err fault) = Err fault
 
 -- what is found where the script that a text is is compared with the script without the lines of the job
@@ -28,7 +28,7 @@ comparison job text = verdict_of job (script_of text)
 
 -- the text is a script in which a `wrap` starts the job, and whose caller has no later line that is a `rmdir` or a `wrap`
 pub record IsQuietScript (job : ProcName) (text : List ℕ) : Type 0 where
-  pub script : Reading
+  pub script : ScriptModel
   pub is_read : script_of text ≡ Ok script
-  pub starts : starts job (meaning script.session script.calls) ≡ true
-  pub quiet : is_quiet job (after_start job (meaning script.session script.calls)) ≡ true
+  pub starts : starts job (meaning script.accounts script.calls) ≡ true
+  pub quiet : is_quiet job (after_start job (meaning script.accounts script.calls)) ≡ true

@@ -3,23 +3,23 @@ use Rattle.std.specs.Prelude.{ℕ, Bool, true, false, List, [], ◌∷◌, ◌++
 use Rattle.histar_flat.specs.declared.calls.CallLine.{CallLine}
 use Rattle.histar_flat.specs.Words.{Path, ProcName}
 use Rattle.histar_flat.specs.PathOrder.{same_path}
-use Rattle.histar_flat.specs.Sessions.{Session}
+use Rattle.histar_flat.specs.Accounts.{Accounts}
 use Rattle.histar_flat.specs.Texts.{reply_text}
-use Rattle.histar_flat.specs.Meaning.{Answered, boot, flat_end, meaning, without}
-use Rattle.histar_isolation.specs.declared.replies.ShownReply.{ShownReply}
-use Rattle.histar_isolation.specs.declared.verdict.Verdict.{Verdict}
-use Rattle.histar_isolation.specs.declared.verdict.Verdict.TheVariants.{Same, NoJob, Line, Tree}
-use Rattle.histar_isolation.specs.Comparison.{outsiders, verdict}
-use Rattle.histar_isolation.specs.Trees.{PathText, tree_lines}
-use Rattle.histar_isolation.specs.VerdictText.{verdict_text}
+use Rattle.histar_flat.specs.Meaning.{RepliedCall, boot, flat_end, meaning, without}
+use Rattle.histar_noninterference.specs.declared.replies.ShownReply.{ShownReply}
+use Rattle.histar_noninterference.specs.declared.verdict.Verdict.{Verdict}
+use Rattle.histar_noninterference.specs.declared.verdict.Verdict.TheVariants.{Same, NoJob, Line, Tree}
+use Rattle.histar_noninterference.specs.Comparison.{outsiders, verdict}
+use Rattle.histar_noninterference.specs.Trees.{PathText, tree_lines}
+use Rattle.histar_noninterference.specs.VerdictText.{verdict_text}
 use Rattle.histar_script.specs.declared.fault.Fault.{Fault}
-use Rattle.histar_script.specs.Script.{Reading}
+use Rattle.histar_script.specs.Script.{ScriptModel}
 use Rattle.histar_script.specs.Reading.{script_of}
 use Rattle.histar_comparison.specs.declared.explained.Explained.{Explained}
 use Rattle.histar_comparison.specs.Observation.{ObservationModel}
 
 -- the text of the reply to line n
-abbrev pub reply_on : ℕ → List Answered → List ℕ
+abbrev pub reply_on : ℕ → List RepliedCall → List ℕ
 reply_on n [] = []
 reply_on n (a ∷ answers) = if a.call.line == n then reply_text a.reply else reply_on n answers
 
@@ -29,22 +29,22 @@ line_at_path q [] = []
 line_at_path q (line ∷ lines) = if same_path line.0 q then line.1 else line_at_path q lines
 
 -- what a run of these calls prints of what a verdict names: an outsider's reply, or a line of the tree at the end
-abbrev pub printed_of : ProcName → Session → List CallLine → Verdict → List ℕ
-printed_of job session calls Same = []
-printed_of job session calls NoJob = []
-printed_of job session calls (Line n) = reply_on n (outsiders job (meaning session calls))
-printed_of job session calls (Tree q) = line_at_path q (tree_lines (flat_end session (boot session) calls))
+abbrev pub printed_of : ProcName → Accounts → List CallLine → Verdict → List ℕ
+printed_of job accounts calls Same = []
+printed_of job accounts calls NoJob = []
+printed_of job accounts calls (Line n) = reply_on n (outsiders job (meaning accounts calls))
+printed_of job accounts calls (Tree q) = line_at_path q (tree_lines (flat_end accounts (boot accounts) calls))
 
 -- the verdict of a script, with what each run prints of what it names
-abbrev pub explained : ProcName → Reading → Explained
-explained job script = let found = verdict script.session script.calls job in record {
+abbrev pub explained : ProcName → ScriptModel → Explained
+explained job script = let found = verdict script.accounts script.calls job in record {
   verdict = found;
-  with_job = printed_of job script.session script.calls found;
-  without_job = printed_of job script.session (without job script.calls) found;
+  with_job = printed_of job script.accounts script.calls found;
+  without_job = printed_of job script.accounts (without job script.calls) found;
 }
 
 -- the same of the script that a text is, or the fault in it
-abbrev pub explanation_of : ProcName → Result Reading Fault → Result Explained Fault
+abbrev pub explanation_of : ProcName → Result ScriptModel Fault → Result Explained Fault
 explanation_of job (Ok script) = Ok (explained job script)
 explanation_of job (Err fault) = Err fault
 

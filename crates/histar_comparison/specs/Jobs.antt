@@ -8,11 +8,11 @@ use Rattle.histar_flat.specs.declared.calls.UnixCall.TheVariants.{Wrap}
 use Rattle.histar_flat.specs.declared.replies.Reply.{Reply}
 use Rattle.histar_flat.specs.declared.replies.Reply.TheVariants.{Child}
 use Rattle.histar_flat.specs.Words.{ProcName}
-use Rattle.histar_flat.specs.Meaning.{Answered, meaning}
+use Rattle.histar_flat.specs.Meaning.{RepliedCall, meaning}
 use Rattle.histar_flat.specs.Texts.{process_text}
 use Rattle.histar_script.specs.declared.fault.Fault.{Fault}
 use Rattle.histar_script.specs.Outcome.{Gives}
-use Rattle.histar_script.specs.Script.{Reading}
+use Rattle.histar_script.specs.Script.{ScriptModel}
 use Rattle.histar_shell.specs.Machine.{MachineModel, AnswersLine}
 use Rattle.histar_shell.specs.AnsweredCalls.{AnswersInTurn}
 use Rattle.histar_shell.specs.Answers.{calls_of}
@@ -30,19 +30,19 @@ job_started true (Child name) = Some name
 job_started wraps reply = None
 
 -- the jobs that these answers start, in their order
-abbrev pub jobs_started : List Answered → List ProcName
+abbrev pub jobs_started : List RepliedCall → List ProcName
 jobs_started answers = filter_map (λ a. job_started (is_wrap a.call.call) a.reply) answers
 
 -- a job of a script with its verdict, and what each run prints where they differ
-abbrev pub job_verdict : Reading → ProcName → JobVerdict
+abbrev pub job_verdict : ScriptModel → ProcName → JobVerdict
 job_verdict script job = record { job = job; found = explained job script }
 
 -- each job that a script starts, with its verdict
-abbrev pub job_verdicts : Reading → List JobVerdict
-job_verdicts script = map (job_verdict script) (jobs_started (meaning script.session script.calls))
+abbrev pub job_verdicts : ScriptModel → List JobVerdict
+job_verdicts script = map (job_verdict script) (jobs_started (meaning script.accounts script.calls))
 
 -- the same of the script that a text is, or the fault in it
-abbrev pub verdicts_of : Result Reading Fault → Result (List JobVerdict) Fault
+abbrev pub verdicts_of : Result ScriptModel Fault → Result (List JobVerdict) Fault
 verdicts_of (Ok script) = Ok (job_verdicts script)
 verdicts_of (Err fault) = Err fault
 
@@ -59,7 +59,7 @@ pub record KeepsJob (before after : MachineModel) (old new : List ProcName) (cal
 
 -- the machine answered these call lines, one after another, and the jobs that they started were kept
 pub record KeepsJobs (before after : MachineModel) (old new : List ProcName) (calls : List CallLine) : Type 0 where
-  pub answers : List Answered
+  pub answers : List RepliedCall
   pub each : calls_of answers ≡ calls
   pub in_turn : AnswersInTurn before answers after
   pub kept : new ≡ old ++ jobs_started answers

@@ -4,13 +4,13 @@ use Rattle.std.specs.List.{AllByRecursion}
 use Rattle.histar_flat.specs.declared.calls.CallLine.{CallLine}
 use Rattle.histar_flat.specs.declared.replies.Reply.{Reply}
 use Rattle.histar_flat.specs.Words.{ProcName}
-use Rattle.histar_flat.specs.Meaning.{Answered, meaning}
-use Rattle.histar_script.specs.Script.{Reading, IsDeclared}
+use Rattle.histar_flat.specs.Meaning.{RepliedCall, meaning}
+use Rattle.histar_script.specs.Script.{ScriptModel, IsDeclared}
 use Rattle.histar_syscall.specs.KernelModel.{state}
 use Rattle.histar_flat.specs.Calls.{IsCall}
-use Rattle.histar_tree.specs.declared.tree.TreeNode.{TreeNode}
-use Rattle.histar_tree.specs.TreeLines.{TreeLine, line_at}
-use Rattle.histar_isolation.specs.Trees.{PathText, tree_lines}
+use Rattle.histar_readout.specs.declared.tree.TreeNode.{TreeNode}
+use Rattle.histar_readout.specs.TreeLines.{TreeLine, line_at}
+use Rattle.histar_noninterference.specs.Trees.{PathText, tree_lines}
 use Rattle.histar_shell.specs.Machine.{MachineModel, AnswersLine}
 use Rattle.histar_shell.specs.AnsweredCalls.{AnswersInTurn}
 use Rattle.histar_shell.specs.Answers.{calls_of}
@@ -20,8 +20,8 @@ use Rattle.histar_shell.specs.TreeText.{node_text}
 use Rattle.histar_comparison.specs.Replies.{RepliesModel, no_replies, with_reply, with_replies}
 
 -- users, groups and calls that a script can have
-pub record CanRun (script : Reading) : Type 0 where
-  pub declared : IsDeclared script.session
+pub record CanRun (script : ScriptModel) : Type 0 where
+  pub declared : IsDeclared script.accounts
   pub calls : AllByRecursion (λ (c : CallLine). IsCall c.call) script.calls
 
 -- the machine answered this call line, and the reply was kept
@@ -32,7 +32,7 @@ pub record KeepsReply (job : ProcName) (before after : MachineModel) (old new : 
 
 -- the machine answered these call lines, one after another, and the replies were kept
 pub record KeepsReplies (job : ProcName) (before after : MachineModel) (old new : RepliesModel) (calls : List CallLine) : Type 0 where
-  pub answers : List Answered
+  pub answers : List RepliedCall
   pub each : calls_of answers ≡ calls
   pub in_turn : AnswersInTurn before answers after
   pub kept : new ≡ with_replies job old answers
@@ -43,8 +43,8 @@ pub record ObservationModel : Type 0 where
   pub tree : List PathText
 
 -- what is looked at of the run of a script
-abbrev pub observation : ProcName → Reading → ObservationModel
-observation job script = record { replies = with_replies job no_replies (meaning script.session script.calls); tree = tree_lines (last_state script) }
+abbrev pub observation : ProcName → ScriptModel → ObservationModel
+observation job script = record { replies = with_replies job no_replies (meaning script.accounts script.calls); tree = tree_lines (last_state script) }
 
 -- a path, and what is printed of it
 abbrev pub line_text : TreeLine → PathText

@@ -8,10 +8,10 @@ use Rattle.histar_flat.specs.Words.{Path, ProcName}
 use Rattle.histar_flat.specs.PathOrder.{same, parent}
 use Rattle.histar_flat.specs.FlatState.{moved}
 use Rattle.histar_flat.specs.Texts.{reply_text}
-use Rattle.histar_flat.specs.Meaning.{Answered}
-use Rattle.histar_isolation.specs.Comparison.{is_outsider, is_wrap_reply}
-use Rattle.histar_isolation.specs.Following.{followed, left_without}
-use Rattle.histar_isolation.specs.declared.replies.ShownReply.{ShownReply}
+use Rattle.histar_flat.specs.Meaning.{RepliedCall}
+use Rattle.histar_noninterference.specs.Comparison.{is_outsider, is_wrap_reply}
+use Rattle.histar_noninterference.specs.Following.{followed, left_without}
+use Rattle.histar_noninterference.specs.declared.replies.ShownReply.{ShownReply}
 
 -- whether a `wrap` started the job, the replies to outsiders as they are printed, and where the job's directory is
 pub record RepliesModel : Type 0 where
@@ -28,7 +28,7 @@ abbrev pub shown_by : ProcName → List ShownReply → ℕ → ProcName → Repl
 shown_by job shown line process reply = if is_outsider job process then shown ++ (record { line = line; text = reply_text reply }) ∷ [] else shown
 
 -- what is kept after one more reply
-abbrev pub with_reply : ProcName → RepliesModel → Answered → RepliesModel
+abbrev pub with_reply : ProcName → RepliesModel → RepliedCall → RepliesModel
 with_reply job replies a = record {
   is_started = replies.is_started || is_wrap_reply job a.call.call a.reply;
   shown = shown_by job replies.shown a.call.line a.call.process a.reply;
@@ -36,7 +36,7 @@ with_reply job replies a = record {
 }
 
 -- what is kept after these replies
-abbrev pub with_replies : ProcName → RepliesModel → List Answered → RepliesModel
+abbrev pub with_replies : ProcName → RepliesModel → List RepliedCall → RepliesModel
 with_replies job replies [] = replies
 with_replies job replies (a ∷ answers) = with_replies job (with_reply job replies a) answers
 

@@ -1,13 +1,13 @@
 //! Comparing two runs of a script.
 ghost use Rattle.std.specs.Prelude.{◌≡◌, IfOk, IsErrOf, IsTrue};
 ghost use Rattle.histar_comparison.specs.Compared.{IsQuietScript, comparison, difference};
-ghost use Rattle.histar_isolation.specs.declared.verdict.Verdict.TheVariants.{Same};
+ghost use Rattle.histar_noninterference.specs.declared.verdict.Verdict.TheVariants.{Same};
 ghost use Rattle.histar_script.specs.Lines.{is_too_long as too_long};
 ghost use Rattle.histar_script.specs.Outcome.{Gives};
 
 use crate::observation::{Observation, observe};
 use histar_flat::ProcName;
-use histar_isolation::{Verdict, first_difference, first_line};
+use histar_noninterference::{Verdict, first_difference, first_line};
 use histar_script::{Fault, read_script};
 use std::alloc::Global;
 

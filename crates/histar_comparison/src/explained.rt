@@ -8,7 +8,7 @@ use crate::comparison::find_difference;
 use crate::observation::{Observation, observe};
 use histar_base::Bytes;
 use histar_flat::{Path, ProcName};
-use histar_isolation::{ShownReply, Verdict};
+use histar_noninterference::{ShownReply, Verdict};
 use histar_script::{Fault, read_script};
 use std::alloc::{AllocError, Global};
 

@@ -5,7 +5,7 @@ ghost use Rattle.histar_comparison.specs.Observation.{CanRun};
 ghost use Rattle.histar_flat.specs.Meaning.{meaning};
 ghost use Rattle.histar_script.specs.Lines.{is_too_long as too_long};
 ghost use Rattle.histar_script.specs.Reading.{script_of};
-ghost use Rattle.histar_script.specs.Script.{Reading};
+ghost use Rattle.histar_script.specs.Script.{ScriptModel};
 
 use crate::explained::{Explained, explain_comparison};
 use histar_flat::{CallLine, ProcName, Reply, UnixCall};
@@ -51,10 +51,10 @@ pub fn compare_all(alloc: Global, text: &[u8]) -> Result<Vec<JobVerdict>, Fault>
 fn jobs_of(alloc: Global, script: Script) -> Result<Vec<ProcName>, AllocError>
     requires { CanRun script }
     ensures { IfOk result (λ jobs. jobs.items
-        ≡ jobs_started (meaning script.session script.calls)) }
+        ≡ jobs_started (meaning script.accounts script.calls)) }
 {
-    let (session, calls) = script.into_parts();
-    let Ok(mut machine) = Machine::boot(alloc, PlainStore::new(alloc), session) else {
+    let (accounts, calls) = script.into_parts();
+    let Ok(mut machine) = Machine::boot(alloc, PlainStore::new(alloc), accounts) else {
         return Err(AllocError);
     };
     let mut jobs = Vec::new(alloc);
@@ -120,7 +120,7 @@ fn job_started(wraps: bool, reply: &Reply) -> Option<ProcName>
 
 /// Compares a script with the script without each of these jobs.
 fn compare_each(alloc: Global, text: &[u8], jobs: &[ProcName]) -> Result<Vec<JobVerdict>, Fault>
-    ensures { (script : Reading) → script_of text.now ≡ Ok script
+    ensures { (script : ScriptModel) → script_of text.now ≡ Ok script
         → GivesVerdicts result (Ok (map (job_verdict script) jobs.now)) }
 {
     let mut verdicts = Vec::with_capacity(alloc, jobs.len())?;

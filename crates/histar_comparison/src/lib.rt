@@ -9,5 +9,5 @@ mod replies;
 
 pub use comparison::compare;
 pub use explained::{Explained, explain_comparison};
-pub use histar_isolation::Verdict;
+pub use histar_noninterference::Verdict;
 pub use jobs::{JobVerdict, compare_all};

@@ -33,8 +33,8 @@ pub fn observe(alloc: Global, script: Script, job: &ProcName) -> Result<Observat
     requires { CanRun script }
     ensures { IfOk result (λ seen. seen ≡ observation job.now script) }
 {
-    let (session, calls) = script.into_parts();
-    let Ok(mut machine) = Machine::boot(alloc, PlainStore::new(alloc), session) else {
+    let (accounts, calls) = script.into_parts();
+    let Ok(mut machine) = Machine::boot(alloc, PlainStore::new(alloc), accounts) else {
         return Err(AllocError);
     };
     let mut replies = Replies::new(alloc);

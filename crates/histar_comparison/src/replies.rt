@@ -1,14 +1,14 @@
 //! What is kept of the replies to a script.
 ghost use Rattle.std.specs.Prelude.{◌≡◌, ◌∷◌, ◌||◌, OnOk, option_map};
-ghost use Rattle.histar_isolation.specs.Comparison.{is_outsider};
-ghost use Rattle.histar_isolation.specs.Following.{left_without};
+ghost use Rattle.histar_noninterference.specs.Comparison.{is_outsider};
+ghost use Rattle.histar_noninterference.specs.Following.{left_without};
 ghost use Rattle.histar_flat.specs.PathOrder.{parent, same};
 ghost use Rattle.histar_flat.specs.FlatState.{moved};
 ghost use Rattle.histar_comparison.specs.Replies.{directory_after, is_start, no_replies, once_done, shown_by, wrap_path};
 
 use histar_base::Bytes;
 use histar_flat::{Name, Path, ProcName, Reply, UnixCall};
-use histar_isolation::ShownReply;
+use histar_noninterference::ShownReply;
 use histar_shell::reply_text;
 use std::alloc::{AllocError, Global};
 use std::marker::Model;

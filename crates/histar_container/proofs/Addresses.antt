@@ -13,13 +13,13 @@ TestsEquality test = (x y : _) → ((test x y ≡ true) × (x ≡ y)) ⊎ ((test
 pub inner : {X : Type 0} (x y : X) → Some x ≡ Some y → x ≡ y
 inner x y e = cc
 
-module _ {X : Type 0} (same_step : X → X → Bool) (tells : TestsEquality same_step) where
+module _ {X : Type 0} (same_step : X → X → Bool) (decides : TestsEquality same_step) where
   -- whether two addresses are the same tells whether they are equal
   pub same_tests_equality : TestsEquality (same_steps same_step)
   same_tests_equality [] [] = inl (refl, refl)
   same_tests_equality [] (y ∷ b) = inr (refl, λ e. cc)
   same_tests_equality (x ∷ a) [] = inr (refl, λ e. cc)
-  same_tests_equality (x ∷ a) (y ∷ b) = elim (tells x y) [
+  same_tests_equality (x ∷ a) (y ∷ b) = elim (decides x y) [
     | inl e ↦ elim (same_tests_equality a b) [
       | inl r ↦ inl (rw (e.0, r.0) refl, rw (e.1, r.1) refl)
       | inr r ↦ inr (rw (e.0, r.0) refl, λ i. let k : a ≡ b = cc in r.1 k)

@@ -11,7 +11,7 @@ use Rattle.histar_object.specs.declared.objects.Object.{Object}
 use Rattle.histar_object.specs.Objects.{TableModel, Objects, objects_of, changed_at, kind_unlinking, unlinking, links_in, kind_links, is_present}
 use Rattle.histar_container.specs.Shown.{kind_by, object_by, shown, KindStands, Stands, AllStand, IsUnusedFrom, IsKept}
 use Rattle.histar_container.specs.ObjectsModel.{ObjectsModel, state_of, CutsOff}
-use Rattle.histar_container.specs.Tree.{Address, Naming, wanted, objects_at, IsLaid, Reached, here, there, AreTree, IsCut}
+use Rattle.histar_container.specs.Tree.{Address, Naming, wanted, objects_at, MatchesNaming, Reached, here, there, AreTree, IsCut}
 use Rattle.histar_container.proofs.Keeping.{by_value, shows_all, stand_changed, unused_changed, map_none}
 use Rattle.histar_container.proofs.TableMoves.{changed_here, changed_other}
 use Rattle.histar_container.proofs.Trees.{reached_decided}
@@ -75,19 +75,19 @@ module _ {Id : Type 0} (labels : Id → Option Levels) where
 
   module _ (objects : Objects Id) where
     -- what is laid out as it is shown is laid out
-    laid_below : (next : ℕ) (naming : Naming ℕ) → IsLaid nat_eq (by_value labels objects) next (objects_at (by_value labels objects) naming) naming → IsLaid nat_eq objects next (objects_at objects naming) naming
-    laid_below next naming laid = record {
+    matched_below : (next : ℕ) (naming : Naming ℕ) → MatchesNaming nat_eq (by_value labels objects) next (objects_at (by_value labels objects) naming) naming → MatchesNaming nat_eq objects next (objects_at objects naming) naming
+    matched_below next naming matched = record {
       as_expected = λ q. by q (naming.address q) refl;
-      numbered = laid.numbered;
-      addressed = laid.addressed;
-      held = laid.held;
-      links = λ q c a i. sym (links_by (objects q) c) ∙ laid.links q c a i;
-      unused = laid.unused;
+      numbered = matched.numbered;
+      addressed = matched.addressed;
+      held = matched.held;
+      links = λ q c a i. sym (links_by (objects q) c) ∙ matched.links q c a i;
+      unused = matched.unused;
     }
       where
         by : (q : ℕ) (y : Option (Address ℕ)) → naming.address q ≡ y → objects q ≡ wanted (objects_at objects naming) y
-        by q None i = map_none (object_by (label_at labels)) (objects q) (laid.as_expected q ∙ ap (wanted (objects_at (by_value labels objects) naming)) i)
-        by q (Some a) i = sym (ap (option_and_then objects) (laid.numbered q a i))
+        by q None i = map_none (object_by (label_at labels)) (objects q) (matched.as_expected q ∙ ap (wanted (objects_at (by_value labels objects) naming)) i)
+        by q (Some a) i = sym (ap (option_and_then objects) (matched.numbered q a i))
 
     -- what is shown as a tree is one
     pub trees_below : AreTree (by_value labels objects) → AreTree objects
@@ -96,7 +96,7 @@ module _ {Id : Type 0} (labels : Id → Option Levels) where
       next = trees.next;
       tree = record {
         naming = trees.tree.naming;
-        laid = laid_below trees.next trees.tree.naming trees.tree.laid;
+        matched = matched_below trees.next trees.tree.naming trees.tree.matched;
         rooted = trees.tree.rooted;
         own_step = trees.tree.own_step;
         filled = λ q a i. sym (there_by (objects q)) ∙ trees.tree.filled q a i;

@@ -14,7 +14,7 @@ use Rattle.histar_object.specs.State.{root_object, boot_thread, empty_state}
 use Rattle.histar_container.specs.Tree.{Address, Naming, wanted, same_steps, is_one_below, IsTree}
 use Rattle.histar_container.proofs.Addresses.{inner, same_tests_equality}
 use Rattle.histar_container.proofs.TableMoves.{put_here, put_other}
-use Rattle.histar_container.proofs.Trees.{laid_itself, tree_new}
+use Rattle.histar_container.proofs.Trees.{matched_itself, tree_new}
 
 module _ {L : Type 0} (root next : ℕ) (o : Object L) (below : root < next) (leaf : (c : ℕ) → set.contains (kind_links o.kind) c ≡ false) where
   -- the root has the address of no steps, and nothing else has one
@@ -73,7 +73,7 @@ module _ {L : Type 0} (root next : ℕ) (o : Object L) (below : root < next) (le
   pub tree_root : IsTree (put no_objects root o) root next
   tree_root = record {
     naming = root_naming;
-    laid = laid_itself nat_eq (put no_objects root o) next root_expected root_naming (record {
+    matched = matched_itself nat_eq (put no_objects root o) next root_expected root_naming (record {
       as_expected = root_as_expected;
       numbered = root_numbered;
       addressed = root_addressed;

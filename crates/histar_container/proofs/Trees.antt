@@ -9,29 +9,29 @@ use Rattle.histar_object.specs.declared.objects.Kind.TheVariants.{Segment, Conta
 use Rattle.histar_object.specs.declared.objects.Object.{Object}
 use Rattle.histar_object.specs.Objects.{Objects, put, changed_at, with_new, linking, unlinking, kind_holding, holding, links_in, kind_links, is_present, is_container}
 use Rattle.histar_object.proofs.Changes.{at_each, put_changed}
-use Rattle.histar_container.specs.Tree.{Address, Naming, wanted, is_under, with_number, without_below, objects_at, IsLaid, IsTree, AreTree, Reached, IsCut}
+use Rattle.histar_container.specs.Tree.{Address, Naming, wanted, is_under, with_number, without_below, objects_at, MatchesNaming, IsTree, AreTree, Reached, IsCut}
 use Rattle.histar_container.proofs.Links.{none_linked}
 use Rattle.histar_container.proofs.Addresses.{inner}
 use Rattle.histar_container.proofs.Reaching.{LinkAt, link_at, reached_under, not_reached, reached_or_not, no_way_back, one_holder}
 use Rattle.histar_container.proofs.Moves.{next_unused}
 use Rattle.histar_container.proofs.Cutting.{some_left}
-use Rattle.histar_container.proofs.TableMoves.{put_here, put_other, new_there, new_holder, new_other, laid_put, laid_new, laid_without}
+use Rattle.histar_container.proofs.TableMoves.{put_here, put_other, new_there, new_holder, new_other, matched_put, matched_new, matched_without}
 
 module _ {L X : Type 0} (same_step : X → X → Bool) where
   -- objects that are laid out in some way are laid out as themselves
-  pub laid_itself : (objects : Objects L) (next : ℕ) (expected : Address X → Option (Object L)) (naming : Naming X) → IsLaid same_step objects next expected naming → IsLaid same_step objects next (objects_at objects naming) naming
-  laid_itself objects next expected naming laid = record {
+  pub matched_itself : (objects : Objects L) (next : ℕ) (expected : Address X → Option (Object L)) (naming : Naming X) → MatchesNaming same_step objects next expected naming → MatchesNaming same_step objects next (objects_at objects naming) naming
+  matched_itself objects next expected naming matched = record {
     as_expected = λ q. by q (naming.address q) refl;
-    numbered = laid.numbered;
-    addressed = laid.addressed;
-    held = laid.held;
-    links = laid.links;
-    unused = laid.unused;
+    numbered = matched.numbered;
+    addressed = matched.addressed;
+    held = matched.held;
+    links = matched.links;
+    unused = matched.unused;
   }
     where
       by : (q : ℕ) (y : Option (Address X)) → naming.address q ≡ y → objects q ≡ wanted (objects_at objects naming) y
-      by q None i = laid.as_expected q ∙ ap (wanted expected) i
-      by q (Some a) i = sym (ap (option_and_then objects) (laid.numbered q a i))
+      by q None i = matched.as_expected q ∙ ap (wanted expected) i
+      by q (Some a) i = sym (ap (option_and_then objects) (matched.numbered q a i))
 
 module _ {L : Type 0} where
   there_not_none : (o : Option (Object L)) → is_present o ≡ true → o ≡ None → ⊥
@@ -64,24 +64,24 @@ module _ {L : Type 0} where
     address_of q t = by (tree.naming.address q) refl
       where
         by : (y : Option (Address ℕ)) → tree.naming.address q ≡ y → (a : Address ℕ) × (tree.naming.address q ≡ Some a)
-        by None i = absurd (there_not_none (objects q) t (tree.laid.as_expected q ∙ ap (wanted (objects_at objects tree.naming)) i))
+        by None i = absurd (there_not_none (objects q) t (tree.matched.as_expected q ∙ ap (wanted (objects_at objects tree.naming)) i))
         by (Some a) i = (a, i)
 
     -- a link leads one step down
     link_addresses : (p c : ℕ) → set.contains (links_in (objects p)) c ≡ true → LinkAt tree.naming p c
-    link_addresses = link_at nat_eq eqb_tells objects next (objects_at objects tree.naming) tree.naming tree.laid
+    link_addresses = link_at nat_eq eqb_tells objects next (objects_at objects tree.naming) tree.naming tree.matched
 
     -- what has no address at a or below is not reached from there
     not_below : (o : ℕ) (a : Address ℕ) → tree.naming.address o ≡ Some a → (q : ℕ) → is_under nat_eq a (tree.naming.address q) ≡ false → Reached objects o q → ⊥
-    not_below = not_reached nat_eq eqb_tells objects next (objects_at objects tree.naming) tree.naming tree.laid
+    not_below = not_reached nat_eq eqb_tells objects next (objects_at objects tree.naming) tree.naming tree.matched
 
     -- what has an address is not the next number
     not_next : (q : ℕ) (a : Address ℕ) → tree.naming.address q ≡ Some a → q ≢ next
-    not_next = next_unused nat_eq objects next (objects_at objects tree.naming) tree.naming tree.laid
+    not_next = next_unused nat_eq objects next (objects_at objects tree.naming) tree.naming tree.matched
 
     -- nothing is there at the next number
     pub none_next : objects next ≡ None
-    none_next = tree.laid.as_expected next ∙ ap (wanted (objects_at objects tree.naming)) (tree.laid.unused next (omega arith))
+    none_next = tree.matched.as_expected next ∙ ap (wanted (objects_at objects tree.naming)) (tree.matched.unused next (omega arith))
 
     -- what is linked is there
     pub linked_there : (p c : ℕ) → set.contains (links_in (objects p)) c ≡ true → is_present (objects c) ≡ true
@@ -92,16 +92,16 @@ module _ {L : Type 0} where
     pub reached_there : (o q : ℕ) → is_present (objects o) ≡ true → Reached objects o q → is_present (objects q) ≡ true
     reached_there o q t r =
         let at_o = address_of o t in
-        let at_q = reached_under nat_eq eqb_tells objects next (objects_at objects tree.naming) tree.naming tree.laid o at_o.0 at_o.1 q r in
+        let at_q = reached_under nat_eq eqb_tells objects next (objects_at objects tree.naming) tree.naming tree.matched o at_o.0 at_o.1 q r in
         tree.filled q at_q.0 at_q.1
 
     -- nothing links what it was reached from, so no container is reached from what it links
     pub not_back : (d o : ℕ) → set.contains (links_in (objects d)) o ≡ true → Reached objects o d → ⊥
-    not_back d o k r = no_way_back nat_eq eqb_tells objects next (objects_at objects tree.naming) tree.naming tree.laid o d r k
+    not_back d o k r = no_way_back nat_eq eqb_tells objects next (objects_at objects tree.naming) tree.naming tree.matched o d r k
 
     -- an object is linked by one other at most
     pub one_link : (p q c : ℕ) → set.contains (links_in (objects p)) c ≡ true → set.contains (links_in (objects q)) c ≡ true → p ≡ q
-    one_link = one_holder nat_eq eqb_tells objects next (objects_at objects tree.naming) tree.naming tree.laid
+    one_link = one_holder nat_eq eqb_tells objects next (objects_at objects tree.naming) tree.naming tree.matched
 
     -- and the root is reached from nothing that is linked
     pub root_not_reached : (d o : ℕ) → set.contains (links_in (objects d)) o ≡ true → Reached objects o root → ⊥
@@ -112,7 +112,7 @@ module _ {L : Type 0} where
     pub reached_decided : (d o : ℕ) → set.contains (links_in (objects d)) o ≡ true → (q : ℕ) → Reached objects o q ⊎ (Reached objects o q → ⊥)
     reached_decided d o k =
         let at_o = address_of o (linked_there d o k) in
-        reached_or_not nat_eq eqb_tells objects next (objects_at objects tree.naming) tree.naming tree.laid o at_o.0 at_o.1
+        reached_or_not nat_eq eqb_tells objects next (objects_at objects tree.naming) tree.naming tree.matched o at_o.0 at_o.1
 
     -- an object with the same links is put in the place of one that is there
     pub tree_put : (n : ℕ) (o : Object L) → is_present (objects n) ≡ true → ((c : ℕ) → set.contains (kind_links o.kind) c ≡ set.contains (links_in (objects n)) c) → IsTree (put objects n o) root next
@@ -120,7 +120,7 @@ module _ {L : Type 0} where
         let at_n = address_of n t in
         record {
           naming = tree.naming;
-          laid = laid_itself nat_eq (put objects n o) next _ tree.naming (laid_put nat_eq eqb_tells objects next (objects_at objects tree.naming) tree.naming tree.laid n at_n.0 o at_n.1 same_links);
+          matched = matched_itself nat_eq (put objects n o) next _ tree.naming (matched_put nat_eq eqb_tells objects next (objects_at objects tree.naming) tree.naming tree.matched n at_n.0 o at_n.1 same_links);
           rooted = tree.rooted;
           own_step = tree.own_step;
           filled = λ q a i. elim (eqb_tells q n) [
@@ -153,8 +153,8 @@ module _ {L : Type 0} where
         let apart = not_next d at_d.0 at_d.1 in
         record {
           naming = with_number nat_eq tree.naming next (next ∷ at_d.0);
-          laid = laid_itself nat_eq (with_new objects d next o) (next + 1) _ (with_number nat_eq tree.naming next (next ∷ at_d.0))
-              (laid_new nat_eq eqb_tells objects next (objects_at objects tree.naming) tree.naming tree.laid d at_d.0 next o at_d.1 (free at_d.0 (tree.naming.number (next ∷ at_d.0)) refl) container leaf);
+          matched = matched_itself nat_eq (with_new objects d next o) (next + 1) _ (with_number nat_eq tree.naming next (next ∷ at_d.0))
+              (matched_new nat_eq eqb_tells objects next (objects_at objects tree.naming) tree.naming tree.matched d at_d.0 next o at_d.1 (free at_d.0 (tree.naming.number (next ∷ at_d.0)) refl) container leaf);
           rooted = elim (eqb_tells root next) [
             | inl e ↦ absurd (not_next root [] tree.rooted e.1)
             | inr e ↦ ap (λ b. if b then Some (next ∷ at_d.0) else tree.naming.address root) e.0 ∙ tree.rooted
@@ -178,7 +178,7 @@ module _ {L : Type 0} where
         free : (a : Address ℕ) (y : Option ℕ) → tree.naming.number (next ∷ a) ≡ y → y ≡ None
         free a None i = refl
         free a (Some q) i =
-            let at_q = tree.laid.addressed (next ∷ a) q i in
+            let at_q = tree.matched.addressed (next ∷ a) q i in
             absurd (not_next q (next ∷ a) at_q (sym (tree.own_step q next a at_q)))
 
     -- what a container links is cut off
@@ -187,7 +187,7 @@ module _ {L : Type 0} where
         let l = link_addresses d o k in
         record {
           naming = without_below nat_eq tree.naming (l.step ∷ l.above);
-          laid = laid_itself nat_eq new next _ (without_below nat_eq tree.naming (l.step ∷ l.above)) (laid_without nat_eq eqb_tells objects next (objects_at objects tree.naming) tree.naming tree.laid new d o l.above l.step is_cut l.at_linked l.at_holder);
+          matched = matched_itself nat_eq new next _ (without_below nat_eq tree.naming (l.step ∷ l.above)) (matched_without nat_eq eqb_tells objects next (objects_at objects tree.naming) tree.naming tree.matched new d o l.above l.step is_cut l.at_linked l.at_holder);
           rooted = ap (λ y. if is_under nat_eq (l.step ∷ l.above) y then None else y) tree.rooted;
           own_step = λ q x a i. tree.own_step q x a (some_left _ _ (x ∷ a) i).1;
           filled = λ q a i.

@@ -70,7 +70,7 @@ module _ {X : Type 0} (same_step : X → X → Bool) where
     cut expected a b = if under a b then None else expected b
 
     -- the objects are those expected at their addresses and no others, and each links what stands one step below it
-    pub record IsLaid (objects : Objects L) (next : ℕ) (expected : Address X → Option (Object L)) (naming : Naming X) : Type 0 where
+    pub record MatchesNaming (objects : Objects L) (next : ℕ) (expected : Address X → Option (Object L)) (naming : Naming X) : Type 0 where
       -- the object at a number is the one expected at its address; without an address there is none
       pub as_expected : (q : ℕ) → objects q ≡ wanted expected (naming.address q)
       -- the address of a number has that number
@@ -93,7 +93,7 @@ module _ {L : Type 0} where
   -- links lead from the root to each object that there is, in one way, and to no number without an object
   pub record IsTree (objects : Objects L) (root next : ℕ) : Type 0 where
     pub naming : Naming ℕ
-    pub laid : IsLaid nat_eq objects next (objects_at objects naming) naming
+    pub matched : MatchesNaming nat_eq objects next (objects_at objects naming) naming
     -- the root has the address of no steps
     pub rooted : naming.address root ≡ Some []
     -- the last step to an object is its own number

@@ -9,7 +9,7 @@ use Rattle.std.specs.FinMap.Entries.{same_entries}
 use Rattle.std.specs.FinMap.{find}
 use Rattle.histar_flat.specs.declared.calls.CallLine.{CallLine}
 use Rattle.histar_flat.specs.Words.{Name, Path, ProcName}
-use Rattle.histar_flat.specs.Sessions.{Session}
+use Rattle.histar_flat.specs.Accounts.{Accounts}
 use Rattle.histar_flat.specs.Files.{get}
 use Rattle.histar_flat.specs.Classes.{Process}
 use Rattle.histar_flat.specs.FlatState.{Flat, Node}
@@ -51,11 +51,11 @@ users_found p i (n ∷ ns) = by (eq_by_cmp process_cmp p n.0) (users_found p (i 
     by false later = later
 
 -- so a table has the users of the processes that run
-users_shown : (session : Session) (calls : List CallLine) (t : Table) → ShowsRights session (flat_end session (boot session) calls) t
-    → (p : ProcName) → user_at (process_in t p) ≡ user_of (running (flat_end session (boot session) calls) p)
-users_shown session calls t shows p =
-    ap (λ rs. user_at (find process_cmp p (by_process 0 rs))) shows.processes ∙ users_found p 0 (running_in (flat_end session (boot session) calls))
-    ∙ ap user_of ((running_are_listed session calls).each p)
+users_shown : (accounts : Accounts) (calls : List CallLine) (t : Table) → ShowsRights accounts (flat_end accounts (boot accounts) calls) t
+    → (p : ProcName) → user_at (process_in t p) ≡ user_of (running (flat_end accounts (boot accounts) calls) p)
+users_shown accounts calls t shows p =
+    ap (λ rs. user_at (find process_cmp p (by_process 0 rs))) shows.processes ∙ users_found p 0 (running_in (flat_end accounts (boot accounts) calls))
+    ∙ ap user_of ((running_are_listed accounts calls).each p)
 
 -- the newer of two users
 newer_is : (c d : Option Placed) (a b : Option Process) → user_at c ≡ user_of a → user_at d ≡ user_of b → newer_user c d ≡ user_now a b
@@ -68,37 +68,37 @@ newer_is c (Some d) a (Some b) m n = n
 
 -- differences are changes
 pub differences_are_changes : DifferencesAreChanges
-differences_are_changes session later calls more old new ds a b are = record {
+differences_are_changes accounts later calls more old new ds a b are = record {
   rising = are.rising;
   each = λ q p.
-      let before = tables_show_rights session calls old a q p in
+      let before = tables_show_rights accounts calls old a q p in
       let after = tables_show_rights later more new b q p in
-      let user = newer_is (process_in old p) (process_in new p) _ _ (users_shown session calls old a p) (users_shown later more new b p) in
+      let user = newer_is (process_in old p) (process_in new p) _ _ (users_shown accounts calls old a p) (users_shown later more new b p) in
       are.each q p
       ∙ (λ i. if same_rights (before i) (after i) then None
       else option_map (λ (name : Name). record { path = q; process = p; user = name; before = before i; after = after i }) (user i));
 }
 
 -- a process that doesn't run has no rights
-none_runs : (q : Path) (p : ProcName) (session : Session) (f : Flat) (node : Option Node) → rights_if session f q p node None ≡ no_rights
-none_runs q p session f None = refl
-none_runs q p session f (Some node) = refl
+none_runs : (q : Path) (p : ProcName) (accounts : Accounts) (f : Flat) (node : Option Node) → rights_if accounts f q p node None ≡ no_rights
+none_runs q p accounts f None = refl
+none_runs q p accounts f (Some node) = refl
 
-module _ (session : Session) (f : Flat) (later : Session) (g : Flat) (q : Path) (p : ProcName) where
+module _ (accounts : Accounts) (f : Flat) (later : Accounts) (g : Flat) (q : Path) (p : ProcName) where
   -- rights that are not listed as changed are the same
-  unchanged : (x y : Option Node) (c d : Option Process) (a b : Rights) → a ≡ rights_if session f q p x c → b ≡ rights_if later g q p y d
-      → (same : Bool) → same_rights a b ≡ same → None ≡ (if same then None else option_map (change session f later g q p) (user_now c d)) → a ≡ b
+  unchanged : (x y : Option Node) (c d : Option Process) (a b : Rights) → a ≡ rights_if accounts f q p x c → b ≡ rights_if later g q p y d
+      → (same : Bool) → same_rights a b ≡ same → None ≡ (if same then None else option_map (change accounts f later g q p) (user_now c d)) → a ≡ b
   unchanged x y c d a b m n true e none = same_rights_are a b e
-  unchanged x y None None a b m n false e none = m ∙ none_runs q p session f x ∙ sym (n ∙ none_runs q p later g y)
-  unchanged x y (Some c) None a b m n false e none = absurd (none-some (change session f later g q p c.user) none)
-  unchanged x y None (Some d) a b m n false e none = absurd (none-some (change session f later g q p d.user) none)
-  unchanged x y (Some c) (Some d) a b m n false e none = absurd (none-some (change session f later g q p d.user) none)
+  unchanged x y None None a b m n false e none = m ∙ none_runs q p accounts f x ∙ sym (n ∙ none_runs q p later g y)
+  unchanged x y (Some c) None a b m n false e none = absurd (none-some (change accounts f later g q p c.user) none)
+  unchanged x y None (Some d) a b m n false e none = absurd (none-some (change accounts f later g q p d.user) none)
+  unchanged x y (Some c) (Some d) a b m n false e none = absurd (none-some (change accounts f later g q p d.user) none)
 
   -- where nothing has changed the rights are the same
-  pub same_where_none : AreChanges session f later g [] → rights_of session f q p ≡ rights_of later g q p
+  pub same_where_none : AreChanges accounts f later g [] → rights_of accounts f q p ≡ rights_of later g q p
   same_where_none none =
-      unchanged _ _ (running f p) (running g p) (rights_of session f q p) (rights_of later g q p) refl refl
-      (same_rights (rights_of session f q p) (rights_of later g q p)) refl (none.each q p)
+      unchanged _ _ (running f p) (running g p) (rights_of accounts f q p) (rights_of later g q p) refl refl
+      (same_rights (rights_of accounts f q p) (rights_of later g q p)) refl (none.each q p)
 
 -- rights are the same as themselves
 same_bit_itself : (a : Bool) → beq a a ≡ true
@@ -108,66 +108,66 @@ same_bit_itself false = refl
 same_itself : (r : Rights) → same_rights r r ≡ true
 same_itself r = λ i. same_bit_itself r.stat i && same_bit_itself r.read i && same_bit_itself r.write i && same_bit_itself r.remove i
 
-module _ (session : Session) (f : Flat) (later : Session) (g : Flat) (q : Path) (p : ProcName) where
+module _ (accounts : Accounts) (f : Flat) (later : Accounts) (g : Flat) (q : Path) (p : ProcName) where
   -- rights that are the same are no change
-  no_change : (a b : Rights) (user : Option Name) → a ≡ b → (if same_rights a b then None else option_map (change session f later g q p) user) ≡ None
+  no_change : (a b : Rights) (user : Option Name) → a ≡ b → (if same_rights a b then None else option_map (change accounts f later g q p) user) ≡ None
   no_change a b user e =
-      ap (λ (r : Rights). if same_rights a r then None else option_map (change session f later g q p) user) (sym e)
-      ∙ ap (λ t. if t then None else option_map (change session f later g q p) user) (same_itself a)
+      ap (λ (r : Rights). if same_rights a r then None else option_map (change accounts f later g q p) user) (sym e)
+      ∙ ap (λ t. if t then None else option_map (change accounts f later g q p) user) (same_itself a)
 
   -- rights that differ are a change
-  a_change : (x y : Option Node) (c d : Option Process) (a b : Rights) → a ≡ rights_if session f q p x c → b ≡ rights_if later g q p y d
+  a_change : (x y : Option Node) (c d : Option Process) (a b : Rights) → a ≡ rights_if accounts f q p x c → b ≡ rights_if later g q p y d
       → (same : Bool) → same_rights a b ≡ same → (a ≡ b → ⊥) → is_some
-      (if same then None else option_map (change session f later g q p) (user_now c d)) ≡ true
+      (if same then None else option_map (change accounts f later g q p) (user_now c d)) ≡ true
   a_change x y c d a b m n true e differ = absurd (differ (same_rights_are a b e))
   a_change x y None None a b m n false e differ =
-      absurd (differ (m ∙ none_runs q p session f x ∙ sym (n ∙ none_runs q p later g y)))
+      absurd (differ (m ∙ none_runs q p accounts f x ∙ sym (n ∙ none_runs q p later g y)))
   a_change x y (Some c) None a b m n false e differ = refl
   a_change x y None (Some d) a b m n false e differ = refl
   a_change x y (Some c) (Some d) a b m n false e differ = refl
 
 -- a pair is a change exactly where its rights differ
 pub changes_are_listed : ChangesAreListed
-changes_are_listed session f later g cs are q p =
-    let a = rights_of session f q p in
+changes_are_listed accounts f later g cs are q p =
+    let a = rights_of accounts f q p in
     let b = rights_of later g q p in (
       λ listed same. true≢false (sym listed
-          ∙ ap is_some (are.each q p ∙ no_change session f later g q p a b (user_now (running f p) (running g p)) same)),
+          ∙ ap is_some (are.each q p ∙ no_change accounts f later g q p a b (user_now (running f p) (running g p)) same)),
       λ differ. ap is_some (are.each q p)
-          ∙ a_change session f later g q p (get f.files q) (get g.files q) (running f p) (running g p) a b refl refl (same_rights a b) refl differ,
+          ∙ a_change accounts f later g q p (get f.files q) (get g.files q) (running f p) (running g p) a b refl refl (same_rights a b) refl differ,
     )
 
 -- two lists of exactly the changes are the same list
 pub changes_are_one_list : ChangesAreOneList
-changes_are_one_list session f later g cs ds a b =
+changes_are_one_list accounts f later g cs ds a b =
     sym (without_pairs cs)
     ∙ ap (map (λ (e : Pair × Difference). e.1))
     (same_entries pair_cmp pair_cmp_total pair_cmp_exact (by_pair cs) (by_pair ds) a.rising b.rising (λ k. a.each k.0 k.1 ∙ sym (b.each k.0 k.1)))
     ∙ without_pairs ds
 
 -- the rights after calls are what is answered
-rights_answer : (session : Session) (calls : List CallLine) (me : ProcName) (q : Path) (node : Option Node) (process : Option Process)
-    → get (flat_end session (boot session) calls).files q ≡ node → running (flat_end session (boot session) calls) me ≡ process
-    → AnswersAre session calls me q (rights_if session (flat_end session (boot session) calls) q me node process) node process
-rights_answer session calls me q None None at runs = refl
-rights_answer session calls me q None (Some p) at runs = refl
-rights_answer session calls me q (Some node) None at runs = refl
-rights_answer session calls me q (Some node) (Some p) at runs = λ number. letters_are_replies session calls me p runs q node at number
+rights_answer : (accounts : Accounts) (calls : List CallLine) (me : ProcName) (q : Path) (node : Option Node) (process : Option Process)
+    → get (flat_end accounts (boot accounts) calls).files q ≡ node → running (flat_end accounts (boot accounts) calls) me ≡ process
+    → AnswersAre accounts calls me q (rights_if accounts (flat_end accounts (boot accounts) calls) q me node process) node process
+rights_answer accounts calls me q None None at runs = refl
+rights_answer accounts calls me q None (Some p) at runs = refl
+rights_answer accounts calls me q (Some node) None at runs = refl
+rights_answer accounts calls me q (Some node) (Some p) at runs = λ number. letters_are_replies accounts calls me p runs q node at number
 
 -- so are those at a path for a process, whether it runs and something stands there or not
-pub rights_answered : (session : Session) (calls : List CallLine) (me : ProcName) (q : Path)
-    → IsAnsweredBy session calls me q (rights_of session (flat_end session (boot session) calls) q me)
-rights_answered session calls me q =
-    let f = flat_end session (boot session) calls in
-    rights_answer session calls me q (get f.files q) (running f me) refl refl
+pub rights_answered : (accounts : Accounts) (calls : List CallLine) (me : ProcName) (q : Path)
+    → IsAnsweredBy accounts calls me q (rights_of accounts (flat_end accounts (boot accounts) calls) q me)
+rights_answered accounts calls me q =
+    let f = flat_end accounts (boot accounts) calls in
+    rights_answer accounts calls me q (get f.files q) (running f me) refl refl
 
 -- where nothing has changed nobody is answered otherwise
 pub nobody_is_answered_otherwise : NobodyIsAnsweredOtherwise
-nobody_is_answered_otherwise session later calls more none me q =
-    let f = flat_end session (boot session) calls in
+nobody_is_answered_otherwise accounts later calls more none me q =
+    let f = flat_end accounts (boot accounts) calls in
     let g = flat_end later (boot later) more in
     record {
-      letters = rights_of session f q me;
-      before = rights_answered session calls me q;
-      after = subst (IsAnsweredBy later more me q) (sym (same_where_none session f later g q me none)) (rights_answered later more me q);
+      letters = rights_of accounts f q me;
+      before = rights_answered accounts calls me q;
+      after = subst (IsAnsweredBy later more me q) (sym (same_where_none accounts f later g q me none)) (rights_answered later more me q);
     }

@@ -14,7 +14,7 @@ use Rattle.std.specs.FinMap.{IsAntisymmetric, find, is_sorted}
 use Rattle.histar_flat.specs.Words.{Path, ProcName}
 use Rattle.histar_flat.specs.PathOrder.{path_cmp}
 use Rattle.histar_flat.specs.PathOrderLaws.{path_cmp_exact, path_cmp_total}
-use Rattle.histar_flat.specs.Sessions.{Session}
+use Rattle.histar_flat.specs.Accounts.{Accounts}
 use Rattle.histar_flat.specs.Files.{get}
 use Rattle.histar_flat.specs.Classes.{Process}
 use Rattle.histar_flat.specs.FlatState.{Flat, Node}
@@ -82,20 +82,20 @@ module _ (F : Named → Rights) (p : ProcName) where
 
 -- ---- paths
 
-module _ (session : Session) (f : Flat) (ns : List Named) where
+module _ (accounts : Accounts) (f : Flat) (ns : List Named) where
   -- the rights of processes at a path where this stands
   abbrev rights_there : Path → Node → List Rights
-  rights_there q node = map (λ (n : Named). rights_by_calls session f n.0 n.1 q node) ns
+  rights_there q node = map (λ (n : Named). rights_by_calls accounts f n.0 n.1 q node) ns
 
   abbrev there : Path × Node → Path × List Rights
   there e = (e.0, rights_there e.0 e.1)
 
-  rights_of_cells : (e : Path × Node) (cs : List Named) → map (λ (c : Cell). c.rights) (map (cell_at session f e) cs)
-      ≡ map (λ (n : Named). rights_by_calls session f n.0 n.1 e.0 e.1) cs
+  rights_of_cells : (e : Path × Node) (cs : List Named) → map (λ (c : Cell). c.rights) (map (cell_at accounts f e) cs)
+      ≡ map (λ (n : Named). rights_by_calls accounts f n.0 n.1 e.0 e.1) cs
   rights_of_cells e [] = refl
-  rights_of_cells e (n ∷ cs) = ap (λ rs. rights_by_calls session f n.0 n.1 e.0 e.1 ∷ rs) (rights_of_cells e cs)
+  rights_of_cells e (n ∷ cs) = ap (λ rs. rights_by_calls accounts f n.0 n.1 e.0 e.1 ∷ rs) (rights_of_cells e cs)
 
-  rights_lines : (es : List (Path × Node)) → map rights_line (map (line_of session f ns) es) ≡ map there es
+  rights_lines : (es : List (Path × Node)) → map rights_line (map (line_of accounts f ns) es) ≡ map there es
   rights_lines [] = refl
   rights_lines (e ∷ es) = λ i. (e.0, rights_of_cells e ns i) ∷ rights_lines es i
 
@@ -124,24 +124,24 @@ module _ (session : Session) (f : Flat) (ns : List Named) where
 
 -- a table that shows the rights after the calls of a script is in order
 pub shown_tables_rise : ShownTablesRise
-shown_tables_rise session calls t shows =
-    let f = flat_end session (boot session) calls in
+shown_tables_rise accounts calls t shows =
+    let f = flat_end accounts (boot accounts) calls in
     let ns = running_in f in
     record {
       paths = subst (λ es. T (is_sorted path_cmp es)) (sym (shows.lines
-          ∙ rights_lines session f ns f.files.entries)) (there_rise session f ns f.files.entries f.files.sorted);
+          ∙ rights_lines accounts f ns f.files.entries)) (there_rise accounts f ns f.files.entries f.files.sorted);
       processes = subst (λ rs. T (is_sorted process_cmp (by_process 0 rs))) (sym shows.processes)
-          (placed_rise 0 ns (running_are_listed session calls).rising);
+          (placed_rise 0 ns (running_are_listed accounts calls).rising);
     }
 
-module _ (session : Session) (f : Flat) (q : Path) (p : ProcName) where
+module _ (accounts : Accounts) (f : Flat) (q : Path) (p : ProcName) where
   no_place : (o : Option ℕ) → rights_at [] o ≡ no_rights
   no_place None = refl
   no_place (Some n) = refl
 
   if_there : (place : Option ℕ) (ns : List Named) (node : Option Node) (process : Option Process)
-      → ((x : Node) → rights_at (rights_there session f ns q x) place ≡ of_found (λ (n : Named). rights_by_calls session f n.0 n.1 q x) p process)
-      → rights_at (unwrap_or (option_map (rights_there session f ns q) node) []) place ≡ rights_if session f q p node process
+      → ((x : Node) → rights_at (rights_there accounts f ns q x) place ≡ of_found (λ (n : Named). rights_by_calls accounts f n.0 n.1 q x) p process)
+      → rights_at (unwrap_or (option_map (rights_there accounts f ns q) node) []) place ≡ rights_if accounts f q p node process
   if_there place ns None None h = no_place place
   if_there place ns None (Some process) h = no_place place
   if_there place ns (Some x) None h = h x
@@ -149,15 +149,15 @@ module _ (session : Session) (f : Flat) (q : Path) (p : ProcName) where
 
 -- the rights in such a table are those of the state
 pub tables_show_rights : TablesShowRights
-tables_show_rights session calls t shows q p =
-    let f = flat_end session (boot session) calls in
+tables_show_rights accounts calls t shows q p =
+    let f = flat_end accounts (boot accounts) calls in
     let ns = running_in f in
-    let lines = shows.lines ∙ rights_lines session f ns f.files.entries in
+    let lines = shows.lines ∙ rights_lines accounts f ns f.files.entries in
     (λ i. rights_at (unwrap_or (find path_cmp q (lines i)) []) (place_of (find process_cmp p (by_process 0 (shows.processes i)))))
-    ∙ ap (λ o. rights_at (unwrap_or o []) (place_of (find process_cmp p (by_process 0 (map runner ns))))) (find_there session f ns q f.files.entries)
-    ∙ if_there session f q p (place_of (find process_cmp p (by_process 0 (map runner ns)))) ns (get f.files q) (running f p)
-    (λ x. at_place (λ (n : Named). rights_by_calls session f n.0 n.1 q x) p [] 0 ns refl
-    ∙ ap (of_found (λ (n : Named). rights_by_calls session f n.0 n.1 q x) p) ((running_are_listed session calls).each p))
+    ∙ ap (λ o. rights_at (unwrap_or o []) (place_of (find process_cmp p (by_process 0 (map runner ns))))) (find_there accounts f ns q f.files.entries)
+    ∙ if_there accounts f q p (place_of (find process_cmp p (by_process 0 (map runner ns)))) ns (get f.files q) (running f p)
+    (λ x. at_place (λ (n : Named). rights_by_calls accounts f n.0 n.1 q x) p [] 0 ns refl
+    ∙ ap (of_found (λ (n : Named). rights_by_calls accounts f n.0 n.1 q x) p) ((running_are_listed accounts calls).each p))
 
 -- ---- one list
 
@@ -224,5 +224,5 @@ none_is_the_same old new none q p =
 
 -- where no difference is listed, nobody's rights have changed
 pub nothing_has_changed : NothingHasChanged
-nothing_has_changed session later calls more old new a b none q p =
-    sym (tables_show_rights session calls old a q p) ∙ none_is_the_same old new none q p ∙ tables_show_rights later more new b q p
+nothing_has_changed accounts later calls more old new a b none q p =
+    sym (tables_show_rights accounts calls old a q p) ∙ none_is_the_same old new none q p ∙ tables_show_rights later more new b q p

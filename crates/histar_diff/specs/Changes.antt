@@ -3,7 +3,7 @@ use Rattle.std.specs.Prelude.{◌≡◌, ℕ, T, List, Option, None, Some, optio
 use Rattle.std.specs.FinMap.{find, is_sorted}
 use Rattle.histar_flat.specs.declared.calls.CallLine.{CallLine}
 use Rattle.histar_flat.specs.Words.{Name, Path, ProcName}
-use Rattle.histar_flat.specs.Sessions.{Session}
+use Rattle.histar_flat.specs.Accounts.{Accounts}
 use Rattle.histar_flat.specs.Files.{get}
 use Rattle.histar_flat.specs.Classes.{Process}
 use Rattle.histar_flat.specs.FlatState.{Flat, Node}
@@ -22,14 +22,14 @@ abbrev pub user_now : Option Process → Option Process → Option Name
 user_now old (Some p) = Some p.user
 user_now old None = option_map (λ (p : Process). p.user) old
 
-module _ (session : Session) (f : Flat) (later : Session) (g : Flat) where
+module _ (accounts : Accounts) (f : Flat) (later : Accounts) (g : Flat) where
   -- the rights of a process of this user at a path in both states
   abbrev pub change : Path → ProcName → Name → Difference
-  change q p user = record { path = q; process = p; user = user; before = rights_of session f q p; after = rights_of later g q p }
+  change q p user = record { path = q; process = p; user = user; before = rights_of accounts f q p; after = rights_of later g q p }
 
   -- the rights of a process at a path in both states, where they differ
   abbrev pub change_in : Path → ProcName → Option Difference
-  change_in q p = if same_rights (rights_of session f q p) (rights_of later g q p) then None else option_map (change q p)
+  change_in q p = if same_rights (rights_of accounts f q p) (rights_of later g q p) then None else option_map (change q p)
       (user_now (running f p) (running g p))
 
   -- These are exactly the changes between two states: they rise by paths and then by processes, none stands twice, and each pair of a
@@ -40,18 +40,18 @@ module _ (session : Session) (f : Flat) (later : Session) (g : Flat) where
 
 -- these letters say what a process is answered to the four questions at a path, after these calls of a script: whatever the number of the line
 -- by which it asks, if it runs and something stands there; else there is no letter
-abbrev pub AnswersAre : Session → List CallLine → ProcName → Path → Rights → Option Node → Option Process → Type 0
-AnswersAre session calls me q letters (Some node) (Some process) = (number : ℕ) → LettersAre session calls me number q node letters
-AnswersAre session calls me q letters _ _ = letters ≡ no_rights
+abbrev pub AnswersAre : Accounts → List CallLine → ProcName → Path → Rights → Option Node → Option Process → Type 0
+AnswersAre accounts calls me q letters (Some node) (Some process) = (number : ℕ) → LettersAre accounts calls me number q node letters
+AnswersAre accounts calls me q letters _ _ = letters ≡ no_rights
 
 -- the same of what the flat state after the calls has
-abbrev pub IsAnsweredBy : Session → List CallLine → ProcName → Path → Rights → Type 0
-IsAnsweredBy session calls me q letters =
-    AnswersAre session calls me q letters (get (flat_end session (boot session) calls).files q) (running (flat_end session (boot session) calls) me)
+abbrev pub IsAnsweredBy : Accounts → List CallLine → ProcName → Path → Rights → Type 0
+IsAnsweredBy accounts calls me q letters =
+    AnswersAre accounts calls me q letters (get (flat_end accounts (boot accounts) calls).files q) (running (flat_end accounts (boot accounts) calls) me)
 
 -- the same letters say what a process is answered at a path after each of two scripts
-pub record IsAnsweredAlike (session : Session) (calls : List CallLine) (later : Session) (more : List CallLine) (me : ProcName)
+pub record IsAnsweredAlike (accounts : Accounts) (calls : List CallLine) (later : Accounts) (more : List CallLine) (me : ProcName)
     (q : Path) : Type 0 where
   pub letters : Rights
-  pub before : IsAnsweredBy session calls me q letters
+  pub before : IsAnsweredBy accounts calls me q letters
   pub after : IsAnsweredBy later more me q letters

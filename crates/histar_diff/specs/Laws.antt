@@ -3,7 +3,7 @@ use Rattle.std.specs.Prelude.{◌≡◌, ◌≢◌, ◌↔◌, true, is_some, Li
 use Rattle.std.specs.FinMap.{find}
 use Rattle.histar_flat.specs.declared.calls.CallLine.{CallLine}
 use Rattle.histar_flat.specs.Words.{Path, ProcName}
-use Rattle.histar_flat.specs.Sessions.{Session}
+use Rattle.histar_flat.specs.Accounts.{Accounts}
 use Rattle.histar_flat.specs.FlatState.{Flat}
 use Rattle.histar_flat.specs.Meaning.{boot, flat_end}
 use Rattle.histar_diff.specs.declared.table.Table.{Table}
@@ -29,46 +29,46 @@ DifferencesAreOneList = (old new : Table) (ds es : List Difference) → AreDiffe
 
 -- a table that shows the rights after the calls of a script is in order
 abbrev pub ShownTablesRise : Type 0
-ShownTablesRise = (session : Session) (calls : List CallLine) (t : Table) → ShowsRights session (flat_end session (boot session) calls) t → IsTable t
+ShownTablesRise = (accounts : Accounts) (calls : List CallLine) (t : Table) → ShowsRights accounts (flat_end accounts (boot accounts) calls) t → IsTable t
 
 -- the rights in such a table are those of the state
 abbrev pub TablesShowRights : Type 0
 TablesShowRights =
-    (session : Session) (calls : List CallLine) (t : Table) → ShowsRights session (flat_end session (boot session) calls) t
-    → (q : Path) (p : ProcName) → rights_in t q p ≡ rights_of session (flat_end session (boot session) calls) q p
+    (accounts : Accounts) (calls : List CallLine) (t : Table) → ShowsRights accounts (flat_end accounts (boot accounts) calls) t
+    → (q : Path) (p : ProcName) → rights_in t q p ≡ rights_of accounts (flat_end accounts (boot accounts) calls) q p
 
 -- where no difference is listed of two tables that show the rights after the calls of scripts, nobody's rights have changed
 abbrev pub NothingHasChanged : Type 0
 NothingHasChanged =
-    (session later : Session) (calls more : List CallLine) (old new : Table)
-    → ShowsRights session (flat_end session (boot session) calls) old → ShowsRights later (flat_end later (boot later) more) new
+    (accounts later : Accounts) (calls more : List CallLine) (old new : Table)
+    → ShowsRights accounts (flat_end accounts (boot accounts) calls) old → ShowsRights later (flat_end later (boot later) more) new
     → AreDifferences old new []
-    → (q : Path) (p : ProcName) → rights_of session (flat_end session (boot session) calls) q p
+    → (q : Path) (p : ProcName) → rights_of accounts (flat_end accounts (boot accounts) calls) q p
     ≡ rights_of later (flat_end later (boot later) more) q p
 
 -- the differences of two tables that show the rights after the calls of scripts are the changes between the two states
 abbrev pub DifferencesAreChanges : Type 0
 DifferencesAreChanges =
-    (session later : Session) (calls more : List CallLine) (old new : Table) (ds : List Difference)
-    → ShowsRights session (flat_end session (boot session) calls) old → ShowsRights later (flat_end later (boot later) more) new
+    (accounts later : Accounts) (calls more : List CallLine) (old new : Table) (ds : List Difference)
+    → ShowsRights accounts (flat_end accounts (boot accounts) calls) old → ShowsRights later (flat_end later (boot later) more) new
     → AreDifferences old new ds
-    → AreChanges session (flat_end session (boot session) calls) later (flat_end later (boot later) more) ds
+    → AreChanges accounts (flat_end accounts (boot accounts) calls) later (flat_end later (boot later) more) ds
 
 -- a pair of a path and a process has changed exactly where its rights differ
 abbrev pub ChangesAreListed : Type 0
 ChangesAreListed =
-    (session : Session) (f : Flat) (later : Session) (g : Flat) (cs : List Difference) → AreChanges session f later g cs
-    → (q : Path) (p : ProcName) → (is_some (find pair_cmp (q, p) (by_pair cs)) ≡ true) ↔ (rights_of session f q p ≢ rights_of later g q p)
+    (accounts : Accounts) (f : Flat) (later : Accounts) (g : Flat) (cs : List Difference) → AreChanges accounts f later g cs
+    → (q : Path) (p : ProcName) → (is_some (find pair_cmp (q, p) (by_pair cs)) ≡ true) ↔ (rights_of accounts f q p ≢ rights_of later g q p)
 
 -- two lists of exactly the changes between two states are the same list
 abbrev pub ChangesAreOneList : Type 0
 ChangesAreOneList =
-    (session : Session) (f : Flat) (later : Session) (g : Flat) (cs ds : List Difference)
-    → AreChanges session f later g cs → AreChanges session f later g ds → cs ≡ ds
+    (accounts : Accounts) (f : Flat) (later : Accounts) (g : Flat) (cs ds : List Difference)
+    → AreChanges accounts f later g cs → AreChanges accounts f later g ds → cs ≡ ds
 
 -- where nothing has changed after the calls of two scripts, each process is answered alike at each path
 abbrev pub NobodyIsAnsweredOtherwise : Type 0
 NobodyIsAnsweredOtherwise =
-    (session later : Session) (calls more : List CallLine)
-    → AreChanges session (flat_end session (boot session) calls) later (flat_end later (boot later) more) []
-    → (me : ProcName) (q : Path) → IsAnsweredAlike session calls later more me q
+    (accounts later : Accounts) (calls more : List CallLine)
+    → AreChanges accounts (flat_end accounts (boot accounts) calls) later (flat_end later (boot later) more) []
+    → (me : ProcName) (q : Path) → IsAnsweredAlike accounts calls later more me q

@@ -1,7 +1,7 @@
 -- Tables that show the rights of a flat state.
 use Rattle.std.specs.Prelude.{◌≡◌, List, map, Option, Some}
 use Rattle.histar_flat.specs.Words.{Path, ProcName}
-use Rattle.histar_flat.specs.Sessions.{Session}
+use Rattle.histar_flat.specs.Accounts.{Accounts}
 use Rattle.histar_flat.specs.Files.{get}
 use Rattle.histar_flat.specs.Classes.{Process}
 use Rattle.histar_flat.specs.FlatState.{Flat, Node}
@@ -23,15 +23,15 @@ abbrev pub rights_line : AccessLine → Path × List Rights
 rights_line l = (l.path, map (λ (c : Cell). c.rights) l.cells)
 
 -- the table has the processes that run and their users, and the paths and rights that are printed of the state
-pub record ShowsRights (session : Session) (f : Flat) (t : Table) : Type 0 where
+pub record ShowsRights (accounts : Accounts) (f : Flat) (t : Table) : Type 0 where
   pub processes : t.processes.items ≡ map runner (running_in f)
-  pub lines : by_path t.lines.items ≡ map rights_line (access_table session f)
+  pub lines : by_path t.lines.items ≡ map rights_line (access_table accounts f)
 
 -- the rights of a process, if it runs, at a path, if something stands there; else none
-abbrev pub rights_if : Session → Flat → Path → ProcName → Option Node → Option Process → Rights
-rights_if session f q p (Some node) (Some process) = rights_at session f p process q node
-rights_if session f q p _ _ = no_rights
+abbrev pub rights_if : Accounts → Flat → Path → ProcName → Option Node → Option Process → Rights
+rights_if accounts f q p (Some node) (Some process) = rights_at accounts f p process q node
+rights_if accounts f q p _ _ = no_rights
 
 -- the rights of a process at a path in a flat state
-abbrev pub rights_of : Session → Flat → Path → ProcName → Rights
-rights_of session f q p = rights_if session f q p (get f.files q) (running f p)
+abbrev pub rights_of : Accounts → Flat → Path → ProcName → Rights
+rights_of accounts f q p = rights_if accounts f q p (get f.files q) (running f p)

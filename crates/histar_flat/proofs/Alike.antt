@@ -4,7 +4,7 @@ use Rattle.histar_base.specs.Refusals.{◌orelse◌, unless}
 use Rattle.histar_flat.specs.declared.replies.Errno.TheVariants.{ENOENT, ENOTDIR, EISDIR, EACCES}
 use Rattle.histar_flat.specs.Words.{Path}
 use Rattle.histar_flat.specs.PathOrder.{parent}
-use Rattle.histar_flat.specs.Sessions.{Session}
+use Rattle.histar_flat.specs.Accounts.{Accounts}
 use Rattle.histar_flat.specs.Files.{get}
 use Rattle.histar_flat.specs.Classes.{Process, may_read}
 use Rattle.histar_flat.specs.FlatState.{Flat, is_there, reads, bytes_at, into, walk}
@@ -17,30 +17,30 @@ use Rattle.histar_flat.proofs.LooksAlike.{LooksAlike, found_alike, test_alike}
 abbrev pub ShowAlike : Flat → Flat → Type 0
 ShowAlike f g = (r : Path) → option_map shown (get f.files r) ≡ option_map shown (get g.files r)
 
-module _ (session : Session) (f g : Flat) (alike : ShowAlike f g) (p : Process) where
+module _ (accounts : Accounts) (f g : Flat) (alike : ShowAlike f g) (p : Process) where
   there_alike : (r : Path) → is_there f r ≡ is_there g r
   there_alike r = test_alike (λ s. true) (get f.files r) (get g.files r) (alike r)
 
-  pub reads_alike : (r : Path) → reads session f p r ≡ reads session g p r
-  reads_alike r = test_alike (λ s. may_read session p s.0) (get f.files r) (get g.files r) (alike r)
+  pub reads_alike : (r : Path) → reads accounts f p r ≡ reads accounts g p r
+  reads_alike r = test_alike (λ s. may_read accounts p s.0) (get f.files r) (get g.files r) (alike r)
 
-  into_alike : (d : Path) → into session f p d ≡ into session g p d
+  into_alike : (d : Path) → into accounts f p d ≡ into accounts g p d
   into_alike [] = λ i. unless (reads_alike [] i) EACCES
   into_alike (n ∷ d) = λ i.
       into_alike d i orelse unless (there_alike (n ∷ d) i) ENOENT
       orelse unless (test_alike (λ s. s.1) (get f.files (n ∷ d)) (get g.files (n ∷ d)) (alike (n ∷ d)) i) ENOTDIR orelse unless (reads_alike (n ∷ d) i) EACCES
 
-  walk_alike : (r : Path) → walk session f p r ≡ walk session g p r
+  walk_alike : (r : Path) → walk accounts f p r ≡ walk accounts g p r
   walk_alike [] = refl
   walk_alike (n ∷ d) = into_alike d
 
-  pub file_reached_alike : (r : Path) → no_file session f p r ≡ no_file session g p r
+  pub file_reached_alike : (r : Path) → no_file accounts f p r ≡ no_file accounts g p r
   file_reached_alike r = λ i.
       unless (is_below_root r) EISDIR orelse walk_alike r i orelse unless (there_alike r i) ENOENT
       orelse unless (test_alike (λ s. not s.1) (get f.files r) (get g.files r) (alike r) i) EISDIR
 
   -- They look alike, where bytes that the process may read are the same.
-  pub looks_alike : f.processes ≡ g.processes → ((r : Path) → reads session f p r ≡ true → bytes_at f r ≡ bytes_at g r) → (q : Path) → LooksAlike true session f g p q
+  pub looks_alike : f.processes ≡ g.processes → ((r : Path) → reads accounts f p r ≡ true → bytes_at f r ≡ bytes_at g r) → (q : Path) → LooksAlike true accounts f g p q
   looks_alike processes same_bytes q = record {
     way = walk_alike q;
     here = λ w. alike q;

@@ -10,7 +10,7 @@ use Rattle.histar_flat.specs.declared.replies.Errno.{Errno}
 use Rattle.histar_flat.specs.declared.replies.Errno.TheVariants.{ENOENT, EEXIST, EACCES, ENOSPC}
 use Rattle.histar_flat.specs.Words.{Name, Path, ProcName}
 use Rattle.histar_flat.specs.PathOrder.{same, under_path}
-use Rattle.histar_flat.specs.Sessions.{Session, has, is_member, user_named}
+use Rattle.histar_flat.specs.Accounts.{Accounts, has, is_member, user_named}
 use Rattle.histar_flat.specs.Files.{get}
 use Rattle.histar_flat.specs.Classes.{Class, Process, nobody, is_free, free_class, class_made, carries}
 use Rattle.histar_flat.specs.Classes.Class.{Private, Readable, Scratch, Grouped}
@@ -27,8 +27,8 @@ use Rattle.histar_flat.proofs.FileLemmas.{same_name_found}
 use Rattle.histar_flat.proofs.Refusals.{one_passes, two_pass, three_pass}
 
 -- only a process of a job makes what is of the job
-made_in_job : (session : Session) (p : Process) (mode : Mode) (job : ProcName) → carries job (class_or_open (class_made session p mode)) ≡ true → has p.chain job ≡ true
-made_in_job session p mode job h = by p.chain h
+made_in_job : (accounts : Accounts) (p : Process) (mode : Mode) (job : ProcName) → carries job (class_or_open (class_made accounts p mode)) ≡ true → has p.chain job ≡ true
+made_in_job accounts p mode job h = by p.chain h
   where
     member : (b : Bool) (class : Class) → carries job class ≡ false → carries job (class_or_open (if b then Some class else None)) ≡ false
     member true class h = h
@@ -38,27 +38,27 @@ made_in_job session p mode job h = by p.chain h
     unless_nobody true class h = refl
     unless_nobody false class h = h
 
-    free : (m : Mode) → carries job (class_or_open (free_class session p m)) ≡ false
+    free : (m : Mode) → carries job (class_or_open (free_class accounts p m)) ≡ false
     free modes.Open = refl
     free modes.Private = unless_nobody (same p.user nobody) (Private p.user) refl
     free modes.Readable = unless_nobody (same p.user nobody) (Readable p.user) refl
-    free (modes.Group group) = member (is_member session p.user group) (Grouped group) refl
+    free (modes.Group group) = member (is_member accounts p.user group) (Grouped group) refl
 
-    by : (jobs : List ProcName) → carries job (class_or_open (if (let b : Bool = elim jobs [ [] ↦ true | k ∷ ks ↦ false ] in b) then free_class session p mode else Some (Scratch p.user jobs))) ≡ true → has jobs job ≡ true
+    by : (jobs : List ProcName) → carries job (class_or_open (if (let b : Bool = elim jobs [ [] ↦ true | k ∷ ks ↦ false ] in b) then free_class accounts p mode else Some (Scratch p.user jobs))) ≡ true → has jobs job ≡ true
     by [] h = absurd (true≢false (sym h ∙ free mode))
     by (k ∷ ks) h = h
 
 -- what making an entry has tested
-pub room_tests : (session : Session) (f : Flat) (p : Process) (n : Name) (d : Path) → no_room session f p (n ∷ d) ≡ None → (into session f p d ≡ None) × (get f.files (n ∷ d) ≡ None) × (writes session f p d ≡ true)
-room_tests session f p n d h =
-    let tests = three_pass (into session f p d) (not (is_there f (n ∷ d))) (nat_lt (length (entries_in f d)) most_entries) (writes session f p d) EEXIST ENOSPC EACCES h in
+pub room_tests : (accounts : Accounts) (f : Flat) (p : Process) (n : Name) (d : Path) → no_room accounts f p (n ∷ d) ≡ None → (into accounts f p d ≡ None) × (get f.files (n ∷ d) ≡ None) × (writes accounts f p d ≡ true)
+room_tests accounts f p n d h =
+    let tests = three_pass (into accounts f p d) (not (is_there f (n ∷ d))) (nat_lt (length (entries_in f d)) most_entries) (writes accounts f p d) EEXIST ENOSPC EACCES h in
     (tests.0, nothing_there (get f.files (n ∷ d)) tests.1, tests.3)
 
 -- what a rename has tested
-pub rename_tests : (session : Session) (f : Flat) (me : ProcName) (p : Process) (n k : Name) (d : Path) → refused session f me p (Rename (n ∷ d) k) ≡ None → (n ≢ k) × (get f.files (k ∷ d) ≡ None) × (writes session f p d ≡ true)
-rename_tests session f me p n k d h =
-    let tests = two_pass (no_entry session f p (n ∷ d)) (not (is_there f (k ∷ d))) (writes session f p d) EEXIST EACCES h in
-    let there = (one_passes (into session f p d) (is_there f (n ∷ d)) ENOENT tests.0).1 in
+pub rename_tests : (accounts : Accounts) (f : Flat) (me : ProcName) (p : Process) (n k : Name) (d : Path) → refused accounts f me p (Rename (n ∷ d) k) ≡ None → (n ≢ k) × (get f.files (k ∷ d) ≡ None) × (writes accounts f p d ≡ true)
+rename_tests accounts f me p n k d h =
+    let tests = two_pass (no_entry accounts f p (n ∷ d)) (not (is_there f (k ∷ d))) (writes accounts f p d) EEXIST EACCES h in
+    let there = (one_passes (into accounts f p d) (is_there f (n ∷ d)) ENOENT tests.0).1 in
     ((λ e. true≢false (sym tests.1 ∙ ap (λ x. not (is_there f (x ∷ d))) (sym e) ∙ ap not there)), nothing_there (get f.files (k ∷ d)) tests.1, tests.2)
 
 -- where nothing stands is another name
@@ -66,25 +66,25 @@ pub another_name : (f : Flat) (n k : Name) (d : Path) → is_there f (n ∷ d) �
 another_name f n k d there free e = true≢false (sym there ∙ ap (λ x. is_there f (x ∷ d)) e ∙ ap (λ o. is_some_and o (λ n. true)) free)
 
 -- What is owed for each change by a call of the process p, whose name is me, so that P holds after the call.
-pub record EachChange (session : Session) (f : Flat) (me : ProcName) (p : Process) (call : UnixCall) (P : Flat → Type 0) : Type 0 where
+pub record EachChange (accounts : Accounts) (f : Flat) (me : ProcName) (p : Process) (call : UnixCall) (P : Flat → Type 0) : Type 0 where
   pub stays : P f
-  pub makes : (n : Name) (d : Path) (x : Node) → into session f p d ≡ None → get f.files (n ∷ d) ≡ None → writes session f p d ≡ true
+  pub makes : (n : Name) (d : Path) (x : Node) → into accounts f p d ≡ None → get f.files (n ∷ d) ≡ None → writes accounts f p d ≡ true
       → ((job : ProcName) → carries job x.class ≡ true → has p.chain job ≡ true)
-      → (mode : Mode) → x.class ≡ class_or_open (class_made session p mode) → P (with_node f (n ∷ d) x.class x.content)
-  pub overwrites : (n : Name) (d : Path) (bytes : List ℕ) → is_file_at f (n ∷ d) ≡ true → writes session f p (n ∷ d) ≡ true → P (with_bytes f (n ∷ d) bytes)
-  pub cuts : (n : Name) (d : Path) → ((q : Path) → takes_away call q ≡ under_path (n ∷ d) q) → writes session f p d ≡ true → P (without_below f (n ∷ d))
-  pub renames : (n k : Name) (d : Path) → ((q : Path) → takes_away call q ≡ under_path (n ∷ d) q) → n ≢ k → get f.files (k ∷ d) ≡ None → writes session f p d ≡ true → P (with_renamed f (n ∷ d) (k ∷ d))
+      → (mode : Mode) → x.class ≡ class_or_open (class_made accounts p mode) → P (with_node f (n ∷ d) x.class x.content)
+  pub overwrites : (n : Name) (d : Path) (bytes : List ℕ) → is_file_at f (n ∷ d) ≡ true → writes accounts f p (n ∷ d) ≡ true → P (with_bytes f (n ∷ d) bytes)
+  pub cuts : (n : Name) (d : Path) → ((q : Path) → takes_away call q ≡ under_path (n ∷ d) q) → writes accounts f p d ≡ true → P (without_below f (n ∷ d))
+  pub renames : (n k : Name) (d : Path) → ((q : Path) → takes_away call q ≡ under_path (n ∷ d) q) → n ≢ k → get f.files (k ∷ d) ≡ None → writes accounts f p d ≡ true → P (with_renamed f (n ∷ d) (k ∷ d))
   pub spawns : (rule call).effect ≡ Spawns → P (with_child f me p p.chain)
   pub exits : (n : ℕ) → (rule call).effect ≡ Exits n → P (with_process f me (record p { exited = Some n }))
-  pub logs_in : (name : Name) → (rule call).effect ≡ LogsIn name → is_some (user_named session.users name) ≡ true → is_free p ≡ true → P (with_process f me (record p { user = name; held = [] }))
+  pub logs_in : (name : Name) → (rule call).effect ≡ LogsIn name → is_some (user_named accounts.users name) ≡ true → is_free p ≡ true → P (with_process f me (record p { user = name; held = [] }))
   pub kills : (n : ℕ) → P (without_process f (n ∷ me))
-  pub wraps : (n : Name) (d : Path) → (rule call).effect ≡ Wraps → into session f p d ≡ None → get f.files (n ∷ d) ≡ None → writes session f p d ≡ true → same p.user nobody ≡ false → P (changed session f me p (Wrap (n ∷ d)))
+  pub wraps : (n : Name) (d : Path) → (rule call).effect ≡ Wraps → into accounts f p d ≡ None → get f.files (n ∷ d) ≡ None → writes accounts f p d ≡ true → same p.user nobody ≡ false → P (changed accounts f me p (Wrap (n ∷ d)))
 
 pub or_stays : (P : Flat → Type 0) (f g : Flat) (e : Option Errno) → P f → (e ≡ None → P g) → P (flat_or e f g)
 or_stays P f g None h k = k refl
 or_stays P f g (Some e) h k = h
 
-module _ (session : Session) (f : Flat) (me : ProcName) (p : Process) (P : Flat → Type 0) (call : UnixCall) (each : EachChange session f me p call P) where
+module _ (accounts : Accounts) (f : Flat) (me : ProcName) (p : Process) (P : Flat → Type 0) (call : UnixCall) (each : EachChange accounts f me p call P) where
   killed : (q : ProcName) → is_child me q ≡ true → P (without_process f q)
   killed [] h = absurd (true≢false (sym h))
   killed (n ∷ above) h = elim (same_name_found me above) [
@@ -93,11 +93,11 @@ module _ (session : Session) (f : Flat) (me : ProcName) (p : Process) (P : Flat 
   ]
 
   -- Each effect that has a warrant is one of these.
-  by_effect : (q : Path) → path_of call ≡ q → (effect : Effect) → (rule call).effect ≡ effect → Warrant session f me p q effect → P (apply session f me p q effect)
+  by_effect : (q : Path) → path_of call ≡ q → (effect : Effect) → (rule call).effect ≡ effect → Warrant accounts f me p q effect → P (apply accounts f me p q effect)
   by_effect q named Nothing is may = each.stays
   by_effect [] named (Makes content mode) is may = absurd (true≢false (sym may.0))
   by_effect (n ∷ d) named (Makes content mode) is may =
-      each.makes n d (record { class = class_or_open (class_made session p mode); content = content }) may.1 may.2 may.3 (made_in_job session p mode) mode refl
+      each.makes n d (record { class = class_or_open (class_made accounts p mode); content = content }) may.1 may.2 may.3 (made_in_job accounts p mode) mode refl
   by_effect [] named (Stores new) is may = absurd (true≢false (sym may.0))
   by_effect (n ∷ d) named (Stores new) is may = each.overwrites n d (new (bytes_at f (n ∷ d))) may.2 may.3
   by_effect [] named Removes is may = absurd (true≢false (sym may.0))
@@ -112,9 +112,9 @@ module _ (session : Session) (f : Flat) (me : ProcName) (p : Process) (P : Flat 
   by_effect (n ∷ d) named Wraps is may = each.wraps n d is may.1 may.2 may.3 (not-true (same p.user nobody) may.4)
 
   -- Each call does one of these.
-  pub by_change : P (flat_by session f me (Some p) call)
-  by_change = or_stays P f (changed session f me p call) (refused session f me p call) each.stays
-      (λ passes. by_effect (path_of call) refl (rule call).effect refl (warranted session f me p call passes))
+  pub by_change : P (flat_by accounts f me (Some p) call)
+  by_change = or_stays P f (changed accounts f me p call) (refused accounts f me p call) each.stays
+      (λ passes. by_effect (path_of call) refl (rule call).effect refl (warranted accounts f me p call passes))
 
 -- a process that runs is there
 pub runs_is_there : (o : Option Process) (p : Process) → if_running o ≡ Some p → o ≡ Some p
@@ -126,20 +126,20 @@ runs_is_there (Some q) p h = by q.exited h
     by (Some n) h = absurd (cc)
 
 -- A line changes nothing, or is a call of a process that is there.
-pub by_line : (session : Session) (f : Flat) (me : ProcName) (call : UnixCall) (P : Flat → Type 0) → P f → ((p : Process) → running f me ≡ Some p → EachChange session f me p call P) → P (flat_after session f me call)
-by_line session f me call P still moves = by (running f me) refl
+pub by_line : (accounts : Accounts) (f : Flat) (me : ProcName) (call : UnixCall) (P : Flat → Type 0) → P f → ((p : Process) → running f me ≡ Some p → EachChange accounts f me p call P) → P (flat_after accounts f me call)
+by_line accounts f me call P still moves = by (running f me) refl
   where
-    by : (o : Option Process) → running f me ≡ o → P (flat_by session f me o call)
+    by : (o : Option Process) → running f me ≡ o → P (flat_by accounts f me o call)
     by None e = still
-    by (Some p) e = by_change session f me p P call (moves p e)
+    by (Some p) e = by_change accounts f me p P call (moves p e)
 
 -- A line changes nothing, or has an effect with its warrant, of a process that is there.
-pub by_rule : (session : Session) (f : Flat) (me : ProcName) (call : UnixCall) (P : Flat → Type 0) → P f
-    → ((p : Process) → f.processes me ≡ Some p → Warrant session f me p (path_of call) (rule call).effect → P (apply session f me p (path_of call) (rule call).effect))
-    → P (flat_after session f me call)
-by_rule session f me call P still moves = by (running f me) refl
+pub by_rule : (accounts : Accounts) (f : Flat) (me : ProcName) (call : UnixCall) (P : Flat → Type 0) → P f
+    → ((p : Process) → f.processes me ≡ Some p → Warrant accounts f me p (path_of call) (rule call).effect → P (apply accounts f me p (path_of call) (rule call).effect))
+    → P (flat_after accounts f me call)
+by_rule accounts f me call P still moves = by (running f me) refl
   where
-    by : (o : Option Process) → running f me ≡ o → P (flat_by session f me o call)
+    by : (o : Option Process) → running f me ≡ o → P (flat_by accounts f me o call)
     by None e = still
-    by (Some p) e = or_stays P f (changed session f me p call) (refused session f me p call) still
-        (λ passes. moves p (runs_is_there (f.processes me) p e) (warranted session f me p call passes))
+    by (Some p) e = or_stays P f (changed accounts f me p call) (refused accounts f me p call) still
+        (λ passes. moves p (runs_is_there (f.processes me) p e) (warranted accounts f me p call passes))

@@ -20,38 +20,38 @@ shown n = (n.class, is_dir n)
 abbrev Shown : Type 0
 Shown = Path × (Class × Bool)
 
-module _ {Y : Type 0} (told : Node → Y) where
+module _ {Y : Type 0} (revealed : Node → Y) where
   -- each path with what is told of what stands there
-  abbrev pub all_told : List (Path × Node) → List (Path × Y)
-  all_told = map (λ e. (e.0, told e.1))
+  abbrev pub all_revealed : List (Path × Node) → List (Path × Y)
+  all_revealed = map (λ e. (e.0, revealed e.1))
 
-  below_told : (q : Path) (es : List (Path × Node)) → below_all path_cmp q (all_told es) ≡ below_all path_cmp q es
-  below_told q [] = refl
-  below_told q (e ∷ es) = ap (λ b. is_lt (path_cmp q e.0) && b) (below_told q es)
+  below_revealed : (q : Path) (es : List (Path × Node)) → below_all path_cmp q (all_revealed es) ≡ below_all path_cmp q es
+  below_revealed q [] = refl
+  below_revealed q (e ∷ es) = ap (λ b. is_lt (path_cmp q e.0) && b) (below_revealed q es)
 
   -- the paths rise as before
-  sorted_told : (es : List (Path × Node)) → is_sorted path_cmp (all_told es) ≡ is_sorted path_cmp es
-  sorted_told [] = refl
-  sorted_told (e ∷ es) = λ i. below_told e.0 es i && sorted_told es i
+  sorted_revealed : (es : List (Path × Node)) → is_sorted path_cmp (all_revealed es) ≡ is_sorted path_cmp es
+  sorted_revealed [] = refl
+  sorted_revealed (e ∷ es) = λ i. below_revealed e.0 es i && sorted_revealed es i
 
   -- what is told of a path is told of what stands there
-  pub find_told : (q : Path) (es : List (Path × Node)) → find path_cmp q (all_told es) ≡ option_map told (find path_cmp q es)
-  find_told q [] = refl
-  find_told q (e ∷ es) = by (eq_by_cmp path_cmp q e.0) (find_told q es)
+  pub find_revealed : (q : Path) (es : List (Path × Node)) → find path_cmp q (all_revealed es) ≡ option_map revealed (find path_cmp q es)
+  find_revealed q [] = refl
+  find_revealed q (e ∷ es) = by (eq_by_cmp path_cmp q e.0) (find_revealed q es)
     where
-      by : (b : Bool) → find path_cmp q (all_told es) ≡ option_map told (find path_cmp q es) → cond b (Some (told e.1)) (find path_cmp q (all_told es)) ≡ option_map told (cond b (Some e.1) (find path_cmp q es))
+      by : (b : Bool) → find path_cmp q (all_revealed es) ≡ option_map revealed (find path_cmp q es) → cond b (Some (revealed e.1)) (find path_cmp q (all_revealed es)) ≡ option_map revealed (cond b (Some e.1) (find path_cmp q es))
       by true h = refl
       by false h = h
 
   -- maps of which the same is told at each path are told alike
-  pub same_told : (m n : Files Node) → ((q : Path) → option_map told (get m q) ≡ option_map told (get n q)) → all_told m.entries ≡ all_told n.entries
-  same_told m n h = same_entries path_cmp path_cmp_total path_cmp_exact (all_told m.entries) (all_told n.entries) (sorted m) (sorted n) (λ q. find_told q m.entries ∙ h q ∙ sym (find_told q n.entries))
+  pub same_revealed : (m n : Files Node) → ((q : Path) → option_map revealed (get m q) ≡ option_map revealed (get n q)) → all_revealed m.entries ≡ all_revealed n.entries
+  same_revealed m n h = same_entries path_cmp path_cmp_total path_cmp_exact (all_revealed m.entries) (all_revealed n.entries) (sorted m) (sorted n) (λ q. find_revealed q m.entries ∙ h q ∙ sym (find_revealed q n.entries))
     where
-      sorted : (k : Files Node) → T (is_sorted path_cmp (all_told k.entries))
-      sorted k = subst T (sym (sorted_told k.entries)) k.sorted
+      sorted : (k : Files Node) → T (is_sorted path_cmp (all_revealed k.entries))
+      sorted k = subst T (sym (sorted_revealed k.entries)) k.sorted
 
 abbrev all_shown : List (Path × Node) → List Shown
-all_shown = all_told shown
+all_shown = all_revealed shown
 
 -- the entry of the directory d that a path is
 abbrev shown_entry : Path → Shown → Option Entry
@@ -71,4 +71,4 @@ entries_shown d (e ∷ es) = one e.0 e.1 (entries_shown d es)
 -- maps that show the same at each path have the same entries in each directory
 pub same_entries_shown : (f g : Flat) (d : Path) → ((q : Path) → option_map shown (get f.files q) ≡ option_map shown (get g.files q)) → entries_in f d ≡ entries_in g d
 same_entries_shown f g d h =
-    entries_shown d f.files.entries ∙ ap (filter_map (shown_entry d)) (same_told shown f.files g.files h) ∙ sym (entries_shown d g.files.entries)
+    entries_shown d f.files.entries ∙ ap (filter_map (shown_entry d)) (same_revealed shown f.files g.files h) ∙ sym (entries_shown d g.files.entries)

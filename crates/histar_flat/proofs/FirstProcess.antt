@@ -8,7 +8,7 @@ use Rattle.histar_flat.specs.declared.calls.UnixCall.{UnixCall}
 use Rattle.histar_flat.specs.declared.replies.Reply.TheVariants.{Gone}
 use Rattle.histar_flat.specs.Words.{ProcName}
 use Rattle.histar_flat.specs.PathOrder.{under_process}
-use Rattle.histar_flat.specs.Sessions.{Session}
+use Rattle.histar_flat.specs.Accounts.{Accounts}
 use Rattle.histar_flat.specs.Classes.{Process}
 use Rattle.histar_flat.specs.FlatState.{Flat}
 use Rattle.histar_flat.specs.Effects.{Effect}
@@ -47,8 +47,8 @@ pub record IsAlone (f : Flat) : Type 0 where
   pub others : (n : ℕ) (q : ProcName) → f.processes (n ∷ q) ≡ None
 
 -- so it is at the start
-pub alone_at_start : (session : Session) → IsAlone (boot session)
-alone_at_start session = record {
+pub alone_at_start : (accounts : Accounts) → IsAlone (boot accounts)
+alone_at_start accounts = record {
   first = first_process;
   is_first = refl;
   plain = record { free = refl; runs = refl };
@@ -63,8 +63,8 @@ first_runs f h = ap if_running h.is_first ∙ ap (λ (x : Option ℕ). elim x [ 
 pub others_are_still : (f : Flat) → IsAlone f → (n : ℕ) (q : ProcName) → running f (n ∷ q) ≡ None
 others_are_still f h n q = ap if_running (h.others n q)
 
-module _ (session : Session) where
-  alone_changes : (f : Flat) → IsAlone f → (p : Process) (call : UnixCall) → IsPlain p → keeps_processes call ≡ true → EachChange session f [] p call IsAlone
+module _ (accounts : Accounts) where
+  alone_changes : (f : Flat) → IsAlone f → (p : Process) (call : UnixCall) → IsPlain p → keeps_processes call ≡ true → EachChange accounts f [] p call IsAlone
   alone_changes f h p call plain keeping = record {
     stays = h;
     makes = λ n d x walked free w own mode made_is. record { first = h.first; is_first = h.is_first; plain = h.plain; others = h.others };
@@ -88,22 +88,22 @@ module _ (session : Session) where
       gone false o e = e
 
   -- such a call keeps it so
-  pub alone_after : (f : Flat) → IsAlone f → (me : ProcName) (call : UnixCall) → keeps_processes call ≡ true → IsAlone (flat_after session f me call)
-  alone_after f h (n ∷ q) call keeps = subst IsAlone (sym (not_running_is_gone session f (n ∷ q) call (others_are_still f h n q)).1) h
-  alone_after f h [] call keeps = by_line session f [] call IsAlone h (λ p runs.
+  pub alone_after : (f : Flat) → IsAlone f → (me : ProcName) (call : UnixCall) → keeps_processes call ≡ true → IsAlone (flat_after accounts f me call)
+  alone_after f h (n ∷ q) call keeps = subst IsAlone (sym (not_running_is_gone accounts f (n ∷ q) call (others_are_still f h n q)).1) h
+  alone_after f h [] call keeps = by_line accounts f [] call IsAlone h (λ p runs.
       let found : Some h.first ≡ Some p = sym (first_runs f h) ∙ runs in
       let one : h.first ≡ p = cc in
       alone_changes f h p call (subst IsPlain one h.plain) keeps)
 
   -- and so do all calls of a script of such calls
-  pub alone_at_end : (f : Flat) → IsAlone f → (calls : List CallLine) → all_keep_processes calls ≡ true → IsAlone (flat_end session f calls)
+  pub alone_at_end : (f : Flat) → IsAlone f → (calls : List CallLine) → all_keep_processes calls ≡ true → IsAlone (flat_end accounts f calls)
   alone_at_end f h [] keep = h
   alone_at_end f h (c ∷ calls) keep =
       let parts = and_parts (keeps_processes c.call) (all_keep_processes calls) keep in
-      alone_at_end (flat_after session f c.process c.call) (alone_after f h c.process c.call parts.0) calls parts.1
+      alone_at_end (flat_after accounts f c.process c.call) (alone_after f h c.process c.call parts.0) calls parts.1
 
   -- In a script of such calls the lines of all processes but 0 are answered `gone`.
-  pub others_are_gone : (calls : List CallLine) → all_keep_processes calls ≡ true → (n : ℕ) (q : ProcName) (call : UnixCall) → reply_to session (flat_end session (boot session) calls) (n ∷ q) call ≡ Gone
+  pub others_are_gone : (calls : List CallLine) → all_keep_processes calls ≡ true → (n : ℕ) (q : ProcName) (call : UnixCall) → reply_to accounts (flat_end accounts (boot accounts) calls) (n ∷ q) call ≡ Gone
   others_are_gone calls keep n q call =
-      (not_running_is_gone session (flat_end session (boot session) calls) (n ∷ q) call
-      (others_are_still (flat_end session (boot session) calls) (alone_at_end (boot session) (alone_at_start session) calls keep) n q)).0
+      (not_running_is_gone accounts (flat_end accounts (boot accounts) calls) (n ∷ q) call
+      (others_are_still (flat_end accounts (boot accounts) calls) (alone_at_end (boot accounts) (alone_at_start accounts) calls keep) n q)).0

@@ -7,7 +7,7 @@ use Rattle.histar_flat.specs.declared.calls.CallLine.{CallLine}
 use Rattle.histar_flat.specs.declared.calls.UnixCall.{UnixCall}
 use Rattle.histar_flat.specs.Words.{Path, ProcName}
 use Rattle.histar_flat.specs.PathOrder.{same, under_path, under_process}
-use Rattle.histar_flat.specs.Sessions.{Session, has}
+use Rattle.histar_flat.specs.Accounts.{Accounts, has}
 use Rattle.histar_flat.specs.Files.{empty, get, insert}
 use Rattle.histar_flat.specs.Classes.{Process, knows, carries}
 use Rattle.histar_flat.specs.Classes.Class.{Readable, Scratch}
@@ -94,8 +94,8 @@ module _ (f : Flat) (me : ProcName) (p : Process) (here : f.processes me ≡ Som
         ]
   ])
 
-  still_changes : (session : Session) (call : UnixCall) → EachChange session f me p call (λ g. StillGiven f.processes g.processes)
-  still_changes session call = record {
+  still_changes : (accounts : Accounts) (call : UnixCall) → EachChange accounts f me p call (λ g. StillGiven f.processes g.processes)
+  still_changes accounts call = record {
     stays = λ name h. h;
     makes = λ n d x walked free w own mode made_is name h. h;
     overwrites = λ n d bytes file w name h. h;
@@ -111,8 +111,8 @@ module _ (f : Flat) (me : ProcName) (p : Process) (here : f.processes me ≡ Som
   }
 
 -- A name that was given stays so.
-pub given_stays : (session : Session) (f : Flat) (me : ProcName) (call : UnixCall) → StillGiven f.processes (flat_after session f me call).processes
-given_stays session f me call = by_line session f me call (λ g. StillGiven f.processes g.processes) (λ name h. h) (λ p runs. still_changes f me p (runs_is_there (f.processes me) p runs) session call)
+pub given_stays : (accounts : Accounts) (f : Flat) (me : ProcName) (call : UnixCall) → StillGiven f.processes (flat_after accounts f me call).processes
+given_stays accounts f me call = by_line accounts f me call (λ g. StillGiven f.processes g.processes) (λ name h. h) (λ p runs. still_changes f me p (runs_is_there (f.processes me) p runs) accounts call)
 
 -- whoever has a longer list of jobs has the last one, or one of the others
 pub longer_has : (jobs : List ProcName) (last job : ProcName) → has (jobs ++ last ∷ []) job ≡ true → (has jobs job ≡ true) ⊎ (job ≡ last)
@@ -225,8 +225,8 @@ module _ (f : Flat) (given : NamesAreGiven f) (tree : IsTree f) (me : ProcName) 
   known_in_chain job h = ap (λ b. b || has p.held job) h
 
   -- Each change leaves names that were given.
-  given_changes : (session : Session) (call : UnixCall) → EachChange session f me p call NamesAreGiven
-  given_changes session call = record {
+  given_changes : (accounts : Accounts) (call : UnixCall) → EachChange accounts f me p call NamesAreGiven
+  given_changes accounts call = record {
     stays = given;
     makes = λ n d x walked free w own mode made_is. given_put f given (n ∷ d) x (λ job c. given.of_known_jobs me p job here (known_in_chain job (own job c)));
     overwrites = λ n d bytes file w.
@@ -275,28 +275,28 @@ module _ (f : Flat) (given : NamesAreGiven f) (tree : IsTree f) (me : ProcName) 
       ]
 
 -- so does each line
-pub given_after : (session : Session) (f : Flat) (me : ProcName) (call : UnixCall) → IsTree f → NamesAreGiven f → NamesAreGiven (flat_after session f me call)
-given_after session f me call tree given = by_line session f me call NamesAreGiven given (λ p runs. given_changes f given tree me p (runs_is_there (f.processes me) p runs) session call)
+pub given_after : (accounts : Accounts) (f : Flat) (me : ProcName) (call : UnixCall) → IsTree f → NamesAreGiven f → NamesAreGiven (flat_after accounts f me call)
+given_after accounts f me call tree given = by_line accounts f me call NamesAreGiven given (λ p runs. given_changes f given tree me p (runs_is_there (f.processes me) p runs) accounts call)
 
 -- and so do all lines
-given_at_end : (session : Session) (f : Flat) → IsTree f → NamesAreGiven f → (calls : List CallLine) → NamesAreGiven (flat_end session f calls)
-given_at_end session f tree given [] = given
-given_at_end session f tree given (c ∷ calls) =
-    given_at_end session (flat_after session f c.process c.call) (tree_after f tree session c.process c.call) (given_after session f c.process c.call tree given) calls
+given_at_end : (accounts : Accounts) (f : Flat) → IsTree f → NamesAreGiven f → (calls : List CallLine) → NamesAreGiven (flat_end accounts f calls)
+given_at_end accounts f tree given [] = given
+given_at_end accounts f tree given (c ∷ calls) =
+    given_at_end accounts (flat_after accounts f c.process c.call) (tree_after f tree accounts c.process c.call) (given_after accounts f c.process c.call tree given) calls
 
 -- at the start process 0 is alone, in no job
-given_at_start : (session : Session) → NamesAreGiven (boot session)
-given_at_start session = record {
+given_at_start : (accounts : Accounts) → NamesAreGiven (boot accounts)
+given_at_start accounts = record {
   of_processes = first;
   of_known_jobs = λ q p job e k. knows_none q p job e k;
   of_carried_jobs = λ q n job e c. carries_none q n job e c;
 }
   where
-    first : (q : ProcName) (p : Process) → (boot session).processes q ≡ Some p → is_given (boot session).processes q ≡ true
+    first : (q : ProcName) (p : Process) → (boot accounts).processes q ≡ Some p → is_given (boot accounts).processes q ≡ true
     first [] p e = refl
     first (n ∷ q) p e = let gone : None ≡ Some p = e in absurd (cc)
 
-    knows_none : (q : ProcName) (p : Process) (job : ProcName) → (boot session).processes q ≡ Some p → knows p job ≡ true → is_given (boot session).processes job ≡ true
+    knows_none : (q : ProcName) (p : Process) (job : ProcName) → (boot accounts).processes q ≡ Some p → knows p job ≡ true → is_given (boot accounts).processes job ≡ true
     knows_none [] p job e k =
         let found : Some first_process ≡ Some p = e in
         let one : first_process ≡ p = cc in
@@ -304,12 +304,12 @@ given_at_start session = record {
     knows_none (n ∷ q) p job e k = let gone : None ≡ Some p = e in absurd (cc)
 
     slash : Node
-    slash = record { class = Readable (first_user session.users); content = Dir }
+    slash = record { class = Readable (first_user accounts.users); content = Dir }
 
-    carries_none : (q : Path) (n : Node) (job : ProcName) → get (boot session).files q ≡ Some n → carries job n.class ≡ true → is_given (boot session).processes job ≡ true
+    carries_none : (q : Path) (n : Node) (job : ProcName) → get (boot accounts).files q ≡ Some n → carries job n.class ≡ true → is_given (boot accounts).processes job ≡ true
     carries_none [] n job e c =
-        let found : Some (record { class = Readable (first_user session.users); content = Dir }) ≡ Some n = e in
-        let one : record { class = Readable (first_user session.users); content = Dir } ≡ n = cc in
+        let found : Some (record { class = Readable (first_user accounts.users); content = Dir }) ≡ Some n = e in
+        let one : record { class = Readable (first_user accounts.users); content = Dir } ≡ n = cc in
         absurd (true≢false (sym c ∙ ap (λ (x : Node). carries job x.class) (sym one)))
     carries_none (m ∷ d) n job e c =
         let gone : None ≡ Some n = sym (get_other empty [] slash (m ∷ d) (λ h. cc)) ∙ e in absurd (cc)
@@ -317,7 +317,7 @@ given_at_start session = record {
 -- Names are given once.
 pub names_are_given_once : NamesAreGivenOnce
 names_are_given_once = record {
-  old = λ session calls. given_at_end session (boot session) (tree_at_start session) (given_at_start session) calls;
+  old = λ accounts calls. given_at_end accounts (boot accounts) (tree_at_start accounts) (given_at_start accounts) calls;
   new = next_is_new;
   stay = given_stays;
 }

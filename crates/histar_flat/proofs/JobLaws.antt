@@ -12,7 +12,7 @@ use Rattle.histar_flat.specs.declared.replies.Errno.{Errno}
 use Rattle.histar_flat.specs.declared.replies.Errno.TheVariants.{EACCES, EISDIR, ENOENT, ENOTDIR}
 use Rattle.histar_flat.specs.Words.{Name, Path, ProcName}
 use Rattle.histar_flat.specs.PathOrder.{same, under_path, under_process}
-use Rattle.histar_flat.specs.Sessions.{Session, has, is_member}
+use Rattle.histar_flat.specs.Accounts.{Accounts, has, is_member}
 use Rattle.histar_flat.specs.Files.{get}
 use Rattle.histar_flat.specs.Classes.{Class, Process, carries, is_free, knows, may_read, may_write}
 use Rattle.histar_flat.specs.Classes.Class.{Open, Private, Readable, Scratch, Grouped}
@@ -44,29 +44,29 @@ not_free : (chain : List ProcName) (job : ProcName) → has chain job ≡ true �
 not_free [] job known = absurd (true≢false (sym known))
 not_free (k ∷ ks) job known = refl
 
-module _ (session : Session) (p : Process) (job : ProcName) (inside : has p.chain job ≡ true) where
+module _ (accounts : Accounts) (p : Process) (job : ProcName) (inside : has p.chain job ≡ true) where
   busy : is_free p ≡ false
   busy = not_free p.chain job inside
 
   -- what it may write is of the job
-  pub writes_of_job : (class : Class) → may_write session p class ≡ true → carries job class ≡ true
+  pub writes_of_job : (class : Class) → may_write accounts p class ≡ true → carries job class ≡ true
   writes_of_job (Private owner) w = absurd (true≢false (sym (and_parts (same p.user owner) (is_free p) w).1 ∙ busy))
   writes_of_job (Readable owner) w = absurd (true≢false (sym (and_parts (same p.user owner) (is_free p) w).1 ∙ busy))
   writes_of_job Open w = absurd (true≢false (sym w ∙ busy))
   writes_of_job (Scratch owner jobs) w =
       in_all jobs p.chain job (and_parts (same p.user owner && list_all (knows p) jobs) (list_all (has jobs) p.chain) w).1 inside
-  writes_of_job (Grouped group) w = absurd (true≢false (sym (and_parts (is_member session p.user group) (is_free p) w).1 ∙ busy))
+  writes_of_job (Grouped group) w = absurd (true≢false (sym (and_parts (is_member accounts p.user group) (is_free p) w).1 ∙ busy))
 
   -- so what it may write stands in a scratch directory
-  written_lies : (f : Flat) (q : Path) → writes session f p q ≡ true → lies_in_scratch f job q ≡ true
+  written_lies : (f : Flat) (q : Path) → writes accounts f p q ≡ true → lies_in_scratch f job q ≡ true
   written_lies f [] w = by (get f.files []) w
     where
-      by : (o : Option Node) → is_some_and o (λ n. may_write session p n.class) ≡ true → is_some_and o (λ n. carries job n.class) ≡ true
+      by : (o : Option Node) → is_some_and o (λ n. may_write accounts p n.class) ≡ true → is_some_and o (λ n. carries job n.class) ≡ true
       by None e = absurd (true≢false (sym e))
       by (Some n) e = writes_of_job n.class e
   written_lies f (m ∷ d) w = ap (λ b. b || lies_in_scratch f job d) (by (get f.files (m ∷ d)) w)
     where
-      by : (o : Option Node) → is_some_and o (λ n. may_write session p n.class) ≡ true → is_some_and o (λ n. carries job n.class) ≡ true
+      by : (o : Option Node) → is_some_and o (λ n. may_write accounts p n.class) ≡ true → is_some_and o (λ n. carries job n.class) ≡ true
       by None e = absurd (true≢false (sym e))
       by (Some n) e = writes_of_job n.class e
 
@@ -88,26 +88,26 @@ lies_in : (f : Flat) (job : ProcName) (n : Name) (d : Path) → lies_in_scratch 
 lies_in f job n d lies =
     ap (λ b. is_some_and (get f.files (n ∷ d)) (λ x. carries job x.class) || b) lies ∙ or-true (is_some_and (get f.files (n ∷ d)) (λ x. carries job x.class))
 
-module _ (session : Session) (f : Flat) (tree : IsTree f) (job : ProcName) (q : Path) (outside : lies_in_scratch f job q ≡ false) where
+module _ (accounts : Accounts) (f : Flat) (tree : IsTree f) (job : ProcName) (q : Path) (outside : lies_in_scratch f job q ≡ false) where
   -- the path is as it was
   abbrev IsKept : Flat → Type 0
   IsKept g = get g.files q ≡ get f.files q
 
   module _ (me : ProcName) (p : Process) (inside : has p.chain job ≡ true) where
     -- it is not in what the process may write
-    apart : (n : Name) (d : Path) → writes session f p d ≡ true → q ≢ n ∷ d
-    apart n d w e = true≢false (sym (lies_in f job n d (written_lies session p job inside f d w)) ∙ ap (lies_in_scratch f job) (sym e) ∙ outside)
+    apart : (n : Name) (d : Path) → writes accounts f p d ≡ true → q ≢ n ∷ d
+    apart n d w e = true≢false (sym (lies_in f job n d (written_lies accounts p job inside f d w)) ∙ ap (lies_in_scratch f job) (sym e) ∙ outside)
 
-    not_below : (n : Name) (d : Path) → writes session f p d ≡ true → under_path (n ∷ d) q ≡ false
+    not_below : (n : Name) (d : Path) → writes accounts f p d ≡ true → under_path (n ∷ d) q ≡ false
     not_below n d w = elim (cases_Bool (under_path (n ∷ d) q)) [
-      | inl u ↦ absurd (true≢false (sym (lies_below f job (n ∷ d) q (lies_in f job n d (written_lies session p job inside f d w)) u) ∙ outside))
+      | inl u ↦ absurd (true≢false (sym (lies_below f job (n ∷ d) q (lies_in f job n d (written_lies accounts p job inside f d w)) u) ∙ outside))
       | inr u ↦ u
     ]
 
-    not_there : (n : Name) (d : Path) → writes session f p (n ∷ d) ≡ true → q ≢ n ∷ d
-    not_there n d w e = true≢false (sym (written_lies session p job inside f (n ∷ d) w) ∙ ap (lies_in_scratch f job) (sym e) ∙ outside)
+    not_there : (n : Name) (d : Path) → writes accounts f p (n ∷ d) ≡ true → q ≢ n ∷ d
+    not_there n d w e = true≢false (sym (written_lies accounts p job inside f (n ∷ d) w) ∙ ap (lies_in_scratch f job) (sym e) ∙ outside)
 
-    inside_changes : (call : UnixCall) → EachChange session f me p call IsKept
+    inside_changes : (call : UnixCall) → EachChange accounts f me p call IsKept
     inside_changes call = record {
       stays = refl;
       makes = λ n d x walked free w own mode made_is. get_other f.files (n ∷ d) x q (apart n d w);
@@ -125,24 +125,24 @@ module _ (session : Session) (f : Flat) (tree : IsTree f) (job : ProcName) (q : 
     }
 
   -- A call of a process in the job leaves the path as it is.
-  kept_by_job : (me : ProcName) (call : UnixCall) → runs_in f me job ≡ true → IsKept (flat_after session f me call)
+  kept_by_job : (me : ProcName) (call : UnixCall) → runs_in f me job ≡ true → IsKept (flat_after accounts f me call)
   kept_by_job me call inside =
-      by_line session f me call IsKept refl (λ p runs. inside_changes me p (sym (ap (λ r. is_some_and r (λ p. has p.chain job)) runs) ∙ inside) call)
+      by_line accounts f me call IsKept refl (λ p runs. inside_changes me p (sym (ap (λ r. is_some_and r (λ p. has p.chain job)) runs) ∙ inside) call)
 
 -- and so does one of a process that doesn't run
-kept_by_one : (session : Session) (f : Flat) → IsTree f → (job : ProcName) (me : ProcName) (call : UnixCall) → (running f me ≡ None) ⊎ (runs_in f me job ≡ true)
-    → (q : Path) → lies_in_scratch f job q ≡ false → get (flat_after session f me call).files q ≡ get f.files q
-kept_by_one session f tree job me call (inl gone) q outside = ap (λ (g : Flat). get g.files q) (not_running_is_gone session f me call gone).1
-kept_by_one session f tree job me call (inr inside) q outside = kept_by_job session f tree job q outside me call inside
+kept_by_one : (accounts : Accounts) (f : Flat) → IsTree f → (job : ProcName) (me : ProcName) (call : UnixCall) → (running f me ≡ None) ⊎ (runs_in f me job ≡ true)
+    → (q : Path) → lies_in_scratch f job q ≡ false → get (flat_after accounts f me call).files q ≡ get f.files q
+kept_by_one accounts f tree job me call (inl gone) q outside = ap (λ (g : Flat). get g.files q) (not_running_is_gone accounts f me call gone).1
+kept_by_one accounts f tree job me call (inr inside) q outside = kept_by_job accounts f tree job q outside me call inside
 
 -- then the path lies outside as before
-still_outside : (session : Session) (f : Flat) → IsTree f → (job : ProcName) (me : ProcName) (call : UnixCall) → (running f me ≡ None) ⊎ (runs_in f me job ≡ true)
-    → (q : Path) → lies_in_scratch f job q ≡ false → lies_in_scratch (flat_after session f me call) job q ≡ false
-still_outside session f tree job me call own [] outside =
-    ap (λ (o : Option Node). is_some_and o (λ n. carries job n.class)) (kept_by_one session f tree job me call own [] outside) ∙ outside
-still_outside session f tree job me call own (n ∷ d) outside =
-    let above = still_outside session f tree job me call own d (by (is_some_and (get f.files (n ∷ d)) (λ x. carries job x.class)) (lies_in_scratch f job d) outside) in
-    (λ i. is_some_and (kept_by_one session f tree job me call own (n ∷ d) outside i) (λ x. carries job x.class) || (above ∙ sym (by (is_some_and (get f.files (n ∷ d)) (λ x. carries job x.class)) (lies_in_scratch f job d) outside)) i) ∙ outside
+still_outside : (accounts : Accounts) (f : Flat) → IsTree f → (job : ProcName) (me : ProcName) (call : UnixCall) → (running f me ≡ None) ⊎ (runs_in f me job ≡ true)
+    → (q : Path) → lies_in_scratch f job q ≡ false → lies_in_scratch (flat_after accounts f me call) job q ≡ false
+still_outside accounts f tree job me call own [] outside =
+    ap (λ (o : Option Node). is_some_and o (λ n. carries job n.class)) (kept_by_one accounts f tree job me call own [] outside) ∙ outside
+still_outside accounts f tree job me call own (n ∷ d) outside =
+    let above = still_outside accounts f tree job me call own d (by (is_some_and (get f.files (n ∷ d)) (λ x. carries job x.class)) (lies_in_scratch f job d) outside) in
+    (λ i. is_some_and (kept_by_one accounts f tree job me call own (n ∷ d) outside i) (λ x. carries job x.class) || (above ∙ sym (by (is_some_and (get f.files (n ∷ d)) (λ x. carries job x.class)) (lies_in_scratch f job d) outside)) i) ∙ outside
   where
     by : (a b : Bool) → (a || b) ≡ false → b ≡ false
     by true b e = absurd (true≢false e)
@@ -150,10 +150,10 @@ still_outside session f tree job me call own (n ∷ d) outside =
 
 -- Whatever the processes of a job call, each path that doesn't lie in a scratch directory of the job is as it was.
 pub jobs_stay_inside : JobsStayInside
-jobs_stay_inside session f tree job [] own q outside = refl
-jobs_stay_inside session f tree job (c ∷ calls) own q outside =
-    jobs_stay_inside session (flat_after session f c.process c.call) (tree_after f tree session c.process c.call) job calls own.1 q (still_outside session f tree job c.process c.call own.0 q outside)
-    ∙ kept_by_one session f tree job c.process c.call own.0 q outside
+jobs_stay_inside accounts f tree job [] own q outside = refl
+jobs_stay_inside accounts f tree job (c ∷ calls) own q outside =
+    jobs_stay_inside accounts (flat_after accounts f c.process c.call) (tree_after f tree accounts c.process c.call) job calls own.1 q (still_outside accounts f tree job c.process c.call own.0 q outside)
+    ∙ kept_by_one accounts f tree job c.process c.call own.0 q outside
 
 -- ---- processes
 
@@ -199,8 +199,8 @@ module _ (f : Flat) (me : ProcName) (p : Process) (other : ProcName) (apart : un
     | inr under ↦ ap (λ b. cond b None (f.processes other)) under
   ]
 
-  other_changes : (session : Session) (call : UnixCall) → EachChange session f me p call (λ g. g.processes other ≡ f.processes other)
-  other_changes session call = record {
+  other_changes : (accounts : Accounts) (call : UnixCall) → EachChange accounts f me p call (λ g. g.processes other ≡ f.processes other)
+  other_changes accounts call = record {
     stays = refl;
     makes = λ n d x walked free w own mode made_is. refl;
     overwrites = λ n d bytes file w. refl;
@@ -216,7 +216,7 @@ module _ (f : Flat) (me : ProcName) (p : Process) (other : ProcName) (apart : un
 
 -- A call of a process changes no process but itself and those below it.
 pub calls_change_their_own_tree : CallsChangeTheirOwnTree
-calls_change_their_own_tree session f me call other apart = by_line session f me call (λ g. g.processes other ≡ f.processes other) refl (λ p runs. other_changes f me p other apart session call)
+calls_change_their_own_tree accounts f me call other apart = by_line accounts f me call (λ g. g.processes other ≡ f.processes other) refl (λ p runs. other_changes f me p other apart accounts call)
 
 -- ---- what is read
 
@@ -228,30 +228,30 @@ not_exited p runs = by p.exited refl
     by None is = refl
     by (Some n) is = let none : None ≡ Some p = sym (ap (λ (x : Option ℕ). let r : Option Process = elim x [ None ↦ Some p | Some k ↦ None ] in r) is) ∙ runs in absurd cc
 
-module _ (session : Session) (f : Flat) (me : ProcName) (p : Process) where
+module _ (accounts : Accounts) (f : Flat) (me : ProcName) (p : Process) where
   -- the flat state in which the process is in no job
   abbrev freed : Flat
   freed = with_process f me (out_of_jobs p)
 
   -- what is not of jobs is read as out of jobs
-  read_alike : (class : Class) → is_scratch class ≡ false → may_read session p class ≡ may_read session (out_of_jobs p) class
+  read_alike : (class : Class) → is_scratch class ≡ false → may_read accounts p class ≡ may_read accounts (out_of_jobs p) class
   read_alike (Scratch owner jobs) is = absurd (true≢false is)
   read_alike class is = refl
 
-  reads_alike : (q : Path) → is_some_and (get f.files q) (λ n. is_scratch n.class) ≡ false → reads session f p q ≡ reads session freed (out_of_jobs p) q
+  reads_alike : (q : Path) → is_some_and (get f.files q) (λ n. is_scratch n.class) ≡ false → reads accounts f p q ≡ reads accounts freed (out_of_jobs p) q
   reads_alike q = by (get f.files q)
     where
-      by : (o : Option Node) → is_some_and o (λ n. is_scratch n.class) ≡ false → is_some_and o (λ n. may_read session p n.class) ≡ is_some_and o (λ n. may_read session (out_of_jobs p) n.class)
+      by : (o : Option Node) → is_some_and o (λ n. is_scratch n.class) ≡ false → is_some_and o (λ n. may_read accounts p n.class) ≡ is_some_and o (λ n. may_read accounts (out_of_jobs p) n.class)
       by None is = refl
       by (Some n) is = read_alike n.class is
 
-  into_alike : (d : Path) → lies_in_some_scratch f d ≡ false → into session f p d ≡ into session freed (out_of_jobs p) d
+  into_alike : (d : Path) → lies_in_some_scratch f d ≡ false → into accounts f p d ≡ into accounts freed (out_of_jobs p) d
   into_alike [] outside = ap (λ b. unless b EACCES) (reads_alike [] outside)
   into_alike (n ∷ d) outside =
       let parts = or_parts (is_some_and (get f.files (n ∷ d)) (λ x. is_scratch x.class)) (lies_in_some_scratch f d) outside in
       λ i. into_alike d parts.1 i orelse unless (is_there f (n ∷ d)) ENOENT orelse unless (is_dir_at f (n ∷ d)) ENOTDIR orelse unless (reads_alike (n ∷ d) parts.0 i) EACCES
 
-  refused_alike : (q : Path) → lies_in_some_scratch f q ≡ false → refused session f me p (Read q) ≡ refused session freed me (out_of_jobs p) (Read q)
+  refused_alike : (q : Path) → lies_in_some_scratch f q ≡ false → refused accounts f me p (Read q) ≡ refused accounts freed me (out_of_jobs p) (Read q)
   refused_alike [] outside = refl
   refused_alike (n ∷ d) outside =
       let parts = or_parts (is_some_and (get f.files (n ∷ d)) (λ x. is_scratch x.class)) (lies_in_some_scratch f d) outside in
@@ -259,12 +259,12 @@ module _ (session : Session) (f : Flat) (me : ProcName) (p : Process) where
 
 -- Outside all scratch directories a process in jobs is answered what it were answered in none.
 pub jobs_read_as_their_user : JobsReadAsTheirUser
-jobs_read_as_their_user session f me p q runs outside =
+jobs_read_as_their_user accounts f me p q runs outside =
     let there = runs_is_there (f.processes me) p runs in
     let alive = not_exited p (sym (ap if_running there) ∙ runs) in
     let free : running (with_process f me (out_of_jobs p)) me ≡ Some (out_of_jobs p) =
     ap (λ b. if_running (cond b (Some (out_of_jobs p)) (f.processes me))) (same_itself me)
     ∙ ap (λ (x : Option ℕ). let r : Option Process = elim x [ None ↦ Some (out_of_jobs p) | Some k ↦ None ] in r) alive in
-    ap (λ (o : Option Process). reply_by session f me o (Read q)) runs
-    ∙ ap (λ (r : Option Errno). reply_or r (flat.answer f me p (Read q))) (refused_alike session f me p q outside)
-    ∙ sym (ap (λ (o : Option Process). reply_by session (with_process f me (out_of_jobs p)) me o (Read q)) free)
+    ap (λ (o : Option Process). reply_by accounts f me o (Read q)) runs
+    ∙ ap (λ (r : Option Errno). reply_or r (flat.answer f me p (Read q))) (refused_alike accounts f me p q outside)
+    ∙ sym (ap (λ (o : Option Process). reply_by accounts (with_process f me (out_of_jobs p)) me o (Read q)) free)

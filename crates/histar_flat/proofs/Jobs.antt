@@ -6,7 +6,7 @@ use Rattle.histar_flat.specs.declared.calls.CallLine.{CallLine}
 use Rattle.histar_flat.specs.declared.calls.UnixCall.{UnixCall}
 use Rattle.histar_flat.specs.Words.{ProcName}
 use Rattle.histar_flat.specs.PathOrder.{same, under_process}
-use Rattle.histar_flat.specs.Sessions.{Session, user_named}
+use Rattle.histar_flat.specs.Accounts.{Accounts, user_named}
 use Rattle.histar_flat.specs.Classes.{Process, nobody, is_free}
 use Rattle.histar_flat.specs.FlatState.{Flat, with_process, with_child}
 use Rattle.histar_flat.specs.FlatCalls.{next_child, inner_chain, flat_after}
@@ -17,13 +17,13 @@ use Rattle.histar_flat.proofs.Choices.{chosen, left}
 use Rattle.histar_flat.proofs.Changes.{EachChange, by_line, runs_is_there}
 
 -- the process is nobody's, with no job, or a declared user's
-record IsPlaced (session : Session) (p : Process) : Type 0 where
+record IsPlaced (accounts : Accounts) (p : Process) : Type 0 where
   nobodys : p.user ≡ nobody → HasNoJob p
-  declared : (p.user ≡ nobody) ⊎ (is_some (user_named session.users p.user) ≡ true)
+  declared : (p.user ≡ nobody) ⊎ (is_some (user_named accounts.users p.user) ≡ true)
 
 -- so is each process that is there
-abbrev ArePlaced : Session → Flat → Type 0
-ArePlaced session f = (q : ProcName) (p : Process) → f.processes q ≡ Some p → IsPlaced session p
+abbrev ArePlaced : Accounts → Flat → Type 0
+ArePlaced accounts f = (q : ProcName) (p : Process) → f.processes q ≡ Some p → IsPlaced accounts p
 
 -- a process of no job
 in_no_job : (p : Process) → is_free p ≡ true → p.chain ≡ []
@@ -33,20 +33,20 @@ in_no_job p h = by p.chain h
     by [] h = refl
     by (k ∷ ks) h = absurd (true≢false (sym h))
 
-module _ (session : Session) where
-  placed_with : (f : Flat) (me : ProcName) (p : Process) → ArePlaced session f → IsPlaced session p → ArePlaced session (with_process f me p)
+module _ (accounts : Accounts) where
+  placed_with : (f : Flat) (me : ProcName) (p : Process) → ArePlaced accounts f → IsPlaced accounts p → ArePlaced accounts (with_process f me p)
   placed_with f me p placed new q x e = elim (same_name_found me q) [
-    | inl i ↦ subst (IsPlaced session) (chosen (same me q) p x (f.processes q) i.0 e) new
+    | inl i ↦ subst (IsPlaced accounts) (chosen (same me q) p x (f.processes q) i.0 e) new
     | inr i ↦ placed q x (sym (ap (λ b. cond b (Some p) (f.processes q)) i.0) ∙ e)
   ]
 
-  placed_with_child : (f : Flat) (me : ProcName) (p : Process) (chain : List ProcName) → ArePlaced session f → IsPlaced session (record p { born = p.born + 1 })
-      → IsPlaced session (record { user = p.user; chain = chain; held = []; exited = None; born = 0 }) → ArePlaced session (with_child f me p chain)
+  placed_with_child : (f : Flat) (me : ProcName) (p : Process) (chain : List ProcName) → ArePlaced accounts f → IsPlaced accounts (record p { born = p.born + 1 })
+      → IsPlaced accounts (record { user = p.user; chain = chain; held = []; exited = None; born = 0 }) → ArePlaced accounts (with_child f me p chain)
   placed_with_child f me p chain placed grown child =
       placed_with (with_process f me (record p { born = p.born + 1 })) ((p.born + 1) ∷ me) (record { user = p.user; chain = chain; held = []; exited = None; born = 0 })
       (placed_with f me (record p { born = p.born + 1 }) placed grown) child
 
-  placed_changes : (f : Flat) (me : ProcName) (p : Process) (call : UnixCall) → ArePlaced session f → IsPlaced session p → EachChange session f me p call (ArePlaced session)
+  placed_changes : (f : Flat) (me : ProcName) (p : Process) (call : UnixCall) → ArePlaced accounts f → IsPlaced accounts p → EachChange accounts f me p call (ArePlaced accounts)
   placed_changes f me p call placed here = record {
     stays = placed;
     makes = λ n d x walked free w own mode made_is. placed;
@@ -68,26 +68,26 @@ module _ (session : Session) where
         (record { nobodys = λ e. absurd (other e); declared = here.declared });
   }
 
-  placed_after : (f : Flat) (me : ProcName) (call : UnixCall) → ArePlaced session f → ArePlaced session (flat_after session f me call)
-  placed_after f me call placed = by_line session f me call (ArePlaced session) placed (λ p runs. placed_changes f me p call placed (placed me p (runs_is_there (f.processes me) p runs)))
+  placed_after : (f : Flat) (me : ProcName) (call : UnixCall) → ArePlaced accounts f → ArePlaced accounts (flat_after accounts f me call)
+  placed_after f me call placed = by_line accounts f me call (ArePlaced accounts) placed (λ p runs. placed_changes f me p call placed (placed me p (runs_is_there (f.processes me) p runs)))
 
-  placed_at_end : (f : Flat) → ArePlaced session f → (calls : List CallLine) → ArePlaced session (flat_end session f calls)
+  placed_at_end : (f : Flat) → ArePlaced accounts f → (calls : List CallLine) → ArePlaced accounts (flat_end accounts f calls)
   placed_at_end f placed [] = placed
-  placed_at_end f placed (c ∷ calls) = placed_at_end (flat_after session f c.process c.call) (placed_after f c.process c.call placed) calls
+  placed_at_end f placed (c ∷ calls) = placed_at_end (flat_after accounts f c.process c.call) (placed_after f c.process c.call placed) calls
 
-  placed_at_start : ArePlaced session (boot session)
+  placed_at_start : ArePlaced accounts (boot accounts)
   placed_at_start [] p e =
       let found : Some first_process ≡ Some p = e in
       let one : first_process ≡ p = cc in
-      subst (IsPlaced session) one (record { nobodys = λ h. record { in_none = refl; holds_none = refl }; declared = inl refl })
+      subst (IsPlaced accounts) one (record { nobodys = λ h. record { in_none = refl; holds_none = refl }; declared = inl refl })
   placed_at_start (n ∷ q) p e = let gone : None ≡ Some p = e in absurd (cc)
 
 -- Who is nobody, and who is no declared user, has no job.
 pub nobody_has_a_job : NobodyHasAJob
 nobody_has_a_job = record {
-  nobodys = λ session calls me p e nobodys. (placed_at_end session (boot session) (placed_at_start session) calls me p e).nobodys nobodys;
-  strangers = λ session calls me p e stranger.
-      let placed = placed_at_end session (boot session) (placed_at_start session) calls me p e in
+  nobodys = λ accounts calls me p e nobodys. (placed_at_end accounts (boot accounts) (placed_at_start accounts) calls me p e).nobodys nobodys;
+  strangers = λ accounts calls me p e stranger.
+      let placed = placed_at_end accounts (boot accounts) (placed_at_start accounts) calls me p e in
       elim placed.declared [
         | inl i ↦ placed.nobodys i
         | inr i ↦ absurd (true≢false (sym i ∙ ap is_some stranger))

@@ -102,8 +102,8 @@ same_entries a b e = cc
 
 -- a listing shows what stands there
 pub listings_show_what_stands : ListingsShowWhatStands
-listings_show_what_stands session f me d entries said =
-    let is = is_answered session f me (ListCall d) (Entries entries) (λ e. cc) (λ (errno : Errno) e. cc) said in
+listings_show_what_stands accounts f me d entries said =
+    let is = is_answered accounts f me (ListCall d) (Entries entries) (λ e. cc) (λ (errno : Errno) e. cc) said in
     let same : entries_in f d ≡ entries = same_entries (entries_in f d) entries is.answers in (
       subst (λ (l : List Entry). T (is_sorted by_bytes l)) same (sorted_listed d f.files.entries f.files.sorted),
       (λ n. ap (find by_bytes n) (sym same) ∙ find_listed d n f.files.entries),

@@ -8,7 +8,7 @@ use Rattle.histar_flat.specs.declared.calls.UnixCall.TheVariants.{Write}
 use Rattle.histar_flat.specs.declared.replies.Errno.TheVariants.{EACCES, EFBIG}
 use Rattle.histar_flat.specs.Words.{Name, Path, ProcName}
 use Rattle.histar_flat.specs.PathOrder.{same, under_path}
-use Rattle.histar_flat.specs.Sessions.{Session}
+use Rattle.histar_flat.specs.Accounts.{Accounts}
 use Rattle.histar_flat.specs.Files.{get}
 use Rattle.histar_flat.specs.Classes.{Process, is_free, may_write}
 use Rattle.histar_flat.specs.FlatState.{Flat, IsTree, is_some_and, writes, moved}
@@ -22,27 +22,27 @@ use Rattle.histar_flat.proofs.Changes.{EachChange, by_line}
 use Rattle.histar_flat.proofs.Trees.{nothing_below}
 
 -- what is written may be written
-pub written_is_writable : (session : Session) (f : Flat) (me : ProcName) (p : Process) (r : Path) (bytes : List ℕ) → refused session f me p (Write r bytes) ≡ None → writes session f p r ≡ true
-written_is_writable session f me p r bytes h =
+pub written_is_writable : (accounts : Accounts) (f : Flat) (me : ProcName) (p : Process) (r : Path) (bytes : List ℕ) → refused accounts f me p (Write r bytes) ≡ None → writes accounts f p r ≡ true
+written_is_writable accounts f me p r bytes h =
     let short = unless (nat_le (length bytes) most_bytes) EFBIG in
-    passed (writes session f p r) EACCES (passes_first (unless (writes session f p r) EACCES) short (passes_later (no_file session f p r) (unless (writes session f p r) EACCES orelse short) h))
+    passed (writes accounts f p r) EACCES (passes_first (unless (writes accounts f p r) EACCES) short (passes_later (no_file accounts f p r) (unless (writes accounts f p r) EACCES orelse short) h))
 
 module _ (f : Flat) (q : Path) (owner : Name) (bytes : List ℕ) (h : get f.files q ≡ Some (private_file owner bytes)) where
   -- where nothing stands is elsewhere
   pub elsewhere : (r : Path) → get f.files r ≡ None → q ≢ r
   elsewhere r free e = let gone : Some (private_file owner bytes) ≡ None = sym h ∙ ap (get f.files) e ∙ free in absurd (cc)
 
-  module _ (session : Session) where
+  module _ (accounts : Accounts) where
     -- nor write it
-    private_is_unwritten : (p : Process) → same p.user owner ≡ false → writes session f p q ≡ false
-    private_is_unwritten p other = ap (λ o. is_some_and o (λ n. may_write session p n.class)) h ∙ ap (λ b. b && is_free p) other
+    private_is_unwritten : (p : Process) → same p.user owner ≡ false → writes accounts f p q ≡ false
+    private_is_unwritten p other = ap (λ o. is_some_and o (λ n. may_write accounts p n.class)) h ∙ ap (λ b. b && is_free p) other
 
     -- so what it writes is elsewhere
-    pub written_elsewhere : (p : Process) (r : Path) → same p.user owner ≡ false → writes session f p r ≡ true → q ≢ r
-    written_elsewhere p r other w e = true≢false (sym w ∙ ap (writes session f p) (sym e) ∙ private_is_unwritten p other)
+    pub written_elsewhere : (p : Process) (r : Path) → same p.user owner ≡ false → writes accounts f p r ≡ true → q ≢ r
+    written_elsewhere p r other w e = true≢false (sym w ∙ ap (writes accounts f p) (sym e) ∙ private_is_unwritten p other)
 
     private_changes : IsTree f → (me : ProcName) (p : Process) (call : UnixCall) → same p.user owner ≡ false → takes_away call q ≡ false
-        → EachChange session f me p call (λ g. get g.files q ≡ Some (private_file owner bytes))
+        → EachChange accounts f me p call (λ g. get g.files q ≡ Some (private_file owner bytes))
     private_changes tree me p call other kept = record {
       stays = h;
       makes = λ n d x walked free w own mode made_is. get_other f.files (n ∷ d) x q (elsewhere (n ∷ d) free) ∙ h;
@@ -64,7 +64,7 @@ module _ (f : Flat) (q : Path) (owner : Name) (bytes : List ℕ) (h : get f.file
     }
 
   -- In a tree a call of a process that is not the owner's leaves a private file as it is, unless it takes it away or renames it.
-  pub private_file_stays : IsTree f → (session : Session) (me : ProcName) (call : UnixCall) → runs_for f me owner ≡ false → takes_away call q ≡ false → get (flat_after session f me call).files q ≡ Some (private_file owner bytes)
-  private_file_stays tree session me call other kept =
-      by_line session f me call (λ g. get g.files q ≡ Some (private_file owner bytes)) h
-      (λ p runs. private_changes session tree me p call (sym (ap (λ r. is_some_and r (λ p. same p.user owner)) runs) ∙ other) kept)
+  pub private_file_stays : IsTree f → (accounts : Accounts) (me : ProcName) (call : UnixCall) → runs_for f me owner ≡ false → takes_away call q ≡ false → get (flat_after accounts f me call).files q ≡ Some (private_file owner bytes)
+  private_file_stays tree accounts me call other kept =
+      by_line accounts f me call (λ g. get g.files q ≡ Some (private_file owner bytes)) h
+      (λ p runs. private_changes accounts tree me p call (sym (ap (λ r. is_some_and r (λ p. same p.user owner)) runs) ∙ other) kept)

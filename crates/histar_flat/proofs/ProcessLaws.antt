@@ -8,7 +8,7 @@ use Rattle.histar_flat.specs.declared.replies.Errno.TheVariants.{EACCES}
 use Rattle.histar_flat.specs.declared.replies.Reply.TheVariants.{Done}
 use Rattle.histar_flat.specs.Words.{ProcName}
 use Rattle.histar_flat.specs.PathOrder.{same, under_process}
-use Rattle.histar_flat.specs.Sessions.{Session}
+use Rattle.histar_flat.specs.Accounts.{Accounts}
 use Rattle.histar_flat.specs.Classes.{Process}
 use Rattle.histar_flat.specs.FlatState.{Flat, with_process, without_process, is_given}
 use Rattle.histar_flat.specs.FlatCalls.{is_child, not_found, next_child, inner_chain, if_running, running, flat_after}
@@ -32,10 +32,10 @@ takes_its_tree f name after e = record {
 
 -- A kill that is done is of a child of the caller, and takes exactly the child and all below it.
 pub kills_take_their_tree : KillsTakeTheirTree
-kills_take_their_tree session f me name done =
-    let is = is_answered session f me (Kill name) Done (λ e. cc) (λ e d. cc) done in (
+kills_take_their_tree accounts f me name done =
+    let is = is_answered accounts f me (Kill name) Done (λ e. cc) (λ e d. cc) done in (
       (one_passes (not_found f is.process name) (is_child me name) EACCES is.passes).1,
-      takes_its_tree f name (flat_after session f me (Kill name)) (changed_after session f me (Kill name) Done is),
+      takes_its_tree f name (flat_after accounts f me (Kill name)) (changed_after accounts f me (Kill name) Done is),
     )
 
 -- with this status, the process has exited alone
@@ -58,17 +58,17 @@ exits_alone f me p status after here e = record {
 
 -- An exit that is done is that of its process alone.
 pub exits_leave_children : ExitsLeaveChildren
-exits_leave_children session f me status done =
-    let is = is_answered session f me (Exit status) Done (λ e. cc) (λ e d. cc) done in
-    exits_alone f me is.process status (flat_after session f me (Exit status)) (runs_is_there (f.processes me) is.process is.runs) (changed_after session f me (Exit status) Done is)
+exits_leave_children accounts f me status done =
+    let is = is_answered accounts f me (Exit status) Done (λ e. cc) (λ e d. cc) done in
+    exits_alone f me is.process status (flat_after accounts f me (Exit status)) (runs_is_there (f.processes me) is.process is.runs) (changed_after accounts f me (Exit status) Done is)
 
 -- ---- who is gone
 
 -- A process that doesn't run is answered `gone`, and changes nothing.
 pub gone_change_nothing : GoneChangeNothing
-gone_change_nothing session f me call gone = not_running_is_gone session f me call gone
+gone_change_nothing accounts f me call gone = not_running_is_gone accounts f me call gone
 
-module _ (session : Session) (f : Flat) (me : ProcName) (given : is_given f.processes me ≡ true) (gone : running f me ≡ None) where
+module _ (accounts : Accounts) (f : Flat) (me : ProcName) (given : is_given f.processes me ≡ true) (gone : running f me ≡ None) where
   -- the process doesn't run in this state
   abbrev IsGone : Flat → Type 0
   IsGone g = running g me ≡ None
@@ -101,7 +101,7 @@ module _ (session : Session) (f : Flat) (me : ProcName) (given : is_given f.proc
     gone_without true = refl
     gone_without false = gone
 
-    gone_changes : (call : UnixCall) → EachChange session f caller p call IsGone
+    gone_changes : (call : UnixCall) → EachChange accounts f caller p call IsGone
     gone_changes call = record {
       stays = gone;
       makes = λ n d x walked free w own mode made_is. gone;
@@ -118,11 +118,11 @@ module _ (session : Session) (f : Flat) (me : ProcName) (given : is_given f.proc
     }
 
   -- a line leaves it gone
-  gone_after : (caller : ProcName) (call : UnixCall) → IsGone (flat_after session f caller call)
-  gone_after caller call = by_line session f caller call IsGone gone (λ p runs. gone_changes caller p runs call)
+  gone_after : (caller : ProcName) (call : UnixCall) → IsGone (flat_after accounts f caller call)
+  gone_after caller call = by_line accounts f caller call IsGone gone (λ p runs. gone_changes caller p runs call)
 
 -- Who doesn't run, and whose name was given, never runs again.
 pub gone_stay_gone : GoneStayGone
-gone_stay_gone session f me [] given gone = gone
-gone_stay_gone session f me (c ∷ calls) given gone =
-    gone_stay_gone session (flat_after session f c.process c.call) me calls (given_stays session f c.process c.call me given) (gone_after session f me given gone c.process c.call)
+gone_stay_gone accounts f me [] given gone = gone
+gone_stay_gone accounts f me (c ∷ calls) given gone =
+    gone_stay_gone accounts (flat_after accounts f c.process c.call) me calls (given_stays accounts f c.process c.call me given) (gone_after accounts f me given gone c.process c.call)

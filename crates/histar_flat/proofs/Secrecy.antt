@@ -11,7 +11,7 @@ use Rattle.histar_flat.specs.CallRules.{path_of, rule}
 use Rattle.histar_flat.specs.declared.replies.Errno.{Errno}
 use Rattle.histar_flat.specs.Words.{Name, Path, ProcName}
 use Rattle.histar_flat.specs.PathOrder.{path_cmp, same, same_path, under_path, under_process, parent}
-use Rattle.histar_flat.specs.Sessions.{Session, is_member}
+use Rattle.histar_flat.specs.Accounts.{Accounts, is_member}
 use Rattle.histar_flat.specs.Files.{get, insert, from_list}
 use Rattle.histar_flat.specs.Classes.{Class, Process, is_free, may_read, may_write}
 use Rattle.histar_flat.specs.Classes.Class.{Private, Readable, Open, Scratch, Grouped}
@@ -21,7 +21,7 @@ use Rattle.histar_flat.specs.FlatCalls.{refused, inner_chain, next_child, change
 use Rattle.histar_flat.specs.Meaning.{answered_from}
 use Rattle.histar_flat.specs.Laws.{becomes, is_login_of, has_no_login_of, AreAway, PrivateBytesAreHidden, GroupBytesAreHidden, GroupBytesStayHidden}
 use Rattle.histar_flat.proofs.FileLemmas.{same_name_found, same_path_found, get-insert, get-keep}
-use Rattle.histar_flat.proofs.Entries.{shown, all_told, find_told, same_told}
+use Rattle.histar_flat.proofs.Entries.{shown, all_revealed, find_revealed, same_revealed}
 use Rattle.histar_flat.proofs.Renaming.{get-from_list}
 use Rattle.histar_flat.proofs.Changes.{EachChange, by_line}
 use Rattle.histar_flat.specs.RuleLaws.{Warrant}
@@ -43,11 +43,11 @@ pub record IsAlikeBut (secret : Class → Bool) (f g : Flat) : Type 0 where
   pub processes : f.processes ≡ g.processes
 
 -- who is none of these readers may read nothing that is secret, and write nothing
-pub record AreKept (session : Session) (secret : Class → Bool) (readers : Process → Bool) : Type 0 where
-  pub unread : (p : Process) (class : Class) → readers p ≡ false → may_read session p class ≡ true → not (secret class) ≡ true
-  pub unwritten : (p : Process) (class : Class) → readers p ≡ false → may_write session p class ≡ true → not (secret class) ≡ true
+pub record AreKept (accounts : Accounts) (secret : Class → Bool) (readers : Process → Bool) : Type 0 where
+  pub unread : (p : Process) (class : Class) → readers p ≡ false → may_read accounts p class ≡ true → not (secret class) ≡ true
+  pub unwritten : (p : Process) (class : Class) → readers p ≡ false → may_write accounts p class ≡ true → not (secret class) ≡ true
 
-module _ (session : Session) (secret : Class → Bool) (readers : Process → Bool) (kept : AreKept session secret readers) where
+module _ (accounts : Accounts) (secret : Class → Bool) (readers : Process → Bool) (kept : AreKept accounts secret readers) where
   -- the veil leaves the class and the kind
   shown_through : (n : Node) → shown (veiled secret n) ≡ shown n
   shown_through n = by n.content
@@ -83,9 +83,9 @@ module _ (session : Session) (secret : Class → Bool) (readers : Process → Bo
   class_alike (Some m) (Some n) h = let e : veiled secret m ≡ veiled secret n = cc in ap (λ x. x.class) e
 
   -- what a test leaves is told alike
-  chosen_alike : {X : Type 0} (told : X → Node) (b : Bool) (x y u v : Option X) → option_map told x ≡ option_map told u → option_map told y ≡ option_map told v → option_map told (cond b x y) ≡ option_map told (cond b u v)
-  chosen_alike told true x y u v d e = d
-  chosen_alike told false x y u v d e = e
+  chosen_alike : {X : Type 0} (revealed : X → Node) (b : Bool) (x y u v : Option X) → option_map revealed x ≡ option_map revealed u → option_map revealed y ≡ option_map revealed v → option_map revealed (cond b x y) ≡ option_map revealed (cond b u v)
+  chosen_alike revealed true x y u v d e = d
+  chosen_alike revealed false x y u v d e = e
 
   module _ (f g : Flat) (alike : IsAlikeBut secret f g) where
     shown_alike : ShowAlike f g
@@ -118,25 +118,25 @@ module _ (session : Session) (secret : Class → Bool) (readers : Process → Bo
     -- a rename moves both alike
     renamed_alike : (old new q : Path) → option_map (veiled secret) (get (with_renamed f old new).files q) ≡ option_map (veiled secret) (get (with_renamed g old new).files q)
     renamed_alike old new q =
-        told f.files.entries
-        ∙ ap (λ (l : List (Path × Node)). find path_cmp q (map (λ e. (moved old new e.0, e.1)) l)) (same_told (veiled secret) f.files g.files alike.files)
-        ∙ sym (told g.files.entries)
+        revealed f.files.entries
+        ∙ ap (λ (l : List (Path × Node)). find path_cmp q (map (λ e. (moved old new e.0, e.1)) l)) (same_revealed (veiled secret) f.files g.files alike.files)
+        ∙ sym (revealed g.files.entries)
       where
-        both : (es : List (Path × Node)) → all_told (veiled secret) (map (λ e. (moved old new e.0, e.1)) es) ≡ map (λ e. (moved old new e.0, e.1)) (all_told (veiled secret) es)
+        both : (es : List (Path × Node)) → all_revealed (veiled secret) (map (λ e. (moved old new e.0, e.1)) es) ≡ map (λ e. (moved old new e.0, e.1)) (all_revealed (veiled secret) es)
         both [] = refl
         both (e ∷ es) = ap (λ (l : List (Path × Node)). (moved old new e.0, veiled secret e.1) ∷ l) (both es)
 
-        told : (es : List (Path × Node)) → option_map (veiled secret) (get (from_list (map (λ e. (moved old new e.0, e.1)) es)) q) ≡ find path_cmp q (map (λ e. (moved old new e.0, e.1)) (all_told (veiled secret) es))
-        told es =
+        revealed : (es : List (Path × Node)) → option_map (veiled secret) (get (from_list (map (λ e. (moved old new e.0, e.1)) es)) q) ≡ find path_cmp q (map (λ e. (moved old new e.0, e.1)) (all_revealed (veiled secret) es))
+        revealed es =
             ap (option_map (veiled secret)) (get-from_list (map (λ e. (moved old new e.0, e.1)) es) q)
-            ∙ sym (find_told (veiled secret) q (map (λ e. (moved old new e.0, e.1)) es)) ∙ ap (find path_cmp q) (both es)
+            ∙ sym (find_revealed (veiled secret) q (map (λ e. (moved old new e.0, e.1)) es)) ∙ ap (find path_cmp q) (both es)
 
     module _ (me : ProcName) (p : Process) (other : readers p ≡ false) where
-      read_alike : (r : Path) → reads session f p r ≡ true → bytes_at f r ≡ bytes_at g r
-      read_alike r h = unveiled_alike r (test_follows (λ n. may_read session p n.class) (λ n. not (secret n.class)) (λ n. kept.unread p n.class other) (get f.files r) h)
+      read_alike : (r : Path) → reads accounts f p r ≡ true → bytes_at f r ≡ bytes_at g r
+      read_alike r h = unveiled_alike r (test_follows (λ n. may_read accounts p n.class) (λ n. not (secret n.class)) (λ n. kept.unread p n.class other) (get f.files r) h)
 
-      both_look_alike : (q : Path) → LooksAlike true session f g p q
-      both_look_alike = looks_alike session f g shown_alike p alike.processes read_alike
+      both_look_alike : (q : Path) → LooksAlike true accounts f g p q
+      both_look_alike = looks_alike accounts f g shown_alike p alike.processes read_alike
 
       overwritten_alike : (r : Path) (b c : List ℕ) → b ≡ c → IsAlikeBut secret (with_bytes f r b) (with_bytes g r c)
       overwritten_alike r b c e = record {
@@ -145,7 +145,7 @@ module _ (session : Session) (secret : Class → Bool) (readers : Process → Bo
       }
 
       -- an effect of another user's process leaves them alike
-      applied_alike : (q : Path) (effect : Effect) → Warrant session f me p q effect → IsAlikeBut secret (apply session f me p q effect) (apply session g me p q effect)
+      applied_alike : (q : Path) (effect : Effect) → Warrant accounts f me p q effect → IsAlikeBut secret (apply accounts f me p q effect) (apply accounts g me p q effect)
       applied_alike q Nothing may = alike
       applied_alike q (Makes content mode) may = record { files = put_alike q _ _ refl; processes = alike.processes }
       applied_alike q (Stores new) may =
@@ -154,35 +154,35 @@ module _ (session : Session) (secret : Class → Bool) (readers : Process → Bo
       applied_alike q (Renames name) may = record { files = renamed_alike q (name ∷ parent q); processes = alike.processes }
       applied_alike q Wraps may = record {
         files = put_alike q (record { class = Scratch p.user (inner_chain me p); content = Dir }) _ refl;
-        processes = λ i. (apply session (record f { processes = alike.processes i }) me p q Wraps).processes;
+        processes = λ i. (apply accounts (record f { processes = alike.processes i }) me p q Wraps).processes;
       }
-      applied_alike q effect may = record { files = alike.files; processes = λ i. (apply session (record f { processes = alike.processes i }) me p q effect).processes }
+      applied_alike q effect may = record { files = alike.files; processes = λ i. (apply accounts (record f { processes = alike.processes i }) me p q effect).processes }
 
-      states_alike : (call : UnixCall) (d e : Option Errno) → refused session f me p call ≡ d → d ≡ e → IsAlikeBut secret (flat_or d f (changed session f me p call)) (flat_or e g (changed session g me p call))
-      states_alike call None None h k = applied_alike (path_of call) (rule call).effect (warranted session f me p call h)
+      states_alike : (call : UnixCall) (d e : Option Errno) → refused accounts f me p call ≡ d → d ≡ e → IsAlikeBut secret (flat_or d f (changed accounts f me p call)) (flat_or e g (changed accounts g me p call))
+      states_alike call None None h k = applied_alike (path_of call) (rule call).effect (warranted accounts f me p call h)
       states_alike call None (Some x) h k = absurd (cc)
       states_alike call (Some x) None h k = absurd (cc)
       states_alike call (Some x) (Some y) h k = alike
 
     module _ (me : ProcName) (call : UnixCall) (other : is_some_and (running f me) readers ≡ false) where
       -- One call of another user's process has the same reply in both.
-      pub reply_to_alike : reply_to session f me call ≡ reply_to session g me call
-      reply_to_alike = by (running f me) other ∙ ap (λ o. reply_by session g me (if_running (o me)) call) alike.processes
+      pub reply_to_alike : reply_to accounts f me call ≡ reply_to accounts g me call
+      reply_to_alike = by (running f me) other ∙ ap (λ o. reply_by accounts g me (if_running (o me)) call) alike.processes
         where
-          by : (r : Option Process) → is_some_and r readers ≡ false → reply_by session f me r call ≡ reply_by session g me r call
+          by : (r : Option Process) → is_some_and r readers ≡ false → reply_by accounts f me r call ≡ reply_by accounts g me r call
           by None i = refl
-          by (Some p) i = reply_alike session f g me p call (both_look_alike me p i (path_of call))
+          by (Some p) i = reply_alike accounts f g me p call (both_look_alike me p i (path_of call))
 
       -- It leaves states that differ in these bytes alone.
-      pub flat_after_alike : IsAlikeBut secret (flat_after session f me call) (flat_after session g me call)
-      flat_after_alike = subst (λ o. IsAlikeBut secret (flat_after session f me call) (flat_by session g me (if_running (o me)) call)) alike.processes (by (running f me) other)
+      pub flat_after_alike : IsAlikeBut secret (flat_after accounts f me call) (flat_after accounts g me call)
+      flat_after_alike = subst (λ o. IsAlikeBut secret (flat_after accounts f me call) (flat_by accounts g me (if_running (o me)) call)) alike.processes (by (running f me) other)
         where
-          by : (r : Option Process) → is_some_and r readers ≡ false → IsAlikeBut secret (flat_by session f me r call) (flat_by session g me r call)
+          by : (r : Option Process) → is_some_and r readers ≡ false → IsAlikeBut secret (flat_by accounts f me r call) (flat_by accounts g me r call)
           by None i = alike
-          by (Some p) i = states_alike me p i call (refused session f me p call) (refused session g me p call) refl (refused_alike session f g me p call (both_look_alike me p i (path_of call)))
+          by (Some p) i = states_alike me p i call (refused accounts f me p call) (refused accounts g me p call) refl (refused_alike accounts f g me p call (both_look_alike me p i (path_of call)))
 
 -- while none of these users is there
-module _ (session : Session) (secret : Class → Bool) (users : Name → Bool) (kept : AreKept session secret (λ p. users p.user)) where
+module _ (accounts : Accounts) (secret : Class → Bool) (users : Name → Bool) (kept : AreKept accounts secret (λ p. users p.user)) where
   -- a process of another user is of none of these, whether it runs or not
   other_is_away : (p : Process) → users p.user ≡ false → is_some_and (if_running (Some p)) (λ r. users r.user) ≡ false
   other_is_away p h = by p.exited
@@ -207,7 +207,7 @@ module _ (session : Session) (secret : Class → Bool) (users : Name → Bool) (
   away_without true o h = refl
   away_without false o h = h
 
-  away_changes : (f : Flat) (me : ProcName) (p : Process) (call : UnixCall) → AreAway users f → users p.user ≡ false → is_login_of users call ≡ false → EachChange session f me p call (AreAway users)
+  away_changes : (f : Flat) (me : ProcName) (p : Process) (call : UnixCall) → AreAway users f → users p.user ≡ false → is_login_of users call ≡ false → EachChange accounts f me p call (AreAway users)
   away_changes f me p call away other quiet = record {
     stays = away;
     makes = λ n d x walked free w own mode made_is. away;
@@ -222,18 +222,18 @@ module _ (session : Session) (secret : Class → Bool) (users : Name → Bool) (
   }
 
   -- these users stay away while no process logs in as one of them
-  stays_away : (f : Flat) (me : ProcName) (call : UnixCall) → AreAway users f → is_login_of users call ≡ false → AreAway users (flat_after session f me call)
-  stays_away f me call away quiet = by_line session f me call (AreAway users) away (λ p runs. away_changes f me p call away (sym (ap (λ r. is_some_and r (λ p. users p.user)) runs) ∙ away me) quiet)
+  stays_away : (f : Flat) (me : ProcName) (call : UnixCall) → AreAway users f → is_login_of users call ≡ false → AreAway users (flat_after accounts f me call)
+  stays_away f me call away quiet = by_line accounts f me call (AreAway users) away (λ p runs. away_changes f me p call away (sym (ap (λ r. is_some_and r (λ p. users p.user)) runs) ∙ away me) quiet)
 
   -- while no process is of one of these users, the replies are the same in two states that differ in secret bytes alone
-  all_replies_alike : (f g : Flat) → IsAlikeBut secret f g → AreAway users f → (calls : List CallLine) → has_no_login_of users calls ≡ true → answered_from session f calls ≡ answered_from session g calls
+  all_replies_alike : (f g : Flat) → IsAlikeBut secret f g → AreAway users f → (calls : List CallLine) → has_no_login_of users calls ≡ true → answered_from accounts f calls ≡ answered_from accounts g calls
   all_replies_alike f g alike away [] h = refl
   all_replies_alike f g alike away (c ∷ calls) h =
       let parts = and_parts (not (is_login_of users c.call)) (has_no_login_of users calls) h in
       let quiet = not-true (is_login_of users c.call) parts.0 in
-      let here = reply_to_alike session secret (λ p. users p.user) kept f g alike c.process c.call (away c.process) in
-      let rest = all_replies_alike (flat_after session f c.process c.call) (flat_after session g c.process c.call)
-      (flat_after_alike session secret (λ p. users p.user) kept f g alike c.process c.call (away c.process)) (stays_away f c.process c.call away quiet) calls parts.1 in
+      let here = reply_to_alike accounts secret (λ p. users p.user) kept f g alike c.process c.call (away c.process) in
+      let rest = all_replies_alike (flat_after accounts f c.process c.call) (flat_after accounts g c.process c.call)
+      (flat_after_alike accounts secret (λ p. users p.user) kept f g alike c.process c.call (away c.process)) (stays_away f c.process c.call away quiet) calls parts.1 in
       λ i. record { call = c; reply = here i } ∷ rest i
 
 -- whatever bytes stand in a file that is secret, the states differ in secret bytes alone
@@ -267,10 +267,10 @@ is_private_of owner (Private o) = same o owner
 is_private_of owner _ = false
 
 -- what is for its owner alone is kept from others
-private_is_kept : (session : Session) (owner : Name) → AreKept session (is_private_of owner) (λ p. same p.user owner)
-private_is_kept session owner = record { unread = unread; unwritten = unwritten }
+private_is_kept : (accounts : Accounts) (owner : Name) → AreKept accounts (is_private_of owner) (λ p. same p.user owner)
+private_is_kept accounts owner = record { unread = unread; unwritten = unwritten }
   where
-    unread : (p : Process) (class : Class) → same p.user owner ≡ false → may_read session p class ≡ true → not (is_private_of owner class) ≡ true
+    unread : (p : Process) (class : Class) → same p.user owner ≡ false → may_read accounts p class ≡ true → not (is_private_of owner class) ≡ true
     unread p (Private o) other h = elim (same_name_found o owner) [
       | inl e ↦ absurd (true≢false (sym h ∙ ap (same p.user) e.1 ∙ other))
       | inr e ↦ ap not e.0
@@ -280,7 +280,7 @@ private_is_kept session owner = record { unread = unread; unwritten = unwritten 
     unread p (Scratch o jobs) other h = refl
     unread p (Grouped group) other h = refl
 
-    unwritten : (p : Process) (class : Class) → same p.user owner ≡ false → may_write session p class ≡ true → not (is_private_of owner class) ≡ true
+    unwritten : (p : Process) (class : Class) → same p.user owner ≡ false → may_write accounts p class ≡ true → not (is_private_of owner class) ≡ true
     unwritten p (Private o) other h = unread p (Private o) other (and_parts (same p.user o) (is_free p) h).0
     unwritten p (Readable o) other h = refl
     unwritten p Open other h = refl
@@ -293,40 +293,40 @@ is_class_of_group group (Grouped g) = same g group
 is_class_of_group group _ = false
 
 -- what is a group's is kept from who is no member
-group_is_kept : (session : Session) (group : Name) → AreKept session (is_class_of_group group) (λ p. is_member session p.user group)
-group_is_kept session group = record { unread = unread; unwritten = unwritten }
+group_is_kept : (accounts : Accounts) (group : Name) → AreKept accounts (is_class_of_group group) (λ p. is_member accounts p.user group)
+group_is_kept accounts group = record { unread = unread; unwritten = unwritten }
   where
-    unread : (p : Process) (class : Class) → is_member session p.user group ≡ false → may_read session p class ≡ true → not (is_class_of_group group class) ≡ true
+    unread : (p : Process) (class : Class) → is_member accounts p.user group ≡ false → may_read accounts p class ≡ true → not (is_class_of_group group class) ≡ true
     unread p (Private o) other h = refl
     unread p (Readable o) other h = refl
     unread p Open other h = refl
     unread p (Scratch o jobs) other h = refl
     unread p (Grouped g) other h = elim (same_name_found g group) [
-      | inl e ↦ absurd (true≢false (sym h ∙ ap (is_member session p.user) e.1 ∙ other))
+      | inl e ↦ absurd (true≢false (sym h ∙ ap (is_member accounts p.user) e.1 ∙ other))
       | inr e ↦ ap not e.0
     ]
 
-    unwritten : (p : Process) (class : Class) → is_member session p.user group ≡ false → may_write session p class ≡ true → not (is_class_of_group group class) ≡ true
+    unwritten : (p : Process) (class : Class) → is_member accounts p.user group ≡ false → may_write accounts p class ≡ true → not (is_class_of_group group class) ≡ true
     unwritten p (Private o) other h = refl
     unwritten p (Readable o) other h = refl
     unwritten p Open other h = refl
     unwritten p (Scratch o jobs) other h = refl
-    unwritten p (Grouped g) other h = unread p (Grouped g) other (and_parts (is_member session p.user g) (is_free p) h).0
+    unwritten p (Grouped g) other h = unread p (Grouped g) other (and_parts (is_member accounts p.user g) (is_free p) h).0
 
 -- no reply tells others what a private file holds, until its owner logs in
 pub private_bytes_are_hidden : PrivateBytesAreHidden
-private_bytes_are_hidden owner session f q bytes other calls h away quiet =
-    all_replies_alike session (is_private_of owner) (λ name. same name owner) (private_is_kept session owner) f (with_bytes f q other)
+private_bytes_are_hidden owner accounts f q bytes other calls h away quiet =
+    all_replies_alike accounts (is_private_of owner) (λ name. same name owner) (private_is_kept accounts owner) f (with_bytes f q other)
     (other_bytes_alike (is_private_of owner) f q (Private owner) bytes other (same_self owner) h) away calls quiet
 
 -- no reply tells who is no member what a file of a group holds
 pub group_bytes_are_hidden : GroupBytesAreHidden
-group_bytes_are_hidden group session f q bytes other me call h outside =
-    reply_to_alike session (is_class_of_group group) (λ p. is_member session p.user group) (group_is_kept session group) f (with_bytes f q other)
+group_bytes_are_hidden group accounts f q bytes other me call h outside =
+    reply_to_alike accounts (is_class_of_group group) (λ p. is_member accounts p.user group) (group_is_kept accounts group) f (with_bytes f q other)
     (other_bytes_alike (is_class_of_group group) f q (Grouped group) bytes other (same_self group) h) me call outside
 
 -- and none does until a member logs in
 pub group_bytes_stay_hidden : GroupBytesStayHidden
-group_bytes_stay_hidden group session f q bytes other calls h away quiet =
-    all_replies_alike session (is_class_of_group group) (λ name. is_member session name group) (group_is_kept session group) f (with_bytes f q other)
+group_bytes_stay_hidden group accounts f q bytes other calls h away quiet =
+    all_replies_alike accounts (is_class_of_group group) (λ name. is_member accounts name group) (group_is_kept accounts group) f (with_bytes f q other)
     (other_bytes_alike (is_class_of_group group) f q (Grouped group) bytes other (same_self group) h) away calls quiet

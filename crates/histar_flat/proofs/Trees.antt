@@ -7,7 +7,7 @@ use Rattle.histar_flat.specs.declared.calls.UnixCall.{UnixCall}
 use Rattle.histar_flat.specs.declared.replies.Errno.TheVariants.{ENOENT, ENOTDIR, EACCES}
 use Rattle.histar_flat.specs.Words.{Name, Path, ProcName}
 use Rattle.histar_flat.specs.PathOrder.{same, same_path, under_path}
-use Rattle.histar_flat.specs.Sessions.{Session}
+use Rattle.histar_flat.specs.Accounts.{Accounts}
 use Rattle.histar_flat.specs.Files.{empty, get, insert}
 use Rattle.histar_flat.specs.Classes.{Process}
 use Rattle.histar_flat.specs.Classes.Class.{Readable, Scratch}
@@ -22,9 +22,9 @@ use Rattle.histar_flat.proofs.Renaming.{stays, get_renamed}
 use Rattle.histar_flat.proofs.Changes.{EachChange, by_line}
 
 -- where a walk ends there is a directory
-pub walked_into_directory : (session : Session) (f : Flat) (p : Process) → is_dir_at f [] ≡ true → (d : Path) → into session f p d ≡ None → is_dir_at f d ≡ true
-walked_into_directory session f p root [] h = root
-walked_into_directory session f p root (n ∷ d) h = (three_pass (into session f p d) (is_there f (n ∷ d)) (is_dir_at f (n ∷ d)) (reads session f p (n ∷ d)) ENOENT ENOTDIR EACCES h).2
+pub walked_into_directory : (accounts : Accounts) (f : Flat) (p : Process) → is_dir_at f [] ≡ true → (d : Path) → into accounts f p d ≡ None → is_dir_at f d ≡ true
+walked_into_directory accounts f p root [] h = root
+walked_into_directory accounts f p root (n ∷ d) h = (three_pass (into accounts f p d) (is_there f (n ∷ d)) (is_dir_at f (n ∷ d)) (reads accounts f p (n ∷ d)) ENOENT ENOTDIR EACCES h).2
 
 -- something is there, or nothing
 there_or_nothing : (o : Option Node) → (is_some_and o (λ n. true) ≡ true) ⊎ (o ≡ None)
@@ -123,10 +123,10 @@ module _ (f : Flat) (tree : IsTree f) where
           comes_here e (or_parts (same_path (n ∷ d) (m ∷ e)) (under_path (n ∷ d) e) h.0).1 (tree.below m (from e) there)
 
   -- Each change leaves a tree.
-  tree_changes : (session : Session) (me : ProcName) (p : Process) (call : UnixCall) → EachChange session f me p call IsTree
-  tree_changes session me p call = record {
+  tree_changes : (accounts : Accounts) (me : ProcName) (p : Process) (call : UnixCall) → EachChange accounts f me p call IsTree
+  tree_changes accounts me p call = record {
     stays = tree;
-    makes = λ n d x walked free w own mode made_is. made n d x (walked_into_directory session f p tree.root d walked) free;
+    makes = λ n d x walked free w own mode made_is. made n d x (walked_into_directory accounts f p tree.root d walked) free;
     overwrites = λ n d bytes file w.
         let here = file_is_there (get f.files (n ∷ d)) file in
         put_into n d (record { class = class_of (get f.files (n ∷ d)); content = File bytes }) (tree.below n d here.0) (λ h. absurd (true≢false (sym h ∙ here.1)));
@@ -137,26 +137,26 @@ module _ (f : Flat) (tree : IsTree f) where
     logs_in = λ name is known free. record { root = tree.root; below = tree.below };
     kills = λ n. record { root = tree.root; below = tree.below };
     wraps = λ n d is walked free w other.
-        let t = made n d (record { class = Scratch p.user (inner_chain me p); content = Dir }) (walked_into_directory session f p tree.root d walked) free in
+        let t = made n d (record { class = Scratch p.user (inner_chain me p); content = Dir }) (walked_into_directory accounts f p tree.root d walked) free in
         record { root = t.root; below = t.below };
   }
 
   -- so does each line
-  pub tree_after : (session : Session) (me : ProcName) (call : UnixCall) → IsTree (flat_after session f me call)
-  tree_after session me call = by_line session f me call IsTree tree (λ p runs. tree_changes session me p call)
+  pub tree_after : (accounts : Accounts) (me : ProcName) (call : UnixCall) → IsTree (flat_after accounts f me call)
+  tree_after accounts me call = by_line accounts f me call IsTree tree (λ p runs. tree_changes accounts me p call)
 
 -- and so do all lines
-pub tree_at_end : (session : Session) (f : Flat) → IsTree f → (calls : List CallLine) → IsTree (flat_end session f calls)
-tree_at_end session f tree [] = tree
-tree_at_end session f tree (c ∷ calls) = tree_at_end session (flat_after session f c.process c.call) (tree_after f tree session c.process c.call) calls
+pub tree_at_end : (accounts : Accounts) (f : Flat) → IsTree f → (calls : List CallLine) → IsTree (flat_end accounts f calls)
+tree_at_end accounts f tree [] = tree
+tree_at_end accounts f tree (c ∷ calls) = tree_at_end accounts (flat_after accounts f c.process c.call) (tree_after f tree accounts c.process c.call) calls
 
 -- at the start there is `/` alone
-pub tree_at_start : (session : Session) → IsTree (boot session)
-tree_at_start session = record { root = refl; below = λ n d there. absurd (true≢false (sym there ∙ ap (λ (o : Option Node). is_some_and o (λ n. true)) (nothing_else n d))) }
+pub tree_at_start : (accounts : Accounts) → IsTree (boot accounts)
+tree_at_start accounts = record { root = refl; below = λ n d there. absurd (true≢false (sym there ∙ ap (λ (o : Option Node). is_some_and o (λ n. true)) (nothing_else n d))) }
   where
-    nothing_else : (n : Name) (d : Path) → get (boot session).files (n ∷ d) ≡ None
-    nothing_else n d = get_other empty [] (record { class = Readable (first_user session.users); content = Dir }) (n ∷ d) (λ e. cc)
+    nothing_else : (n : Name) (d : Path) → get (boot accounts).files (n ∷ d) ≡ None
+    nothing_else n d = get_other empty [] (record { class = Readable (first_user accounts.users); content = Dir }) (n ∷ d) (λ e. cc)
 
 -- In each state that calls lead to the paths are a tree.
-pub paths_are_a_tree : (session : Session) (calls : List CallLine) → IsTree (flat_end session (boot session) calls)
-paths_are_a_tree session calls = tree_at_end session (boot session) (tree_at_start session) calls
+pub paths_are_a_tree : (accounts : Accounts) (calls : List CallLine) → IsTree (flat_end accounts (boot accounts) calls)
+paths_are_a_tree accounts calls = tree_at_end accounts (boot accounts) (tree_at_start accounts) calls

@@ -12,7 +12,7 @@ use Rattle.histar_flat.specs.declared.replies.Errno.TheVariants.{ENOENT, ENOTDIR
 use Rattle.histar_flat.specs.CallRules.{path_of}
 use Rattle.histar_flat.specs.Words.{Name, Path}
 use Rattle.histar_flat.specs.PathOrder.{path_cmp, same, same_path, under_path}
-use Rattle.histar_flat.specs.Sessions.{Session}
+use Rattle.histar_flat.specs.Accounts.{Accounts}
 use Rattle.histar_flat.specs.Files.{get, keep}
 use Rattle.histar_flat.specs.Classes.{Process, may_read}
 use Rattle.histar_flat.specs.FlatState.{Flat, Node, is_some_and, is_dir, is_there, is_dir_at, reads, bytes_of, entry_in, entries_in, into, walk}
@@ -72,7 +72,7 @@ entries_kept e (x ∷ es) = step x.0 x.1 (entries_kept e es)
             ap (λ b. filter_map (entry_in e) (cond b ((m ∷ above, there) ∷ later) later)) t ∙ rest
             ∙ sym (ap (λ b. cons_option (cond b (Some (m, is_dir there)) None) (filter_map (entry_in e) es)) t)
 
-module _ (session : Session) (f g : Flat) (d : Path) (processes : f.processes ≡ g.processes) (alike : (q : Path) → is_inside d q ≡ false → get f.files q ≡ get g.files q) (p : Process) (unread : reads session f p d ≡ false) where
+module _ (accounts : Accounts) (f g : Flat) (d : Path) (processes : f.processes ≡ g.processes) (alike : (q : Path) → is_inside d q ≡ false → get f.files q ≡ get g.files q) (p : Process) (unread : reads accounts f p d ≡ false) where
   -- a directory that is not below has the same entries
   entries_alike : (e : Path) → under_path d e ≡ false → entries_in f e ≡ entries_in g e
   entries_alike e out = sym (entries_kept e f.files.entries) ∙ ap (filter_map (entry_in e)) (same_lists (keep f.files (is_entry_of e)) (keep g.files (is_entry_of e)) (λ q. get-keep f.files (is_entry_of e) q ∙ one q ∙ sym (get-keep g.files (is_entry_of e) q))) ∙ entries_kept e g.files.entries
@@ -103,20 +103,20 @@ module _ (session : Session) (f g : Flat) (d : Path) (processes : f.processes �
   last_refuses None None None may is = (EACCES, ap (λ b. unless b EACCES) is)
 
   -- the way into the directory, or into what lies below it, is refused
-  way_stops : (e : Path) → under_path d e ≡ true → (errno : Errno) × (into session f p e ≡ Some errno)
+  way_stops : (e : Path) → under_path d e ≡ true → (errno : Errno) × (into accounts f p e ≡ Some errno)
   way_stops [] u = elim (same_path_found d []) [
-    | inl t ↦ (EACCES, ap (λ b. unless b EACCES) (ap (reads session f p) (sym t.1) ∙ unread))
+    | inl t ↦ (EACCES, ap (λ b. unless b EACCES) (ap (reads accounts f p) (sym t.1) ∙ unread))
     | inr t ↦ absurd (true≢false (sym u ∙ t.0))
   ]
   way_stops (n ∷ e) u = elim (same_path_found d (n ∷ e)) [
-    | inl t ↦ last_refuses (into session f p e) (unless (is_there f (n ∷ e)) ENOENT) (unless (is_dir_at f (n ∷ e)) ENOTDIR) (reads session f p (n ∷ e)) (ap (reads session f p) (sym t.1) ∙ unread)
+    | inl t ↦ last_refuses (into accounts f p e) (unless (is_there f (n ∷ e)) ENOENT) (unless (is_dir_at f (n ∷ e)) ENOTDIR) (reads accounts f p (n ∷ e)) (ap (reads accounts f p) (sym t.1) ∙ unread)
     | inr t ↦
         let above = way_stops e (sym (ap (λ b. b || under_path d e) t.0) ∙ u) in
-        (above.0, ap (λ (o : Option Errno). o orelse unless (is_there f (n ∷ e)) ENOENT orelse unless (is_dir_at f (n ∷ e)) ENOTDIR orelse unless (reads session f p (n ∷ e)) EACCES) above.1)
+        (above.0, ap (λ (o : Option Errno). o orelse unless (is_there f (n ∷ e)) ENOENT orelse unless (is_dir_at f (n ∷ e)) ENOTDIR orelse unless (reads accounts f p (n ∷ e)) EACCES) above.1)
   ]
 
   -- so an open way leads to what is not below
-  open_is_outside : (e : Path) → into session f p e ≡ None → under_path d e ≡ false
+  open_is_outside : (e : Path) → into accounts f p e ≡ None → under_path d e ≡ false
   open_is_outside e open_so_far = elim (cases_Bool (under_path d e)) [
     | inl u ↦ let stops = way_stops e u in absurd (none-some stops.0 (sym open_so_far ∙ stops.1))
     | inr u ↦ u
@@ -124,27 +124,27 @@ module _ (session : Session) (f g : Flat) (d : Path) (processes : f.processes �
 
   -- the tests of a way
   abbrev way_tests : Option Node → Option Errno
-  way_tests o = unless (is_some_and o (λ n. true)) ENOENT orelse unless (is_some_and o is_dir) ENOTDIR orelse unless (is_some_and o (λ n. may_read session p n.class)) EACCES
+  way_tests o = unless (is_some_and o (λ n. true)) ENOENT orelse unless (is_some_and o is_dir) ENOTDIR orelse unless (is_some_and o (λ n. may_read accounts p n.class)) EACCES
 
   -- each way is as open
-  way_alike : (e : Path) → into session f p e ≡ into session g p e
-  way_alike [] = ap (λ (o : Option Node). unless (is_some_and o (λ n. may_read session p n.class)) EACCES) root_alike
-  way_alike (n ∷ e) = later_alike (into session f p e) (into session g p e) (way_tests (get f.files (n ∷ e))) (way_tests (get g.files (n ∷ e))) (way_alike e)
+  way_alike : (e : Path) → into accounts f p e ≡ into accounts g p e
+  way_alike [] = ap (λ (o : Option Node). unless (is_some_and o (λ n. may_read accounts p n.class)) EACCES) root_alike
+  way_alike (n ∷ e) = later_alike (into accounts f p e) (into accounts g p e) (way_tests (get f.files (n ∷ e))) (way_tests (get g.files (n ∷ e))) (way_alike e)
       (λ open_so_far. ap way_tests (child_alike n e (open_is_outside e open_so_far)))
 
   -- what may be read is outside where it is reached
-  readable_is_outside : (q : Path) → reads session f p q ≡ true → walk session f p q ≡ None → under_path d q ≡ false
+  readable_is_outside : (q : Path) → reads accounts f p q ≡ true → walk accounts f p q ≡ None → under_path d q ≡ false
   readable_is_outside q may w = elim (same_path_found d q) [
-    | inl t ↦ absurd (true≢false (sym may ∙ ap (reads session f p) (sym t.1) ∙ unread))
+    | inl t ↦ absurd (true≢false (sym may ∙ ap (reads accounts f p) (sym t.1) ∙ unread))
     | inr t ↦ by q t.0 w
   ]
     where
-      by : (r : Path) → same_path d r ≡ false → walk session f p r ≡ None → under_path d r ≡ false
+      by : (r : Path) → same_path d r ≡ false → walk accounts f p r ≡ None → under_path d r ≡ false
       by [] other w = other
       by (n ∷ e) other w = λ i. other i || open_is_outside e w i
 
   -- so the states look alike to the process
-  both_look_alike : (q : Path) → LooksAlike true session f g p q
+  both_look_alike : (q : Path) → LooksAlike true accounts f g p q
   both_look_alike [] = record {
     way = refl;
     here = λ w. ap (option_map shown) root_alike;
@@ -170,7 +170,7 @@ module _ (session : Session) (f g : Flat) (d : Path) (processes : f.processes �
 
 -- whatever stands below a directory that a process may not read, each call of the process has the same reply
 pub unread_directories_are_hidden : UnreadDirectoriesAreHidden
-unread_directories_are_hidden session f g d processes alike me p call runs unread =
-    ap (λ (o : Option Process). reply_by session f me o call) runs
-    ∙ reply_alike session f g me p call (both_look_alike session f g d processes alike p unread (path_of call))
-    ∙ sym (ap (λ (o : Option Process). reply_by session g me o call) (sym (λ i. if_running (processes i me)) ∙ runs))
+unread_directories_are_hidden accounts f g d processes alike me p call runs unread =
+    ap (λ (o : Option Process). reply_by accounts f me o call) runs
+    ∙ reply_alike accounts f g me p call (both_look_alike accounts f g d processes alike p unread (path_of call))
+    ∙ sym (ap (λ (o : Option Process). reply_by accounts g me o call) (sym (λ i. if_running (processes i me)) ∙ runs))

@@ -9,20 +9,20 @@ use Rattle.histar_flat.specs.declared.replies.Errno.TheVariants.{ENOENT, ENOTDIR
 use Rattle.histar_flat.specs.declared.replies.Reply.{Reply}
 use Rattle.histar_flat.specs.declared.replies.Reply.TheVariants.{Done, Data, Refused, Gone}
 use Rattle.histar_flat.specs.Words.{Path}
-use Rattle.histar_flat.specs.Sessions.{Session}
+use Rattle.histar_flat.specs.Accounts.{Accounts}
 use Rattle.histar_flat.specs.Files.{get}
 use Rattle.histar_flat.specs.Classes.Class.{Open, Scratch, Private as PrivateClass, Readable as ReadableClass}
 use Rattle.histar_flat.specs.FlatState.{Flat, with_node, with_process}
 use Rattle.histar_flat.specs.FlatState.Content.{Dir, File}
 use Rattle.histar_flat.specs.FlatCalls.{reply_to}
-use Rattle.histar_flat.specs.Meaning.{Answered, boot, flat_end, meaning, answered_from, first_process}
+use Rattle.histar_flat.specs.Meaning.{RepliedCall, boot, flat_end, meaning, answered_from, first_process}
 use Rattle.histar_flat.proofs.WorkedScripts.{printed}
 
 -- the users of the sessions: root, who is the first, and bob
-abbrev users : Session
+abbrev users : Accounts
 users = record { users = record { name = codes "root"; password = codes "rr" } ∷ record { name = codes "bob"; password = codes "bb" } ∷ []; groups = [] }
 
-abbrev root_alone : Session
+abbrev root_alone : Accounts
 root_alone = record { users = record { name = codes "root"; password = codes "rr" } ∷ []; groups = [] }
 
 -- a call line of process 0, and one of its first child
@@ -46,8 +46,8 @@ abbrev path_b : Path
 path_b = codes "b" ∷ []
 
 -- the replies, each with the number of its line
-abbrev replied : List Answered → List (ℕ × Reply)
-replied = map (λ (a : Answered). (a.call.line, a.reply))
+abbrev replied : List RepliedCall → List (ℕ × Reply)
+replied = map (λ (a : RepliedCall). (a.call.line, a.reply))
 
 -- no call, no reply
 pub nothing_asked : replied (meaning users []) ≡ []

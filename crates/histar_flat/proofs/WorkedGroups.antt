@@ -4,7 +4,7 @@ use Rattle.std.specs.Fmt.{digits}
 use Rattle.histar_flat.specs.declared.calls.CallLine.{CallLine}
 use Rattle.histar_flat.specs.declared.calls.Mode.TheVariants as modes
 use Rattle.histar_flat.specs.declared.calls.UnixCall.TheVariants.{Create, Mkdir, Read, Write, Append, List as ListCall, Stat, Unlink, Rmdir, Rmtree, Rename, Spawn, Login, Wrap}
-use Rattle.histar_flat.specs.Sessions.{Session}
+use Rattle.histar_flat.specs.Accounts.{Accounts}
 use Rattle.histar_flat.specs.Meaning.{meaning}
 use Rattle.histar_flat.proofs.WorkedScripts.{line_of, printed, with_a_team}
 
@@ -170,7 +170,7 @@ unfolding digits
 nobody_is_no_member = refl
 
 -- the same users, and a second group, of bob and carol
-abbrev with_two_groups : Session
+abbrev with_two_groups : Accounts
 with_two_groups = record {
   users = with_a_team.users;
   groups = with_a_team.groups ++ record { name = codes "pair"; members = codes "bob" ∷ codes "carol" ∷ [] } ∷ [];

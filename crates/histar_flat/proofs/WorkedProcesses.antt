@@ -3,15 +3,15 @@ use Rattle.std.specs.Prelude.{◌≡◌, [], ◌∷◌, codes, refl}
 use Rattle.std.specs.Fmt.{digits}
 use Rattle.histar_flat.specs.declared.calls.Mode.TheVariants as modes
 use Rattle.histar_flat.specs.declared.calls.UnixCall.TheVariants.{Create, Mkdir, Read, Append, List as ListCall, Stat, Rmdir, Rmtree, Rename, Spawn, Exit, Status, Kill, Whoami, Login}
-use Rattle.histar_flat.specs.Sessions.{Session}
+use Rattle.histar_flat.specs.Accounts.{Accounts}
 use Rattle.histar_flat.specs.Meaning.{meaning}
 use Rattle.histar_flat.proofs.WorkedScripts.{line_of, printed}
 
 -- root, who is the first user, and bob
-abbrev root_and_bob : Session
+abbrev root_and_bob : Accounts
 root_and_bob = record { users = record { name = codes "root"; password = codes "rr" } ∷ record { name = codes "bob"; password = codes "bb" } ∷ []; groups = [] }
 
-abbrev root_alone : Session
+abbrev root_alone : Accounts
 root_alone = record { users = record { name = codes "root"; password = codes "rr" } ∷ []; groups = [] }
 
 -- root makes directories and files in `/` and below; bob, in an open directory, renames and takes away what he can't look into

@@ -2,7 +2,7 @@
 use Rattle.std.specs.Prelude.{◌≡◌, Bool, true, false, List, [], ◌∷◌, codes, Option, Some, None, map, refl}
 use Rattle.histar_flat.specs.declared.calls.Mode.TheVariants as modes
 use Rattle.histar_flat.specs.Words.{ProcName}
-use Rattle.histar_flat.specs.Sessions.{Session}
+use Rattle.histar_flat.specs.Accounts.{Accounts}
 use Rattle.histar_flat.specs.Classes.{Class, Process, may_read, may_write, class_made}
 use Rattle.histar_flat.specs.Classes.Class.{Private, Readable, Open, Scratch, Grouped}
 use Rattle.histar_flat.specs.Meaning.{first_process}
@@ -15,7 +15,7 @@ abbrev inner : ProcName
 inner = 1 ∷ 1 ∷ []
 
 -- a session with a group of which bob is the member
-abbrev of_team : Session
+abbrev of_team : Accounts
 of_team = record { users = []; groups = record { name = codes "team"; members = codes "bob" ∷ [] } ∷ [] }
 
 -- bob's classes, from private to the scratch of the inner job

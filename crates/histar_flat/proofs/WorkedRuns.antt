@@ -11,12 +11,12 @@ use Rattle.histar_flat.specs.declared.replies.Reply.{Reply}
 use Rattle.histar_flat.specs.declared.replies.Reply.TheVariants.{Child}
 use Rattle.histar_flat.specs.Words.{Path, ProcName}
 use Rattle.histar_flat.specs.PathOrder.{same, parent, under_process}
-use Rattle.histar_flat.specs.Sessions.{Session}
+use Rattle.histar_flat.specs.Accounts.{Accounts}
 use Rattle.histar_flat.specs.Files.{get, from_list}
 use Rattle.histar_flat.specs.Classes.{carries}
 use Rattle.histar_flat.specs.FlatState.{Flat, is_some_and, is_dir}
 use Rattle.histar_flat.specs.Texts.{reply_text}
-use Rattle.histar_flat.specs.Meaning.{Answered, boot, flat_end, meaning}
+use Rattle.histar_flat.specs.Meaning.{RepliedCall, boot, flat_end, meaning}
 use Rattle.histar_flat.proofs.WorkedScripts.{line_of, printed, printed_at, tree_after, three_users, with_a_team, tmp_made, tmp_printed}
 use Rattle.histar_flat.proofs.WorkedGroups.{logins, logins_printed}
 
@@ -34,11 +34,11 @@ abbrev is_outsider : ProcName → ProcName → Bool
 is_outsider job process = not (under_process job process) && not (same (parent job) process)
 
 -- the outsiders' calls with their replies
-abbrev of_outsiders : ProcName → List Answered → List Answered
-of_outsiders job = filter (λ (a : Answered). is_outsider job a.call.process)
+abbrev of_outsiders : ProcName → List RepliedCall → List RepliedCall
+of_outsiders job = filter (λ (a : RepliedCall). is_outsider job a.call.process)
 
 -- the lines of two runs of the same calls at which the replies differ
-abbrev lines_that_differ : List Answered → List Answered → List ℕ
+abbrev lines_that_differ : List RepliedCall → List RepliedCall → List ℕ
 lines_that_differ [] answers = []
 lines_that_differ (a ∷ as') [] = []
 lines_that_differ (a ∷ as') (b ∷ bs) = cond (same (reply_text a.reply) (reply_text b.reply)) (lines_that_differ as' bs) (a.call.line ∷ lines_that_differ as' bs)
@@ -72,15 +72,15 @@ record TwoRuns : Type 0 where
   tree_with : List ℕ
   tree_without : List ℕ
 
-abbrev two_runs : Session → ProcName → List CallLine → TwoRuns
-two_runs session job calls = record {
-  is_started = list_any (λ (a : Answered). is_start_of job a.call.call a.reply) (meaning session calls);
-  lines_apart = lines_that_differ (of_outsiders job (meaning session calls)) (of_outsiders job (meaning session (without_job job calls)));
-  paths_apart = paths_that_differ job (flat_end session (boot session) calls) (flat_end session (boot session) (without_job job calls));
-  printed_with = printed (meaning session calls);
-  printed_without = printed (meaning session (without_job job calls));
-  tree_with = tree_after session calls;
-  tree_without = tree_after session (without_job job calls);
+abbrev two_runs : Accounts → ProcName → List CallLine → TwoRuns
+two_runs accounts job calls = record {
+  is_started = list_any (λ (a : RepliedCall). is_start_of job a.call.call a.reply) (meaning accounts calls);
+  lines_apart = lines_that_differ (of_outsiders job (meaning accounts calls)) (of_outsiders job (meaning accounts (without_job job calls)));
+  paths_apart = paths_that_differ job (flat_end accounts (boot accounts) calls) (flat_end accounts (boot accounts) (without_job job calls));
+  printed_with = printed (meaning accounts calls);
+  printed_without = printed (meaning accounts (without_job job calls));
+  tree_with = tree_after accounts calls;
+  tree_without = tree_after accounts (without_job job calls);
 }
 
 -- a job that makes a file, and two processes that list directories after it
@@ -118,7 +118,7 @@ calls_with_a_rmdir = tmp_made ++
     line_of 13 (2 ∷ []) (ListCall (codes "tmp" ∷ [])) ∷ []
 
 -- who started the job may tell others of it by taking its directory away, which is refused where the job has made something
-pub rmdir_that_tells_of_a_job : two_runs three_users (1 ∷ 1 ∷ []) calls_with_a_rmdir ≡ record {
+pub rmdir_that_decides_of_a_job : two_runs three_users (1 ∷ 1 ∷ []) calls_with_a_rmdir ≡ record {
   is_started = true;
   lines_apart = 13 ∷ [];
   paths_apart = (codes "j" ∷ codes "tmp" ∷ []) ∷ [];
@@ -128,7 +128,7 @@ pub rmdir_that_tells_of_a_job : two_runs three_users (1 ∷ 1 ∷ []) calls_with
   tree_without = codes "/ dir root readable\n/tmp dir - open\n";
 }
 unfolding digits
-rmdir_that_tells_of_a_job = refl
+rmdir_that_decides_of_a_job = refl
 
 -- the same with nothing after it
 abbrev pub calls_that_end_in_a_rmdir : List CallLine
@@ -138,7 +138,7 @@ calls_that_end_in_a_rmdir = tmp_made ++
     line_of 12 (1 ∷ []) (Rmdir (codes "j" ∷ codes "tmp" ∷ [])) ∷ []
 
 -- the same where no one lists anything after it: the trees alone tell it
-pub rmdir_that_the_tree_tells_of : two_runs three_users (1 ∷ 1 ∷ []) calls_that_end_in_a_rmdir ≡ record {
+pub rmdir_that_the_tree_decides_of : two_runs three_users (1 ∷ 1 ∷ []) calls_that_end_in_a_rmdir ≡ record {
   is_started = true;
   lines_apart = [];
   paths_apart = (codes "j" ∷ codes "tmp" ∷ []) ∷ [];
@@ -148,7 +148,7 @@ pub rmdir_that_the_tree_tells_of : two_runs three_users (1 ∷ 1 ∷ []) calls_t
   tree_without = codes "/ dir root readable\n/tmp dir - open\n";
 }
 unfolding digits
-rmdir_that_the_tree_tells_of = refl
+rmdir_that_the_tree_decides_of = refl
 
 -- a job that makes a file, and who started it tries to start a further job at the path of the file
 abbrev pub calls_with_a_further_wrap : List CallLine
@@ -160,7 +160,7 @@ calls_with_a_further_wrap = tmp_made ++
 
 -- a further job that is started in the directory of the first one tells of it too: whether the name is taken there decides whether
 -- the further job is
-pub wrap_that_tells_of_a_job : two_runs three_users (1 ∷ 1 ∷ []) calls_with_a_further_wrap ≡ record {
+pub wrap_that_decides_of_a_job : two_runs three_users (1 ∷ 1 ∷ []) calls_with_a_further_wrap ≡ record {
   is_started = true;
   lines_apart = 13 ∷ [];
   paths_apart = [];
@@ -170,7 +170,7 @@ pub wrap_that_tells_of_a_job : two_runs three_users (1 ∷ 1 ∷ []) calls_with_
   tree_without = codes "/ dir root readable\n/tmp dir - open\n/tmp/j dir alice scratch\n/tmp/j/out dir alice scratch\n";
 }
 unfolding digits
-wrap_that_tells_of_a_job = refl
+wrap_that_decides_of_a_job = refl
 
 -- a job that makes a file and exits, and who started it uses the file
 abbrev pub calls_on_output : List CallLine
@@ -232,7 +232,7 @@ calls_with_an_inner_rmdir = tmp_made ++
     line_of 14 (1 ∷ []) (ListCall (codes "j" ∷ codes "tmp" ∷ [])) ∷ []
 
 -- there too a directory that is taken away tells of the inner job
-pub rmdir_that_tells_of_an_inner_job : two_runs three_users (1 ∷ 1 ∷ 1 ∷ []) calls_with_an_inner_rmdir ≡ record {
+pub rmdir_that_decides_of_an_inner_job : two_runs three_users (1 ∷ 1 ∷ 1 ∷ []) calls_with_an_inner_rmdir ≡ record {
   is_started = true;
   lines_apart = 14 ∷ [];
   paths_apart = (codes "k" ∷ codes "j" ∷ codes "tmp" ∷ []) ∷ [];
@@ -242,7 +242,7 @@ pub rmdir_that_tells_of_an_inner_job : two_runs three_users (1 ∷ 1 ∷ 1 ∷ [
   tree_without = codes "/ dir root readable\n/tmp dir - open\n/tmp/j dir alice scratch\n";
 }
 unfolding digits
-rmdir_that_tells_of_an_inner_job = refl
+rmdir_that_decides_of_an_inner_job = refl
 
 -- a job that starts a job, and all that both do
 abbrev pub calls_of_a_job_with_a_job_in_it : List CallLine

@@ -8,20 +8,20 @@ use Rattle.histar_flat.specs.declared.calls.UnixCall.{UnixCall}
 use Rattle.histar_flat.specs.declared.calls.UnixCall.TheVariants.{Mkdir, Spawn, Whoami, Login}
 use Rattle.histar_flat.specs.Texts.{path_text, stat_text, reply_text}
 use Rattle.histar_flat.specs.Words.{Path, ProcName}
-use Rattle.histar_flat.specs.Sessions.{Session}
+use Rattle.histar_flat.specs.Accounts.{Accounts}
 use Rattle.histar_flat.specs.Files.{get}
 use Rattle.histar_flat.specs.Classes.{class_owner, class_mode}
 use Rattle.histar_flat.specs.FlatState.{Flat, Node, Content, is_dir}
 use Rattle.histar_flat.specs.FlatState.Content.{Dir, File}
-use Rattle.histar_flat.specs.Meaning.{Answered, boot, answered_from, flat_end, meaning}
+use Rattle.histar_flat.specs.Meaning.{RepliedCall, boot, answered_from, flat_end, meaning}
 
 -- a call line
 abbrev pub line_of : ℕ → ProcName → UnixCall → CallLine
 line_of line process call = record { line = line; process = process; call = call }
 
 -- replies as they are printed: a line each, with its number, a space and the text of the reply
-abbrev pub printed : List Answered → List ℕ
-printed = flat_map (λ (a : Answered). decimal a.call.line ++ codes " " ++ reply_text a.reply ++ codes "\n")
+abbrev pub printed : List RepliedCall → List ℕ
+printed = flat_map (λ (a : RepliedCall). decimal a.call.line ++ codes " " ++ reply_text a.reply ++ codes "\n")
 
 -- what stands at a path as it is printed: the path, its kind, its owner and its mode, and the bytes of a file
 abbrev content_printed : Content → List ℕ
@@ -39,18 +39,18 @@ abbrev pub printed_at : Flat → Path → List ℕ
 printed_at f q = elim (get f.files q) [ None ↦ [] | Some node ↦ node_printed q node ]
 
 -- a line for each file and each directory at the end of a script, in the order of their paths
-abbrev pub tree_after : Session → List CallLine → List ℕ
-tree_after session calls = flat_map (λ e. node_printed e.0 e.1) (flat_end session (boot session) calls).files.entries
+abbrev pub tree_after : Accounts → List CallLine → List ℕ
+tree_after accounts calls = flat_map (λ e. node_printed e.0 e.1) (flat_end accounts (boot accounts) calls).files.entries
 
 -- root, alice and bob, in no group
-abbrev pub three_users : Session
+abbrev pub three_users : Accounts
 three_users = record {
   users = record { name = codes "root"; password = codes "rr" } ∷ record { name = codes "alice"; password = codes "aa" } ∷ record { name = codes "bob"; password = codes "bb" } ∷ [];
   groups = [];
 }
 
 -- carol beside them, and a group of alice and bob
-abbrev pub with_a_team : Session
+abbrev pub with_a_team : Accounts
 with_a_team = record {
   users = record { name = codes "root"; password = codes "rr" } ∷ record { name = codes "alice"; password = codes "aa" } ∷ record { name = codes "bob"; password = codes "bb" } ∷ record { name = codes "carol"; password = codes "cc" } ∷ [];
   groups = record { name = codes "team"; members = codes "alice" ∷ codes "bob" ∷ [] } ∷ [];

@@ -11,7 +11,7 @@ use Rattle.histar_flat.specs.declared.replies.Errno.TheVariants.{EEXIST}
 use Rattle.histar_flat.specs.declared.replies.Reply.TheVariants.{Child}
 use Rattle.histar_flat.specs.Words.{Name, Path, ProcName}
 use Rattle.histar_flat.specs.PathOrder.{same, same_path, under_path, under_process}
-use Rattle.histar_flat.specs.Sessions.{Session, has}
+use Rattle.histar_flat.specs.Accounts.{Accounts, has}
 use Rattle.histar_flat.specs.Files.{get}
 use Rattle.histar_flat.specs.Classes.{Process, carries}
 use Rattle.histar_flat.specs.Classes.Class.{Scratch}
@@ -93,8 +93,8 @@ module _ (job : ProcName) where
     left_in true o x e = let none : None ≡ Some x = e in absurd cc
     left_in false o x e = e
 
-    in_changes : (session : Session) (call : UnixCall) → EachChange session f me p call (AreInJob job)
-    in_changes session call = record {
+    in_changes : (accounts : Accounts) (call : UnixCall) → EachChange accounts f me p call (AreInJob job)
+    in_changes accounts call = record {
       stays = all;
       makes = λ n d x walked free w own mode made_is. all;
       overwrites = λ n d bytes file w. all;
@@ -110,16 +110,16 @@ module _ (job : ProcName) where
     }
 
   -- so each line leaves them in the job
-  in_after : (session : Session) (f : Flat) → is_given f.processes job ≡ true → AreInJob job f → (me : ProcName) (call : UnixCall) → AreInJob job (flat_after session f me call)
-  in_after session f given all me call = by_line session f me call (AreInJob job) all (λ p runs. in_changes f given all me p (runs_is_there (f.processes me) p runs) session call)
+  in_after : (accounts : Accounts) (f : Flat) → is_given f.processes job ≡ true → AreInJob job f → (me : ProcName) (call : UnixCall) → AreInJob job (flat_after accounts f me call)
+  in_after accounts f given all me call = by_line accounts f me call (AreInJob job) all (λ p runs. in_changes f given all me p (runs_is_there (f.processes me) p runs) accounts call)
 
   -- and what its processes call are calls of the job
-  calls_of_job : (session : Session) (f : Flat) → is_given f.processes job ≡ true → AreInJob job f → (calls : List CallLine) → all_under job calls ≡ true → AreOfJob session job f calls
-  calls_of_job session f given all [] under = tt
-  calls_of_job session f given all (c ∷ calls) under =
+  calls_of_job : (accounts : Accounts) (f : Flat) → is_given f.processes job ≡ true → AreInJob job f → (calls : List CallLine) → all_under job calls ≡ true → AreOfJob accounts job f calls
+  calls_of_job accounts f given all [] under = tt
+  calls_of_job accounts f given all (c ∷ calls) under =
       let parts = and_parts (under_process job c.process) (all_under job calls) under in (
         by (running f c.process) refl parts.0,
-        calls_of_job session (flat_after session f c.process c.call) (given_stays session f c.process c.call job given) (in_after session f given all c.process c.call) calls parts.1,
+        calls_of_job accounts (flat_after accounts f c.process c.call) (given_stays accounts f c.process c.call job given) (in_after accounts f given all c.process c.call) calls parts.1,
       )
     where
       by : (o : Option Process) → running f c.process ≡ o → under_process job c.process ≡ true → (running f c.process ≡ None) ⊎ (runs_in f c.process job ≡ true)
@@ -128,12 +128,12 @@ module _ (job : ProcName) where
 
 -- ---- a wrap
 
-module _ (session : Session) (f : Flat) (tree : IsTree f) (names : NamesAreGiven f) (me : ProcName) (p : Process) (here : f.processes me ≡ Some p) (n : Name) (d : Path) where
+module _ (accounts : Accounts) (f : Flat) (tree : IsTree f) (names : NamesAreGiven f) (me : ProcName) (p : Process) (here : f.processes me ≡ Some p) (n : Name) (d : Path) where
   abbrev job : ProcName
   job = next_child me p
 
   abbrev wrapped : Flat
-  wrapped = changed session f me p (Wrap (n ∷ d))
+  wrapped = changed accounts f me p (Wrap (n ∷ d))
 
   abbrev first : Process
   first = record { user = p.user; chain = inner_chain me p; held = []; exited = None; born = 0 }
@@ -182,33 +182,33 @@ module _ (session : Session) (f : Flat) (tree : IsTree f) (names : NamesAreGiven
   first_there = ap (λ b. cond b (Some first) (cond (same me job) (Some (record p { held = p.held ++ job ∷ []; born = p.born + 1 })) (f.processes job))) (same_itself job)
 
   -- after it, whatever the job's processes call
-  inside_after : NamesAreGiven wrapped → IsTree wrapped → (calls : List CallLine) → all_under job calls ≡ true → (q : Path) → under_path (n ∷ d) q ≡ false → get (flat_end session wrapped calls).files q ≡ get f.files q
+  inside_after : NamesAreGiven wrapped → IsTree wrapped → (calls : List CallLine) → all_under job calls ≡ true → (q : Path) → under_path (n ∷ d) q ≡ false → get (flat_end accounts wrapped calls).files q ≡ get f.files q
   inside_after later_names later_tree calls under q apart =
-      jobs_stay_inside session wrapped later_tree job calls
-      (calls_of_job job session wrapped (later_names.of_processes job first first_there) in_wrapped calls under) q (outside q apart)
+      jobs_stay_inside accounts wrapped later_tree job calls
+      (calls_of_job job accounts wrapped (later_names.of_processes job first first_there) in_wrapped calls under) q (outside q apart)
       ∙ elsewhere q apart
 
 -- A wrapped job changes nothing outside its scratch directory.
 pub wrapped_jobs_stay_inside : WrappedJobsStayInside
-wrapped_jobs_stay_inside session before wrap path job calls is_wrap said under q apart = by path is_wrap said apart
+wrapped_jobs_stay_inside accounts before wrap path job calls is_wrap said under q apart = by path is_wrap said apart
   where
     f : Flat
-    f = flat_end session (boot session) before
+    f = flat_end accounts (boot accounts) before
 
-    by : (x : Path) → wrap.call ≡ Wrap x → reply_to session f wrap.process (Wrap x) ≡ Child job → under_path x q ≡ false → get (flat_end session (boot session) (before ++ wrap ∷ calls)).files q ≡ get f.files q
+    by : (x : Path) → wrap.call ≡ Wrap x → reply_to accounts f wrap.process (Wrap x) ≡ Child job → under_path x q ≡ false → get (flat_end accounts (boot accounts) (before ++ wrap ∷ calls)).files q ≡ get f.files q
     by [] is_call answered outside_it =
-        let is = is_answered session f wrap.process (Wrap []) (Child job) (λ e. cc) (λ e g. cc) answered in
+        let is = is_answered accounts f wrap.process (Wrap []) (Child job) (λ e. cc) (λ e g. cc) answered in
         let e : Some EEXIST ≡ None = passes_later (no_child wrap.process is.process) (Some EEXIST) is.passes in absurd cc
     by (n ∷ d) is_call answered outside_it =
-        let is = is_answered session f wrap.process (Wrap (n ∷ d)) (Child job) (λ e. cc) (λ e g. cc) answered in
+        let is = is_answered accounts f wrap.process (Wrap (n ∷ d)) (Child job) (λ e. cc) (λ e g. cc) answered in
         let there = runs_is_there (f.processes wrap.process) is.process is.runs in
-        let after = changed_after session f wrap.process (Wrap (n ∷ d)) (Child job) is in
+        let after = changed_after accounts f wrap.process (Wrap (n ∷ d)) (Child job) is in
         let name : Child (next_child wrap.process is.process) ≡ Child job = is.answers in
         let job_is : next_child wrap.process is.process ≡ job = cc in
-        let line_after : flat_after session f wrap.process wrap.call ≡ changed session f wrap.process is.process (Wrap (n ∷ d)) = ap (flat_after session f wrap.process) is_call ∙ after in
-        ap (λ (g : Flat). get g.files q) (states_go_on session (boot session) before (wrap ∷ calls))
-        ∙ ap (λ (g : Flat). get (flat_end session g calls).files q) line_after
-        ∙ inside_after session f (paths_are_a_tree session before) (names_are_given_once.old session before) wrap.process is.process there n d
-        (subst NamesAreGiven after (given_after session f wrap.process (Wrap (n ∷ d)) (paths_are_a_tree session before) (names_are_given_once.old session before)))
-        (subst IsTree after (tree_after f (paths_are_a_tree session before) session wrap.process (Wrap (n ∷ d))))
+        let line_after : flat_after accounts f wrap.process wrap.call ≡ changed accounts f wrap.process is.process (Wrap (n ∷ d)) = ap (flat_after accounts f wrap.process) is_call ∙ after in
+        ap (λ (g : Flat). get g.files q) (states_go_on accounts (boot accounts) before (wrap ∷ calls))
+        ∙ ap (λ (g : Flat). get (flat_end accounts g calls).files q) line_after
+        ∙ inside_after accounts f (paths_are_a_tree accounts before) (names_are_given_once.old accounts before) wrap.process is.process there n d
+        (subst NamesAreGiven after (given_after accounts f wrap.process (Wrap (n ∷ d)) (paths_are_a_tree accounts before) (names_are_given_once.old accounts before)))
+        (subst IsTree after (tree_after f (paths_are_a_tree accounts before) accounts wrap.process (Wrap (n ∷ d))))
         calls (ap (λ (x : ProcName). all_under x calls) job_is ∙ under) q outside_it

@@ -8,7 +8,7 @@ use Rattle.histar_flat.specs.FlatState.Content.{Dir, File}
 use Rattle.histar_flat.specs.Needs.{Need, room, file, entry, child}
 use Rattle.histar_flat.specs.Needs.Need.{◌then◌, ◌or◌, Nothing, Walk, Found}
 use Rattle.histar_flat.specs.Needs.Test.{Exists, IsFile, IsDirectory, AbsentBeside, MayRead, MayWrite, MayWriteAbove, IsEmpty, Fits, MayMake, IsChild, IsUser, HasPassword, InNoJob, IsSomebody}
-use Rattle.histar_flat.specs.Effects.{Effect, Answer}
+use Rattle.histar_flat.specs.Effects.{Effect, ReplyForm}
 use Rattle.histar_flat.specs.Effects.Effect.{Makes, Stores, Removes, Renames, Spawns, Exits, LogsIn, Kills, Wraps, Nothing as nothing}
 use Rattle.histar_flat.specs.Effects.Answer.{Done, Bytes, Listing, Attributes, StatusOf, Identity, NewChild}
 
@@ -17,10 +17,10 @@ pub record Rule : Type 0 where
   pub path : Path
   pub needs : Need
   pub effect : Effect
-  pub answer : Answer
+  pub answer : ReplyForm
 
 infix 5 at◌needs◌changes◌answers◌
-abbrev pub at◌needs◌changes◌answers◌ : Path → Need → Effect → Answer → Rule
+abbrev pub at◌needs◌changes◌answers◌ : Path → Need → Effect → ReplyForm → Rule
 at q needs a changes b answers c = record { path = q; needs = a; effect = b; answer = c }
 
 -- the rule of each call

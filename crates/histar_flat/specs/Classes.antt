@@ -6,7 +6,7 @@ use Rattle.histar_flat.specs.declared.calls.Mode.TheVariants as modes
 use Rattle.histar_flat.specs.declared.replies.FileMode.{FileMode}
 use Rattle.histar_flat.specs.declared.replies.FileMode.TheVariants as file_modes
 use Rattle.histar_flat.specs.Words.{Name, ProcName}
-use Rattle.histar_flat.specs.Sessions.{Session, has, is_member}
+use Rattle.histar_flat.specs.Accounts.{Accounts, has, is_member}
 use Rattle.histar_flat.specs.PathOrder.{same}
 
 -- whose a file or a directory is, and for whom
@@ -45,33 +45,33 @@ knows p job = has p.chain job || has p.held job
 
 -- A process may read what is private where its user is the owner; what is readable or open always; scratch where its user is the
 -- owner and it knows each of the jobs; and what is a group's where its user is a member.
-abbrev pub may_read : Session → Process → Class → Bool
-may_read session p (Private owner) = same p.user owner
-may_read session p (Readable owner) = true
-may_read session p Open = true
-may_read session p (Scratch owner jobs) = same p.user owner && list_all (knows p) jobs
-may_read session p (Grouped group) = is_member session p.user group
+abbrev pub may_read : Accounts → Process → Class → Bool
+may_read accounts p (Private owner) = same p.user owner
+may_read accounts p (Readable owner) = true
+may_read accounts p Open = true
+may_read accounts p (Scratch owner jobs) = same p.user owner && list_all (knows p) jobs
+may_read accounts p (Grouped group) = is_member accounts p.user group
 
 -- A process may write what is private or readable where its user is the owner and it is in no job; what is open where it is in no
 -- job; scratch where it may read it and is in no other job than these; and what is a group's where its user is a member and it is
 -- in no job.
-abbrev pub may_write : Session → Process → Class → Bool
-may_write session p (Private owner) = same p.user owner && is_free p
-may_write session p (Readable owner) = same p.user owner && is_free p
-may_write session p Open = is_free p
-may_write session p (Scratch owner jobs) = same p.user owner && list_all (knows p) jobs && list_all (has jobs) p.chain
-may_write session p (Grouped group) = is_member session p.user group && is_free p
+abbrev pub may_write : Accounts → Process → Class → Bool
+may_write accounts p (Private owner) = same p.user owner && is_free p
+may_write accounts p (Readable owner) = same p.user owner && is_free p
+may_write accounts p Open = is_free p
+may_write accounts p (Scratch owner jobs) = same p.user owner && list_all (knows p) jobs && list_all (has jobs) p.chain
+may_write accounts p (Grouped group) = is_member accounts p.user group && is_free p
 
 -- what a process in no job makes for a mode: nobody makes what is open alone, and a group's is made by its members
-abbrev pub free_class : Session → Process → Mode → Option Class
-free_class session p modes.Private = if same p.user nobody then None else Some (Private p.user)
-free_class session p modes.Readable = if same p.user nobody then None else Some (Readable p.user)
-free_class session p modes.Open = Some Open
-free_class session p (modes.Group group) = if is_member session p.user group then Some (Grouped group) else None
+abbrev pub free_class : Accounts → Process → Mode → Option Class
+free_class accounts p modes.Private = if same p.user nobody then None else Some (Private p.user)
+free_class accounts p modes.Readable = if same p.user nobody then None else Some (Readable p.user)
+free_class accounts p modes.Open = Some Open
+free_class accounts p (modes.Group group) = if is_member accounts p.user group then Some (Grouped group) else None
 
 -- the class that a process makes: in a job it is scratch of its jobs, whatever mode is named
-abbrev pub class_made : Session → Process → Mode → Option Class
-class_made session p mode = if is_free p then free_class session p mode else Some (Scratch p.user p.chain)
+abbrev pub class_made : Accounts → Process → Mode → Option Class
+class_made accounts p mode = if is_free p then free_class accounts p mode else Some (Scratch p.user p.chain)
 
 -- a process sees another one where it knows each of the other's jobs
 abbrev pub sees : Process → Process → Bool

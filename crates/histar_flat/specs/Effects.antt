@@ -5,7 +5,7 @@ use Rattle.histar_flat.specs.declared.replies.Reply.{Reply}
 use Rattle.histar_flat.specs.declared.replies.Reply.TheVariants as replies
 use Rattle.histar_flat.specs.Words.{Name, Path, ProcName}
 use Rattle.histar_flat.specs.PathOrder.{parent}
-use Rattle.histar_flat.specs.Sessions.{Session}
+use Rattle.histar_flat.specs.Accounts.{Accounts}
 use Rattle.histar_flat.specs.Files.{get}
 use Rattle.histar_flat.specs.Classes.{Class, Process, is_free, class_made, class_owner, class_mode}
 use Rattle.histar_flat.specs.Classes.Class.{Open, Scratch}
@@ -44,13 +44,13 @@ pub data Effect : Type 0 where
   Kills : ProcName → Effect
 
 -- what a call answers
-pub data Answer : Type 0 where
+pub data ReplyForm : Type 0 where
   -- that it was done; the bytes of the file at the path; the entries of the directory there; kind, owner and mode of what is there
-  Done Bytes Listing Attributes : Answer
+  Done Bytes Listing Attributes : ReplyForm
   -- whose the process is, and whether it is in a job; the name of the new child
-  Identity NewChild : Answer
+  Identity NewChild : ReplyForm
   -- whether the process of this name runs
-  StatusOf : ProcName → Answer
+  StatusOf : ProcName → ReplyForm
 
 -- the reply that shows whether a process runs
 abbrev pub life_reply : Option Process → Reply
@@ -62,11 +62,11 @@ abbrev pub stat_reply : Option Node → Reply
 stat_reply None = replies.Gone
 stat_reply (Some node) = replies.Stats (record { is_directory = is_dir node; owner = class_owner node.class; mode = class_mode node.class })
 
-module _ (session : Session) (f : Flat) (me : ProcName) (p : Process) (q : Path) where
+module _ (accounts : Accounts) (f : Flat) (me : ProcName) (p : Process) (q : Path) where
   -- the state after an effect, by a call of the process p, whose name is me, that names the path q
   abbrev pub apply : Effect → Flat
   apply Nothing = f
-  apply (Makes content mode) = with_node f q (class_or_open (class_made session p mode)) content
+  apply (Makes content mode) = with_node f q (class_or_open (class_made accounts p mode)) content
   apply (Stores new) = with_bytes f q (new (bytes_at f q))
   apply Removes = without_below f q
   apply (Renames name) = with_renamed f q (name ∷ parent q)
@@ -80,7 +80,7 @@ module _ (session : Session) (f : Flat) (me : ProcName) (p : Process) (q : Path)
       me (record p { held = p.held ++ next_child me p ∷ [] }) (inner_chain me p)
 
 -- the reply with an answer, to the same call
-abbrev pub reply_with : Flat → ProcName → Process → Path → Answer → Reply
+abbrev pub reply_with : Flat → ProcName → Process → Path → ReplyForm → Reply
 reply_with f me p q Done = replies.Done
 reply_with f me p q Bytes = replies.Data (bytes_at f q)
 reply_with f me p q Listing = replies.Entries (entries_in f q)

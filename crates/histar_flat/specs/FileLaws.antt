@@ -9,7 +9,7 @@ use Rattle.histar_flat.specs.declared.calls.UnixCall.TheVariants.{List as ListCa
 use Rattle.histar_flat.specs.declared.replies.Reply.TheVariants.{Done, Entries}
 use Rattle.histar_flat.specs.Words.{Name, Path, ProcName}
 use Rattle.histar_flat.specs.PathOrder.{same, same_path, under_path}
-use Rattle.histar_flat.specs.Sessions.{Session}
+use Rattle.histar_flat.specs.Accounts.{Accounts}
 use Rattle.histar_flat.specs.Files.{get}
 use Rattle.histar_flat.specs.Classes.{Process}
 use Rattle.histar_flat.specs.FlatState.{Flat, Node, Entry, IsTree, is_dir, reads, writes, moved}
@@ -18,7 +18,7 @@ use Rattle.histar_flat.specs.Laws.{private_file}
 
 -- In a listing the names rise; a name is in it exactly where something stands there, and as a directory exactly where that is one.
 abbrev pub ListingsShowWhatStands : Type 0
-ListingsShowWhatStands = (session : Session) (f : Flat) (me : ProcName) (d : Path) (entries : List Entry) → reply_to session f me (ListCall d) ≡ Entries entries
+ListingsShowWhatStands = (accounts : Accounts) (f : Flat) (me : ProcName) (d : Path) (entries : List Entry) → reply_to accounts f me (ListCall d) ≡ Entries entries
     → T (is_sorted (slice_cmp nat_cmp) entries) × ((n : Name) → find (slice_cmp nat_cmp) n entries ≡ option_map is_dir (get f.files (n ∷ d)))
 
 -- the call takes away what stands at the path
@@ -27,25 +27,25 @@ IsRemoval call q = (call ≡ Unlink q) ⊎ (call ≡ Rmdir q) ⊎ (call ≡ Rmtr
 
 -- a removal takes exactly what stands at its path and below it
 abbrev pub RemovalsTakeWhatIsBelow : Type 0
-RemovalsTakeWhatIsBelow = (session : Session) (f : Flat) (me : ProcName) (call : UnixCall) (q : Path) → IsRemoval call q → reply_to session f me call ≡ Done
-    → (r : Path) → get (flat_after session f me call).files r ≡ cond (under_path q r) None (get f.files r)
+RemovalsTakeWhatIsBelow = (accounts : Accounts) (f : Flat) (me : ProcName) (call : UnixCall) (q : Path) → IsRemoval call q → reply_to accounts f me call ≡ Done
+    → (r : Path) → get (flat_after accounts f me call).files r ≡ cond (under_path q r) None (get f.files r)
 
 -- In a tree a rename keeps everything, with its class and its bytes: what stood at a path stands where that leads with the new name,
 -- and nothing else does.
 abbrev pub RenamesKeepWhatStands : Type 0
-RenamesKeepWhatStands = (session : Session) (f : Flat) → IsTree f → (me : ProcName) (n k : Name) (d : Path) → reply_to session f me (Rename (n ∷ d) k) ≡ Done → (r : Path) (node : Node)
-    → (get f.files r ≡ Some node → get (flat_after session f me (Rename (n ∷ d) k)).files (moved (n ∷ d) (k ∷ d) r) ≡ Some node)
-    × (get (flat_after session f me (Rename (n ∷ d) k)).files r ≡ Some node → get f.files (moved (k ∷ d) (n ∷ d) r) ≡ Some node)
+RenamesKeepWhatStands = (accounts : Accounts) (f : Flat) → IsTree f → (me : ProcName) (n k : Name) (d : Path) → reply_to accounts f me (Rename (n ∷ d) k) ≡ Done → (r : Path) (node : Node)
+    → (get f.files r ≡ Some node → get (flat_after accounts f me (Rename (n ∷ d) k)).files (moved (n ∷ d) (k ∷ d) r) ≡ Some node)
+    × (get (flat_after accounts f me (Rename (n ∷ d) k)).files r ≡ Some node → get f.files (moved (k ∷ d) (n ∷ d) r) ≡ Some node)
 
 -- the process may write none of the directories that lead to the path
-abbrev pub WritesNoneAbove : Session → Flat → Process → Path → Type 0
-WritesNoneAbove session f p q = (n : Name) (d : Path) → under_path (n ∷ d) q ≡ true → writes session f p d ≡ false
+abbrev pub WritesNoneAbove : Accounts → Flat → Process → Path → Type 0
+WritesNoneAbove accounts f p q = (n : Name) (d : Path) → under_path (n ∷ d) q ≡ true → writes accounts f p d ≡ false
 
 -- in a tree no call of another user's process takes a private file away, or changes it, unless it may write a directory that leads to it
 abbrev pub WritersTakePrivateFiles : Type 0
 WritersTakePrivateFiles = (f : Flat) → IsTree f → (q : Path) (owner : Name) (bytes : List ℕ) → get f.files q ≡ Some (private_file owner bytes)
-    → (session : Session) (me : ProcName) (p : Process) (call : UnixCall) → running f me ≡ Some p → same p.user owner ≡ false → WritesNoneAbove session f p q
-    → get (flat_after session f me call).files q ≡ Some (private_file owner bytes)
+    → (accounts : Accounts) (me : ProcName) (p : Process) (call : UnixCall) → running f me ≡ Some p → same p.user owner ≡ false → WritesNoneAbove accounts f p q
+    → get (flat_after accounts f me call).files q ≡ Some (private_file owner bytes)
 
 -- the path lies below the directory
 abbrev pub is_inside : Path → Path → Bool
@@ -53,5 +53,5 @@ is_inside d q = under_path d q && not (same_path d q)
 
 -- Whatever stands below a directory that a process may not read, each call of the process has the same reply.
 abbrev pub UnreadDirectoriesAreHidden : Type 0
-UnreadDirectoriesAreHidden = (session : Session) (f g : Flat) (d : Path) → f.processes ≡ g.processes → ((q : Path) → is_inside d q ≡ false → get f.files q ≡ get g.files q)
-    → (me : ProcName) (p : Process) (call : UnixCall) → running f me ≡ Some p → reads session f p d ≡ false → reply_to session f me call ≡ reply_to session g me call
+UnreadDirectoriesAreHidden = (accounts : Accounts) (f g : Flat) (d : Path) → f.processes ≡ g.processes → ((q : Path) → is_inside d q ≡ false → get f.files q ≡ get g.files q)
+    → (me : ProcName) (p : Process) (call : UnixCall) → running f me ≡ Some p → reads accounts f p d ≡ false → reply_to accounts f me call ≡ reply_to accounts g me call

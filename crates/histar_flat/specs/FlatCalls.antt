@@ -5,7 +5,7 @@ use Rattle.histar_flat.specs.declared.replies.Errno.{Errno}
 use Rattle.histar_flat.specs.declared.replies.Reply.{Reply}
 use Rattle.histar_flat.specs.declared.replies.Reply.TheVariants.{Refused, Gone}
 use Rattle.histar_flat.specs.Words.{ProcName}
-use Rattle.histar_flat.specs.Sessions.{Session}
+use Rattle.histar_flat.specs.Accounts.{Accounts}
 use Rattle.histar_flat.specs.Classes.{Process}
 use Rattle.histar_flat.specs.FlatState.{Flat}
 use Rattle.histar_flat.specs.Needs.{unmet}
@@ -15,12 +15,12 @@ pub use Rattle.histar_flat.specs.Needs.{most_entries, most_bytes, is_below_root,
 pub use Rattle.histar_flat.specs.Effects.{class_or_open, next_child, inner_chain, life_reply, stat_reply}
 
 -- the first refusal of a call of the process p, whose name is me
-abbrev pub refused : Session → Flat → ProcName → Process → UnixCall → Option Errno
-refused session f me p call = unmet session f me p (path_of call) (rule call).needs
+abbrev pub refused : Accounts → Flat → ProcName → Process → UnixCall → Option Errno
+refused accounts f me p call = unmet accounts f me p (path_of call) (rule call).needs
 
 -- the change of a call that is not refused
-abbrev pub changed : Session → Flat → ProcName → Process → UnixCall → Flat
-changed session f me p call = apply session f me p (path_of call) (rule call).effect
+abbrev pub changed : Accounts → Flat → ProcName → Process → UnixCall → Flat
+changed accounts f me p call = apply accounts f me p (path_of call) (rule call).effect
 
 -- the answer of a call that is not refused
 abbrev pub answer : Flat → ProcName → Process → UnixCall → Reply
@@ -46,19 +46,19 @@ abbrev pub running : Flat → ProcName → Option Process
 running f me = if_running (f.processes me)
 
 -- the reply to a process that runs, and else `gone`
-abbrev pub reply_by : Session → Flat → ProcName → Option Process → UnixCall → Reply
-reply_by session f me None call = Gone
-reply_by session f me (Some p) call = reply_or (refused session f me p call) (answer f me p call)
+abbrev pub reply_by : Accounts → Flat → ProcName → Option Process → UnixCall → Reply
+reply_by accounts f me None call = Gone
+reply_by accounts f me (Some p) call = reply_or (refused accounts f me p call) (answer f me p call)
 
 -- the state after the call of a process that runs, and else the same state
-abbrev pub flat_by : Session → Flat → ProcName → Option Process → UnixCall → Flat
-flat_by session f me None call = f
-flat_by session f me (Some p) call = flat_or (refused session f me p call) f (changed session f me p call)
+abbrev pub flat_by : Accounts → Flat → ProcName → Option Process → UnixCall → Flat
+flat_by accounts f me None call = f
+flat_by accounts f me (Some p) call = flat_or (refused accounts f me p call) f (changed accounts f me p call)
 
 -- the reply to a call of the process of this name
-abbrev pub reply_to : Session → Flat → ProcName → UnixCall → Reply
-reply_to session f me call = reply_by session f me (running f me) call
+abbrev pub reply_to : Accounts → Flat → ProcName → UnixCall → Reply
+reply_to accounts f me call = reply_by accounts f me (running f me) call
 
 -- the flat state after it
-abbrev pub flat_after : Session → Flat → ProcName → UnixCall → Flat
-flat_after session f me call = flat_by session f me (running f me) call
+abbrev pub flat_after : Accounts → Flat → ProcName → UnixCall → Flat
+flat_after accounts f me call = flat_by accounts f me (running f me) call

@@ -6,7 +6,7 @@ use Rattle.histar_flat.specs.declared.replies.Errno.{Errno}
 use Rattle.histar_flat.specs.declared.replies.Errno.TheVariants.{EACCES, ENOENT, ENOTDIR}
 use Rattle.histar_flat.specs.Words.{Name, Path, ProcName}
 use Rattle.histar_flat.specs.PathOrder.{same, same_path, under_path, under_process}
-use Rattle.histar_flat.specs.Sessions.{Session}
+use Rattle.histar_flat.specs.Accounts.{Accounts}
 use Rattle.histar_flat.specs.Files.{Files, get, insert, keep, from_list}
 use Rattle.histar_flat.specs.Classes.{Class, Process, may_read, may_write}
 use Rattle.histar_flat.specs.Classes.Class.{Open}
@@ -53,12 +53,12 @@ pub record IsTree (f : Flat) : Type 0 where
   pub below : (n : Name) (d : Path) → is_there f (n ∷ d) ≡ true → is_dir_at f d ≡ true
 
 -- the process may read what stands at the path
-abbrev pub reads : Session → Flat → Process → Path → Bool
-reads session f p q = is_some_and (get f.files q) (λ n. may_read session p n.class)
+abbrev pub reads : Accounts → Flat → Process → Path → Bool
+reads accounts f p q = is_some_and (get f.files q) (λ n. may_read accounts p n.class)
 
 -- the process may write what stands at the path
-abbrev pub writes : Session → Flat → Process → Path → Bool
-writes session f p q = is_some_and (get f.files q) (λ n. may_write session p n.class)
+abbrev pub writes : Accounts → Flat → Process → Path → Bool
+writes accounts f p q = is_some_and (get f.files q) (λ n. may_write accounts p n.class)
 
 -- the bytes of a file, where one stands there
 abbrev pub bytes_of : Option Node → List ℕ
@@ -83,18 +83,18 @@ entries_in f d = filter_map (entry_in d) f.files.entries
 
 -- The first refusal on the way into a directory: from `/` on each directory may not be read, or the next name is not in it, or that
 -- is no directory.
-abbrev pub into : Session → Flat → Process → Path → Option Errno
-into session f p [] = unless (reads session f p []) EACCES
-into session f p (n ∷ d) =
-    into session f p d
+abbrev pub into : Accounts → Flat → Process → Path → Option Errno
+into accounts f p [] = unless (reads accounts f p []) EACCES
+into accounts f p (n ∷ d) =
+    into accounts f p d
     orelse unless (is_there f (n ∷ d)) ENOENT
     orelse unless (is_dir_at f (n ∷ d)) ENOTDIR
-    orelse unless (reads session f p (n ∷ d)) EACCES
+    orelse unless (reads accounts f p (n ∷ d)) EACCES
 
 -- the first refusal on the walk to a path, which is the way into the directory that it lies in; to `/` there is no walk
-abbrev pub walk : Session → Flat → Process → Path → Option Errno
-walk session f p [] = None
-walk session f p (n ∷ d) = into session f p d
+abbrev pub walk : Accounts → Flat → Process → Path → Option Errno
+walk accounts f p [] = None
+walk accounts f p (n ∷ d) = into accounts f p d
 
 -- with this at the path
 abbrev pub with_node : Flat → Path → Class → Content → Flat

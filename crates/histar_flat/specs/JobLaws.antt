@@ -7,7 +7,7 @@ use Rattle.histar_flat.specs.declared.calls.UnixCall.TheVariants.{Read, Wrap}
 use Rattle.histar_flat.specs.declared.replies.Reply.TheVariants.{Child}
 use Rattle.histar_flat.specs.Words.{Path, ProcName}
 use Rattle.histar_flat.specs.PathOrder.{under_path, under_process}
-use Rattle.histar_flat.specs.Sessions.{Session, has}
+use Rattle.histar_flat.specs.Accounts.{Accounts, has}
 use Rattle.histar_flat.specs.Files.{get}
 use Rattle.histar_flat.specs.Classes.{Class, Process, carries}
 use Rattle.histar_flat.specs.Classes.Class.{Scratch}
@@ -25,14 +25,14 @@ abbrev pub runs_in : Flat → ProcName → ProcName → Bool
 runs_in f me job = is_some_and (running f me) (λ p. has p.chain job)
 
 -- each of these calls, one after another, is of a process that is in the job, or of one that doesn't run
-abbrev pub AreOfJob : Session → ProcName → Flat → List CallLine → Type 0
-AreOfJob session job f [] = Unit {0}
-AreOfJob session job f (c ∷ calls) = ((running f c.process ≡ None) ⊎ (runs_in f c.process job ≡ true)) × AreOfJob session job (flat_after session f c.process c.call) calls
+abbrev pub AreOfJob : Accounts → ProcName → Flat → List CallLine → Type 0
+AreOfJob accounts job f [] = Unit {0}
+AreOfJob accounts job f (c ∷ calls) = ((running f c.process ≡ None) ⊎ (runs_in f c.process job ≡ true)) × AreOfJob accounts job (flat_after accounts f c.process c.call) calls
 
 -- whatever the processes of a job call, each path that doesn't lie in a scratch directory of the job is as it was
 abbrev pub JobsStayInside : Type 0
-JobsStayInside = (session : Session) (f : Flat) → IsTree f → (job : ProcName) (calls : List CallLine) → AreOfJob session job f calls
-    → (q : Path) → lies_in_scratch f job q ≡ false → get (flat_end session f calls).files q ≡ get f.files q
+JobsStayInside = (accounts : Accounts) (f : Flat) → IsTree f → (job : ProcName) (calls : List CallLine) → AreOfJob accounts job f calls
+    → (q : Path) → lies_in_scratch f job q ≡ false → get (flat_end accounts f calls).files q ≡ get f.files q
 
 -- each of these calls is of the process of this name, or of one below it
 abbrev pub all_under : ProcName → List CallLine → Bool
@@ -41,14 +41,14 @@ all_under name calls = list_all (λ (c : CallLine). under_process name c.process
 -- After any calls, a wrap of a path that is answered with the name of its job, and whatever the job's processes call then, leave each path
 -- as it was but the path itself and those below it.
 abbrev pub WrappedJobsStayInside : Type 0
-WrappedJobsStayInside = (session : Session) (before : List CallLine) (wrap : CallLine) (path : Path) (job : ProcName) (calls : List CallLine) → wrap.call ≡ Wrap path
-    → reply_to session (flat_end session (boot session) before) wrap.process (Wrap path) ≡ Child job → all_under job calls ≡ true
-    → (q : Path) → under_path path q ≡ false → get (flat_end session (boot session) (before ++ wrap ∷ calls)).files q ≡ get (flat_end session (boot session) before).files q
+WrappedJobsStayInside = (accounts : Accounts) (before : List CallLine) (wrap : CallLine) (path : Path) (job : ProcName) (calls : List CallLine) → wrap.call ≡ Wrap path
+    → reply_to accounts (flat_end accounts (boot accounts) before) wrap.process (Wrap path) ≡ Child job → all_under job calls ≡ true
+    → (q : Path) → under_path path q ≡ false → get (flat_end accounts (boot accounts) (before ++ wrap ∷ calls)).files q ≡ get (flat_end accounts (boot accounts) before).files q
 
 -- a call of a process changes no process but itself and those below it
 abbrev pub CallsChangeTheirOwnTree : Type 0
-CallsChangeTheirOwnTree = (session : Session) (f : Flat) (me : ProcName) (call : UnixCall) (other : ProcName) → under_process me other ≡ false
-    → (flat_after session f me call).processes other ≡ f.processes other
+CallsChangeTheirOwnTree = (accounts : Accounts) (f : Flat) (me : ProcName) (call : UnixCall) (other : ProcName) → under_process me other ≡ false
+    → (flat_after accounts f me call).processes other ≡ f.processes other
 
 -- what is of this class is of jobs
 abbrev pub is_scratch : Class → Bool
@@ -66,5 +66,5 @@ out_of_jobs p = record p { chain = []; held = [] }
 
 -- outside all scratch directories a process in jobs is answered what it were answered in none
 abbrev pub JobsReadAsTheirUser : Type 0
-JobsReadAsTheirUser = (session : Session) (f : Flat) (me : ProcName) (p : Process) (q : Path) → running f me ≡ Some p → lies_in_some_scratch f q ≡ false
-    → reply_to session f me (Read q) ≡ reply_to session (with_process f me (out_of_jobs p)) me (Read q)
+JobsReadAsTheirUser = (accounts : Accounts) (f : Flat) (me : ProcName) (p : Process) (q : Path) → running f me ≡ Some p → lies_in_some_scratch f q ≡ false
+    → reply_to accounts f me (Read q) ≡ reply_to accounts (with_process f me (out_of_jobs p)) me (Read q)

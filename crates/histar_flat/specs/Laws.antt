@@ -9,7 +9,7 @@ use Rattle.histar_flat.specs.declared.replies.Errno.{Errno}
 use Rattle.histar_flat.specs.declared.replies.Reply.TheVariants.{Done, Data, Refused}
 use Rattle.histar_flat.specs.Words.{Name, Path, ProcName}
 use Rattle.histar_flat.specs.PathOrder.{same, under_path}
-use Rattle.histar_flat.specs.Sessions.{Session, user_named, is_member}
+use Rattle.histar_flat.specs.Accounts.{Accounts, user_named, is_member}
 use Rattle.histar_flat.specs.Files.{get}
 use Rattle.histar_flat.specs.Classes.{Process, nobody, knows, carries}
 use Rattle.histar_flat.specs.Classes.Class.{Private, Grouped}
@@ -19,7 +19,7 @@ use Rattle.histar_flat.specs.Effects.{Effect}
 use Rattle.histar_flat.specs.Effects.Effect.{Removes, Renames, LogsIn}
 use Rattle.histar_flat.specs.CallRules.{path_of, rule}
 use Rattle.histar_flat.specs.FlatCalls.{next_child, running, reply_to, flat_after}
-use Rattle.histar_flat.specs.Meaning.{Answered, boot, answered_from, flat_end, meaning}
+use Rattle.histar_flat.specs.Meaning.{RepliedCall, boot, answered_from, flat_end, meaning}
 
 -- a private file of this owner with these bytes
 abbrev pub private_file : Name → List ℕ → Node
@@ -48,7 +48,7 @@ AreAway users f = (me : ProcName) → is_some_and (running f me) (λ p. users p.
 
 -- a call that is refused changes nothing
 abbrev pub RefusalsChangeNothing : Type 0
-RefusalsChangeNothing = (session : Session) (f : Flat) (me : ProcName) (call : UnixCall) (e : Errno) → reply_to session f me call ≡ Refused e → flat_after session f me call ≡ f
+RefusalsChangeNothing = (accounts : Accounts) (f : Flat) (me : ProcName) (call : UnixCall) (e : Errno) → reply_to accounts f me call ≡ Refused e → flat_after accounts f me call ≡ f
 
 -- the effect takes away or renames what stands at the path of the call
 abbrev pub removes : Effect → Bool
@@ -64,18 +64,18 @@ takes_away call q = removes (rule call).effect && under_path (path_of call) q
 -- stands at its path, is private, and has its bytes.
 abbrev pub PrivateFilesStay : Type 0
 PrivateFilesStay = (f : Flat) → IsTree f → (q : Path) (owner : Name) (bytes : List ℕ) → get f.files q ≡ Some (private_file owner bytes)
-    → (session : Session) (me : ProcName) (call : UnixCall) → runs_for f me owner ≡ false → takes_away call q ≡ false
-    → get (flat_after session f me call).files q ≡ Some (private_file owner bytes)
+    → (accounts : Accounts) (me : ProcName) (call : UnixCall) → runs_for f me owner ≡ false → takes_away call q ≡ false
+    → get (flat_after accounts f me call).files q ≡ Some (private_file owner bytes)
 
 -- a process that is not the owner's and reads a private file is answered no bytes
 abbrev pub PrivateFilesAreHidden : Type 0
 PrivateFilesAreHidden = (f : Flat) (q : Path) (owner : Name) (bytes : List ℕ) → get f.files q ≡ Some (private_file owner bytes)
-    → (session : Session) (me : ProcName) (told : List ℕ) → runs_for f me owner ≡ false → reply_to session f me (Read q) ≢ Data told
+    → (accounts : Accounts) (me : ProcName) (revealed : List ℕ) → runs_for f me owner ≡ false → reply_to accounts f me (Read q) ≢ Data revealed
 
 -- while no process is the owner's and no call is a login as the owner, all replies are as if other bytes stood in the private file
 abbrev pub PrivateBytesAreHidden : Type 0
-PrivateBytesAreHidden = (owner : Name) (session : Session) (f : Flat) (q : Path) (bytes other : List ℕ) (calls : List CallLine) → get f.files q ≡ Some (private_file owner bytes)
-    → AreAway (λ name. same name owner) f → has_no_login_of (λ name. same name owner) calls ≡ true → answered_from session f calls ≡ answered_from session (with_bytes f q other) calls
+PrivateBytesAreHidden = (owner : Name) (accounts : Accounts) (f : Flat) (q : Path) (bytes other : List ℕ) (calls : List CallLine) → get f.files q ≡ Some (private_file owner bytes)
+    → AreAway (λ name. same name owner) f → has_no_login_of (λ name. same name owner) calls ≡ true → answered_from accounts f calls ≡ answered_from accounts (with_bytes f q other) calls
 
 -- a file of this group with these bytes
 abbrev pub group_file : Name → List ℕ → Node
@@ -83,26 +83,26 @@ group_file group bytes = record { class = Grouped group; content = File bytes }
 
 -- each call of a process that is no member's has the reply that it had if other bytes stood in a file of the group
 abbrev pub GroupBytesAreHidden : Type 0
-GroupBytesAreHidden = (group : Name) (session : Session) (f : Flat) (q : Path) (bytes other : List ℕ) (me : ProcName) (call : UnixCall) → get f.files q ≡ Some (group_file group bytes)
-    → is_some_and (running f me) (λ p. is_member session p.user group) ≡ false → reply_to session f me call ≡ reply_to session (with_bytes f q other) me call
+GroupBytesAreHidden = (group : Name) (accounts : Accounts) (f : Flat) (q : Path) (bytes other : List ℕ) (me : ProcName) (call : UnixCall) → get f.files q ≡ Some (group_file group bytes)
+    → is_some_and (running f me) (λ p. is_member accounts p.user group) ≡ false → reply_to accounts f me call ≡ reply_to accounts (with_bytes f q other) me call
 
 -- while no process is a member's and no call is a login as a member, all replies are as if other bytes stood in the group's file
 abbrev pub GroupBytesStayHidden : Type 0
-GroupBytesStayHidden = (group : Name) (session : Session) (f : Flat) (q : Path) (bytes other : List ℕ) (calls : List CallLine) → get f.files q ≡ Some (group_file group bytes)
-    → AreAway (λ name. is_member session name group) f → has_no_login_of (λ name. is_member session name group) calls ≡ true → answered_from session f calls ≡ answered_from session (with_bytes f q other) calls
+GroupBytesStayHidden = (group : Name) (accounts : Accounts) (f : Flat) (q : Path) (bytes other : List ℕ) (calls : List CallLine) → get f.files q ≡ Some (group_file group bytes)
+    → AreAway (λ name. is_member accounts name group) f → has_no_login_of (λ name. is_member accounts name group) calls ≡ true → answered_from accounts f calls ≡ answered_from accounts (with_bytes f q other) calls
 
 -- a process that has written bytes to a file, and reads the file next, is answered these bytes
 abbrev pub WritesAreReadBack : Type 0
-WritesAreReadBack = (session : Session) (f : Flat) (me : ProcName) (q : Path) (bytes : List ℕ) → reply_to session f me (Write q bytes) ≡ Done
-    → reply_to session (flat_after session f me (Write q bytes)) me (Read q) ≡ Data bytes
+WritesAreReadBack = (accounts : Accounts) (f : Flat) (me : ProcName) (q : Path) (bytes : List ℕ) → reply_to accounts f me (Write q bytes) ≡ Done
+    → reply_to accounts (flat_after accounts f me (Write q bytes)) me (Read q) ≡ Data bytes
 
 -- the replies of a script are one a call line, in the order of the lines
 abbrev pub OneReplyALine : Type 0
-OneReplyALine = (session : Session) (calls : List CallLine) → map (λ (a : Answered). a.call) (meaning session calls) ≡ calls
+OneReplyALine = (accounts : Accounts) (calls : List CallLine) → map (λ (a : RepliedCall). a.call) (meaning accounts calls) ≡ calls
 
 -- in each state that calls lead to the paths are a tree
 abbrev pub PathsAreATree : Type 0
-PathsAreATree = (session : Session) (calls : List CallLine) → IsTree (flat_end session (boot session) calls)
+PathsAreATree = (accounts : Accounts) (calls : List CallLine) → IsTree (flat_end accounts (boot accounts) calls)
 
 -- each process that is there, each job that such a process knows, and each job that a class carries has a name that was given
 pub record NamesAreGiven (f : Flat) : Type 0 where
@@ -113,9 +113,9 @@ pub record NamesAreGiven (f : Flat) : Type 0 where
 -- Names are given once: in each state that calls lead to, all names that are there were given; the name of a next child was not; and
 -- a name that was given stays so.
 pub record NamesAreGivenOnce : Type 0 where
-  pub old : (session : Session) (calls : List CallLine) → NamesAreGiven (flat_end session (boot session) calls)
+  pub old : (accounts : Accounts) (calls : List CallLine) → NamesAreGiven (flat_end accounts (boot accounts) calls)
   pub new : (f : Flat) (me : ProcName) (p : Process) → f.processes me ≡ Some p → is_given f.processes (next_child me p) ≡ false
-  pub stay : (session : Session) (f : Flat) (me : ProcName) (call : UnixCall) (name : ProcName) → is_given f.processes name ≡ true → is_given (flat_after session f me call).processes name ≡ true
+  pub stay : (accounts : Accounts) (f : Flat) (me : ProcName) (call : UnixCall) (name : ProcName) → is_given f.processes name ≡ true → is_given (flat_after accounts f me call).processes name ≡ true
 
 -- the process is in no job and holds none
 pub record HasNoJob (p : Process) : Type 0 where
@@ -124,7 +124,7 @@ pub record HasNoJob (p : Process) : Type 0 where
 
 -- who is nobody, and who is no declared user, has no job, in each state that calls lead to
 pub record NobodyHasAJob : Type 0 where
-  pub nobodys : (session : Session) (calls : List CallLine) (me : ProcName) (p : Process) → (flat_end session (boot session) calls).processes me ≡ Some p
+  pub nobodys : (accounts : Accounts) (calls : List CallLine) (me : ProcName) (p : Process) → (flat_end accounts (boot accounts) calls).processes me ≡ Some p
       → p.user ≡ nobody → HasNoJob p
-  pub strangers : (session : Session) (calls : List CallLine) (me : ProcName) (p : Process) → (flat_end session (boot session) calls).processes me ≡ Some p
-      → user_named session.users p.user ≡ None → HasNoJob p
+  pub strangers : (accounts : Accounts) (calls : List CallLine) (me : ProcName) (p : Process) → (flat_end accounts (boot accounts) calls).processes me ≡ Some p
+      → user_named accounts.users p.user ≡ None → HasNoJob p

@@ -4,7 +4,7 @@ pub mod Words
 pub mod Modes
 pub mod PathOrder
 pub mod PathOrderLaws
-pub mod Sessions
+pub mod Accounts
 pub mod Files
 pub mod Classes
 pub mod FlatState

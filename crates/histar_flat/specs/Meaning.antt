@@ -5,7 +5,7 @@ use Rattle.histar_flat.specs.declared.calls.CallLine.{CallLine}
 use Rattle.histar_flat.specs.declared.replies.Reply.{Reply}
 use Rattle.histar_flat.specs.Words.{Name, ProcName}
 use Rattle.histar_flat.specs.PathOrder.{under_process}
-use Rattle.histar_flat.specs.Sessions.{Session}
+use Rattle.histar_flat.specs.Accounts.{Accounts}
 use Rattle.histar_flat.specs.Files.{empty, insert}
 use Rattle.histar_flat.specs.Classes.{Process, nobody}
 use Rattle.histar_flat.specs.Classes.Class.{Readable}
@@ -23,33 +23,33 @@ abbrev pub first_process : Process
 first_process = record { user = nobody; chain = []; held = []; exited = None; born = 0 }
 
 -- the flat state at the start: `/` alone, which everyone may read and the first user may write, and process 0 alone
-abbrev pub boot : Session → Flat
-boot session = with_process
+abbrev pub boot : Accounts → Flat
+boot accounts = with_process
     (record {
-      files = insert empty [] (record { class = Readable (first_user session.users); content = Dir });
+      files = insert empty [] (record { class = Readable (first_user accounts.users); content = Dir });
       processes = λ q. None;
     })
     [] first_process
 
 -- a call line and its reply
-pub record Answered : Type 0 where
+pub record RepliedCall : Type 0 where
   pub call : CallLine
   pub reply : Reply
 
 -- the calls, one after another, each with its reply
-abbrev pub answered_from : Session → Flat → List CallLine → List Answered
-answered_from session f [] = []
-answered_from session f (c ∷ calls) =
-    record { call = c; reply = reply_to session f c.process c.call } ∷ answered_from session (flat_after session f c.process c.call) calls
+abbrev pub answered_from : Accounts → Flat → List CallLine → List RepliedCall
+answered_from accounts f [] = []
+answered_from accounts f (c ∷ calls) =
+    record { call = c; reply = reply_to accounts f c.process c.call } ∷ answered_from accounts (flat_after accounts f c.process c.call) calls
 
 -- the flat state after the calls
-abbrev pub flat_end : Session → Flat → List CallLine → Flat
-flat_end session f [] = f
-flat_end session f (c ∷ calls) = flat_end session (flat_after session f c.process c.call) calls
+abbrev pub flat_end : Accounts → Flat → List CallLine → Flat
+flat_end accounts f [] = f
+flat_end accounts f (c ∷ calls) = flat_end accounts (flat_after accounts f c.process c.call) calls
 
 -- what a script of this session and these calls means: each call with its reply, from the start on
-abbrev pub meaning : Session → List CallLine → List Answered
-meaning session calls = answered_from session (boot session) calls
+abbrev pub meaning : Accounts → List CallLine → List RepliedCall
+meaning accounts calls = answered_from accounts (boot accounts) calls
 
 -- the calls but those of this process and of what is below it
 abbrev pub without : ProcName → List CallLine → List CallLine

@@ -6,7 +6,7 @@ use Rattle.histar_flat.specs.declared.replies.Errno.{Errno}
 use Rattle.histar_flat.specs.declared.replies.Errno.TheVariants.{ENOENT, EISDIR, EEXIST, EACCES, EBUSY, ENOSPC, ESRCH, EAGAIN}
 use Rattle.histar_flat.specs.Words.{Name, Password, Path, ProcName, most_children, most_numbers}
 use Rattle.histar_flat.specs.PathOrder.{same, parent}
-use Rattle.histar_flat.specs.Sessions.{Session, user_named}
+use Rattle.histar_flat.specs.Accounts.{Accounts, user_named}
 use Rattle.histar_flat.specs.Classes.{Process, nobody, is_free, sees, class_made}
 use Rattle.histar_flat.specs.FlatState.{Flat, is_some_and, is_there, is_dir_at, is_file_at, reads, writes, bytes_at, entries_in, walk}
 
@@ -73,7 +73,7 @@ pub data Need : Type 0 where
   -- that the process finds the one that is named, where the search has refusals of its own
   Found : ProcName → Need
 
-module _ (session : Session) (f : Flat) (me : ProcName) (p : Process) (q : Path) where
+module _ (accounts : Accounts) (f : Flat) (me : ProcName) (p : Process) (q : Path) where
   -- whether a test passes, for a call of the process p, whose name is me, that names the path q
   abbrev pub passes : Test → Bool
   passes NotRoot = is_below_root q
@@ -82,18 +82,18 @@ module _ (session : Session) (f : Flat) (me : ProcName) (p : Process) (q : Path)
   passes IsDirectory = is_dir_at f q
   passes Absent = not (is_there f q)
   passes (AbsentBeside name) = not (is_there f (name ∷ parent q))
-  passes MayRead = reads session f p q
-  passes MayWrite = writes session f p q
-  passes MayWriteAbove = writes session f p (parent q)
+  passes MayRead = reads accounts f p q
+  passes MayWrite = writes accounts f p q
+  passes MayWriteAbove = writes accounts f p (parent q)
   passes HasRoomAbove = nat_lt (length (entries_in f (parent q))) most_entries
   passes IsEmpty = length (entries_in f q) == 0
   passes (Fits new) = nat_le (length (new (bytes_at f q))) most_bytes
-  passes (MayMake mode) = is_some (class_made session p mode)
+  passes (MayMake mode) = is_some (class_made accounts p mode)
   passes HasChildLeft = nat_lt p.born most_children
   passes HasNumberLeft = nat_lt (length me) most_numbers
   passes (IsChild name) = is_child me name
-  passes (IsUser name) = is_some (user_named session.users name)
-  passes (HasPassword name password) = is_some_and (user_named session.users name) (λ u. same u.password password)
+  passes (IsUser name) = is_some (user_named accounts.users name)
+  passes (HasPassword name password) = is_some_and (user_named accounts.users name) (λ u. same u.password password)
   passes InNoJob = is_free p
   passes IsSomebody = not (same p.user nobody)
 
@@ -102,7 +102,7 @@ module _ (session : Session) (f : Flat) (me : ProcName) (p : Process) (q : Path)
   unmet Nothing = None
   unmet (a then b) = unmet a orelse unmet b
   unmet (test or e) = unless (passes test) e
-  unmet Walk = walk session f p q
+  unmet Walk = walk accounts f p q
   unmet (Found name) = not_found f p name
 
 -- a new entry: the path is not `/`, the process can walk to it, nothing is there, and its directory has room and may be written

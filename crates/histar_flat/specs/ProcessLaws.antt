@@ -6,7 +6,7 @@ use Rattle.histar_flat.specs.declared.calls.UnixCall.TheVariants.{Exit, Kill}
 use Rattle.histar_flat.specs.declared.replies.Reply.TheVariants.{Done, Gone}
 use Rattle.histar_flat.specs.Words.{ProcName}
 use Rattle.histar_flat.specs.PathOrder.{under_process}
-use Rattle.histar_flat.specs.Sessions.{Session}
+use Rattle.histar_flat.specs.Accounts.{Accounts}
 use Rattle.histar_flat.specs.Classes.{Process}
 use Rattle.histar_flat.specs.FlatState.{Flat, is_given}
 use Rattle.histar_flat.specs.FlatCalls.{is_child, running, reply_to, flat_after}
@@ -20,8 +20,8 @@ pub record TakesItsTree (f : Flat) (name : ProcName) (after : Flat) : Type 0 whe
 
 -- a kill that is done is of a child of the caller, and takes exactly the child and all below it
 abbrev pub KillsTakeTheirTree : Type 0
-KillsTakeTheirTree = (session : Session) (f : Flat) (me name : ProcName) → reply_to session f me (Kill name) ≡ Done
-    → (is_child me name ≡ true) × TakesItsTree f name (flat_after session f me (Kill name))
+KillsTakeTheirTree = (accounts : Accounts) (f : Flat) (me name : ProcName) → reply_to accounts f me (Kill name) ≡ Done
+    → (is_child me name ≡ true) × TakesItsTree f name (flat_after accounts f me (Kill name))
 
 -- the process has exited with this status, and every other process, its children among them, and every file is as it was
 pub record ExitsAlone (f : Flat) (me : ProcName) (status : ℕ) (after : Flat) : Type 0 where
@@ -31,12 +31,12 @@ pub record ExitsAlone (f : Flat) (me : ProcName) (status : ℕ) (after : Flat) :
 
 -- an exit that is done is that of its process alone
 abbrev pub ExitsLeaveChildren : Type 0
-ExitsLeaveChildren = (session : Session) (f : Flat) (me : ProcName) (status : ℕ) → reply_to session f me (Exit status) ≡ Done → ExitsAlone f me status (flat_after session f me (Exit status))
+ExitsLeaveChildren = (accounts : Accounts) (f : Flat) (me : ProcName) (status : ℕ) → reply_to accounts f me (Exit status) ≡ Done → ExitsAlone f me status (flat_after accounts f me (Exit status))
 
 -- a process that doesn't run is answered `gone`, and changes nothing
 abbrev pub GoneChangeNothing : Type 0
-GoneChangeNothing = (session : Session) (f : Flat) (me : ProcName) (call : UnixCall) → running f me ≡ None → (reply_to session f me call ≡ Gone) × (flat_after session f me call ≡ f)
+GoneChangeNothing = (accounts : Accounts) (f : Flat) (me : ProcName) (call : UnixCall) → running f me ≡ None → (reply_to accounts f me call ≡ Gone) × (flat_after accounts f me call ≡ f)
 
 -- who doesn't run, and whose name was given, never runs again, whatever is called: no name is used twice
 abbrev pub GoneStayGone : Type 0
-GoneStayGone = (session : Session) (f : Flat) (me : ProcName) (calls : List CallLine) → is_given f.processes me ≡ true → running f me ≡ None → running (flat_end session f calls) me ≡ None
+GoneStayGone = (accounts : Accounts) (f : Flat) (me : ProcName) (calls : List CallLine) → is_given f.processes me ≡ true → running f me ≡ None → running (flat_end accounts f calls) me ≡ None

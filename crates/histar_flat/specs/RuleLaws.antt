@@ -3,7 +3,7 @@ use Rattle.std.specs.Prelude.{◌≡◌, true, not, [], ◌∷◌, length, nat_l
 use Rattle.histar_flat.specs.declared.calls.UnixCall.{UnixCall}
 use Rattle.histar_flat.specs.Words.{Path, ProcName}
 use Rattle.histar_flat.specs.PathOrder.{same, parent}
-use Rattle.histar_flat.specs.Sessions.{Session, user_named}
+use Rattle.histar_flat.specs.Accounts.{Accounts, user_named}
 use Rattle.histar_flat.specs.Files.{get}
 use Rattle.histar_flat.specs.Classes.{Process, nobody, is_free}
 use Rattle.histar_flat.specs.FlatState.{Flat, is_there, is_file_at, reads, writes, bytes_at, walk}
@@ -12,7 +12,7 @@ use Rattle.histar_flat.specs.FlatState.Content.{Dir, File}
 use Rattle.histar_flat.specs.Needs.{Test, Need, is_below_root, not_found, is_child, most_bytes}
 use Rattle.histar_flat.specs.Needs.Test.{NotRoot, Exists, IsFile, IsDirectory, Absent, AbsentBeside, MayRead, MayWrite, MayWriteAbove, HasRoomAbove, IsEmpty, Fits, IsChild, IsUser, InNoJob, IsSomebody}
 use Rattle.histar_flat.specs.Needs.Need.{◌then◌, ◌or◌, Walk, Found}
-use Rattle.histar_flat.specs.Effects.{Effect, Answer}
+use Rattle.histar_flat.specs.Effects.{Effect, ReplyForm}
 use Rattle.histar_flat.specs.Effects.Effect.{Makes, Stores, Removes, Renames, LogsIn, Kills, Wraps}
 use Rattle.histar_flat.specs.Effects.Answer.{Bytes, Listing, Attributes, StatusOf}
 use Rattle.histar_flat.specs.CallRules.{path_of, rule}
@@ -24,7 +24,7 @@ IsBlank Dir = Unit {0}
 IsBlank (File []) = Unit {0}
 IsBlank (File (b ∷ bytes)) = ⊥
 
-module _ (session : Session) (f : Flat) (me : ProcName) (p : Process) (q : Path) where
+module _ (accounts : Accounts) (f : Flat) (me : ProcName) (p : Process) (q : Path) where
   -- what is known where a test has passed; what a process may write it may read
   abbrev pub Holds : Test → Type 0
   Holds NotRoot = is_below_root q ≡ true
@@ -32,12 +32,12 @@ module _ (session : Session) (f : Flat) (me : ProcName) (p : Process) (q : Path)
   Holds IsFile = is_file_at f q ≡ true
   Holds Absent = get f.files q ≡ None
   Holds (AbsentBeside name) = get f.files (name ∷ parent q) ≡ None
-  Holds MayRead = reads session f p q ≡ true
-  Holds MayWrite = (writes session f p q ≡ true) × (reads session f p q ≡ true)
-  Holds MayWriteAbove = writes session f p (parent q) ≡ true
+  Holds MayRead = reads accounts f p q ≡ true
+  Holds MayWrite = (writes accounts f p q ≡ true) × (reads accounts f p q ≡ true)
+  Holds MayWriteAbove = writes accounts f p (parent q) ≡ true
   Holds (Fits new) = nat_le (length (new (bytes_at f q))) most_bytes ≡ true
   Holds (IsChild name) = is_child me name ≡ true
-  Holds (IsUser name) = is_some (user_named session.users name) ≡ true
+  Holds (IsUser name) = is_some (user_named accounts.users name) ≡ true
   Holds InNoJob = is_free p ≡ true
   Holds IsSomebody = not (same p.user nobody) ≡ true
   Holds _ = Unit {0}
@@ -46,24 +46,24 @@ module _ (session : Session) (f : Flat) (me : ProcName) (p : Process) (q : Path)
   abbrev pub Met : Need → Type 0
   Met (a then b) = Met a × Met b
   Met (test or e) = Holds test
-  Met Walk = walk session f p q ≡ None
+  Met Walk = walk accounts f p q ≡ None
   Met (Found name) = not_found f p name ≡ None
   Met _ = Unit {0}
 
   -- what has to be known before a test is made: of the path, the walk; of its directory, that the path is not `/`; of entries and
   -- bytes, that they may be read
   abbrev pub MayLook : Test → Type 0
-  MayLook Exists = walk session f p q ≡ None
-  MayLook IsFile = walk session f p q ≡ None
-  MayLook IsDirectory = walk session f p q ≡ None
-  MayLook Absent = walk session f p q ≡ None
-  MayLook MayRead = walk session f p q ≡ None
-  MayLook MayWrite = walk session f p q ≡ None
-  MayLook MayWriteAbove = (is_below_root q ≡ true) × (walk session f p q ≡ None)
-  MayLook (AbsentBeside name) = (is_below_root q ≡ true) × (walk session f p q ≡ None)
-  MayLook HasRoomAbove = (is_below_root q ≡ true) × (walk session f p q ≡ None)
-  MayLook IsEmpty = (walk session f p q ≡ None) × (reads session f p q ≡ true)
-  MayLook (Fits new) = (walk session f p q ≡ None) × (reads session f p q ≡ true)
+  MayLook Exists = walk accounts f p q ≡ None
+  MayLook IsFile = walk accounts f p q ≡ None
+  MayLook IsDirectory = walk accounts f p q ≡ None
+  MayLook Absent = walk accounts f p q ≡ None
+  MayLook MayRead = walk accounts f p q ≡ None
+  MayLook MayWrite = walk accounts f p q ≡ None
+  MayLook MayWriteAbove = (is_below_root q ≡ true) × (walk accounts f p q ≡ None)
+  MayLook (AbsentBeside name) = (is_below_root q ≡ true) × (walk accounts f p q ≡ None)
+  MayLook HasRoomAbove = (is_below_root q ≡ true) × (walk accounts f p q ≡ None)
+  MayLook IsEmpty = (walk accounts f p q ≡ None) × (reads accounts f p q ≡ true)
+  MayLook (Fits new) = (walk accounts f p q ≡ None) × (reads accounts f p q ≡ true)
   MayLook _ = Unit {0}
 
   -- each test, in its turn, looks only at what may be seen by then
@@ -75,36 +75,36 @@ module _ (session : Session) (f : Flat) (me : ProcName) (p : Process) (q : Path)
   -- what allows an effect
   abbrev pub Warrant : Effect → Type 0
   Warrant (Makes content mode) =
-      (is_below_root q ≡ true) × (walk session f p q ≡ None) × (get f.files q ≡ None) × (writes session f p (parent q) ≡ true) × IsBlank content
+      (is_below_root q ≡ true) × (walk accounts f p q ≡ None) × (get f.files q ≡ None) × (writes accounts f p (parent q) ≡ true) × IsBlank content
   Warrant (Stores new) =
-      (is_below_root q ≡ true) × (walk session f p q ≡ None) × (is_file_at f q ≡ true) × (writes session f p q ≡ true) × (reads session f p q ≡ true)
+      (is_below_root q ≡ true) × (walk accounts f p q ≡ None) × (is_file_at f q ≡ true) × (writes accounts f p q ≡ true) × (reads accounts f p q ≡ true)
       × (nat_le (length (new (bytes_at f q))) most_bytes ≡ true)
-  Warrant Removes = (is_below_root q ≡ true) × (writes session f p (parent q) ≡ true)
-  Warrant (Renames name) = (is_below_root q ≡ true) × (is_there f q ≡ true) × (get f.files (name ∷ parent q) ≡ None) × (writes session f p (parent q) ≡ true)
-  Warrant (LogsIn name) = (is_some (user_named session.users name) ≡ true) × (is_free p ≡ true)
+  Warrant Removes = (is_below_root q ≡ true) × (writes accounts f p (parent q) ≡ true)
+  Warrant (Renames name) = (is_below_root q ≡ true) × (is_there f q ≡ true) × (get f.files (name ∷ parent q) ≡ None) × (writes accounts f p (parent q) ≡ true)
+  Warrant (LogsIn name) = (is_some (user_named accounts.users name) ≡ true) × (is_free p ≡ true)
   Warrant (Kills name) = is_child me name ≡ true
   Warrant Wraps =
-      (is_below_root q ≡ true) × (walk session f p q ≡ None) × (get f.files q ≡ None) × (writes session f p (parent q) ≡ true) × (not (same p.user nobody) ≡ true)
+      (is_below_root q ≡ true) × (walk accounts f p q ≡ None) × (get f.files q ≡ None) × (writes accounts f p (parent q) ≡ true) × (not (same p.user nobody) ≡ true)
   Warrant _ = Unit {0}
 
   -- what allows an answer
-  abbrev pub MayReveal : Answer → Type 0
-  MayReveal Bytes = (walk session f p q ≡ None) × (reads session f p q ≡ true)
-  MayReveal Listing = (walk session f p q ≡ None) × (reads session f p q ≡ true)
-  MayReveal Attributes = walk session f p q ≡ None
+  abbrev pub MayReveal : ReplyForm → Type 0
+  MayReveal Bytes = (walk accounts f p q ≡ None) × (reads accounts f p q ≡ true)
+  MayReveal Listing = (walk accounts f p q ≡ None) × (reads accounts f p q ≡ true)
+  MayReveal Attributes = walk accounts f p q ≡ None
   MayReveal (StatusOf name) = not_found f p name ≡ None
   MayReveal _ = Unit {0}
 
 -- each rule tests only what the process may see by then
 abbrev pub TestsAreOrdered : Type 0
-TestsAreOrdered = (session : Session) (f : Flat) (me : ProcName) (p : Process) (call : UnixCall) → IsOrdered session f me p (path_of call) (Unit {0}) (rule call).needs
+TestsAreOrdered = (accounts : Accounts) (f : Flat) (me : ProcName) (p : Process) (call : UnixCall) → IsOrdered accounts f me p (path_of call) (Unit {0}) (rule call).needs
 
 -- a call that is not refused is allowed its effect
 abbrev pub EffectsAreWarranted : Type 0
-EffectsAreWarranted = (session : Session) (f : Flat) (me : ProcName) (p : Process) (call : UnixCall)
-    → refused session f me p call ≡ None → Warrant session f me p (path_of call) (rule call).effect
+EffectsAreWarranted = (accounts : Accounts) (f : Flat) (me : ProcName) (p : Process) (call : UnixCall)
+    → refused accounts f me p call ≡ None → Warrant accounts f me p (path_of call) (rule call).effect
 
 -- and may reveal its answer
 abbrev pub AnswersMayBeRevealed : Type 0
-AnswersMayBeRevealed = (session : Session) (f : Flat) (me : ProcName) (p : Process) (call : UnixCall)
-    → refused session f me p call ≡ None → MayReveal session f me p (path_of call) (rule call).answer
+AnswersMayBeRevealed = (accounts : Accounts) (f : Flat) (me : ProcName) (p : Process) (call : UnixCall)
+    → refused accounts f me p call ≡ None → MayReveal accounts f me p (path_of call) (rule call).answer

@@ -1,6 +1,6 @@
 //! Groups of users.
 ghost use Rattle.std.specs.Prelude.{◌≡◌, ◌≤◌, length};
-ghost use Rattle.histar_flat.specs.Sessions.{has, most_members};
+ghost use Rattle.histar_flat.specs.Accounts.{has, most_members};
 
 use crate::names::Name;
 use std::marker::Model;
@@ -14,7 +14,7 @@ pub struct Group {
 
 impl Model for Group {
     ghost use Rattle.std.specs.Prelude.{◌≤◌, length};
-    ghost use Rattle.histar_flat.specs.Sessions.{Group, most_members};
+    ghost use Rattle.histar_flat.specs.Accounts.{Group, most_members};
 
     ghost Value = { Group };
 

@@ -4,6 +4,7 @@
 //! rule keeps to, and [`flat_laws`] what the meaning amounts to.
 #![tactic(auto)]
 
+mod accounts;
 mod calls;
 pub mod flat_laws;
 mod groups;
@@ -14,10 +15,10 @@ mod processes;
 mod readers;
 mod replies;
 pub mod rule_laws;
-mod sessions;
 mod suffix;
 mod words;
 
+pub use accounts::Accounts;
 pub use calls::{CallLine, Mode, UnixCall, User, each_call_is_right};
 pub use groups::Group;
 pub use names::{Name, Password};
@@ -29,4 +30,3 @@ pub use readers::{
     read_status, read_user_name, split_at_first,
 };
 pub use replies::{Errno, FileMode, Listing, Reply, Stat};
-pub use sessions::Session;

@@ -5,7 +5,7 @@ use Rattle.std.specs.List.{slice_get, list_any, IsDistinct, AllByRecursion}
 use Rattle.std.proofs.lemmas.Option.{slice_get-get_or}
 use Rattle.indexmap.specs.IndexSet.{insert_key}
 use Rattle.histar_label.specs.declared.levels.Level.TheVariants.{L1}
-use Rattle.histar_label.specs.declared.levels.Reading.{Reading}
+use Rattle.histar_label.specs.declared.levels.Raising.{Raising}
 use Rattle.histar_label.specs.declared.levels.Test.TheVariants.{BelowJoin}
 use Rattle.histar_label.specs.declared.intern_store.Comparison.{Comparison}
 use Rattle.histar_label.specs.Levels.{Levels, constant, is_within}
@@ -82,5 +82,5 @@ module _ (eq : Levels → Levels → Bool) (own : (L : Levels) → eq L L ≡ tr
   ]
 
 -- a label is below itself, however its star is read
-pub is_within-refl : (L : Levels) (reading : Reading) → is_within L L L (BelowJoin reading) ≡ true
+pub is_within-refl : (L : Levels) (reading : Raising) → is_within L L L (BelowJoin reading) ≡ true
 is_within-refl L reading = (is_within-law L L L (BelowJoin reading)).1 (λ c. omega arith)

@@ -3,7 +3,7 @@ use Rattle.std.proofs.Common.{◌≡◌, ◌≤◌, IsTrue, ◌↔◌, sym, arit
 use Rattle.std.proofs.lemmas.Bool.Decides.{same_from_decides}
 use Rattle.histar_label.specs.declared.levels.Level.{Level}
 use Rattle.histar_label.specs.declared.levels.Level.TheVariants.{Star, L0, L1, L2, L3}
-use Rattle.histar_label.specs.declared.levels.Reading.TheVariants.{Plain, Raised}
+use Rattle.histar_label.specs.declared.levels.Raising.TheVariants.{Plain, Raised}
 use Rattle.histar_label.specs.declared.levels.Test.TheVariants.{BelowJoin, FloorBelow}
 use Rattle.histar_label.specs.Level.{rank, raised, same_level}
 use Rattle.histar_label.specs.Levels.{Levels, level_of, grades, raised_grades, joined, floor_grades, IsBelow, is_within, same_levels, is_below, is_below_raised, is_below_join, is_below_join_raised}

@@ -6,7 +6,7 @@ use Rattle.std.proofs.lemmas.Bool.Decides.{nat_tests}
 use Rattle.std.specs.Map.{lookup}
 use Rattle.lru.specs.LruCache.{LruCache, lru_cache, put_entries}
 use Rattle.lru.proofs.CallerLemmas.{Contains-put_entries, Contains-lookup}
-use Rattle.histar_label.specs.contracts.levels.Reading.{the_type}
+use Rattle.histar_label.specs.contracts.levels.Raising.{the_type}
 use Rattle.histar_label.specs.declared.intern_store.Comparison.{Comparison}
 use Rattle.histar_label.specs.Same.{both_true}
 

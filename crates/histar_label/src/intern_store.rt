@@ -7,7 +7,7 @@ ghost use Rattle.histar_label.specs.Store.{Keeps, HasOneId, label_at};
 ghost use Rattle.histar_label.specs.InternStore.{answer_of};
 ghost use Rattle.histar_label.specs.declared.intern_store.Comparison.{Comparison};
 
-use crate::levels::Reading;
+use crate::levels::Raising;
 use crate::{Label, LabelStore, OutOfMemory};
 use indexmap::IndexSet;
 use lru::LruCache;
@@ -42,7 +42,7 @@ const SPREAD: usize = 0x9e37_79b9_7f4a_7c15;
 /// A comparison of two labels, in this order.
 #[derive(Clone, Copy, Debug, PartialEq, Eq, Hash)]
 struct Comparison {
-    reading: Reading,
+    reading: Raising,
     lower: InternId,
     upper: InternId,
 }
@@ -166,7 +166,7 @@ impl LabelStore for InternStore {
 
     fn below(&mut self, lower: InternId, upper: InternId) -> bool {
         self.answer(Comparison {
-            reading: Reading::Plain,
+            reading: Raising::Plain,
             lower,
             upper,
         })
@@ -174,7 +174,7 @@ impl LabelStore for InternStore {
 
     fn below_raised(&mut self, lower: InternId, upper: InternId) -> bool {
         self.answer(Comparison {
-            reading: Reading::Raised,
+            reading: Raising::Raised,
             lower,
             upper,
         })
@@ -190,8 +190,8 @@ fn compare(labels: &IndexSet<Label>, comparison: Comparison) -> bool
     let lower = labels.get_index(comparison.lower.0).unwrap();
     let upper = labels.get_index(comparison.upper.0).unwrap();
     match comparison.reading {
-        Reading::Plain => lower.below(upper),
-        Reading::Raised => lower.below_raised(upper),
+        Raising::Plain => lower.below(upper),
+        Raising::Raised => lower.below_raised(upper),
     }
 }
 

@@ -5,7 +5,7 @@ use Rattle.std.proofs.lemmas.Bool.Decides.{nat_tests, eqb_tells}
 use Rattle.std.proofs.lemmas.Bool.{and_from, or_left}
 use Rattle.std.proofs.lemmas.Option.{same_Some, none-some}
 use mathlib.Core.Bool.{true≢false}
-use Rattle.histar_flat.specs.Sessions.{Session}
+use Rattle.histar_flat.specs.Accounts.{Accounts}
 use Rattle.histar_flat.specs.Words.{Name}
 use Rattle.histar_label.specs.declared.levels.Level.{Level}
 use Rattle.histar_label.specs.declared.levels.Level.TheVariants.{L1, L3}
@@ -26,8 +26,8 @@ use Rattle.histar_layout.proofs.Passed.{in_passed, passed_rise}
 use Rattle.histar_layout.proofs.ClassesShown.{classes_shown, before_jobs}
 
 -- a category of jobs that a label has at 3
-abbrev is_job : Session → ℕ × Level → Bool
-is_job session e = is_three e.1 && nat_le (first_after_groups session) e.0
+abbrev is_job : Accounts → ℕ × Level → Bool
+is_job accounts e = is_three e.1 && nat_le (first_after_groups accounts) e.0
 
 -- a test of order that passes
 le_from_test : (a b : ℕ) → nat_le a b ≡ true → a ≤ b
@@ -37,14 +37,14 @@ test_from_le : (a b : ℕ) → a ≤ b → nat_le a b ≡ true
 test_from_le a b h = grind (arith, nat_tests, h)
 
 -- a label whose default is not 3 lists what it has at 3
-module _ (session : Session) (label : Levels) (plain : is_three (default_of label) ≡ false) where
-  jobs_at : (q : ℕ) → is_in (jobs_of session label) q ≡ (is_three (level_of label q) && nat_le (first_after_groups session) q)
-  jobs_at = in_passed (is_job session) label (λ c. ap (λ b. b && nat_le (first_after_groups session) c) plain)
+module _ (accounts : Accounts) (label : Levels) (plain : is_three (default_of label) ≡ false) where
+  jobs_at : (q : ℕ) → is_in (jobs_of accounts label) q ≡ (is_three (level_of label q) && nat_le (first_after_groups accounts) q)
+  jobs_at = in_passed (is_job accounts) label (λ c. ap (λ b. b && nat_le (first_after_groups accounts) c) plain)
 
   -- the jobs that a label has rise, behind the categories of users and groups
-  jobs_rise : IsRisingFrom (first_after_groups session) (jobs_of session label)
-  jobs_rise = rises_above 0 (first_after_groups session) (jobs_of session label) (passed_rise (is_job session) label)
-      (λ q e. le_from_test (first_after_groups session) q (second_of (is_three (level_of label q)) (nat_le (first_after_groups session) q) (sym (jobs_at q) ∙ e)))
+  jobs_rise : IsRisingFrom (first_after_groups accounts) (jobs_of accounts label)
+  jobs_rise = rises_above 0 (first_after_groups accounts) (jobs_of accounts label) (passed_rise (is_job accounts) label)
+      (λ q e. le_from_test (first_after_groups accounts) q (second_of (is_three (level_of label q)) (nat_le (first_after_groups accounts) q) (sym (jobs_at q) ∙ e)))
 
 -- the default of a label of a class is 1
 scratch_default : (user : ℕ) (jobs : List ℕ) → is_three (default_of (scratch_label user jobs)) ≡ false
@@ -55,59 +55,59 @@ secret_at : (s : Bool) → is_three (guarded_level s false) ≡ s
 secret_at true = refl
 secret_at false = refl
 
-module _ (session : Session) (user : ℕ) (jobs : List ℕ) (rising : IsRisingFrom (first_after_groups session) jobs) (known : write_category user < first_after_groups session) where
+module _ (accounts : Accounts) (user : ℕ) (jobs : List ℕ) (rising : IsRisingFrom (first_after_groups accounts) jobs) (known : write_category user < first_after_groups accounts) where
   -- what stands behind the categories of users and groups is a job's exactly where the label has it at 3
   at_three : (q : ℕ) → is_three (level_of (scratch_label user jobs) q) ≡ (q == read_category user || is_in jobs q)
   at_three q = ap is_three (at_guarded (read_category user ∷ jobs) [] q) ∙ secret_at (q == read_category user || is_in jobs q)
 
-  is_a_job : (q : ℕ) → ((q == read_category user || is_in jobs q) && nat_le (first_after_groups session) q) ≡ is_in jobs q
+  is_a_job : (q : ℕ) → ((q == read_category user || is_in jobs q) && nat_le (first_after_groups accounts) q) ≡ is_in jobs q
   is_a_job q = elim (eqb_tells q (read_category user)) [
     | inl e ↦
         let here = e.1 in
-        let low : q < first_after_groups session = omega (arith, here, known) in
-        let over : nat_le (first_after_groups session) q ≡ false = grind (arith, nat_tests, low) in
-        (λ i. (e.0 i || is_in jobs q) && over i) ∙ sym (not_among (first_after_groups session) jobs q rising low)
+        let low : q < first_after_groups accounts = omega (arith, here, known) in
+        let over : nat_le (first_after_groups accounts) q ≡ false = grind (arith, nat_tests, low) in
+        (λ i. (e.0 i || is_in jobs q) && over i) ∙ sym (not_among (first_after_groups accounts) jobs q rising low)
     | inr e ↦
-        ap (λ b. (b || is_in jobs q) && nat_le (first_after_groups session) q) e.0
-        ∙ same_truth (is_in jobs q && nat_le (first_after_groups session) q) (is_in jobs q) (first_of (is_in jobs q) (nat_le (first_after_groups session) q))
-        (λ there. and_from _ _ there (test_from_le (first_after_groups session) q (not_smaller (first_after_groups session) jobs q rising there)))
+        ap (λ b. (b || is_in jobs q) && nat_le (first_after_groups accounts) q) e.0
+        ∙ same_truth (is_in jobs q && nat_le (first_after_groups accounts) q) (is_in jobs q) (first_of (is_in jobs q) (nat_le (first_after_groups accounts) q))
+        (λ there. and_from _ _ there (test_from_le (first_after_groups accounts) q (not_smaller (first_after_groups accounts) jobs q rising there)))
   ]
 
   -- the label of what is for jobs has these very jobs
-  jobs_read : jobs_of session (scratch_label user jobs) ≡ jobs
-  jobs_read = one_rising (first_after_groups session) (first_after_groups session) (jobs_of session (scratch_label user jobs)) jobs (jobs_rise session (scratch_label user jobs) (scratch_default user jobs)) rising
-      (λ q. jobs_at session (scratch_label user jobs) (scratch_default user jobs) q ∙ ap (λ b. b && nat_le (first_after_groups session) q) (at_three q) ∙ is_a_job q)
+  jobs_read : jobs_of accounts (scratch_label user jobs) ≡ jobs
+  jobs_read = one_rising (first_after_groups accounts) (first_after_groups accounts) (jobs_of accounts (scratch_label user jobs)) jobs (jobs_rise accounts (scratch_label user jobs) (scratch_default user jobs)) rising
+      (λ q. jobs_at accounts (scratch_label user jobs) (scratch_default user jobs) q ∙ ap (λ b. b && nat_le (first_after_groups accounts) q) (at_three q) ∙ is_a_job q)
 
 -- the jobs that the label of a class has make the class of what it shows
-pub jobs_again : (session : Session) (class : Class) (label : Levels) → IsClassLabel session class label → with_jobs (jobs_of session label) (without_jobs class) ≡ class
-jobs_again session (Private owner) label is = refl
-jobs_again session (Readable owner) label is = refl
-jobs_again session Open label is = refl
-jobs_again session (Scratch owner jobs) label is =
+pub jobs_again : (accounts : Accounts) (class : Class) (label : Levels) → IsClassLabel accounts class label → with_jobs (jobs_of accounts label) (without_jobs class) ≡ class
+jobs_again accounts (Private owner) label is = refl
+jobs_again accounts (Readable owner) label is = refl
+jobs_again accounts Open label is = refl
+jobs_again accounts (Scratch owner jobs) label is =
     let at = mapped_from _ _ label is.is in
-    ap (λ (chain : List ℕ). Scratch owner chain) (ap (jobs_of session) (sym at.2) ∙ jobs_read session at.0 jobs is.jobs (before_jobs session owner at.0 at.1))
-jobs_again session (Group group) label is = refl
+    ap (λ (chain : List ℕ). Scratch owner chain) (ap (jobs_of accounts) (sym at.2) ∙ jobs_read accounts at.0 jobs is.jobs (before_jobs accounts owner at.0 at.1))
+jobs_again accounts (Group group) label is = refl
 
 -- the class of a label is the one that it can be of
-pub likely_is : (session : Session) (class : Class) (label : Levels) → IsClassLabel session class label → likely_class session label ≡ Some class
-likely_is session class label is =
-    ap (option_map (with_jobs (jobs_of session label))) (classes_shown session class label is) ∙ ap Some (jobs_again session class label is)
+pub likely_is : (accounts : Accounts) (class : Class) (label : Levels) → IsClassLabel accounts class label → likely_class accounts label ≡ Some class
+likely_is accounts class label is =
+    ap (option_map (with_jobs (jobs_of accounts label))) (classes_shown accounts class label is) ∙ ap Some (jobs_again accounts class label is)
 
 -- A label is of one class at most.
 pub one_class : LabelsHaveOneClass
-one_class session label a b of_a of_b = same_Some a b (sym (likely_is session a label of_a) ∙ likely_is session b label of_b)
+one_class accounts label a b of_a of_b = same_Some a b (sym (likely_is accounts a label of_a) ∙ likely_is accounts b label of_b)
 
 -- ---- what is found
 
 -- where the label can be of no class it is of none
-pub none_found : (session : Session) (label : Levels) → likely_class session label ≡ None → (class : Class) → IsClassLabel session class label → ⊥
-none_found session label none class is = none-some class (sym none ∙ likely_is session class label is)
+pub none_found : (accounts : Accounts) (label : Levels) → likely_class accounts label ≡ None → (class : Class) → IsClassLabel accounts class label → ⊥
+none_found accounts label none class is = none-some class (sym none ∙ likely_is accounts class label is)
 
 -- where it is not that of the one class that it can be of it is of none
-pub other_label : (session : Session) (label : Levels) (likely : Class) → likely_class session label ≡ Some likely → (class_label session likely ≡ Some label → ⊥) → (class : Class) → IsClassLabel session class label → ⊥
-other_label session label likely found other class is =
-    let same : likely ≡ class = same_Some likely class (sym found ∙ likely_is session class label is) in
-    other (ap (class_label session) same ∙ is.is)
+pub other_label : (accounts : Accounts) (label : Levels) (likely : Class) → likely_class accounts label ≡ Some likely → (class_label accounts likely ≡ Some label → ⊥) → (class : Class) → IsClassLabel accounts class label → ⊥
+other_label accounts label likely found other class is =
+    let same : likely ≡ class = same_Some likely class (sym found ∙ likely_is accounts class label is) in
+    other (ap (class_label accounts) same ∙ is.is)
 
 -- the jobs of a class that is shown
 shown_jobs : (jobs : List ℕ) (class : ShownClass) (owner : Name) (chain : List ℕ) → with_jobs jobs class ≡ Scratch owner chain → jobs ≡ chain
@@ -118,17 +118,17 @@ shown_jobs jobs (shown.Scratch name) owner chain e = cc
 shown_jobs jobs (shown.Group name) owner chain e = absurd (cc)
 
 -- those of the class that a label can be of rise
-likely_jobs : (session : Session) (label : Levels) (class : Class) → likely_class session label ≡ Some class → class_label session class ≡ Some label → HasJobs session class
-likely_jobs session label (Private owner) likely is = tt
-likely_jobs session label (Readable owner) likely is = tt
-likely_jobs session label Open likely is = tt
-likely_jobs session label (Scratch owner chain) likely is =
-    let shows = mapped_from (with_jobs (jobs_of session label)) (class_shown session label) (Scratch owner chain) likely in
+likely_jobs : (accounts : Accounts) (label : Levels) (class : Class) → likely_class accounts label ≡ Some class → class_label accounts class ≡ Some label → HasJobs accounts class
+likely_jobs accounts label (Private owner) likely is = tt
+likely_jobs accounts label (Readable owner) likely is = tt
+likely_jobs accounts label Open likely is = tt
+likely_jobs accounts label (Scratch owner chain) likely is =
+    let shows = mapped_from (with_jobs (jobs_of accounts label)) (class_shown accounts label) (Scratch owner chain) likely in
     let at = mapped_from _ _ label is in
-    subst (IsRisingFrom (first_after_groups session)) (shown_jobs (jobs_of session label) shows.0 owner chain shows.2)
-    (jobs_rise session label (ap (λ (l : Levels). is_three (default_of l)) (sym at.2) ∙ scratch_default at.0 chain))
-likely_jobs session label (Group group) likely is = tt
+    subst (IsRisingFrom (first_after_groups accounts)) (shown_jobs (jobs_of accounts label) shows.0 owner chain shows.2)
+    (jobs_rise accounts label (ap (λ (l : Levels). is_three (default_of l)) (sym at.2) ∙ scratch_default at.0 chain))
+likely_jobs accounts label (Group group) likely is = tt
 
 -- where the label is that of the one class that it can be of it is of this class
-pub found_class : (session : Session) (label : Levels) (class : Class) → likely_class session label ≡ Some class → class_label session class ≡ Some label → IsClassLabel session class label
-found_class session label class likely is = record { jobs = likely_jobs session label class likely is; is = is }
+pub found_class : (accounts : Accounts) (label : Levels) (class : Class) → likely_class accounts label ≡ Some class → class_label accounts class ≡ Some label → IsClassLabel accounts class label
+found_class accounts label class likely is = record { jobs = likely_jobs accounts label class likely is; is = is }

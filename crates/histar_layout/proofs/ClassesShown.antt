@@ -6,7 +6,7 @@ use Rattle.std.proofs.lemmas.Option.{none-some, same_Some}
 use Rattle.histar_flat.specs.PathOrder.{same}
 use Rattle.histar_flat.specs.declared.calls.User.{User}
 use Rattle.histar_flat.specs.Words.{Name}
-use Rattle.histar_flat.specs.Sessions.{Group, Session, user_number, group_number}
+use Rattle.histar_flat.specs.Accounts.{Group, Accounts, user_number, group_number}
 use Rattle.histar_label.specs.Exceptions.{IsCanonical}
 use Rattle.histar_label.proofs.Canonical.{exceptions_of-from_exceptions}
 use Rattle.histar_label.specs.declared.levels.Level.{Level}
@@ -112,66 +112,66 @@ module _ (S W : List ℕ) where
   unnamed_by j a b c d = (λ i. is_plain_level (level_by (read_category j) false false a b i) && is_plain_level (level_by (write_category j) false false c d i))
 
 -- the user of a name, and its place
-pub record IsDeclaredUser (session : Session) (name : Name) (i : ℕ) : Type 0 where
+pub record IsDeclaredUser (accounts : Accounts) (name : Name) (i : ℕ) : Type 0 where
   pub place : ℕ
   pub user : User
-  pub at : slice_get session.users place ≡ Some user
+  pub at : slice_get accounts.users place ≡ Some user
   pub named : user.name ≡ name
-  pub within : place < length session.users
+  pub within : place < length accounts.users
   pub number : place + 1 ≡ i
 
-user_at : (session : Session) (name : Name) (i : ℕ) → user_number session name ≡ Some i → IsDeclaredUser session name i
-user_at session name i e =
-    let k = mapped_from (λ k. k + 1) (position (λ (u : User). same u.name name) session.users) i e in
-    let at = placed (λ (u : User). same u.name name) session.users k.0 k.1 in
+user_at : (accounts : Accounts) (name : Name) (i : ℕ) → user_number accounts name ≡ Some i → IsDeclaredUser accounts name i
+user_at accounts name i e =
+    let k = mapped_from (λ k. k + 1) (position (λ (u : User). same u.name name) accounts.users) i e in
+    let at = placed (λ (u : User). same u.name name) accounts.users k.0 k.1 in
     record { place = k.0; user = at.0; at = at.1; named = equal_names at.0.name name at.2; within = at.3; number = k.2 }
 
 -- and the group of a name
-pub record IsDeclaredGroup (session : Session) (name : Name) (k : ℕ) : Type 0 where
+pub record IsDeclaredGroup (accounts : Accounts) (name : Name) (k : ℕ) : Type 0 where
   pub place : ℕ
   pub group : Group
-  pub at : slice_get session.groups place ≡ Some group
+  pub at : slice_get accounts.groups place ≡ Some group
   pub named : group.name ≡ name
-  pub within : place < length session.groups
+  pub within : place < length accounts.groups
   pub number : place + 1 ≡ k
 
-group_at : (session : Session) (name : Name) (k : ℕ) → group_number session name ≡ Some k → IsDeclaredGroup session name k
-group_at session name k e =
-    let m = mapped_from (λ m. m + 1) (position (λ (group : Group). same group.name name) session.groups) k e in
-    let at = placed (λ (group : Group). same group.name name) session.groups m.0 m.1 in
+group_at : (accounts : Accounts) (name : Name) (k : ℕ) → group_number accounts name ≡ Some k → IsDeclaredGroup accounts name k
+group_at accounts name k e =
+    let m = mapped_from (λ m. m + 1) (position (λ (group : Group). same group.name name) accounts.groups) k e in
+    let at = placed (λ (group : Group). same group.name name) accounts.groups m.0 m.1 in
     record { place = m.0; group = at.0; at = at.1; named = equal_names at.0.name name at.2; within = at.3; number = m.2 }
 
 -- ---- what labels show
 
-module _ (session : Session) (label : Levels) where
+module _ (accounts : Accounts) (label : Levels) where
   -- A label shows the user of this number where it names its categories, with these levels, and no user's before it.
-  shows_user : (name : Name) (i : ℕ) (read write : Level) → user_number session name ≡ Some i → ((j : ℕ) → j < i → is_unnamed label j ≡ true)
+  shows_user : (name : Name) (i : ℕ) (read write : Level) → user_number accounts name ≡ Some i → ((j : ℕ) → j < i → is_unnamed label j ≡ true)
       → (is_plain_level read && is_plain_level write) ≡ false → level_of label (read_category i) ≡ read → level_of label (write_category i) ≡ write
-      → class_shown session label ≡ class_at name read write
+      → class_shown accounts label ≡ class_at name read write
   unfolding class_shown
   shows_user name i read write numbered before named at_read at_write =
-      let u = user_at session name i numbered in
+      let u = user_at accounts name i numbered in
       let number : 1 + u.place ≡ i = omega (arith, u.number) in
-      shown_by label session.groups session.users 1 u.place u.user u.at
+      shown_by label accounts.groups accounts.users 1 u.place u.user u.at
       (λ j low high. before j (omega (arith, high, number)))
       (ap (is_unnamed label) number ∙ (λ k. is_plain_level (at_read k) && is_plain_level (at_write k)) ∙ named)
       ∙ (λ k. class_at (u.named k) ((ap (λ n. level_of label (read_category n)) number ∙ at_read) k) ((ap (λ n. level_of label (write_category n)) number ∙ at_write) k))
 
   -- where it names no user's categories the groups show it
-  past_users : ((j : ℕ) → j ≤ length session.users → is_unnamed label j ≡ true) → class_shown session label ≡ group_class_from label (1 + length session.users) session.groups
+  past_users : ((j : ℕ) → j ≤ length accounts.users → is_unnamed label j ≡ true) → class_shown accounts label ≡ group_class_from label (1 + length accounts.users) accounts.groups
   unfolding class_shown
-  past_users before = shown_by_none label session.groups session.users 1 (λ j low high. before j (omega (arith, high)))
+  past_users before = shown_by_none label accounts.groups accounts.users 1 (λ j low high. before j (omega (arith, high)))
 
   -- It shows the group of this number where it names its categories, with these levels, and no user's or group's before it.
-  shows_group : (name : Name) (k : ℕ) → group_number session name ≡ Some k → ((j : ℕ) → j < length session.users + k → is_unnamed label j ≡ true)
-      → level_of label (read_category (length session.users + k)) ≡ L3 → level_of label (write_category (length session.users + k)) ≡ L0
-      → class_shown session label ≡ Some (shown.Group name)
+  shows_group : (name : Name) (k : ℕ) → group_number accounts name ≡ Some k → ((j : ℕ) → j < length accounts.users + k → is_unnamed label j ≡ true)
+      → level_of label (read_category (length accounts.users + k)) ≡ L3 → level_of label (write_category (length accounts.users + k)) ≡ L0
+      → class_shown accounts label ≡ Some (shown.Group name)
   shows_group name k numbered before at_read at_write =
-      let g = group_at session name k numbered in
-      let range = group_range session name k numbered in
-      let number : 1 + length session.users + g.place ≡ length session.users + k = omega (arith, g.number) in
+      let g = group_at accounts name k numbered in
+      let range = group_range accounts name k numbered in
+      let number : 1 + length accounts.users + g.place ≡ length accounts.users + k = omega (arith, g.number) in
       past_users (λ j low. before j (omega (arith, low, range.0)))
-      ∙ shown_by_group label session.groups (1 + length session.users) g.place g.group g.at
+      ∙ shown_by_group label accounts.groups (1 + length accounts.users) g.place g.group g.at
       (λ j low high. before j (omega (arith, high, number)))
       (ap (is_unnamed label) number ∙ (λ i. is_plain_level (at_read i) && is_plain_level (at_write i)))
       ∙ (λ i. group_class_at (g.named i) ((ap (λ n. level_of label (read_category n)) number ∙ at_read) i) ((ap (λ n. level_of label (write_category n)) number ∙ at_write) i))
@@ -223,37 +223,37 @@ open_unnamed : (j : ℕ) → is_unnamed (constant L1) j ≡ true
 open_unnamed j = (λ i. is_plain_level (level_of-constant L1 (read_category j) i) && is_plain_level (level_of-constant L1 (write_category j) i))
 
 -- the categories of a user stand before those of jobs
-pub before_jobs : (session : Session) (owner : Name) (user : ℕ) → user_number session owner ≡ Some user → write_category user < first_after_groups session
-before_jobs session owner user numbered = let range = user_range session owner user numbered in omega (arith, range.1)
+pub before_jobs : (accounts : Accounts) (owner : Name) (user : ℕ) → user_number accounts owner ≡ Some user → write_category user < first_after_groups accounts
+before_jobs accounts owner user numbered = let range = user_range accounts owner user numbered in omega (arith, range.1)
 
-module _ (session : Session) (label : Levels) where
+module _ (accounts : Accounts) (label : Levels) where
   -- a label that is given by an equation
-  by_label : (found : Levels) → found ≡ label → (o : Class) → class_shown session found ≡ Some (without_jobs o) → class_shown session label ≡ Some (without_jobs o)
-  by_label found is o shows = ap (class_shown session) (sym is) ∙ shows
+  by_label : (found : Levels) → found ≡ label → (o : Class) → class_shown accounts found ≡ Some (without_jobs o) → class_shown accounts label ≡ Some (without_jobs o)
+  by_label found is o shows = ap (class_shown accounts) (sym is) ∙ shows
 
-  shown_at : (class : Class) → HasJobs session class → class_label session class ≡ Some label → class_shown session label ≡ Some (without_jobs class)
+  shown_at : (class : Class) → HasJobs accounts class → class_label accounts class ≡ Some label → class_shown accounts label ≡ Some (without_jobs class)
   shown_at (Private owner) jobs is =
-      let at = mapped_from owned_label (user_number session owner) label is in
-      by_label (owned_label at.0) at.2 (Private owner) (shows_user session (owned_label at.0) owner at.0 L3 L0 at.1 (owned_unnamed at.0) refl (owned_read at.0) (owned_write at.0))
+      let at = mapped_from owned_label (user_number accounts owner) label is in
+      by_label (owned_label at.0) at.2 (Private owner) (shows_user accounts (owned_label at.0) owner at.0 L3 L0 at.1 (owned_unnamed at.0) refl (owned_read at.0) (owned_write at.0))
   shown_at (Readable owner) jobs is =
-      let at = mapped_from (λ user. written_by (write_category user)) (user_number session owner) label is in
+      let at = mapped_from (λ user. written_by (write_category user)) (user_number accounts owner) label is in
       by_label (written_by (write_category at.0)) at.2 (Readable owner)
-      (shows_user session (written_by (write_category at.0)) owner at.0 L1 L0 at.1 (written_unnamed at.0) refl (written_read at.0) (written_write at.0))
+      (shows_user accounts (written_by (write_category at.0)) owner at.0 L1 L0 at.1 (written_unnamed at.0) refl (written_read at.0) (written_write at.0))
   shown_at Open jobs is =
       by_label (constant L1) (same_Some (constant L1) label is) Open
-      (past_users session (constant L1) (λ j low. open_unnamed j) ∙ shown_by_no_group (constant L1) session.groups (1 + length session.users) (λ j low high. open_unnamed j)
+      (past_users accounts (constant L1) (λ j low. open_unnamed j) ∙ shown_by_no_group (constant L1) accounts.groups (1 + length accounts.users) (λ j low high. open_unnamed j)
       ∙ ap (λ (b : Bool). if b then Some shown.Open else None) all_plain)
   shown_at (Scratch owner chain) jobs is =
-      let at = mapped_from (λ user. scratch_label user chain) (user_number session owner) label is in
-      let first = first_after_groups session in
-      let known = before_jobs session owner at.0 at.1 in
+      let at = mapped_from (λ user. scratch_label user chain) (user_number accounts owner) label is in
+      let first = first_after_groups accounts in
+      let known = before_jobs accounts owner at.0 at.1 in
       by_label (scratch_label at.0 chain) at.2 (Scratch owner chain)
-      (shows_user session (scratch_label at.0 chain) owner at.0 L3 L1 at.1 (scratch_unnamed first at.0 chain jobs known) refl (scratch_read first at.0 chain jobs known) (scratch_write first at.0 chain jobs known))
+      (shows_user accounts (scratch_label at.0 chain) owner at.0 L3 L1 at.1 (scratch_unnamed first at.0 chain jobs known) refl (scratch_read first at.0 chain jobs known) (scratch_write first at.0 chain jobs known))
   shown_at (Grouped group) jobs is =
-      let at = mapped_from (λ number. owned_label (group_owner (length session.users) number)) (group_number session group) label is in
-      let owner = group_owner (length session.users) at.0 in
-      by_label (owned_label owner) at.2 (Grouped group) (shows_group session (owned_label owner) group at.0 at.1 (owned_unnamed owner) (owned_read owner) (owned_write owner))
+      let at = mapped_from (λ number. owned_label (group_owner (length accounts.users) number)) (group_number accounts group) label is in
+      let owner = group_owner (length accounts.users) at.0 in
+      by_label (owned_label owner) at.2 (Grouped group) (shows_group accounts (owned_label owner) group at.0 at.1 (owned_unnamed owner) (owned_read owner) (owned_write owner))
 
 -- The label of a class shows the class, but for its jobs.
 pub classes_shown : ClassesAreShown
-classes_shown session class label is = shown_at session label class is.jobs is.is
+classes_shown accounts class label is = shown_at accounts label class is.jobs is.is

@@ -9,7 +9,7 @@ use Rattle.histar_flat.specs.declared.calls.User.{User}
 use Rattle.histar_flat.specs.Words.{Name}
 use Rattle.histar_flat.specs.PathOrder.{same}
 use Rattle.histar_flat.proofs.FileLemmas.{same_name_found}
-use Rattle.histar_flat.specs.Sessions.{Group, Session, user_number, group_number}
+use Rattle.histar_flat.specs.Accounts.{Group, Accounts, user_number, group_number}
 use Rattle.histar_layout.proofs.Members.{mapped_from}
 
 pub equal_names : (a b : Name) → same a b ≡ true → a ≡ b
@@ -35,13 +35,13 @@ module _ {A : Type 0} (test : A → Bool) where
   first_place [] lt = absurd (omega (arith, lt))
   first_place (x ∷ xs) lt = place_by x xs (test x) refl lt (first_place xs)
 
-  told : (b : Bool) (k m : ℕ) → cond b (Some k) None ≡ Some m → (b ≡ true) × (k ≡ m)
-  told true k m e = (refl, same_Some k m e)
-  told false k m e = absurd (none-some m e)
+  revealed : (b : Bool) (k m : ℕ) → cond b (Some k) None ≡ Some m → (b ≡ true) × (k ≡ m)
+  revealed true k m e = (refl, same_Some k m e)
+  revealed false k m e = absurd (none-some m e)
 
   pub placed : (xs : List A) (k : ℕ) → position test xs ≡ Some k → (x : A) × (slice_get xs k ≡ Some x) × (test x ≡ true) × (k < length xs)
   placed xs k e =
-      let is = told (nat_lt (position_or_len test xs) (length xs)) (position_or_len test xs) k e in
+      let is = revealed (nat_lt (position_or_len test xs) (length xs)) (position_or_len test xs) k e in
       let passed : nat_lt (position_or_len test xs) (length xs) ≡ true = is.0 in
       let below : position_or_len test xs < length xs = grind (arith, nat_tests, passed) in
       let at = first_place xs below in
@@ -61,48 +61,48 @@ module _ {A : Type 0} (test : A → Bool) where
   place_found (y ∷ xs) (suc i) x at is = place_found_by y xs (test y) refl (λ _. place_found xs i x at is)
 
 -- so a user of a name has a number
-pub has_a_number : (session : Session) (name : Name) (i : ℕ) (user : User) → slice_get session.users i ≡ Some user → same user.name name ≡ true → is_some (user_number session name) ≡ true
-has_a_number session name i user at is =
-    let place = position_or_len (λ (u : User). same u.name name) session.users in
-    let lt : place < length session.users = place_found (λ (u : User). same u.name name) session.users i user at is in
-    let within : nat_lt place (length session.users) ≡ true = grind (arith, nat_tests, lt) in
+pub has_a_number : (accounts : Accounts) (name : Name) (i : ℕ) (user : User) → slice_get accounts.users i ≡ Some user → same user.name name ≡ true → is_some (user_number accounts name) ≡ true
+has_a_number accounts name i user at is =
+    let place = position_or_len (λ (u : User). same u.name name) accounts.users in
+    let lt : place < length accounts.users = place_found (λ (u : User). same u.name name) accounts.users i user at is in
+    let within : nat_lt place (length accounts.users) ≡ true = grind (arith, nat_tests, lt) in
     ap (λ b. is_some (option_map (λ k. k + 1) (cond b (Some place) None))) within
 
 -- users and groups have the numbers from 1 on
-pub user_range : (session : Session) (name : Name) (i : ℕ) → user_number session name ≡ Some i → (1 ≤ i) × (i ≤ length session.users)
-user_range session name i e =
-    let k = mapped_from (λ k. k + 1) (position (λ (u : User). same u.name name) session.users) i e in
-    let at = placed (λ (u : User). same u.name name) session.users k.0 k.1 in
-    let below : k.0 < length session.users = at.3 in
+pub user_range : (accounts : Accounts) (name : Name) (i : ℕ) → user_number accounts name ≡ Some i → (1 ≤ i) × (i ≤ length accounts.users)
+user_range accounts name i e =
+    let k = mapped_from (λ k. k + 1) (position (λ (u : User). same u.name name) accounts.users) i e in
+    let at = placed (λ (u : User). same u.name name) accounts.users k.0 k.1 in
+    let below : k.0 < length accounts.users = at.3 in
     (omega (arith, k.2), omega (arith, k.2, below))
 
-pub group_range : (session : Session) (name : Name) (i : ℕ) → group_number session name ≡ Some i → (1 ≤ i) × (i ≤ length session.groups)
-group_range session name i e =
-    let k = mapped_from (λ k. k + 1) (position (λ (g : Group). same g.name name) session.groups) i e in
-    let at = placed (λ (g : Group). same g.name name) session.groups k.0 k.1 in
-    let below : k.0 < length session.groups = at.3 in
+pub group_range : (accounts : Accounts) (name : Name) (i : ℕ) → group_number accounts name ≡ Some i → (1 ≤ i) × (i ≤ length accounts.groups)
+group_range accounts name i e =
+    let k = mapped_from (λ k. k + 1) (position (λ (g : Group). same g.name name) accounts.groups) i e in
+    let at = placed (λ (g : Group). same g.name name) accounts.groups k.0 k.1 in
+    let below : k.0 < length accounts.groups = at.3 in
     (omega (arith, k.2), omega (arith, k.2, below))
 
 -- two users' names with one number are one
-pub one_user : (session : Session) (a b : Name) (i : ℕ) → user_number session a ≡ Some i → user_number session b ≡ Some i → a ≡ b
-one_user session a b i is_a is_b =
-    let k = mapped_from (λ k. k + 1) (position (λ (u : User). same u.name a) session.users) i is_a in
-    let m = mapped_from (λ k. k + 1) (position (λ (u : User). same u.name b) session.users) i is_b in
+pub one_user : (accounts : Accounts) (a b : Name) (i : ℕ) → user_number accounts a ≡ Some i → user_number accounts b ≡ Some i → a ≡ b
+one_user accounts a b i is_a is_b =
+    let k = mapped_from (λ k. k + 1) (position (λ (u : User). same u.name a) accounts.users) i is_a in
+    let m = mapped_from (λ k. k + 1) (position (λ (u : User). same u.name b) accounts.users) i is_b in
     let place : k.0 ≡ m.0 = omega (arith, k.2, m.2) in
-    let u = placed (λ (u : User). same u.name a) session.users k.0 k.1 in
-    let v = placed (λ (u : User). same u.name b) session.users m.0 m.1 in
-    let both : Some u.0 ≡ Some v.0 = sym u.1 ∙ ap (slice_get session.users) place ∙ v.1 in
+    let u = placed (λ (u : User). same u.name a) accounts.users k.0 k.1 in
+    let v = placed (λ (u : User). same u.name b) accounts.users m.0 m.1 in
+    let both : Some u.0 ≡ Some v.0 = sym u.1 ∙ ap (slice_get accounts.users) place ∙ v.1 in
     let one : u.0 ≡ v.0 = same_Some u.0 v.0 both in
     sym (equal_names u.0.name a u.2) ∙ ap (λ (w : User). w.name) one ∙ equal_names v.0.name b v.2
 
 -- and so are two groups' names
-pub one_group : (session : Session) (a b : Name) (i : ℕ) → group_number session a ≡ Some i → group_number session b ≡ Some i → a ≡ b
-one_group session a b i is_a is_b =
-    let k = mapped_from (λ k. k + 1) (position (λ (g : Group). same g.name a) session.groups) i is_a in
-    let m = mapped_from (λ k. k + 1) (position (λ (g : Group). same g.name b) session.groups) i is_b in
+pub one_group : (accounts : Accounts) (a b : Name) (i : ℕ) → group_number accounts a ≡ Some i → group_number accounts b ≡ Some i → a ≡ b
+one_group accounts a b i is_a is_b =
+    let k = mapped_from (λ k. k + 1) (position (λ (g : Group). same g.name a) accounts.groups) i is_a in
+    let m = mapped_from (λ k. k + 1) (position (λ (g : Group). same g.name b) accounts.groups) i is_b in
     let place : k.0 ≡ m.0 = omega (arith, k.2, m.2) in
-    let g = placed (λ (g : Group). same g.name a) session.groups k.0 k.1 in
-    let h = placed (λ (g : Group). same g.name b) session.groups m.0 m.1 in
-    let both : Some g.0 ≡ Some h.0 = sym g.1 ∙ ap (slice_get session.groups) place ∙ h.1 in
+    let g = placed (λ (g : Group). same g.name a) accounts.groups k.0 k.1 in
+    let h = placed (λ (g : Group). same g.name b) accounts.groups m.0 m.1 in
+    let both : Some g.0 ≡ Some h.0 = sym g.1 ∙ ap (slice_get accounts.groups) place ∙ h.1 in
     let one : g.0 ≡ h.0 = same_Some g.0 h.0 both in
     sym (equal_names g.0.name a g.2) ∙ ap (λ (x : Group). x.name) one ∙ equal_names h.0.name b h.2

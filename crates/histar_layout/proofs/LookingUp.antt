@@ -58,8 +58,8 @@ pub slot_shorter : (rest : List ℕ) (x : (List ℕ × List ℕ) × List ℕ) �
 unfolding slot_at
 slot_shorter [] x e = absurd cc
 slot_shorter (len ∷ bytes) x e =
-    let a = bind_some (front_at len bytes) (λ text. front_at 17 text.1 >>= λ told. Some ((text.0, told.0), told.1)) x e in
-    let b = bind_some (front_at 17 a.0.1) (λ told. Some ((a.0.0, told.0), told.1)) x a.2 in
+    let a = bind_some (front_at len bytes) (λ text. front_at 17 text.1 >>= λ revealed. Some ((text.0, revealed.0), revealed.1)) x e in
+    let b = bind_some (front_at 17 a.0.1) (λ revealed. Some ((a.0.0, revealed.0), revealed.1)) x a.2 in
     let same_rest : b.0.1 ≡ x.1 = ap (λ (y : (List ℕ × List ℕ) × List ℕ). y.1) (same_Some ((a.0.0, b.0.0), b.0.1) x b.2) in
     omega (arith, ap length same_rest, front_shorter len bytes a.0 a.1, front_shorter 17 a.0.1 b.0 b.1)
 
@@ -75,7 +75,7 @@ front_short n bytes short = rw (lt-leb n (length bytes) short) refl
 
 module _ (bytes : List ℕ) (start len : ℕ) (read : slice_get bytes start ≡ Some len) where
   -- from its length on an entry is read so
-  begun : slot_at (drop start bytes) ≡ (front_at len (drop (start + 1) bytes) >>= λ text. front_at 17 text.1 >>= λ told. Some ((text.0, told.0), told.1))
+  begun : slot_at (drop start bytes) ≡ (front_at len (drop (start + 1) bytes) >>= λ text. front_at 17 text.1 >>= λ revealed. Some ((text.0, revealed.0), revealed.1))
   unfolding slot_at
   begun = ap slot_at (drop_more bytes start 0 (slice_get_within bytes start len read) ∙ ap (λ b. b ∷ drop (start + 1) bytes) (get_or_from_slice_get bytes start len 0 read))
 
@@ -86,8 +86,8 @@ module _ (bytes : List ℕ) (start len : ℕ) (read : slice_get bytes start ≡ 
       let left : length rest ≡ length bytes - (start + 1) = length-drop (start + 1) bytes in
       let behind : length (drop len rest) ≡ length rest - len = length-drop len rest in
       begun
-      ∙ bind_at (front_at len rest) (λ text. front_at 17 text.1 >>= λ told. Some ((text.0, told.0), told.1)) (take len rest, drop len rest) (front_there len rest (omega arith))
-      ∙ bind_at (front_at 17 (drop len rest)) (λ told. Some ((take len rest, told.0), told.1)) (take 17 (drop len rest), drop 17 (drop len rest)) (front_there 17 (drop len rest) (omega arith))
+      ∙ bind_at (front_at len rest) (λ text. front_at 17 text.1 >>= λ revealed. Some ((text.0, revealed.0), revealed.1)) (take len rest, drop len rest) (front_there len rest (omega arith))
+      ∙ bind_at (front_at 17 (drop len rest)) (λ revealed. Some ((take len rest, revealed.0), revealed.1)) (take 17 (drop len rest), drop 17 (drop len rest)) (front_there 17 (drop len rest) (omega arith))
       ∙ (λ i. Some ((take (name_is i) rest, take (target_is i) (target i)), after i))
     where
       name_is : len ≡ start + len + 18 - 17 - (start + 1)
@@ -105,11 +105,11 @@ module _ (bytes : List ℕ) (start len : ℕ) (read : slice_get bytes start ≡ 
   -- an entry that breaks off is none
   pub entry_broken : length bytes < start + len + 18 → slot_at (drop start bytes) ≡ None
   entry_broken short = begun ∙ elim (cases_lt (length (drop (start + 1) bytes)) len) [
-    | inl less ↦ ap (λ o. o >>= λ text. front_at 17 text.1 >>= λ told. Some ((text.0, told.0), told.1)) (front_short len (drop (start + 1) bytes) less)
+    | inl less ↦ ap (λ o. o >>= λ text. front_at 17 text.1 >>= λ revealed. Some ((text.0, revealed.0), revealed.1)) (front_short len (drop (start + 1) bytes) less)
     | inr long ↦
         let rest = drop (start + 1) bytes in
-        bind_at (front_at len rest) (λ text. front_at 17 text.1 >>= λ told. Some ((text.0, told.0), told.1)) (take len rest, drop len rest) (front_there len rest long)
-        ∙ ap (λ o. o >>= λ told. Some ((take len rest, told.0), told.1)) (front_short 17 (drop len rest) (omega (arith, length-drop len rest, length-drop (start + 1) bytes)))
+        bind_at (front_at len rest) (λ text. front_at 17 text.1 >>= λ revealed. Some ((text.0, revealed.0), revealed.1)) (take len rest, drop len rest) (front_there len rest long)
+        ∙ ap (λ o. o >>= λ revealed. Some ((take len rest, revealed.0), revealed.1)) (front_short 17 (drop len rest) (omega (arith, length-drop len rest, length-drop (start + 1) bytes)))
   ]
 
 -- behind the bytes there is no entry
@@ -150,9 +150,9 @@ target_len (File file) = refl
 target_len (Directory container listing) = refl
 
 -- they tell the target
-told_again : (t : Target) → IsTarget t → target_from (target_bytes t) ≡ Some t
+revealed_again : (t : Target) → IsTarget t → target_from (target_bytes t) ≡ Some t
 unfolding target_from
-told_again t is =
+revealed_again t is =
     bind_at (target_at (target_bytes t)) (λ (x : Target × List ℕ). Some x.0) (t, [])
     (ap target_at (sym (append-nil (target_bytes t))) ∙ target_again t [] is)
 
@@ -160,9 +160,9 @@ told_again t is =
 pub slot_again : (e : Entry) (rest : List ℕ) → slot_at (entry_bytes e ++ rest) ≡ Some ((e.0, target_bytes e.1), rest)
 unfolding slot_at
 slot_again e rest =
-    bind_at (front_at (length e.0) ((e.0 ++ target_bytes e.1) ++ rest)) (λ text. front_at 17 text.1 >>= λ told. Some ((text.0, told.0), told.1)) (e.0, target_bytes e.1 ++ rest)
+    bind_at (front_at (length e.0) ((e.0 ++ target_bytes e.1) ++ rest)) (λ text. front_at 17 text.1 >>= λ revealed. Some ((text.0, revealed.0), revealed.1)) (e.0, target_bytes e.1 ++ rest)
     (ap (front_at (length e.0)) (append_assoc e.0 (target_bytes e.1) rest) ∙ front_again (length e.0) e.0 (target_bytes e.1 ++ rest) refl)
-    ∙ bind_at (front_at 17 (target_bytes e.1 ++ rest)) (λ told. Some ((e.0, told.0), told.1)) (target_bytes e.1, rest) (front_again 17 (target_bytes e.1) rest (target_len e.1))
+    ∙ bind_at (front_at 17 (target_bytes e.1 ++ rest)) (λ revealed. Some ((e.0, revealed.0), revealed.1)) (target_bytes e.1, rest) (front_again 17 (target_bytes e.1) rest (target_len e.1))
 
 -- in the bytes of entries the first one of the name is found
 found_of_entries : (most : ℕ) (es : List Entry) (name : Name) → AllByRecursion IsEntry es → length (flat_map entry_bytes es) ≤ most → found_among most (flat_map entry_bytes es) name ≡ map.find by_bytes name es
@@ -173,7 +173,7 @@ found_of_entries most (e ∷ es) name each enough =
     let shorter = slot_shorter (flat_map entry_bytes (e ∷ es)) ((e.0, target_bytes e.1), flat_map entry_bytes es) slot in
     let later = found_of_entries first.0 es name each.1 (omega (arith, enough, first.1, shorter)) in
     first.2
-    ∙ (λ i. cond (texts_ties name e.0 i) (told_again e.1 each.0.1 i) (later i))
+    ∙ (λ i. cond (texts_ties name e.0 i) (revealed_again e.1 each.0.1 i) (later i))
 
 -- in the bytes of a directory a name is found where its entry leads
 pub found_in_directory : (bytes : List ℕ) (dir : Entries) (name : Name) → IsDirectory bytes dir → found_in bytes name ≡ map.get dir name

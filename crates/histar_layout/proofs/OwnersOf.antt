@@ -2,7 +2,7 @@
 use Rattle.std.proofs.Common.{◌≡◌, ℕ, ◌+◌, ◌<◌, Bool, true, false, List, [], ◌∷◌, ◌++◌, length, get_or, take, sym, ap, ◌∙◌, arith, add-zero, append-nil, if◌then◌else◌}
 use Rattle.std.specs.Prelude.{map}
 use Rattle.std.proofs.lemmas.List.{map-append, length-take-le}
-use Rattle.histar_flat.specs.Sessions.{Group, has, numbers_with}
+use Rattle.histar_flat.specs.Accounts.{Group, has, numbers_with}
 use Rattle.histar_flat.specs.Words.{Name}
 use Rattle.histar_layout.specs.Categories.{group_owner, owners_among}
 use Rattle.histar_layout.proofs.LabellingLemmas.{take_next}

@@ -200,5 +200,5 @@ is_split bytes head rest fits h some = by (children_in most_children rest) refl 
     by (Some children) is some = status_split bytes head rest children fits h is
 
 -- what is split tells the head
-pub head_told : (bytes : List ℕ) (head : StatusHead) (rest : List ℕ) → IsSplit bytes head rest → Some head ≡ option_map head_of (status_in bytes)
-head_told bytes head rest split = ap Some split.head_is ∙ ap (option_map head_of) (sym split.status_is)
+pub head_revealed : (bytes : List ℕ) (head : StatusHead) (rest : List ℕ) → IsSplit bytes head rest → Some head ≡ option_map head_of (status_in bytes)
+head_revealed bytes head rest split = ap Some split.head_is ∙ ap (option_map head_of) (sym split.status_is)

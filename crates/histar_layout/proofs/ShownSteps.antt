@@ -2,7 +2,7 @@
 use Rattle.std.proofs.Common.{◌≡◌, ℕ, ◌+◌, ◌<◌, ◌≤◌, Bool, true, false, List, ◌∷◌, length, get_or, drop, None, Some, arith, sym, ap, ◌∙◌, if◌then◌else◌}
 use Rattle.std.proofs.lemmas.List.{drop_all, drop_more}
 use Rattle.histar_flat.specs.declared.calls.User.{User}
-use Rattle.histar_flat.specs.Sessions.{Group}
+use Rattle.histar_flat.specs.Accounts.{Group}
 use Rattle.histar_label.specs.Levels.{Levels, level_of}
 use Rattle.histar_layout.specs.declared.shown.ShownClass.TheVariants.{Open}
 use Rattle.histar_layout.specs.Categories.{read_category, write_category}
@@ -21,12 +21,12 @@ module _ (label : Levels) (groups : List Group) (users : List User) (place : ℕ
   passed_over is = by_name true is
 
   -- one whom it names tells the class
-  pub told_here : is_unnamed label (place + 1) ≡ false → class_from label (place + 1) groups (drop place users) ≡ class_at user.name (level_of label (read_category (place + 1))) (level_of label (write_category (place + 1)))
-  told_here is = by_name false is
+  pub revealed_here : is_unnamed label (place + 1) ≡ false → class_from label (place + 1) groups (drop place users) ≡ class_at user.name (level_of label (read_category (place + 1))) (level_of label (write_category (place + 1)))
+  revealed_here is = by_name false is
 
 -- where it names no user the groups tell
-pub told_last : (label : Levels) (groups : List Group) (users : List User) (place : ℕ) → length users ≤ place → class_from label (place + 1) groups (drop place users) ≡ group_class_from label (place + 1) groups
-told_last label groups users place end = ap (class_from label (place + 1) groups) (drop_all place users end)
+pub revealed_last : (label : Levels) (groups : List Group) (users : List User) (place : ℕ) → length users ≤ place → class_from label (place + 1) groups (drop place users) ≡ group_class_from label (place + 1) groups
+revealed_last label groups users place end = ap (class_from label (place + 1) groups) (drop_all place users end)
 
 -- group number place + 1 comes so far behind the users
 pub behind : (users place : ℕ) → users + (place + 1) ≡ users + 1 + place
@@ -49,9 +49,9 @@ module _ (label : Levels) (first : ℕ) (groups : List Group) (place : ℕ) (gro
   group_passed_over is = by_group true is
 
   -- one that it names tells the class
-  pub group_told_here : is_unnamed label (first + place) ≡ false → group_class_from label (first + place) (drop place groups) ≡ group_class_at group.name (level_of label (read_category (first + place))) (level_of label (write_category (first + place)))
-  group_told_here is = by_group false is
+  pub group_revealed_here : is_unnamed label (first + place) ≡ false → group_class_from label (first + place) (drop place groups) ≡ group_class_at group.name (level_of label (read_category (first + place))) (level_of label (write_category (first + place)))
+  group_revealed_here is = by_group false is
 
 -- where it names no group it is open or tells no class
-pub group_told_last : (label : Levels) (first : ℕ) (groups : List Group) (place : ℕ) (plain : Bool) → length groups ≤ place → is_all_plain label ≡ plain → group_class_from label (first + place) (drop place groups) ≡ (if plain then Some Open else None)
-group_told_last label first groups place plain end is = ap (group_class_from label (first + place)) (drop_all place groups end) ∙ ap (λ (b : Bool). if b then Some Open else None) is
+pub group_revealed_last : (label : Levels) (first : ℕ) (groups : List Group) (place : ℕ) (plain : Bool) → length groups ≤ place → is_all_plain label ≡ plain → group_class_from label (first + place) (drop place groups) ≡ (if plain then Some Open else None)
+group_revealed_last label first groups place plain end is = ap (group_class_from label (first + place)) (drop_all place groups end) ∙ ap (λ (b : Bool). if b then Some Open else None) is

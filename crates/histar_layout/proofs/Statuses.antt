@@ -137,9 +137,9 @@ status_read bytes head rest children h c =
 -- what bytes tell was written so
 pub status_takes : (bytes : List ℕ) (status : ProcessStatus) → IsBytes bytes → status_in bytes ≡ Some status → IsStatus bytes status
 status_takes bytes status fits e =
-    let told = parts_of bytes status e in
-    let head = head_takes bytes (head_of status, told.rest) fits told.head in
-    let children = children_takes most_children told.rest status.children head.taken.rest_fits told.listed in
+    let revealed = parts_of bytes status e in
+    let head = head_takes bytes (head_of status, revealed.rest) fits revealed.head in
+    let children = children_takes most_children revealed.rest status.children head.taken.rest_fits revealed.listed in
     record {
       internal = head.internal;
       thread = head.thread;

@@ -5,7 +5,7 @@ use Rattle.std.proofs.lemmas.Bool.{cases_lt}
 use mathlib.Core.Bool.{true≢false}
 use Rattle.histar_label.specs.Levels.{Levels}
 use Rattle.histar_flat.specs.declared.calls.Mode.{Mode}
-use Rattle.histar_flat.specs.Sessions.{Session}
+use Rattle.histar_flat.specs.Accounts.{Accounts}
 use Rattle.histar_layout.specs.Jobs.{is_empty, jobs_in}
 use Rattle.histar_layout.specs.Categories.{IsUserOf, owns, owner_from, user_of, file_label, scratch_label, label_made}
 
@@ -47,20 +47,20 @@ module _ (own : Levels) (users user : ℕ) (is : IsUserOf own users user) where
   user_is = from users 1 (omega arith) (omega arith) (elim (cases_lt 0 user) [ inl less ↦ inr less | inr none ↦ inl (omega arith) ])
 
 -- in no job what is made is made in the mode
-pub made_free : {E : Type 0} (result : Result Levels E) (own : Levels) (session : Session) (user : ℕ) (mode : Mode) → IsUserOf own (length session.users) user → is_empty (jobs_in own) ≡ true
-    → IfOk result (λ label. label ≡ file_label session mode user) → IfOk result (λ label. label ≡ label_made session own mode)
-made_free (Ok label) own session user mode is free right =
-    right ∙ ap (file_label session mode) (sym (user_is own (length session.users) user is))
-    ∙ ap (λ (b : Bool). if b then file_label session mode (user_of own (length session.users)) else scratch_label (user_of own (length session.users)) (jobs_in own)) (sym free)
-made_free (Err error) own session user mode is free right = right
+pub made_free : {E : Type 0} (result : Result Levels E) (own : Levels) (accounts : Accounts) (user : ℕ) (mode : Mode) → IsUserOf own (length accounts.users) user → is_empty (jobs_in own) ≡ true
+    → IfOk result (λ label. label ≡ file_label accounts mode user) → IfOk result (λ label. label ≡ label_made accounts own mode)
+made_free (Ok label) own accounts user mode is free right =
+    right ∙ ap (file_label accounts mode) (sym (user_is own (length accounts.users) user is))
+    ∙ ap (λ (b : Bool). if b then file_label accounts mode (user_of own (length accounts.users)) else scratch_label (user_of own (length accounts.users)) (jobs_in own)) (sym free)
+made_free (Err error) own accounts user mode is free right = right
 
 -- and in jobs it is for these
-pub made_in_jobs : {E : Type 0} (result : Result Levels E) (own : Levels) (session : Session) (user : ℕ) (mode : Mode) → IsUserOf own (length session.users) user → is_empty (jobs_in own) ≡ false
-    → IfOk result (λ label. label ≡ scratch_label user (jobs_in own)) → IfOk result (λ label. label ≡ label_made session own mode)
-made_in_jobs (Ok label) own session user mode is busy right =
-    right ∙ ap (λ (i : ℕ). scratch_label i (jobs_in own)) (sym (user_is own (length session.users) user is))
-    ∙ ap (λ (b : Bool). if b then file_label session mode (user_of own (length session.users)) else scratch_label (user_of own (length session.users)) (jobs_in own)) (sym busy)
-made_in_jobs (Err error) own session user mode is busy right = right
+pub made_in_jobs : {E : Type 0} (result : Result Levels E) (own : Levels) (accounts : Accounts) (user : ℕ) (mode : Mode) → IsUserOf own (length accounts.users) user → is_empty (jobs_in own) ≡ false
+    → IfOk result (λ label. label ≡ scratch_label user (jobs_in own)) → IfOk result (λ label. label ≡ label_made accounts own mode)
+made_in_jobs (Ok label) own accounts user mode is busy right =
+    right ∙ ap (λ (i : ℕ). scratch_label i (jobs_in own)) (sym (user_is own (length accounts.users) user is))
+    ∙ ap (λ (b : Bool). if b then file_label accounts mode (user_of own (length accounts.users)) else scratch_label (user_of own (length accounts.users)) (jobs_in own)) (sym busy)
+made_in_jobs (Err error) own accounts user mode is busy right = right
 
 -- what is not so twice is so
 pub not_twice : (b c d : Bool) → c ≡ not b → not c ≡ d → b ≡ d

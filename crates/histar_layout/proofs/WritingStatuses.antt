@@ -38,8 +38,8 @@ module _ (container segment : ℕ) where
   -- the head, the children's bytes and the new child are those of the status with it
   pub child_added : (bytes : List ℕ) (head : StatusHead) (children first second third : List ℕ) (status : ProcessStatus) → IsSplit bytes head children → status_in bytes ≡ Some status
       → first ≡ head_bytes (more_born head) → second ≡ first ++ children → third ≡ second ++ child_bytes (new_child head) → third ≡ status_bytes (with_child_listed container segment status)
-  child_added bytes head children first second third status split told x y z =
-      let same : split.status ≡ status = same_Some split.status status (sym split.status_is ∙ told) in
+  child_added bytes head children first second third status split revealed x y z =
+      let same : split.status ≡ status = same_Some split.status status (sym split.status_is ∙ revealed) in
       let head_is : head ≡ head_of status = split.head_is ∙ ap head_of same in
       let children_are : children ≡ flat_map child_bytes status.children = split.children_are ∙ ap (λ (s : ProcessStatus). flat_map child_bytes s.children) same in
       let due = head_of status in

@@ -3,7 +3,7 @@ use Rattle.std.specs.Prelude.{◌≡◌, ℕ, zero, suc, ◌+◌, ◌*◌, ◌<�
 use Rattle.histar_flat.specs.declared.calls.Mode.{Mode}
 use Rattle.histar_flat.specs.declared.calls.Mode.TheVariants.{Private, Readable, Open, Group}
 use Rattle.histar_flat.specs.Words.{Name}
-use Rattle.histar_flat.specs.Sessions.{Group as DeclaredGroup, Session, group_number, numbers_with}
+use Rattle.histar_flat.specs.Accounts.{Group as DeclaredGroup, Accounts, group_number, numbers_with}
 use Rattle.histar_label.specs.Level.{is_star}
 use Rattle.histar_label.specs.declared.levels.Level.TheVariants.{L1}
 use Rattle.histar_label.specs.Levels.{Levels, constant, level_of}
@@ -23,8 +23,8 @@ abbrev pub group_owner : ℕ → ℕ → ℕ
 group_owner users k = users + k
 
 -- the number by which the categories of the group of this name go; where there is none it is nobody's
-abbrev pub owner_of_group : Session → Name → ℕ
-owner_of_group session group = elim (group_number session group) [ None ↦ 0 | Some k ↦ group_owner (length session.users) k ]
+abbrev pub owner_of_group : Accounts → Name → ℕ
+owner_of_group accounts group = elim (group_number accounts group) [ None ↦ 0 | Some k ↦ group_owner (length accounts.users) k ]
 
 -- the numbers by which the categories go that the user i of this name owns, of so many users and of these groups: its own, and those of
 -- the groups that it is a member of
@@ -32,8 +32,8 @@ abbrev pub owners_among : ℕ → List DeclaredGroup → ℕ → Name → List �
 owners_among users groups i name = i ∷ map (group_owner users) (numbers_with 1 groups name)
 
 -- those that the user owns of the users and the groups of a session
-abbrev pub owners_of : Session → ℕ → Name → List ℕ
-owners_of session i name = owners_among (length session.users) session.groups i name
+abbrev pub owners_of : Accounts → ℕ → Name → List ℕ
+owners_of accounts i name = owners_among (length accounts.users) accounts.groups i name
 
 -- a label owns the read category of a user
 abbrev pub owns : Levels → ℕ → Bool
@@ -49,11 +49,11 @@ pub record IsUserOf (own : Levels) (users user : ℕ) : Type 0 where
 -- The label of a file that a user makes: everyone may read a readable one, and its owner alone a private one, and its owner alone
 -- writes both; everyone may read and write an open one, and the members of a group what is the group's. What is for a group that
 -- is not declared has nobody's categories.
-abbrev pub file_label : Session → Mode → ℕ → Levels
-file_label session Readable user = written_by (write_category user)
-file_label session Private user = secret_of (read_category user) (write_category user)
-file_label session Open user = constant L1
-file_label session (Group name) user = secret_of (read_category (owner_of_group session name)) (write_category (owner_of_group session name))
+abbrev pub file_label : Accounts → Mode → ℕ → Levels
+file_label accounts Readable user = written_by (write_category user)
+file_label accounts Private user = secret_of (read_category user) (write_category user)
+file_label accounts Open user = constant L1
+file_label accounts (Group name) user = secret_of (read_category (owner_of_group accounts name)) (write_category (owner_of_group accounts name))
 
 -- the first of n users from k on whose read category the label owns, or nobody
 abbrev pub owner_from : Levels → ℕ → ℕ → ℕ
@@ -69,7 +69,7 @@ abbrev pub scratch_label : ℕ → List ℕ → Levels
 scratch_label user jobs = guarded_by (read_category user ∷ jobs) []
 
 -- the label of what a thread of this label makes: what is its user's in this mode, and in jobs what is for these
-abbrev pub label_made : Session → Levels → Mode → Levels
-label_made session own mode =
-    if is_empty (jobs_in own) then file_label session mode (user_of own (length session.users))
-    else scratch_label (user_of own (length session.users)) (jobs_in own)
+abbrev pub label_made : Accounts → Levels → Mode → Levels
+label_made accounts own mode =
+    if is_empty (jobs_in own) then file_label accounts mode (user_of own (length accounts.users))
+    else scratch_label (user_of own (length accounts.users)) (jobs_in own)

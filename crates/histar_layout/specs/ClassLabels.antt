@@ -1,7 +1,7 @@
 -- The labels of classes.
 use Rattle.std.specs.Prelude.{◌≡◌, ℕ, ◌+◌, ◌*◌, ◌≤◌, ◌&&◌, nat_le, List, [], ◌∷◌, length, Option, Some, option_map, MatchOption, map}
 use Rattle.std.specs.List.{filter}
-use Rattle.histar_flat.specs.Sessions.{Session, user_number, group_number}
+use Rattle.histar_flat.specs.Accounts.{Accounts, user_number, group_number}
 use Rattle.histar_label.specs.declared.levels.Level.TheVariants.{L1}
 use Rattle.histar_label.specs.Levels.{Levels, constant, exceptions_of}
 use Rattle.histar_layout.specs.Labelling.{written_by, secret_of}
@@ -19,41 +19,41 @@ IsRisingFrom n [] = Unit {0}
 IsRisingFrom n (m ∷ more) = (n ≤ m) × IsRisingFrom (m + 1) more
 
 -- the first category after those of boot, of nobody, of the users and of the groups
-abbrev pub first_after_groups : Session → ℕ
-first_after_groups session = 4 + 2 * (length session.users + length session.groups)
+abbrev pub first_after_groups : Accounts → ℕ
+first_after_groups accounts = 4 + 2 * (length accounts.users + length accounts.groups)
 
 -- the label of what the user or the group of this number alone reads and writes
 abbrev pub owned_label : ℕ → Levels
 owned_label owner = secret_of (read_category owner) (write_category owner)
 
 -- the label of what is of a class, where its owner or its group is declared
-abbrev pub class_label : Session → Class → Option Levels
-class_label session (Private owner) = option_map owned_label (user_number session owner)
-class_label session (Readable owner) = option_map (λ user. written_by (write_category user)) (user_number session owner)
-class_label session Open = Some (constant L1)
-class_label session (Scratch owner jobs) = option_map (λ user. scratch_label user jobs) (user_number session owner)
-class_label session (Group group) = option_map (λ number. owned_label (group_owner (length session.users) number)) (group_number session group)
+abbrev pub class_label : Accounts → Class → Option Levels
+class_label accounts (Private owner) = option_map owned_label (user_number accounts owner)
+class_label accounts (Readable owner) = option_map (λ user. written_by (write_category user)) (user_number accounts owner)
+class_label accounts Open = Some (constant L1)
+class_label accounts (Scratch owner jobs) = option_map (λ user. scratch_label user jobs) (user_number accounts owner)
+class_label accounts (Group group) = option_map (λ number. owned_label (group_owner (length accounts.users) number)) (group_number accounts group)
 
 -- the categories of the jobs of a class rise, and none of them is boot's, nobody's, a user's or a group's
-abbrev pub HasJobs : Session → Class → Type 0
-HasJobs session (Private owner) = Unit {0}
-HasJobs session (Readable owner) = Unit {0}
-HasJobs session Open = Unit {0}
-HasJobs session (Scratch owner jobs) = IsRisingFrom (first_after_groups session) jobs
-HasJobs session (Group group) = Unit {0}
+abbrev pub HasJobs : Accounts → Class → Type 0
+HasJobs accounts (Private owner) = Unit {0}
+HasJobs accounts (Readable owner) = Unit {0}
+HasJobs accounts Open = Unit {0}
+HasJobs accounts (Scratch owner jobs) = IsRisingFrom (first_after_groups accounts) jobs
+HasJobs accounts (Group group) = Unit {0}
 
 -- what is of this class has this label
-pub record IsClassLabel (session : Session) (class : Class) (label : Levels) : Type 0 where
-  pub jobs : HasJobs session class
-  pub is : class_label session class ≡ Some label
+pub record IsClassLabel (accounts : Accounts) (class : Class) (label : Levels) : Type 0 where
+  pub jobs : HasJobs accounts class
+  pub is : class_label accounts class ≡ Some label
 
 -- what was found is the class of a label, and nothing was found exactly where the label is of no class
-abbrev pub FindsClass : Session → Levels → Option Class → Type 0
-FindsClass session label found = MatchOption found ((class : Class) → IsClassLabel session class label → ⊥) (λ class. IsClassLabel session class label)
+abbrev pub FindsClass : Accounts → Levels → Option Class → Type 0
+FindsClass accounts label found = MatchOption found ((class : Class) → IsClassLabel accounts class label → ⊥) (λ class. IsClassLabel accounts class label)
 
 -- a label is of one class at most
 abbrev pub LabelsHaveOneClass : Type 0
-LabelsHaveOneClass = (session : Session) (label : Levels) (a b : Class) → IsClassLabel session a label → IsClassLabel session b label → a ≡ b
+LabelsHaveOneClass = (accounts : Accounts) (label : Levels) (a b : Class) → IsClassLabel accounts a label → IsClassLabel accounts b label → a ≡ b
 
 -- a class but for its jobs
 abbrev pub without_jobs : Class → ShownClass
@@ -65,7 +65,7 @@ without_jobs (Group group) = shown.Group group
 
 -- a label of a class shows this class, but for its jobs
 abbrev pub ClassesAreShown : Type 0
-ClassesAreShown = (session : Session) (class : Class) (label : Levels) → IsClassLabel session class label → class_shown session label ≡ Some (without_jobs class)
+ClassesAreShown = (accounts : Accounts) (class : Class) (label : Levels) → IsClassLabel accounts class label → class_shown accounts label ≡ Some (without_jobs class)
 
 -- a class that is shown, for these jobs
 abbrev pub with_jobs : List ℕ → ShownClass → Class
@@ -76,9 +76,9 @@ with_jobs jobs (shown.Scratch owner) = Scratch owner jobs
 with_jobs jobs (shown.Group group) = Group group
 
 -- the categories of jobs that a label has at 3
-abbrev pub jobs_of : Session → Levels → List ℕ
-jobs_of session label = map (λ e. e.0) (filter (λ e. is_three e.1 && nat_le (first_after_groups session) e.0) (exceptions_of label))
+abbrev pub jobs_of : Accounts → Levels → List ℕ
+jobs_of accounts label = map (λ e. e.0) (filter (λ e. is_three e.1 && nat_le (first_after_groups accounts) e.0) (exceptions_of label))
 
 -- the one class that a label can be of: the one that it shows, with the jobs that it has
-abbrev pub likely_class : Session → Levels → Option Class
-likely_class session label = option_map (with_jobs (jobs_of session label)) (class_shown session label)
+abbrev pub likely_class : Accounts → Levels → Option Class
+likely_class accounts label = option_map (with_jobs (jobs_of accounts label)) (class_shown accounts label)

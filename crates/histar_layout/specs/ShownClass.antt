@@ -1,7 +1,7 @@
 -- The class that few levels of a label show.
 use Rattle.std.specs.Prelude.{ℕ, ◌+◌, Bool, true, false, ◌&&◌, List, [], ◌∷◌, Option, None, Some, if◌then◌else◌}
 use Rattle.histar_flat.specs.Words.{Name}
-use Rattle.histar_flat.specs.Sessions.{Group, Session}
+use Rattle.histar_flat.specs.Accounts.{Group, Accounts}
 use Rattle.histar_flat.specs.declared.calls.User.{User}
 use Rattle.histar_flat.specs.declared.replies.FileMode.{FileMode}
 use Rattle.histar_flat.specs.declared.replies.FileMode.TheVariants as modes
@@ -55,8 +55,8 @@ class_from label k groups (user ∷ users) =
     else class_at user.name (level_of label (read_category k)) (level_of label (write_category k))
 
 -- the class that a label shows
-unfoldable pub class_shown : Session → Levels → Option ShownClass
-class_shown session label = class_from label 1 session.groups session.users
+unfoldable pub class_shown : Accounts → Levels → Option ShownClass
+class_shown accounts label = class_from label 1 accounts.groups accounts.users
 
 -- the owner of what is of a class, if it has one
 abbrev pub owner_shown : ShownClass → Option Name

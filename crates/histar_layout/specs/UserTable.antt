@@ -2,7 +2,7 @@
 use Rattle.std.specs.Prelude.{◌≢◌, List, [], map, AllPairs}
 use Rattle.histar_flat.specs.declared.calls.User.{User}
 use Rattle.histar_flat.specs.Words.{Name}
-use Rattle.histar_flat.specs.Sessions.{Session}
+use Rattle.histar_flat.specs.Accounts.{Accounts}
 
 -- the user of this name, with no password
 abbrev pub called : Name → User
@@ -13,8 +13,8 @@ abbrev pub without_password : User → User
 without_password user = called user.name
 
 -- the users and the groups of a session, where each user has no password
-abbrev pub without_passwords : Session → Session
-without_passwords session = record { users = map without_password session.users; groups = session.groups }
+abbrev pub without_passwords : Accounts → Accounts
+without_passwords accounts = record { users = map without_password accounts.users; groups = accounts.groups }
 
 -- no two users have one name
 abbrev pub HaveOwnNames : List User → Type 0

@@ -1,7 +1,7 @@
 //! The numbers by which the categories of users and groups go: nobody is 0, and behind it come the users,
 //! and then the groups, in the order in which they were declared.
 ghost use Rattle.std.specs.Prelude.{◌≡◌, ◌≤◌, length, IfOk};
-ghost use Rattle.histar_flat.specs.Sessions.{most_groups, most_users};
+ghost use Rattle.histar_flat.specs.Accounts.{most_groups, most_users};
 ghost use Rattle.histar_layout.specs.Categories.{group_owner, owner_of_group, owners_among, owners_of};
 
 use crate::user_table::UserTable;

@@ -1,10 +1,10 @@
 //! The users and the groups of a machine, with no passwords.
 ghost use Rattle.std.specs.Prelude.{◌≡◌, ◌<◌, ◌≤◌, length, map, position, slice_get, Some, IfOk, IfSome};
 ghost use Rattle.histar_flat.specs.PathOrder.{same};
-ghost use Rattle.histar_flat.specs.Sessions.{IsSmall, group_number, most_groups, most_users, user_number};
+ghost use Rattle.histar_flat.specs.Accounts.{IsSmall, group_number, most_groups, most_users, user_number};
 ghost use Rattle.histar_layout.specs.UserTable.{HaveOwnNames, called, without_passwords};
 
-use histar_flat::{Group, Name, Session, User};
+use histar_flat::{Accounts, Group, Name, User};
 use indexmap::IndexSet;
 use std::alloc::{AllocError, Global};
 use std::hash::{Hash, Hasher};
@@ -61,10 +61,10 @@ pub struct UserTable {
 
 impl Model for UserTable {
     ghost use Rattle.std.specs.Prelude.{map};
-    ghost use Rattle.histar_flat.specs.Sessions.{IsSmall, Session};
+    ghost use Rattle.histar_flat.specs.Accounts.{IsSmall, Accounts};
     ghost use Rattle.histar_layout.specs.UserTable.{called};
 
-    ghost Value = { Session };
+    ghost Value = { Accounts };
 
     ghost view = { λ t. record { users = map (λ k. called k.name) t.names.keys; groups = t.groups.items } };
 
@@ -73,13 +73,13 @@ impl Model for UserTable {
 
 impl UserTable {
     /// The users and the groups of a session.
-    pub fn of(alloc: Global, session: &Session) -> Result<UserTable, AllocError>
-        requires { HaveOwnNames session.now.users }
-        ensures { IfOk result (λ table. table ≡ without_passwords session.now) }
+    pub fn of(alloc: Global, accounts: &Accounts) -> Result<UserTable, AllocError>
+        requires { HaveOwnNames accounts.now.users }
+        ensures { IfOk result (λ table. table ≡ without_passwords accounts.now) }
     {
         Ok(UserTable {
-            names: names_of(alloc, session.users())?,
-            groups: copies_of(alloc, session.groups())?,
+            names: names_of(alloc, accounts.users())?,
+            groups: copies_of(alloc, accounts.groups())?,
         })
     }
 

@@ -9,11 +9,11 @@ use Rattle.histar_flat.proofs.Options.{bind_some, either_chosen}
 use Rattle.histar_flat.specs.declared.calls.User.{User}
 use Rattle.histar_flat.specs.declared.calls.UnixCall.{UnixCall}
 use Rattle.histar_flat.specs.Words.{ProcName, process_of, password_of, user_name_of}
-use Rattle.histar_flat.specs.Sessions.{Group, is_group, most_groups, most_users}
+use Rattle.histar_flat.specs.Accounts.{Group, is_group, most_groups, most_users}
 use Rattle.histar_script.specs.declared.items.Item.{Item}
 use Rattle.histar_script.specs.declared.items.Item.TheVariants as items
 use Rattle.histar_script.specs.Lines.{is_plain, is_plain_byte, most_line_bytes}
-use Rattle.histar_script.specs.Script.{Reading, is_declared_call}
+use Rattle.histar_script.specs.Script.{ScriptModel, is_declared_call}
 use Rattle.histar_script.specs.Reading.{are_distinct, are_users, call_item, call_of, group_item, group_of, has_user, is_empty, item_of}
 use Rattle.histar_script.specs.Reading.{members_of, takes_call, takes_group, takes_user, user_item, user_of, with_item, with_line}
 use Rattle.histar_script.specs.Reading.{words_item}
@@ -57,16 +57,16 @@ one_of_four true true true true e = refl
 one_of_four true true true false e = absurd cc
 
 -- a user that may not be declared where it is
-misplaced_user : (lines : List (List ℕ)) (s : Reading) (text : List ℕ) (u : User) → user_of text ≡ Some u → takes_user s u ≡ false → some_broken (user_place_rules lines s text) ≡ true
+misplaced_user : (lines : List (List ℕ)) (s : ScriptModel) (text : List ℕ) (u : User) → user_of text ≡ Some u → takes_user s u ≡ false → some_broken (user_place_rules lines s text) ≡ true
 unfolding user_of
 misplaced_user lines s text u is bad =
     let named = bind_some (user_name_of (word_of text)) _ u is in
     let rest = bind_some (after_word text) _ u named.2 in
     let password = bind_some (password_of rest.0) _ u rest.2 in
     let own : u.name ≡ named.0 = cc in
-    let taken : is_taken (has_user s.session.users) text ≡ has_user s.session.users u.name =
-    ap (λ (o : Option (List ℕ)). option_map_or (has_user s.session.users) o false) named.1 ∙ ap (has_user s.session.users) (sym own) in
-    rw taken (one_of_four (is_empty s.session.groups) (is_empty s.calls) (nat_lt (length s.session.users) most_users) (has_user s.session.users u.name) bad)
+    let taken : is_taken (has_user s.accounts.users) text ≡ has_user s.accounts.users u.name =
+    ap (λ (o : Option (List ℕ)). option_map_or (has_user s.accounts.users) o false) named.1 ∙ ap (has_user s.accounts.users) (sym own) in
+    rw taken (one_of_four (is_empty s.accounts.groups) (is_empty s.calls) (nat_lt (length s.accounts.users) most_users) (has_user s.accounts.users u.name) bad)
 
 -- six tests, one of which fails
 one_of_six : (a b u h m d : Bool) → (a && b && (not u && not h) && m && d) ≡ false → (not a || (not b || (u || (h || (not m || (not d || false)))))) ≡ true
@@ -89,16 +89,16 @@ name_of_group text g is =
     named.1 ∙ ap (λ (n : List ℕ). Some n) own
 
 -- a group that may not be declared where it is
-misplaced_group : (s : Reading) (text : List ℕ) (g : Group) → group_of text ≡ Some g → takes_group s g ≡ false → some_broken (group_place_rules s text) ≡ true
+misplaced_group : (s : ScriptModel) (text : List ℕ) (g : Group) → group_of text ≡ Some g → takes_group s g ≡ false → some_broken (group_place_rules s text) ≡ true
 misplaced_group s text g is bad =
     let name = name_of_group text g is in
-    let user : is_taken (has_user s.session.users) text ≡ has_user s.session.users g.name = ap (λ (o : Option (List ℕ)). option_map_or (has_user s.session.users) o false) name in
-    let group : is_taken (is_group s.session) text ≡ is_group s.session g.name = ap (λ (o : Option (List ℕ)). option_map_or (is_group s.session) o false) name in
-    let stranger : has_stranger s.session.users (group_of text) ≡ not (are_users s.session.users g.members) = ap (has_stranger s.session.users) is in
+    let user : is_taken (has_user s.accounts.users) text ≡ has_user s.accounts.users g.name = ap (λ (o : Option (List ℕ)). option_map_or (has_user s.accounts.users) o false) name in
+    let group : is_taken (is_group s.accounts) text ≡ is_group s.accounts g.name = ap (λ (o : Option (List ℕ)). option_map_or (is_group s.accounts) o false) name in
+    let stranger : has_stranger s.accounts.users (group_of text) ≡ not (are_users s.accounts.users g.members) = ap (has_stranger s.accounts.users) is in
     let twin : has_twin (group_of text) ≡ not (are_distinct g.members) = ap has_twin is in
     rw (user, group, stranger, twin)
-    (one_of_six (is_empty s.calls) (nat_lt (length s.session.groups) most_groups) (has_user s.session.users g.name) (is_group s.session g.name)
-    (are_users s.session.users g.members) (are_distinct g.members) bad)
+    (one_of_six (is_empty s.calls) (nat_lt (length s.accounts.groups) most_groups) (has_user s.accounts.users g.name) (is_group s.accounts g.name)
+    (are_users s.accounts.users g.members) (are_distinct g.members) bad)
 
 -- a call that says nothing breaks a rule for its words
 no_words : (text : List ℕ) (o : Option Shape) → call_of text ≡ None → some_broken (shape_rules text o) ≡ true
@@ -124,10 +124,10 @@ one_of_two false false e = refl
 one_of_two false true e = absurd cc
 
 -- a call that may not be where it is
-misplaced_call : (s : Reading) (text : List ℕ) (c : UnixCall) → call_of text ≡ Some c → takes_call s c ≡ false → some_broken (call_place_rules s text) ≡ true
+misplaced_call : (s : ScriptModel) (text : List ℕ) (c : UnixCall) → call_of text ≡ Some c → takes_call s c ≡ false → some_broken (call_place_rules s text) ≡ true
 misplaced_call s text c is bad =
-    let undeclared : is_undeclared s.session (call_of text) ≡ not (is_declared_call s.session c) = ap (is_undeclared s.session) is in
-    rw undeclared (one_of_two (is_empty s.session.users) (is_declared_call s.session c) bad)
+    let undeclared : is_undeclared s.accounts (call_of text) ≡ not (is_declared_call s.accounts c) = ap (is_undeclared s.accounts) is in
+    rw undeclared (one_of_two (is_empty s.accounts.users) (is_declared_call s.accounts c) bad)
 
 -- a byte that is not printable is found
 found_byte : (n : ℕ) (line : List ℕ) → list_all is_plain_byte line ≡ false → is_some (unprintable_from n line) ≡ true
@@ -172,13 +172,13 @@ kind word rest item false false is_user is_group says =
     subst (IsKind word rest) same (call process.0 found.0 is_user is_group found.1)
 
 -- the rules for a line whose first word is this, and what follows it that
-abbrev rules_of_kind : List (List ℕ) → Reading → List ℕ → List ℕ → Bool → Bool → List Rule
+abbrev rules_of_kind : List (List ℕ) → ScriptModel → List ℕ → List ℕ → Bool → Bool → List Rule
 rules_of_kind lines s word rest u g =
     cond u (user_word_rules rest ++ user_place_rules lines s rest)
     (cond g (group_word_rules rest ++ group_place_rules s rest) (call_word_rules word rest ++ call_place_rules s rest))
 
 -- a line whose words say nothing
-no_kind : (lines : List (List ℕ)) (s : Reading) (word rest : List ℕ) (u g : Bool) → cond u (user_item rest) (cond g (group_item rest) (call_item word rest)) ≡ None
+no_kind : (lines : List (List ℕ)) (s : ScriptModel) (word rest : List ℕ) (u g : Bool) → cond u (user_item rest) (cond g (group_item rest) (call_item word rest)) ≡ None
     → some_broken (rules_of_kind lines s word rest u g) ≡ true
 no_kind lines s word rest true g bad =
     elim (none_at (user_of rest) _ bad) [ inl none ↦ in_front (user_word_rules rest) (user_place_rules lines s rest) (no_user rest none) | inr found ↦ absurd cc ]
@@ -191,7 +191,7 @@ no_kind lines s word rest false true bad =
 no_kind lines s word rest false false bad = in_front (call_word_rules word rest) (call_place_rules s rest) (no_call word rest bad)
 
 -- an item that may not be where it is
-refused_item : (lines : List (List ℕ)) (s : Reading) (n : ℕ) (word rest : List ℕ) (item : Item) → IsKind word rest item → with_item s n item ≡ None
+refused_item : (lines : List (List ℕ)) (s : ScriptModel) (n : ℕ) (word rest : List ℕ) (item : Item) → IsKind word rest item → with_item s n item ≡ None
     → some_broken (rules_of_kind lines s word rest (bytes_eq word (codes "user")) (bytes_eq word (codes "group"))) ≡ true
 unfolding with_item
 refused_item lines s n word rest _ (user u is_user says) bad =
@@ -211,7 +211,7 @@ refused_item lines s n word rest _ (call p c is_user is_group says) bad =
     ]
 
 -- behind the rules for the bytes and the words of any line come those for its kind
-by_kind : (lines : List (List ℕ)) (s : Reading) (line rest : List ℕ) → after_word line ≡ Some rest
+by_kind : (lines : List (List ℕ)) (s : ScriptModel) (line rest : List ℕ) → after_word line ≡ Some rest
     → some_broken (rules_of_kind lines s (word_of line) rest (bytes_eq (word_of line) (codes "user")) (bytes_eq (word_of line) (codes "group"))) ≡ true
     → some_broken (rules_for lines s line) ≡ true
 by_kind lines s line rest is broken =
@@ -221,7 +221,7 @@ by_kind lines s line rest is broken =
     (subst (λ text. some_broken (rules_of_kind lines s (word_of line) text (bytes_eq (word_of line) (codes "user")) (bytes_eq (word_of line) (codes "group"))) ≡ true) same broken))
 
 -- a line whose words say nothing
-no_words_item : (lines : List (List ℕ)) (s : Reading) (line : List ℕ) → words_item line ≡ None → some_broken (rules_for lines s line) ≡ true
+no_words_item : (lines : List (List ℕ)) (s : ScriptModel) (line : List ℕ) → words_item line ≡ None → some_broken (rules_for lines s line) ≡ true
 unfolding words_item
 no_words_item lines s line bad =
     elim (none_at (after_word line) _ bad) [
@@ -234,7 +234,7 @@ no_words_item lines s line bad =
         or_second (begins_with 32 line) _ (or_second (ends_with 32 line) _ (or_second (has_comment line) _ (or_first (is_none (after_word line)) false (is_nothing (after_word line) none))))
 
 -- a line that says nothing
-no_item : (lines : List (List ℕ)) (s : Reading) (line : List ℕ) → item_of line ≡ None → some_broken (rules_for lines s line) ≡ true
+no_item : (lines : List (List ℕ)) (s : ScriptModel) (line : List ℕ) → item_of line ≡ None → some_broken (rules_for lines s line) ≡ true
 unfolding item_of
 no_item lines s [] bad = absurd cc
 no_item lines s (b ∷ line) bad =
@@ -244,7 +244,7 @@ no_item lines s (b ∷ line) bad =
     ]
 
 -- a line that says something by its words that may not be there
-misplaced_words : (lines : List (List ℕ)) (s : Reading) (n : ℕ) (line : List ℕ) (item : Item) → words_item line ≡ Some item → with_item s n item ≡ None → some_broken (rules_for lines s line) ≡ true
+misplaced_words : (lines : List (List ℕ)) (s : ScriptModel) (n : ℕ) (line : List ℕ) (item : Item) → words_item line ≡ Some item → with_item s n item ≡ None → some_broken (rules_for lines s line) ≡ true
 unfolding words_item
 misplaced_words lines s n line item is bad =
     let rest = bind_some (after_word line) _ item is in
@@ -253,7 +253,7 @@ misplaced_words lines s n line item is bad =
     (kind (word_of line) rest.0 item (bytes_eq (word_of line) (codes "user")) (bytes_eq (word_of line) (codes "group")) refl refl rest.2) bad)
 
 -- a comment may be anywhere
-no_comment : (lines : List (List ℕ)) (s : Reading) (n : ℕ) (line : List ℕ) (item : Item) → Some items.Comment ≡ Some item → with_item s n item ≡ None → some_broken (rules_for lines s line) ≡ true
+no_comment : (lines : List (List ℕ)) (s : ScriptModel) (n : ℕ) (line : List ℕ) (item : Item) → Some items.Comment ≡ Some item → with_item s n item ≡ None → some_broken (rules_for lines s line) ≡ true
 unfolding with_item
 no_comment lines s n line item is bad =
     let same : item ≡ items.Comment = cc in
@@ -261,7 +261,7 @@ no_comment lines s n line item is bad =
     absurd cc
 
 -- a line that says something that may not be there
-misplaced : (lines : List (List ℕ)) (s : Reading) (n : ℕ) (line : List ℕ) (item : Item) → item_of line ≡ Some item → with_item s n item ≡ None → some_broken (rules_for lines s line) ≡ true
+misplaced : (lines : List (List ℕ)) (s : ScriptModel) (n : ℕ) (line : List ℕ) (item : Item) → item_of line ≡ Some item → with_item s n item ≡ None → some_broken (rules_for lines s line) ≡ true
 unfolding item_of
 misplaced lines s n [] item is bad = no_comment lines s n [] item is bad
 misplaced lines s n (b ∷ line) item is bad =

@@ -3,8 +3,8 @@ use Rattle.std.proofs.Common.{◌≡◌, ℕ, true, false, List, ◌∷◌, ◌+
 use Rattle.std.specs.Prelude.{IfOk, is_some, option_map}
 use Rattle.std.proofs.lemmas.Result.{IfOk-weaker}
 use Rattle.histar_flat.specs.declared.calls.CallLine.{CallLine}
-use Rattle.histar_flat.specs.Sessions.{Session}
-use Rattle.histar_script.specs.Script.{Reading}
+use Rattle.histar_flat.specs.Accounts.{Accounts}
+use Rattle.histar_script.specs.Script.{ScriptModel}
 use Rattle.histar_lint.specs.Lines.{Rule, first_sentence}
 use Rattle.histar_lint.specs.Rules.{read_so_far, sentence}
 use Rattle.histar_lint.specs.Session.{said_of}
@@ -28,9 +28,9 @@ pub none_unpacked : {V : Type 0} (items : V → List ℕ) (o : Option V) (x : Op
 none_unpacked items o x same is some = let wrong : is_some x ≡ false = ap is_some (same ∙ ap (option_map items) is) in absurd cc
 
 -- what is said of the first of the lines that are left
-pub said_is : (all rest after : List (List ℕ)) (s : Reading) (session : Session) (calls : List CallLine) (line : List ℕ) (o : Option (List ℕ))
-    → session ≡ s.session → calls ≡ s.calls → rest ≡ line ∷ after → o ≡ sentence all (read_so_far session calls) line → said_of all s rest ≡ o
-said_is all rest after s session calls line o same_session same_calls parts is =
-    let one : read_so_far session calls ≡ read_so_far s.session calls = ap (λ (x : Session). read_so_far x calls) same_session in
-    let two : read_so_far s.session calls ≡ s = ap (read_so_far s.session) same_calls in
-    ap (said_of all s) parts ∙ sym (is ∙ ap (λ (x : Reading). sentence all x line) (one ∙ two))
+pub said_is : (all rest after : List (List ℕ)) (s : ScriptModel) (accounts : Accounts) (calls : List CallLine) (line : List ℕ) (o : Option (List ℕ))
+    → accounts ≡ s.accounts → calls ≡ s.calls → rest ≡ line ∷ after → o ≡ sentence all (read_so_far accounts calls) line → said_of all s rest ≡ o
+said_is all rest after s accounts calls line o same_accounts same_calls parts is =
+    let one : read_so_far accounts calls ≡ read_so_far s.accounts calls = ap (λ (x : Accounts). read_so_far x calls) same_accounts in
+    let two : read_so_far s.accounts calls ≡ s = ap (read_so_far s.accounts) same_calls in
+    ap (said_of all s) parts ∙ sym (is ∙ ap (λ (x : ScriptModel). sentence all x line) (one ∙ two))

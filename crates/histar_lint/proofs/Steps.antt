@@ -6,28 +6,28 @@ use Rattle.histar_script.specs.declared.fault.Fault.{Fault}
 use Rattle.histar_script.specs.declared.fault.Fault.TheVariants.{BadScript, TooLong, OutOfMemory, ReadFailed, WriteFailed}
 use Rattle.histar_script.specs.declared.items.Item.{Item}
 use Rattle.histar_script.specs.Outcome.{GivesNext}
-use Rattle.histar_script.specs.Script.{Reading}
+use Rattle.histar_script.specs.Script.{ScriptModel}
 use Rattle.histar_script.specs.Reading.{item_of, with_item, with_line}
 use Rattle.histar_lint.specs.Session.{IsMemory}
 
 -- a right line says something
-pub says_something : (s : Reading) (n : ℕ) (line : List ℕ) → is_some (with_line s n line) ≡ true → item_of line ≡ None → ⊥
+pub says_something : (s : ScriptModel) (n : ℕ) (line : List ℕ) → is_some (with_line s n line) ≡ true → item_of line ≡ None → ⊥
 unfolding with_line
 says_something s n line right none =
     let wrong : is_some (with_line s n line) ≡ false = ap (λ (o : Option Item). is_some (option_and_then (λ i. with_item s n i) o)) none in
     absurd cc
 
 -- what is read after a line that says this
-pub line_is : (s : Reading) (n : ℕ) (line : List ℕ) (item : Item) → item_of line ≡ Some item → with_line s n line ≡ with_item s n item
+pub line_is : (s : ScriptModel) (n : ℕ) (line : List ℕ) (item : Item) → item_of line ≡ Some item → with_line s n line ≡ with_item s n item
 unfolding with_line
 line_is s n line item is = ap (option_and_then (λ i. with_item s n i)) is
 
 -- it is taken, unless memory runs out
-pub is_taken : (n : ℕ) (result : Result (Unit {0}) Fault) (new : Reading) (item line : Option Reading) → line ≡ item → GivesNext n result new item → OnOk result (line ≡ Some new)
+pub is_taken : (n : ℕ) (result : Result (Unit {0}) Fault) (new : ScriptModel) (item line : Option ScriptModel) → line ≡ item → GivesNext n result new item → OnOk result (line ≡ Some new)
 is_taken n (Ok u) new item line same gives = same ∙ gives
 is_taken n (Err e) new item line same gives = tt
 
-pub is_memory : (n : ℕ) (result : Result (Unit {0}) Fault) (new : Reading) (item line : Option Reading) → line ≡ item → is_some line ≡ true → GivesNext n result new item → IfErr result IsMemory
+pub is_memory : (n : ℕ) (result : Result (Unit {0}) Fault) (new : ScriptModel) (item line : Option ScriptModel) → line ≡ item → is_some line ≡ true → GivesNext n result new item → IfErr result IsMemory
 is_memory n (Ok u) new item line same right gives = tt
 is_memory n (Err (BadScript k)) new item line same right gives = let wrong : is_some line ≡ false = ap is_some (same ∙ gives.1) in absurd cc
 is_memory n (Err OutOfMemory) new item line same right gives = refl

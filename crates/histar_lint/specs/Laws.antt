@@ -1,9 +1,9 @@
 -- What the rules come to.
 use Rattle.std.specs.Prelude.{◌≡◌, ℕ, true, List, None, is_some}
-use Rattle.histar_script.specs.Script.{Reading}
+use Rattle.histar_script.specs.Script.{ScriptModel}
 use Rattle.histar_script.specs.Reading.{with_line}
 use Rattle.histar_lint.specs.Rules.{sentence}
 
 -- each bad line breaks a rule
 abbrev pub EachBadLineBreaksOne : Type 0
-EachBadLineBreaksOne = (lines : List (List ℕ)) (s : Reading) (n : ℕ) (line : List ℕ) → with_line s n line ≡ None → is_some (sentence lines s line) ≡ true
+EachBadLineBreaksOne = (lines : List (List ℕ)) (s : ScriptModel) (n : ℕ) (line : List ℕ) → with_line s n line ≡ None → is_some (sentence lines s line) ≡ true

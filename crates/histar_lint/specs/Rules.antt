@@ -7,18 +7,18 @@ use Rattle.histar_flat.specs.declared.calls.CallLine.{CallLine}
 use Rattle.histar_flat.specs.declared.calls.User.{User}
 use Rattle.histar_flat.specs.declared.calls.UnixCall.{UnixCall}
 use Rattle.histar_flat.specs.Words.{Name, password_of, user_name_of}
-use Rattle.histar_flat.specs.Sessions.{Group, Session, is_group, most_groups, most_users}
+use Rattle.histar_flat.specs.Accounts.{Group, Accounts, is_group, most_groups, most_users}
 use Rattle.histar_script.specs.declared.items.Item.{Item}
 use Rattle.histar_script.specs.declared.items.Item.TheVariants as items
-use Rattle.histar_script.specs.Script.{Reading, is_declared_call}
+use Rattle.histar_script.specs.Script.{ScriptModel, is_declared_call}
 use Rattle.histar_script.specs.Reading.{are_distinct, are_users, call_of, group_of, has_user, is_empty, item_of}
 use Rattle.histar_lint.specs.declared.shapes.Kind.TheVariants.{Mode, Password}
 use Rattle.histar_lint.specs.Lines.{Rule, after_word, byte_rules, first_sentence, rest_of, word_of, word_rules}
 use Rattle.histar_lint.specs.Calls.{call_word_rules, kind_text}
 
 -- what was read of the lines above
-abbrev pub read_so_far : Session → List CallLine → Reading
-read_so_far session calls = record { session = session; calls = calls }
+abbrev pub read_so_far : Accounts → List CallLine → ScriptModel
+read_so_far accounts calls = record { accounts = accounts; calls = calls }
 
 -- what the name of a user or of a group has to be
 abbrev pub declared_name_text : List ℕ
@@ -57,12 +57,12 @@ user_word_rules text =
     ∷ (is_none (password_of (rest_of text)), kind_text Password) ∷ []
 
 -- The rules for what a user line needs of the lines above, of which this was read.
-abbrev pub user_place_rules : List (List ℕ) → Reading → List ℕ → List Rule
+abbrev pub user_place_rules : List (List ℕ) → ScriptModel → List ℕ → List Rule
 user_place_rules lines s text =
-    (not (is_empty s.session.groups), codes "a user line after a group line")
+    (not (is_empty s.accounts.groups), codes "a user line after a group line")
     ∷ (not (is_empty s.calls), codes "a user line after a call line")
-    ∷ (not (nat_lt (length s.session.users) most_users), codes "17 users, and 16 is the most")
-    ∷ (is_taken (has_user s.session.users) text, declared_twice lines (word_of text)) ∷ []
+    ∷ (not (nat_lt (length s.accounts.users) most_users), codes "17 users, and 16 is the most")
+    ∷ (is_taken (has_user s.accounts.users) text, declared_twice lines (word_of text)) ∷ []
 
 -- a group has a member that is no user
 abbrev pub has_stranger : List User → Option Group → Bool
@@ -80,36 +80,36 @@ group_word_rules text =
     ∷ (is_none (group_of text), codes "a group has 1 to 16 members, each a user's name, with one space between two") ∷ []
 
 -- The rules for what a group line needs of the lines above.
-abbrev pub group_place_rules : Reading → List ℕ → List Rule
+abbrev pub group_place_rules : ScriptModel → List ℕ → List Rule
 group_place_rules s text =
     (not (is_empty s.calls), codes "a group line after a call line")
-    ∷ (not (nat_lt (length s.session.groups) most_groups), codes "9 groups, and 8 is the most")
-    ∷ (is_taken (has_user s.session.users) text, codes "a user has this name already")
-    ∷ (is_taken (is_group s.session) text, codes "a group has this name already")
-    ∷ (has_stranger s.session.users (group_of text), codes "a member is no user of the lines above")
+    ∷ (not (nat_lt (length s.accounts.groups) most_groups), codes "9 groups, and 8 is the most")
+    ∷ (is_taken (has_user s.accounts.users) text, codes "a user has this name already")
+    ∷ (is_taken (is_group s.accounts) text, codes "a group has this name already")
+    ∷ (has_stranger s.accounts.users (group_of text), codes "a member is no user of the lines above")
     ∷ (has_twin (group_of text), codes "a member is there twice") ∷ []
 
 -- the call names a group that is not declared
-abbrev pub is_undeclared : Session → Option UnixCall → Bool
-is_undeclared session call = option_map_or (λ (c : UnixCall). not (is_declared_call session c)) call false
+abbrev pub is_undeclared : Accounts → Option UnixCall → Bool
+is_undeclared accounts call = option_map_or (λ (c : UnixCall). not (is_declared_call accounts c)) call false
 
 -- The rules for what a call line needs of the lines above.
-abbrev pub call_place_rules : Reading → List ℕ → List Rule
+abbrev pub call_place_rules : ScriptModel → List ℕ → List Rule
 call_place_rules s text =
-    (is_empty s.session.users, codes "a call line before any user line")
-    ∷ (is_undeclared s.session (call_of text), kind_text Mode) ∷ []
+    (is_empty s.accounts.users, codes "a call line before any user line")
+    ∷ (is_undeclared s.accounts (call_of text), kind_text Mode) ∷ []
 
 -- the rules for a line of a kind, which its first word says
-abbrev pub kind_rules : List (List ℕ) → Reading → List ℕ → List Rule
+abbrev pub kind_rules : List (List ℕ) → ScriptModel → List ℕ → List Rule
 kind_rules lines s line =
     if bytes_eq (word_of line) (codes "user") then user_word_rules (rest_of line) ++ user_place_rules lines s (rest_of line)
     else (if bytes_eq (word_of line) (codes "group") then group_word_rules (rest_of line) ++ group_place_rules s (rest_of line)
     else (call_word_rules (word_of line) (rest_of line) ++ call_place_rules s (rest_of line)))
 
 -- The rules for a line of a text with these lines, where this was read of those above it, in their order.
-abbrev pub rules_for : List (List ℕ) → Reading → List ℕ → List Rule
+abbrev pub rules_for : List (List ℕ) → ScriptModel → List ℕ → List Rule
 rules_for lines s line = byte_rules line ++ (word_rules line ++ kind_rules lines s line)
 
 -- the sentence of the first rule that the line breaks
-abbrev pub sentence : List (List ℕ) → Reading → List ℕ → Option (List ℕ)
+abbrev pub sentence : List (List ℕ) → ScriptModel → List ℕ → Option (List ℕ)
 sentence lines s line = first_sentence (rules_for lines s line)

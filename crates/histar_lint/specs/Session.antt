@@ -1,24 +1,24 @@
 -- What is said of a script: nothing of a right one, and of a bad one its first bad line, with the sentence of the first rule that it breaks.
 use Rattle.std.specs.Prelude.{◌≡◌, ℕ, ◌-◌, true, false, List, [], ◌∷◌, ◌++◌, codes, decimal, drop, take, Option, Some, Result, Ok, Err, IsOk, Bool}
 use Rattle.std.specs.Io.KnownBytes.{Appends, Keeps}
-use Rattle.histar_devices.specs.Writing.{AppendsFront}
+use Rattle.histar_io.specs.Writing.{AppendsFront}
 use Rattle.histar_script.specs.declared.fault.Fault.{Fault}
 use Rattle.histar_script.specs.declared.fault.Fault.TheVariants.{BadScript, TooLong, OutOfMemory, ReadFailed, WriteFailed}
 use Rattle.histar_script.specs.Lines.{lines_of}
-use Rattle.histar_script.specs.Script.{Reading, nothing_read}
+use Rattle.histar_script.specs.Script.{ScriptModel, nothing_read}
 use Rattle.histar_script.specs.Grammar.{TakesLines}
 use Rattle.histar_script.specs.Reading.{script_of}
 use Rattle.histar_lint.specs.Rules.{sentence}
 
 -- what is said of the first of the lines that are left, of a text with these lines, where this was read of those above; where none is
 -- left the text lacks a user
-abbrev pub said_of : List (List ℕ) → Reading → List (List ℕ) → Option (List ℕ)
+abbrev pub said_of : List (List ℕ) → ScriptModel → List (List ℕ) → Option (List ℕ)
 said_of lines s [] = Some (codes "there is no user line")
 said_of lines s (line ∷ after) = sentence lines s line
 
 -- this is said of line n: the lines before it are right, and it breaks the rule
 pub record IsFinding (text : List ℕ) (n : ℕ) (said : List ℕ) : Type 0 where
-  pub read : Reading
+  pub read : ScriptModel
   pub before : TakesLines nothing_read 0 (take (n - 1) (lines_of text)) read
   pub broken : said_of (lines_of text) read (drop (n - 1) (lines_of text)) ≡ Some said
 

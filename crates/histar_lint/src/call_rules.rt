@@ -6,7 +6,7 @@ ghost use Rattle.histar_lint.specs.Calls.{argument_rules, bad_argument, call_wor
 ghost use Rattle.histar_lint.specs.Rules.{call_place_rules, is_undeclared, read_so_far};
 
 use crate::shapes::{Kind, Shape, is_value, kind_text, nearest, shape_named, usage_text};
-use histar_flat::{CallLine, Session, UnixCall, read_process};
+use histar_flat::{Accounts, CallLine, UnixCall, read_process};
 use histar_script::{is_declared_call, read_call, split_word};
 use std::alloc::{AllocError, Global};
 
@@ -127,11 +127,11 @@ pub(crate) fn call_word_sentence(
 }
 
 /// Checks whether a call names a group that is not declared.
-fn is_undeclared(session: &Session, call: Option<&UnixCall>) -> bool
-    ensures { result ≡ is_undeclared session.now (option_copied call.entry) }
+fn is_undeclared(accounts: &Accounts, call: Option<&UnixCall>) -> bool
+    ensures { result ≡ is_undeclared accounts.now (option_copied call.entry) }
 {
     match call {
-        Some(call) => !is_declared_call(session, call),
+        Some(call) => !is_declared_call(accounts, call),
         None => false,
     }
 }
@@ -139,18 +139,18 @@ fn is_undeclared(session: &Session, call: Option<&UnixCall>) -> bool
 /// Returns the sentence of the first rule by which a call line may not be where it is.
 pub(crate) fn call_place_sentence(
     alloc: Global,
-    session: &Session,
+    accounts: &Accounts,
     calls: &[CallLine],
     text: &[u8],
 ) -> Result<Option<&'static str>, AllocError>
     ensures { IfOk result (λ said. option_copied said
-        ≡ first_sentence (call_place_rules (read_so_far session.now calls.now) text.now)) }
+        ≡ first_sentence (call_place_rules (read_so_far accounts.now calls.now) text.now)) }
 {
-    if session.users().is_empty() {
+    if accounts.users().is_empty() {
         return Ok(Some("a call line before any user line"));
     }
     let call = read_call(alloc, text)?;
-    if is_undeclared(session, call.as_ref()) {
+    if is_undeclared(accounts, call.as_ref()) {
         return Ok(Some(kind_text(Kind::Mode)));
     }
     Ok(None)

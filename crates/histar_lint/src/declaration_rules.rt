@@ -1,7 +1,7 @@
 //! The rules for lines that declare users and groups.
 ghost use Rattle.std.specs.Prelude.{◌≡◌, ◌++◌, IfOk, option_map};
 ghost use Rattle.std.specs.Option.{option_copied};
-ghost use Rattle.histar_flat.specs.Sessions.{is_group};
+ghost use Rattle.histar_flat.specs.Accounts.{is_group};
 ghost use Rattle.histar_script.specs.Lines.{lines_of};
 ghost use Rattle.histar_script.specs.Reading.{has_user};
 ghost use Rattle.histar_lint.specs.Lines.{first_sentence};
@@ -9,7 +9,7 @@ ghost use Rattle.histar_lint.specs.Rules.{declared_on, declared_twice, declares,
 
 use crate::shapes::{Kind, kind_text};
 use crate::texts::push_number;
-use histar_flat::{CallLine, Group, Session, User, read_password, read_user_name};
+use histar_flat::{Accounts, CallLine, Group, User, read_password, read_user_name};
 use histar_script::{
     Item, are_distinct, are_users, has_user, read_group, read_item, split_line, split_word,
 };
@@ -93,11 +93,11 @@ fn is_user(users: &[User], words: &[u8]) -> bool
 }
 
 /// Checks whether the first word of a text is the name of a group.
-fn is_group(session: &Session, words: &[u8]) -> bool
-    ensures { result ≡ is_taken (is_group session.now) words.now }
+fn is_group(accounts: &Accounts, words: &[u8]) -> bool
+    ensures { result ≡ is_taken (is_group accounts.now) words.now }
 {
     match read_user_name(split_word(words).0) {
-        Some(name) => session.has_group(name),
+        Some(name) => accounts.has_group(name),
         None => false,
     }
 }
@@ -106,20 +106,20 @@ fn is_group(session: &Session, words: &[u8]) -> bool
 pub(crate) fn user_place_sentence(
     alloc: Global,
     text: &[u8],
-    session: &Session,
+    accounts: &Accounts,
     calls: &[CallLine],
     words: &[u8],
 ) -> Result<Option<Vec<u8>>, AllocError>
     ensures { IfOk result (λ said. option_map (λ text. text.items) said
-        ≡ first_sentence (user_place_rules (lines_of text.now) (read_so_far session.now calls.now) words.now)) }
+        ≡ first_sentence (user_place_rules (lines_of text.now) (read_so_far accounts.now calls.now) words.now)) }
 {
-    let fixed = if !session.groups().is_empty() {
+    let fixed = if !accounts.groups().is_empty() {
         b"a user line after a group line".as_slice()
     } else if !calls.is_empty() {
         b"a user line after a call line".as_slice()
-    } else if session.users().len() >= MOST_USERS {
+    } else if accounts.users().len() >= MOST_USERS {
         b"17 users, and 16 is the most".as_slice()
-    } else if is_user(session.users(), words) {
+    } else if is_user(accounts.users(), words) {
         return Ok(Some(declared_twice(alloc, text, split_word(words).0)?));
     } else {
         return Ok(None);
@@ -172,23 +172,23 @@ fn has_twin(group: Option<&Group>) -> bool
 /// Returns the sentence of the first rule by which a group line may not be where it is.
 pub(crate) fn group_place_sentence(
     alloc: Global,
-    session: &Session,
+    accounts: &Accounts,
     calls: &[CallLine],
     words: &[u8],
 ) -> Result<Option<&'static str>, AllocError>
     ensures { IfOk result (λ said. option_copied said
-        ≡ first_sentence (group_place_rules (read_so_far session.now calls.now) words.now)) }
+        ≡ first_sentence (group_place_rules (read_so_far accounts.now calls.now) words.now)) }
 {
     let group = read_group(alloc, words)?;
     Ok(if !calls.is_empty() {
         Some("a group line after a call line")
-    } else if session.groups().len() >= MOST_GROUPS {
+    } else if accounts.groups().len() >= MOST_GROUPS {
         Some("9 groups, and 8 is the most")
-    } else if is_user(session.users(), words) {
+    } else if is_user(accounts.users(), words) {
         Some("a user has this name already")
-    } else if is_group(session, words) {
+    } else if is_group(accounts, words) {
         Some("a group has this name already")
-    } else if has_stranger(session.users(), group.as_ref()) {
+    } else if has_stranger(accounts.users(), group.as_ref()) {
         Some("a member is no user of the lines above")
     } else if has_twin(group.as_ref()) {
         Some("a member is there twice")

@@ -12,7 +12,7 @@ use crate::declaration_rules::{
     group_place_sentence, group_word_sentence, user_place_sentence, user_word_sentence,
 };
 use crate::line_rules::{byte_sentence, word_sentence};
-use histar_flat::{CallLine, Session};
+use histar_flat::{Accounts, CallLine};
 use histar_script::split_word;
 use std::alloc::{AllocError, Global};
 
@@ -30,32 +30,32 @@ fn copied(alloc: Global, said: Option<&str>) -> Result<Option<Vec<u8>>, AllocErr
 fn user_sentence(
     alloc: Global,
     text: &[u8],
-    session: &Session,
+    accounts: &Accounts,
     calls: &[CallLine],
     words: &[u8],
 ) -> Result<Option<Vec<u8>>, AllocError>
     ensures { IfOk result (λ said. option_map (λ text. text.items) said
-        ≡ first_sentence (user_word_rules words.now ++ user_place_rules (lines_of text.now) (read_so_far session.now calls.now) words.now)) }
+        ≡ first_sentence (user_word_rules words.now ++ user_place_rules (lines_of text.now) (read_so_far accounts.now calls.now) words.now)) }
 {
     match copied(alloc, user_word_sentence(words))? {
         Some(said) => Ok(Some(said)),
-        None => user_place_sentence(alloc, text, session, calls, words),
+        None => user_place_sentence(alloc, text, accounts, calls, words),
     }
 }
 
 /// Returns the sentence of the first rule that a group line breaks.
 fn group_sentence(
     alloc: Global,
-    session: &Session,
+    accounts: &Accounts,
     calls: &[CallLine],
     words: &[u8],
 ) -> Result<Option<Vec<u8>>, AllocError>
     ensures { IfOk result (λ said. option_map (λ text. text.items) said
-        ≡ first_sentence (group_word_rules words.now ++ group_place_rules (read_so_far session.now calls.now) words.now)) }
+        ≡ first_sentence (group_word_rules words.now ++ group_place_rules (read_so_far accounts.now calls.now) words.now)) }
 {
     let said = match group_word_sentence(alloc, words)? {
         Some(said) => Some(said),
-        None => group_place_sentence(alloc, session, calls, words)?,
+        None => group_place_sentence(alloc, accounts, calls, words)?,
     };
     copied(alloc, said)
 }
@@ -63,17 +63,17 @@ fn group_sentence(
 /// Returns the sentence of the first rule that a call line breaks.
 fn call_sentence(
     alloc: Global,
-    session: &Session,
+    accounts: &Accounts,
     calls: &[CallLine],
     process: &[u8],
     words: &[u8],
 ) -> Result<Option<Vec<u8>>, AllocError>
     ensures { IfOk result (λ said. option_map (λ text. text.items) said
-        ≡ first_sentence (call_word_rules process.now words.now ++ call_place_rules (read_so_far session.now calls.now) words.now)) }
+        ≡ first_sentence (call_word_rules process.now words.now ++ call_place_rules (read_so_far accounts.now calls.now) words.now)) }
 {
     match call_word_sentence(alloc, process, words)? {
         Some(said) => Ok(Some(said)),
-        None => copied(alloc, call_place_sentence(alloc, session, calls, words)?),
+        None => copied(alloc, call_place_sentence(alloc, accounts, calls, words)?),
     }
 }
 
@@ -81,21 +81,21 @@ fn call_sentence(
 fn kind_sentence(
     alloc: Global,
     text: &[u8],
-    session: &Session,
+    accounts: &Accounts,
     calls: &[CallLine],
     line: &[u8],
 ) -> Result<Option<Vec<u8>>, AllocError>
     ensures { IfOk result (λ said. option_map (λ text. text.items) said
-        ≡ first_sentence (kind_rules (lines_of text.now) (read_so_far session.now calls.now) line.now)) }
+        ≡ first_sentence (kind_rules (lines_of text.now) (read_so_far accounts.now calls.now) line.now)) }
 {
     let word = split_word(line).0;
     let words = rest_of(line);
     if word == b"user".as_slice() {
-        user_sentence(alloc, text, session, calls, words)
+        user_sentence(alloc, text, accounts, calls, words)
     } else if word == b"group".as_slice() {
-        group_sentence(alloc, session, calls, words)
+        group_sentence(alloc, accounts, calls, words)
     } else {
-        call_sentence(alloc, session, calls, word, words)
+        call_sentence(alloc, accounts, calls, word, words)
     }
 }
 
@@ -103,16 +103,16 @@ fn kind_sentence(
 fn printable_sentence(
     alloc: Global,
     text: &[u8],
-    session: &Session,
+    accounts: &Accounts,
     calls: &[CallLine],
     line: &[u8],
 ) -> Result<Option<Vec<u8>>, AllocError>
     ensures { IfOk result (λ said. option_map (λ text. text.items) said
-        ≡ first_sentence (word_rules line.now ++ kind_rules (lines_of text.now) (read_so_far session.now calls.now) line.now)) }
+        ≡ first_sentence (word_rules line.now ++ kind_rules (lines_of text.now) (read_so_far accounts.now calls.now) line.now)) }
 {
     match copied(alloc, word_sentence(line))? {
         Some(said) => Ok(Some(said)),
-        None => kind_sentence(alloc, text, session, calls, line),
+        None => kind_sentence(alloc, text, accounts, calls, line),
     }
 }
 
@@ -120,15 +120,15 @@ fn printable_sentence(
 pub(crate) fn sentence(
     alloc: Global,
     text: &[u8],
-    session: &Session,
+    accounts: &Accounts,
     calls: &[CallLine],
     line: &[u8],
 ) -> Result<Option<Vec<u8>>, AllocError>
     ensures { IfOk result (λ said. option_map (λ text. text.items) said
-        ≡ sentence (lines_of text.now) (read_so_far session.now calls.now) line.now) }
+        ≡ sentence (lines_of text.now) (read_so_far accounts.now calls.now) line.now) }
 {
     match byte_sentence(alloc, line)? {
         Some(said) => Ok(Some(said)),
-        None => printable_sentence(alloc, text, session, calls, line),
+        None => printable_sentence(alloc, text, accounts, calls, line),
     }
 }

@@ -1,6 +1,6 @@
 //! Linting a script, from bytes to bytes.
 ghost use Rattle.std.specs.Prelude.{◌≡◌, ◌≤◌, false, true, length, is_some, IfOk, IfErr, IfSome, OnOk};
-ghost use Rattle.histar_devices.specs.Device.{CountsFailure};
+ghost use Rattle.histar_io.specs.Device.{CountsFailure};
 ghost use Rattle.histar_script.specs.Lines.{lines_of, most_script_bytes};
 ghost use Rattle.histar_script.specs.Reading.{reading, with_line};
 ghost use Rattle.histar_script.specs.Runs.{LeavesSink, RunsInput, is_read_failed, is_write_failed};
@@ -8,7 +8,7 @@ ghost use Rattle.histar_lint.specs.Session.{IsFinding, IsMemory, Lints, finding_
 
 use crate::findings::sentence;
 use crate::texts::push_number;
-use histar_devices::{Sink, Source, read_input, write_bytes};
+use histar_io::{Sink, Source, read_input, write_bytes};
 use histar_script::{Fault, Script, read_item, read_script, split_line};
 use std::alloc::{AllocError, Global};
 
@@ -100,8 +100,8 @@ fn said_of(alloc: Global, text: &[u8], script: Script, rest: &[u8]) -> Result<Ve
         return Vec::from_slice(alloc, b"there is no user line".as_slice());
     }
     let (line, _after) = split_line(rest);
-    let (session, calls) = script.into_parts();
-    match sentence(alloc, text, &session, calls.as_slice(), line)? {
+    let (accounts, calls) = script.into_parts();
+    match sentence(alloc, text, &accounts, calls.as_slice(), line)? {
         Some(said) => Ok(said),
         None => unreachable!(),
     }

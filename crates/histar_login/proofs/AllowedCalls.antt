@@ -52,7 +52,7 @@ module _ (s : State) (boot : Object Levels) (is_boot : s.objects 2 ≡ Some boot
   span_passes : (label clearance : Levels) → IsMadeLabel s.next_category L1 label → IsMadeLabel s.next_category L2 clearance → is_below label clearance ≡ true → in_span (s.objects 2) label clearance ≡ true
   span_passes label clearance made cleared below =
       ap (λ (x : Found). in_span x label clearance) is_boot
-      ∙ ap (λ k. both (Some boot.label) (kind_clearance k) (λ own most. is_below own label && is_below label clearance && is_below clearance most)) owner.is_thread
+      ∙ ap (λ k. both (Some boot.label) (kind_clearance k) (λ own own_clearance. is_below own label && is_below label clearance && is_below clearance own_clearance)) owner.is_thread
       ∙ and_true _ _ (and_true _ _ (under_made s.next_category boot owner label made) below) (cleared_made s.next_category boot owner L2 clearance (omega arith) cleared)
 
   module _ (d : ℕ) (o : Object Levels) (there : s.objects d ≡ Some o) (holds : kind_is_container o.kind ≡ true) (made : IsMadeLabel s.next_category L1 o.label) where
@@ -146,7 +146,7 @@ module _ (first now : KernelModel) (p : Part) (boots : Boots first now p) where
 
   -- what the rules allow on the table that stands, they allow
   allowed : (call : RawCall) → check (state_with (table_of boots.boot p) (next_made p)) 2 call ≡ None → Allows now call
-  allowed call none = ap (λ (s : State). check s 2 call) boots.stands ∙ none
+  allowed call none = ap (λ (s : State). check s 2 call) boots.agrees ∙ none
 
   -- a category
   pub category_allowed : next_made p < greatest → Allows now MakeCategory

@@ -2,7 +2,7 @@
 use Rattle.std.proofs.Common.{◌≡◌, ℕ, ◌+◌, ◌*◌, ◌<◌, ◌≤◌, [], ◌∷◌, ◌++◌, length, None, Some, refl, sym, ap, ◌∙◌, arith, append_assoc, append-nil}
 use Rattle.std.proofs.lemmas.List.{length-append}
 use Rattle.std.specs.FinSet as set
-use Rattle.histar_flat.specs.Sessions.{Session}
+use Rattle.histar_flat.specs.Accounts.{Accounts}
 use Rattle.histar_label.specs.Levels.{Levels}
 use Rattle.histar_object.specs.declared.objects.Kind.TheVariants.{Segment, Container}
 use Rattle.histar_object.specs.declared.objects.Object.{Object}
@@ -20,44 +20,44 @@ use Rattle.histar_login.proofs.Beginnings.{begun_at, calls_more}
 use Rattle.histar_login.proofs.Parts.{one_object, next_number_is, boots_shared, boots_within}
 
 -- the user table and `/`, of which the container is used under the number that the kernel answered
-module _ (session : Session) (first k0 : KernelModel) (p : Part) (b0 : Boots first k0 p) where
+module _ (accounts : Accounts) (first k0 : KernelModel) (p : Part) (b0 : Boots first k0 p) where
   -- the rules allow to make the user table
-  pub table_allowed : IsBeforeDirectory session p → length (user_table session) ≤ 4096 → Allows k0 (table_call session)
+  pub table_allowed : IsBeforeDirectory accounts p → length (user_table accounts) ≤ 4096 → Allows k0 (table_call accounts)
   table_allowed before few =
-      segment_allowed first k0 p b0 root_number (root_there first k0 p b0) (omega (arith, before.room.room_for_objects)) (written_by root_category) (user_table session)
+      segment_allowed first k0 p b0 root_number (root_there first k0 p b0) (omega (arith, before.room.room_for_objects)) (written_by root_category) (user_table accounts)
       (written_made (next_made p) root_category (omega arith) (omega arith)) few
 
   -- boot stops before the user table
-  pub directory_begun_none : (n : ℕ) (new : KernelModel) → IsUnchanged k0 new → HasBegun first new p.calls (directory_calls n session)
-  directory_begun_none n new same = begun_at first k0 new p.calls p (directory_calls n session) 0 b0 same (sym (append-nil p.calls)) (omega arith)
+  pub directory_begun_none : (n : ℕ) (new : KernelModel) → IsUnchanged k0 new → HasBegun first new p.calls (directory_calls n accounts)
+  directory_begun_none n new same = begun_at first k0 new p.calls p (directory_calls n accounts) 0 b0 same (sym (append-nil p.calls)) (omega arith)
 
-  module _ (k1 : KernelModel) (c1 : Called k0 k1 boot_thread_number (table_call session) None) where
+  module _ (k1 : KernelModel) (c1 : Called k0 k1 boot_thread_number (table_call accounts) None) where
     -- the user table
     table_object : Object Levels
-    table_object = record { label = written_by root_category; kind = Segment (user_table session) }
+    table_object = record { label = written_by root_category; kind = Segment (user_table accounts) }
 
     -- what stands with it
     p1 : Part
-    p1 = one_object p (table_call session) table_object
+    p1 = one_object p (table_call accounts) table_object
 
     b1 : Boots first k1 p1
     unfolding table_object p1
-    b1 = boots_shared first k0 k1 p b0 (table_call session) table_object c1 c1.state
+    b1 = boots_shared first k0 k1 p b0 (table_call accounts) table_object c1 c1.state
 
     -- what the first user writes may be given this label
-    first_made : IsBeforeDirectory session p → 0 < length session.users → IsMadeGuard (next_made p) (written_by (write_category 1))
+    first_made : IsBeforeDirectory accounts p → 0 < length accounts.users → IsMadeGuard (next_made p) (written_by (write_category 1))
     first_made before some = written_made (next_made p) (write_category 1) (omega arith) (omega (arith, before.comes.1, some))
 
     -- the rules allow to make `/`
-    pub slash_allowed : IsBeforeDirectory session p → 0 < length session.users → Allows k1 slash_call
+    pub slash_allowed : IsBeforeDirectory accounts p → 0 < length accounts.users → Allows k1 slash_call
     unfolding p1
     slash_allowed before some =
         container_allowed first k1 p1 b1 root_number (root_there first k1 p1 b1) (omega (arith, before.room.room_for_objects, length-append p.objects (Some table_object ∷ []))) (written_by (write_category 1)) (first_made before some)
 
     -- boot stops before `/`
-    pub directory_begun_one : (n : ℕ) (new : KernelModel) → IsUnchanged k1 new → HasBegun first new p.calls (directory_calls n session)
+    pub directory_begun_one : (n : ℕ) (new : KernelModel) → IsUnchanged k1 new → HasBegun first new p.calls (directory_calls n accounts)
     unfolding p1
-    directory_begun_one n new same = begun_at first k1 new p.calls p1 (directory_calls n session) 1 b1 same refl (omega arith)
+    directory_begun_one n new same = begun_at first k1 new p.calls p1 (directory_calls n accounts) 1 b1 same refl (omega arith)
 
     module _ (root : ℕ) (k2 : KernelModel) (c2 : Called k1 k2 boot_thread_number slash_call None) (is_root : root ≡ k1.kept.next_object) where
       -- `/`
@@ -78,9 +78,9 @@ module _ (session : Session) (first k0 : KernelModel) (p : Part) (b0 : Boots fir
       root_at = is_root ∙ next_number_is first k1 k1 p1 b1
 
       -- the raw calls so far
-      calls2 : p2.calls ≡ p.calls ++ table_call session ∷ slash_call ∷ []
+      calls2 : p2.calls ≡ p.calls ++ table_call accounts ∷ slash_call ∷ []
       unfolding p1 p2
-      calls2 = calls_more p.calls (table_call session ∷ []) p1.calls slash_call refl
+      calls2 = calls_more p.calls (table_call accounts ∷ []) p1.calls slash_call refl
 
       -- the number behind both
       after2 : next_number p2 ≡ 2 + next_number p
@@ -88,7 +88,7 @@ module _ (session : Session) (first k0 : KernelModel) (p : Part) (b0 : Boots fir
       after2 = omega (arith, length-append p.objects (Some table_object ∷ []), length-append (p.objects ++ Some table_object ∷ []) (Some root_object ∷ []))
 
       -- the rules allow to make its directory segment
-      pub listing_allowed : IsBeforeDirectory session p → 0 < length session.users → Allows k2 (listing_call root)
+      pub listing_allowed : IsBeforeDirectory accounts p → 0 < length accounts.users → Allows k2 (listing_call root)
       unfolding p1 p2 root_object
       listing_allowed before some =
           let guard = first_made before some in
@@ -97,8 +97,8 @@ module _ (session : Session) (first k0 : KernelModel) (p : Part) (b0 : Boots fir
           (omega (arith, before.room.room_for_objects, after2)) (written_by (write_category 1)) [] guard (omega arith)
 
       -- boot stops before the directory segment
-      pub directory_begun_two : (n : ℕ) (new : KernelModel) → IsUnchanged k2 new → HasBegun first new p.calls (directory_calls n session)
-      directory_begun_two n new same = begun_at first k2 new p.calls p2 (directory_calls n session) 2 b2 same calls2 (omega arith)
+      pub directory_begun_two : (n : ℕ) (new : KernelModel) → IsUnchanged k2 new → HasBegun first new p.calls (directory_calls n accounts)
+      directory_begun_two n new same = begun_at first k2 new p.calls p2 (directory_calls n accounts) 2 b2 same calls2 (omega arith)
 
       module _ (listing : ℕ) (k3 : KernelModel) (c3 : Called k2 k3 boot_thread_number (listing_call root) None) (is_listing : listing ≡ k2.kept.next_object) (n : ℕ) (at : next_number p ≡ 3 + 2 * n) where
         -- its directory segment
@@ -135,16 +135,16 @@ module _ (session : Session) (first k0 : KernelModel) (p : Part) (b0 : Boots fir
         directory_listing = is_listing ∙ next_number_is first k2 k2 p2 b2 ∙ next2
 
         -- all three together
-        directory_boots : Boots first k3 (and_then p (directory_part n session))
+        directory_boots : Boots first k3 (and_then p (directory_part n accounts))
         unfolding table_object root_object listing_object p1 p2 p3
         directory_boots =
-            boots_same first k3 p3 (and_then p (directory_part n session)) b3
-            (calls_more p.calls (table_call session ∷ slash_call ∷ []) p2.calls (listing_call root) calls2 ∙ ap (λ (k : ℕ). p.calls ++ table_call session ∷ slash_call ∷ listing_call k ∷ []) directory_root)
+            boots_same first k3 p3 (and_then p (directory_part n accounts)) b3
+            (calls_more p.calls (table_call accounts ∷ slash_call ∷ []) p2.calls (listing_call root) calls2 ∙ ap (λ (k : ℕ). p.calls ++ table_call accounts ∷ slash_call ∷ listing_call k ∷ []) directory_root)
             (append_assoc p.linked (next_number p ∷ []) (next_number p1 ∷ []) ∙ (λ j. p.linked ++ at j ∷ next1 j ∷ []))
             (append_assoc p.objects (Some table_object ∷ []) (container (written_by (write_category 1)) (next_number p2 ∷ []) ∷ Some listing_object ∷ [])
             ∙ (λ j. p.objects ++ Some table_object ∷ container (written_by (write_category 1)) (next2 j ∷ []) ∷ Some listing_object ∷ []))
             (omega arith)
 
         -- what stands then, and the two numbers
-        pub directory_stage : Boots first k3 (and_then p (directory_part n session)) × (root ≡ 4 + 2 * n) × (listing ≡ 5 + 2 * n)
+        pub directory_stage : Boots first k3 (and_then p (directory_part n accounts)) × (root ≡ 4 + 2 * n) × (listing ≡ 5 + 2 * n)
         directory_stage = (directory_boots, directory_root, directory_listing)

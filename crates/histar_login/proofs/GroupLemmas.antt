@@ -5,7 +5,7 @@ use Rattle.std.proofs.lemmas.List.Elements.{All-nil, All-cons}
 use Rattle.std.specs.Int.{w64, to_be_bytes}
 use Rattle.std.proofs.lemmas.List.{get_or_default, length-take-le}
 use Rattle.histar_flat.specs.declared.calls.User.{User}
-use Rattle.histar_flat.specs.Sessions.{Group, Session, has, numbers_with}
+use Rattle.histar_flat.specs.Accounts.{Group, Accounts, has, numbers_with}
 use Rattle.histar_flat.specs.Words.{Name}
 use Rattle.histar_label.specs.declared.levels.Level.{Level}
 use Rattle.histar_label.specs.Levels.{Levels, with_level}
@@ -99,6 +99,6 @@ groups_within n next k (g ∷ groups) name enough =
     choice_within (has g.members name) (λ o. write_category o < next) n k (numbers_with (k + 1) groups name) (omega (arith, enough)) (groups_within n next (k + 1) groups name (omega (arith, enough)))
 
 -- the categories that a user owns were made before process 0
-pub owners_within : (session : Session) (i : ℕ) (name : Name) (next : ℕ) → i ≤ length session.users → next ≡ own_read_category (declared session) → All (λ o. write_category o < next) (owners_of session i name)
-owners_within session i name next within is =
-    All-cons (λ o. write_category o < next) i _ (omega (arith, within, is)) (groups_within (length session.users) next 1 session.groups name (omega (arith, is)))
+pub owners_within : (accounts : Accounts) (i : ℕ) (name : Name) (next : ℕ) → i ≤ length accounts.users → next ≡ own_read_category (declared accounts) → All (λ o. write_category o < next) (owners_of accounts i name)
+owners_within accounts i name next within is =
+    All-cons (λ o. write_category o < next) i _ (omega (arith, within, is)) (groups_within (length accounts.users) next 1 accounts.groups name (omega (arith, is)))

@@ -2,7 +2,7 @@
 use Rattle.std.proofs.Common.{◌≡◌, ℕ, suc, ◌+◌, ◌*◌, List, [], ◌∷◌, ◌++◌, length, None, refl, sym, ap, ◌∙◌, arith, append_assoc}
 use Rattle.std.proofs.lemmas.List.{length-append}
 use Rattle.std.specs.List.{range_with_len}
-use Rattle.histar_flat.specs.Sessions.{Session}
+use Rattle.histar_flat.specs.Accounts.{Accounts}
 use Rattle.histar_object.specs.State.{empty_state}
 use Rattle.histar_rules.specs.declared.raw.RawCall.TheVariants as calls
 use Rattle.histar_rules.specs.Sound.{root_number}
@@ -18,50 +18,50 @@ use Rattle.histar_login.proofs.FirstAndLast.{two_not_in_row}
 use Rattle.histar_login.proofs.Parts.{boots_last, boots_first}
 
 -- the parts of boot before the user table and `/`
-abbrev pub first_parts : Session → Part
-first_parts session = and_then (and_then nothing_yet (categories_part (1 + declared session))) (users_part session session.users)
+abbrev pub first_parts : Accounts → Part
+first_parts accounts = and_then (and_then nothing_yet (categories_part (1 + declared accounts))) (users_part accounts accounts.users)
 
 -- the parts of boot before process 0
-abbrev pub more_parts : Session → Part
-more_parts session = and_then (first_parts session) (directory_part (length session.users) session)
+abbrev pub more_parts : Accounts → Part
+more_parts accounts = and_then (first_parts accounts) (directory_part (length accounts.users) accounts)
 
 -- all parts of boot but the last call
-abbrev pub all_parts : Session → Part
-all_parts session = and_then (more_parts session) (process_part (length session.users) (declared session))
+abbrev pub all_parts : Accounts → Part
+all_parts accounts = and_then (more_parts accounts) (process_part (length accounts.users) (declared accounts))
 
 -- where the user table and `/` begin
-pub directory_is_next : (session : Session) → next_number (first_parts session) ≡ 3 + 2 * length session.users
-directory_is_next session = ap (λ (k : ℕ). 3 + k) (length-numbered session 1 session.users)
+pub directory_is_next : (accounts : Accounts) → next_number (first_parts accounts) ≡ 3 + 2 * length accounts.users
+directory_is_next accounts = ap (λ (k : ℕ). 3 + k) (length-numbered accounts 1 accounts.users)
 
 -- where process 0 begins
-pub process_is_next : (session : Session) → IsBeforeBoth (6 + 2 * length session.users) (own_read_category (declared session)) (more_parts session)
-process_is_next session = (omega (arith, length-numbered session 1 session.users, length-append (of_users session session.users) (of_directory (length session.users) session)), omega arith)
+pub process_is_next : (accounts : Accounts) → IsBeforeBoth (6 + 2 * length accounts.users) (own_read_category (declared accounts)) (more_parts accounts)
+process_is_next accounts = (omega (arith, length-numbered accounts 1 accounts.users, length-append (of_users accounts accounts.users) (of_directory (length accounts.users) accounts)), omega arith)
 
 -- the parts of boot, one after another
-pub record HasParts (session : Session) (first directed processed last : KernelModel) : Type 0 where
+pub record HasParts (accounts : Accounts) (first directed processed last : KernelModel) : Type 0 where
   -- the next object is the user table, and then `/` and its directory segment
-  pub is_next : IsBefore (3 + 2 * length session.users) (first_parts session)
-  pub before : Boots first directed (first_parts session)
+  pub is_next : IsBefore (3 + 2 * length accounts.users) (first_parts accounts)
+  pub before : Boots first directed (first_parts accounts)
   -- the next objects are those of process 0
-  pub is_after : IsBeforeBoth (6 + 2 * length session.users) (own_read_category (declared session)) (more_parts session)
-  pub middle : Boots first processed (more_parts session)
-  pub all : Boots first last (all_parts session)
+  pub is_after : IsBeforeBoth (6 + 2 * length accounts.users) (own_read_category (declared accounts)) (more_parts accounts)
+  pub middle : Boots first processed (more_parts accounts)
+  pub all : Boots first last (all_parts accounts)
 
 -- the parts of boot follow one another
-pub has_parts : (session : Session) (first k1 k2 k3 k4 : KernelModel) → state first ≡ empty_state
-    → BootsOn first k1 IsAnywhere (categories_part (1 + declared session)) → BootsOn k1 k2 (IsBefore 3) (users_part session session.users)
-    → BootsOn k2 k3 (IsBefore (3 + 2 * length session.users)) (directory_part (length session.users) session)
-    → ((n owners : ℕ) → BootsOn k3 k4 (IsBeforeBoth (6 + 2 * n) (own_read_category owners)) (process_part n owners)) → HasParts session first k2 k3 k4
-has_parts session first k1 k2 k3 k4 empty categories objects directory process =
-    let b1 : Boots first k1 (and_then nothing_yet (categories_part (1 + declared session))) = categories first nothing_yet tt (boots_first first empty) in
-    let b2 : Boots first k2 (first_parts session) = objects first _ refl b1 in
-    let b3 : Boots first k3 (more_parts session) = directory first (first_parts session) (directory_is_next session) b2 in
+pub has_parts : (accounts : Accounts) (first k1 k2 k3 k4 : KernelModel) → state first ≡ empty_state
+    → BootsOn first k1 IsAnywhere (categories_part (1 + declared accounts)) → BootsOn k1 k2 (IsBefore 3) (users_part accounts accounts.users)
+    → BootsOn k2 k3 (IsBefore (3 + 2 * length accounts.users)) (directory_part (length accounts.users) accounts)
+    → ((n owners : ℕ) → BootsOn k3 k4 (IsBeforeBoth (6 + 2 * n) (own_read_category owners)) (process_part n owners)) → HasParts accounts first k2 k3 k4
+has_parts accounts first k1 k2 k3 k4 empty categories objects directory process =
+    let b1 : Boots first k1 (and_then nothing_yet (categories_part (1 + declared accounts))) = categories first nothing_yet tt (boots_first first empty) in
+    let b2 : Boots first k2 (first_parts accounts) = objects first _ refl b1 in
+    let b3 : Boots first k3 (more_parts accounts) = directory first (first_parts accounts) (directory_is_next accounts) b2 in
     record {
-      is_next = directory_is_next session;
+      is_next = directory_is_next accounts;
       before = b2;
-      is_after = process_is_next session;
+      is_after = process_is_next accounts;
       middle = b3;
-      all = process (length session.users) (declared session) first (more_parts session) (process_is_next session) b3;
+      all = process (length accounts.users) (declared accounts) first (more_parts accounts) (process_is_next accounts) b3;
     }
 
 -- the numbers that the root container links at last
@@ -75,39 +75,39 @@ root_numbers n =
     ∙ ap (λ (l : List ℕ). l ++ (3 + suc (2 * n)) ∷ []) (sym (range-suc 3 (2 * n)))
     ∙ sym (range-suc 3 (suc (2 * n))) ∙ ap (range_with_len 3) twice)
 
-module _ (session : Session) (first before after : KernelModel) (boots : Boots first before (all_parts session))
+module _ (accounts : Accounts) (first before after : KernelModel) (boots : Boots first before (all_parts accounts))
     (called : Called before after boot_thread_number (calls.Unlink root_number boot_thread_number) None) where
   -- all parts of boot, with the numbers of the root container in a row
   last_part : Part
   last_part = record {
-    calls = (all_parts session).calls;
-    linked = range_with_len 3 (2 + 2 * length session.users) ++ (6 + 2 * length session.users) ∷ [];
-    objects = (all_parts session).objects;
-    categories = (all_parts session).categories;
+    calls = (all_parts accounts).calls;
+    linked = range_with_len 3 (2 + 2 * length accounts.users) ++ (6 + 2 * length accounts.users) ∷ [];
+    objects = (all_parts accounts).objects;
+    categories = (all_parts accounts).categories;
   }
 
   -- they stand
   last_boots : Boots first before last_part
   unfolding last_part
-  last_boots = boots_same first before (all_parts session) last_part boots refl (root_numbers (length session.users)) refl refl
+  last_boots = boots_same first before (all_parts accounts) last_part boots refl (root_numbers (length accounts.users)) refl refl
 
   -- the machine was booted
-  pub booted : state first ≡ empty_state → first.trace ≡ [] → first.line ≡ 0 → IsBooted session after
+  pub booted : state first ≡ empty_state → first.trace ≡ [] → first.line ≡ 0 → IsBooted accounts after
   booted empty no_trace line = record {
     first = first;
     empty = empty;
     no_trace = no_trace;
     line = line;
-    made = granted_more boot_thread_number first before after (all_parts session).calls (calls.Unlink root_number boot_thread_number) boots.granted called;
+    made = granted_more boot_thread_number first before after (all_parts accounts).calls (calls.Unlink root_number boot_thread_number) boots.granted called;
   }
 
   -- and is in its start state
-  pub started : state after ≡ start_state session
+  pub started : state after ≡ start_state accounts
   unfolding last_part
   started =
-      boots_last first before after last_part last_boots called (two_not_in_row 3 (2 + 2 * length session.users) (6 + 2 * length session.users) (omega arith) (omega arith))
-      ∙ ap (state_with (container (written_by root_category) (range_with_len 3 (2 + 2 * length session.users) ++ (6 + 2 * length session.users) ∷ []) ∷ None ∷ (all_parts session).objects)) (omega arith)
+      boots_last first before after last_part last_boots called (two_not_in_row 3 (2 + 2 * length accounts.users) (6 + 2 * length accounts.users) (omega arith) (omega arith))
+      ∙ ap (state_with (container (written_by root_category) (range_with_len 3 (2 + 2 * length accounts.users) ++ (6 + 2 * length accounts.users) ∷ []) ∷ None ∷ (all_parts accounts).objects)) (omega arith)
 
 -- no line was begun
-pub booted_line : (session : Session) (kernel : KernelModel) → IsBooted session kernel → kernel.line ≡ 0
-booted_line session kernel booted = (made_run boot_thread_number booted.first kernel (boot_calls session) None booted.made).ran.line ∙ booted.line
+pub booted_line : (accounts : Accounts) (kernel : KernelModel) → IsBooted accounts kernel → kernel.line ≡ 0
+booted_line accounts kernel booted = (made_run boot_thread_number booted.first kernel (boot_calls accounts) None booted.made).ran.line ∙ booted.line

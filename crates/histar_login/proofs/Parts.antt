@@ -34,8 +34,8 @@ no_denial old new t call (Err (refusals.Denied denied)) P answered none = absurd
 no_denial old new t call (Err refusals.OutOfMemory) P answered none = tt
 
 -- a raw call of boot that the rules allow is not denied, under equal texts
-pub undenied_as : {A : Type 0} (old new : KernelModel) (t : ℕ) (call told : RawCall) (r : Result A Refusal) (P : A → Type 0) → Answered old new t call r P → Allows old told → t ≡ boot_thread_number → call ≡ told → IsUndenied r
-undenied_as old new t call told r P answered allowed is same = no_denial old new t call r P answered ((λ i. check (state old) (is i) (same i)) ∙ allowed)
+pub undenied_as : {A : Type 0} (old new : KernelModel) (t : ℕ) (call revealed : RawCall) (r : Result A Refusal) (P : A → Type 0) → Answered old new t call r P → Allows old revealed → t ≡ boot_thread_number → call ≡ revealed → IsUndenied r
+undenied_as old new t call revealed r P answered allowed is same = no_denial old new t call r P answered ((λ i. check (state old) (is i) (same i)) ∙ allowed)
 
 -- a raw call that was answered was granted, or memory ran out
 grants : {A E : Type 0} (old new : KernelModel) (call : RawCall) (r : Result A Refusal) (out : Result A E) (P : A → Type 0) → Answered old new boot_thread_number call r P → Passes r out → Grants old new call out P
@@ -43,10 +43,10 @@ grants {A = A} old new call r (Ok a) P answered passes = subst (λ (x : Result A
 grants {A = A} old new call r (Err stopped) P answered passes = subst (λ (x : Result A Refusal). Answered old new boot_thread_number call x P) passes answered
 
 -- the same under equal texts
-pub grants_as : {A E : Type 0} (old new : KernelModel) (t : ℕ) (call told : RawCall) (r : Result A Refusal) (out : Result A E) (P : A → Type 0) → Answered old new t call r P → Passes r out → t ≡ boot_thread_number → call ≡ told
-    → Grants old new told out P
-grants_as {A = A} old new t call told r out P answered passes is same =
-    grants old new told r out P (subst (λ (x : RawCall). Answered old new boot_thread_number x r P) same (subst (λ (n : ℕ). Answered old new n call r P) is answered)) passes
+pub grants_as : {A E : Type 0} (old new : KernelModel) (t : ℕ) (call revealed : RawCall) (r : Result A Refusal) (out : Result A E) (P : A → Type 0) → Answered old new t call r P → Passes r out → t ≡ boot_thread_number → call ≡ revealed
+    → Grants old new revealed out P
+grants_as {A = A} old new t call revealed r out P answered passes is same =
+    grants old new revealed r out P (subst (λ (x : RawCall). Answered old new boot_thread_number x r P) same (subst (λ (n : ℕ). Answered old new n call r P) is answered)) passes
 
 -- a container that links one number more
 pub links_more : (label : Levels) (numbers : List ℕ) (n : ℕ) → Some (linking n (record { label = label; kind = Container (set.from_list {R = nat_cmp} numbers) })) ≡ container label (numbers ++ n ∷ [])
@@ -62,16 +62,16 @@ one_object p call o = record { calls = p.calls ++ call ∷ []; linked = p.linked
 
 -- nothing has been made
 pub boots_first : (first : KernelModel) → state first ≡ empty_state → Boots first first nothing_yet
-boots_first first empty = record { granted = granted_none first boot_thread_number; boot = boot_thread; owner = boot_owns; stands = empty ∙ empty_is }
+boots_first first empty = record { granted = granted_none first boot_thread_number; boot = boot_thread; owner = boot_owns; agrees = empty ∙ empty_is }
 
 module _ (first old new : KernelModel) (p : Part) (boots : Boots first old p) where
   -- the number that the next object gets
   pub next_number_is : old.kept.next_object ≡ next_number p
-  next_number_is = ap (λ (s : State). s.next_object) boots.stands ∙ omega arith
+  next_number_is = ap (λ (s : State). s.next_object) boots.agrees ∙ omega arith
 
   -- the category that is made next
   pub next_made_is : old.kept.next_category ≡ next_made p
-  next_made_is = ap (λ (s : State). s.next_category) boots.stands
+  next_made_is = ap (λ (s : State). s.next_category) boots.agrees
 
   -- one category more
   pub boots_category : Called old new boot_thread_number MakeCategory None → Boots first new (one_category p)
@@ -79,7 +79,7 @@ module _ (first old new : KernelModel) (p : Part) (boots : Boots first old p) wh
     granted = granted_more boot_thread_number first old new p.calls MakeCategory boots.granted called;
     boot = with_star_at (next_made p) boots.boot;
     owner = subst (λ (n : ℕ). OwnsMade n (with_star_at (next_made p) boots.boot)) (omega arith) (owns_next (next_made p) boots.boot boots.owner (omega arith));
-    stands = called.state ∙ ap (λ (s : State). with_category s boot_thread_number) boots.stands ∙ with_category_is (table_of boots.boot p) (next_made p) 1
+    agrees = called.state ∙ ap (λ (s : State). with_category s boot_thread_number) boots.agrees ∙ with_category_is (table_of boots.boot p) (next_made p) 1
         ∙ ap (state_with (table_of (with_star_at (next_made p) boots.boot) p)) (omega arith);
   }
 
@@ -95,7 +95,7 @@ module _ (first old new : KernelModel) (p : Part) (boots : Boots first old p) wh
         granted = granted_more boot_thread_number first old new p.calls call boots.granted called;
         boot = boots.boot;
         owner = boots.owner;
-        stands = makes ∙ ap (λ (s : State). with_object s root_number o) boots.stands ∙ added_is (table_of boots.boot p) (next_made p) 0 o ∙ ap (λ (table : List Found). state_with table (next_made p)) linked;
+        agrees = makes ∙ ap (λ (s : State). with_object s root_number o) boots.agrees ∙ added_is (table_of boots.boot p) (next_made p) 0 o ∙ ap (λ (table : List Found). state_with table (next_made p)) linked;
       }
 
   -- one object more in a container that boot made
@@ -115,7 +115,7 @@ module _ (first old new : KernelModel) (p : Part) (boots : Boots first old p) wh
         granted = granted_more boot_thread_number first old new p.calls call boots.granted called;
         boot = boots.boot;
         owner = boots.owner;
-        stands = makes ∙ ap (λ (s : State). with_object s d o) boots.stands ∙ ap (λ (k : ℕ). with_object (state_with (table_of boots.boot p) (next_made p)) k o) place
+        agrees = makes ∙ ap (λ (s : State). with_object s d o) boots.agrees ∙ ap (λ (k : ℕ). with_object (state_with (table_of boots.boot p) (next_made p)) k o) place
             ∙ added_is (table_of boots.boot p) (next_made p) (suc (suc (length front))) o ∙ ap (λ (l : List Found). state_with (root ∷ Some boots.boot ∷ l) (next_made p)) linked;
       }
 
@@ -124,6 +124,6 @@ module _ (first old new : KernelModel) (p : Part) (boots : Boots first old p) wh
       → state new ≡ state_with (container (written_by root_category) p.linked ∷ None ∷ p.objects) (next_made p)
   boots_last called none =
       let root : Object Levels = record { label = written_by root_category; kind = Container (set.from_list {R = nat_cmp} (boot_thread_number ∷ p.linked)) } in
-      let cut = subst (λ (s : State). CutsOff s 1 2 (state new)) boots.stands called.state in
+      let cut = subst (λ (s : State). CutsOff s 1 2 (state new)) boots.agrees called.state in
       thread_gone root boots.boot p.objects (next_made p) (ap kind_is_thread boots.owner.is_thread) (state new) cut
       ∙ ap (λ (links : Numbers). state_with (Some (record { label = written_by root_category; kind = Container links }) ∷ None ∷ p.objects) (next_made p)) (removed_again (set.from_list {R = nat_cmp} p.linked) 2 none)

@@ -3,7 +3,7 @@ use Rattle.std.proofs.Common.{ℕ, ◌+◌, Bool, true, false, List, Option, Non
 use Rattle.std.specs.Str.{bytes_eq}
 use Rattle.histar_rules.specs.declared.raw.RawCall.TheVariants.{OwnLabel, SetLabel, SetClearance, Read}
 use Rattle.histar_rules.specs.Sound.{root_number}
-use Rattle.histar_flat.specs.Sessions.{Session}
+use Rattle.histar_flat.specs.Accounts.{Accounts}
 use Rattle.histar_flat.specs.Words.{Name}
 use Rattle.histar_layout.specs.Categories.{owners_of}
 use Rattle.histar_calls.specs.Laws.{RepliesToRefusals}
@@ -33,9 +33,9 @@ as_program caller i owners password = (
   denial_of_call_has_reply OwnLabel,
 )
 
-at_place : (session : Session) (caller : Caller) (name : Name) (password : List ℕ) (place : Option ℕ) → RepliesToRefusals (login_at session caller name password place)
-at_place session caller name password None = (refl, refl)
-at_place session caller name password (Some place) = as_program caller (place + 1) (owners_of session (place + 1) name) password
+at_place : (accounts : Accounts) (caller : Caller) (name : Name) (password : List ℕ) (place : Option ℕ) → RepliesToRefusals (login_at accounts caller name password place)
+at_place accounts caller name password None = (refl, refl)
+at_place accounts caller name password (Some place) = as_program caller (place + 1) (owners_of accounts (place + 1) name) password
 
 pub logins_reply_to_refusals : LoginsReplyToRefusals
-logins_reply_to_refusals session caller name password = at_place session caller name password (place_of session.users name)
+logins_reply_to_refusals accounts caller name password = at_place accounts caller name password (place_of accounts.users name)

@@ -3,7 +3,7 @@ use Rattle.std.proofs.Common.{◌≡◌, ℕ, zero, suc, ◌+◌, ◌*◌, ◌<�
 use Rattle.std.proofs.lemmas.List.{length-append, length-take-le, take-append-drop}
 use Rattle.std.specs.List.{range_with_len}
 use Rattle.histar_flat.specs.declared.calls.User.{User}
-use Rattle.histar_flat.specs.Sessions.{Session}
+use Rattle.histar_flat.specs.Accounts.{Accounts}
 use Rattle.histar_label.specs.declared.levels.Level.TheVariants.{Star, L1, L2, L3}
 use Rattle.histar_label.specs.Levels.{Levels, constant}
 use Rattle.histar_object.specs.declared.objects.Entry.TheVariants.{Login}
@@ -101,27 +101,27 @@ categories_begun old mid new count i lt before begins first p at b =
     (begun_more first new p.calls (category_calls i ++ two_categories.calls) behind.0 (begun_after first new p.calls (category_calls i) two_categories.calls begun))
 
 -- the password that was made is this one
-pub password_made : (old new : KernelModel) (i : ℕ) (password told : List ℕ) → password ≡ told → Called old new boot_thread_number (password_call i password) None → Called old new boot_thread_number (password_call i told) None
-password_made old new i password told same called = subst (λ (l : List ℕ). Called old new boot_thread_number (password_call i l) None) same called
+pub password_made : (old new : KernelModel) (i : ℕ) (password revealed : List ℕ) → password ≡ revealed → Called old new boot_thread_number (password_call i password) None → Called old new boot_thread_number (password_call i revealed) None
+password_made old new i password revealed same called = subst (λ (l : List ℕ). Called old new boot_thread_number (password_call i l) None) same called
 
 -- the gate that was made gives what these own
-pub gate_made : (old new : KernelModel) (i : ℕ) (owners told : List ℕ) → owners ≡ told → Called old new boot_thread_number (gate_call i owners) None → Called old new boot_thread_number (gate_call i told) None
-gate_made old new i owners told same called = subst (λ (l : List ℕ). Called old new boot_thread_number (gate_call i l) None) same called
+pub gate_made : (old new : KernelModel) (i : ℕ) (owners revealed : List ℕ) → owners ≡ revealed → Called old new boot_thread_number (gate_call i owners) None → Called old new boot_thread_number (gate_call i revealed) None
+gate_made old new i owners revealed same called = subst (λ (l : List ℕ). Called old new boot_thread_number (gate_call i l) None) same called
 
 -- a gate that is to be made is allowed under equal texts
-pub gate_allowed_for : (k : KernelModel) (i : ℕ) (owners listed told : List ℕ) → owners ≡ listed → listed ≡ told → Allows k (gate_call i told) → Allows k (gate_call i owners)
-gate_allowed_for k i owners listed told same is allowed = subst (λ (l : List ℕ). Allows k (gate_call i l)) (sym (same ∙ is)) allowed
+pub gate_allowed_for : (k : KernelModel) (i : ℕ) (owners listed revealed : List ℕ) → owners ≡ listed → listed ≡ revealed → Allows k (gate_call i revealed) → Allows k (gate_call i owners)
+gate_allowed_for k i owners listed revealed same is allowed = subst (λ (l : List ℕ). Allows k (gate_call i l)) (sym (same ∙ is)) allowed
 
-module _ (session : Session) (i : ℕ) (user : User) (first k0 : KernelModel) (p : Part) (b0 : Boots first k0 p) where
+module _ (accounts : Accounts) (i : ℕ) (user : User) (first k0 : KernelModel) (p : Part) (b0 : Boots first k0 p) where
   -- the rules allow to make the password
-  pub password_allowed : IsBeforeUser session i p → i < 256 → i ≤ length session.users → length user.password ≤ 4096 → Allows k0 (password_call i user.password)
+  pub password_allowed : IsBeforeUser accounts i p → i < 256 → i ≤ length accounts.users → length user.password ≤ 4096 → Allows k0 (password_call i user.password)
   password_allowed at small within few =
       segment_allowed first k0 p b0 root_number (root_there first k0 p b0) (omega (arith, at.0, small)) (secret_of (read_category i) (write_category i)) user.password
       (secret_made (next_made p) (read_category i) (write_category i) (omega arith) (omega (arith, at.1, within)) (omega arith) (omega (arith, at.1, within))) few
 
   -- boot stops before the password
-  pub user_begun_none : (new : KernelModel) → IsUnchanged k0 new → HasBegun first new p.calls (user_calls session i user)
-  user_begun_none new same = begun_at first k0 new p.calls p (user_calls session i user) 0 b0 same (sym (append-nil p.calls)) (omega arith)
+  pub user_begun_none : (new : KernelModel) → IsUnchanged k0 new → HasBegun first new p.calls (user_calls accounts i user)
+  user_begun_none new same = begun_at first k0 new p.calls p (user_calls accounts i user) 0 b0 same (sym (append-nil p.calls)) (omega arith)
 
   module _ (k1 : KernelModel) (c1 : Called k0 k1 boot_thread_number (password_call i user.password) None) where
     -- the password
@@ -137,41 +137,41 @@ module _ (session : Session) (i : ℕ) (user : User) (first k0 : KernelModel) (p
     b1 = boots_shared first k0 k1 p b0 (password_call i user.password) password_object c1 c1.state
 
     -- the rules allow to make the gate
-    pub login_allowed : IsBeforeUser session i p → i < 256 → i ≤ length session.users → Allows k1 (gate_call i (owners_of session i user.name))
+    pub login_allowed : IsBeforeUser accounts i p → i < 256 → i ≤ length accounts.users → Allows k1 (gate_call i (owners_of accounts i user.name))
     unfolding p1
     login_allowed at small within =
-        let owners = owners_of session i user.name in
-        let all = owners_within session i user.name (next_made p1) within at.1 in
+        let owners = owners_of accounts i user.name in
+        let all = owners_within accounts i user.name (next_made p1) within at.1 in
         gate_allowed first k1 p1 b1 root_number (root_there first k1 p1 b1) (omega (arith, at.0, small, length-append p.objects (Some password_object ∷ []))) (owners_label owners) (owners_clearance owners) (Login i)
         (both_made (next_made p1) L1 Star (constant L1) owners all (made_constant (next_made p1) L1)) (both_made (next_made p1) L2 L3 (constant L2) owners all (made_constant (next_made p1) L2)) (owners_below owners)
 
     -- boot stops before the gate
-    pub user_begun_one : (new : KernelModel) → IsUnchanged k1 new → HasBegun first new p.calls (user_calls session i user)
+    pub user_begun_one : (new : KernelModel) → IsUnchanged k1 new → HasBegun first new p.calls (user_calls accounts i user)
     unfolding p1
-    user_begun_one new same = begun_at first k1 new p.calls p1 (user_calls session i user) 1 b1 same refl (omega arith)
+    user_begun_one new same = begun_at first k1 new p.calls p1 (user_calls accounts i user) 1 b1 same refl (omega arith)
 
     -- the password and the gate of a user
-    pub user_boots : (k2 : KernelModel) → next_number p ≡ 1 + 2 * i → Called k1 k2 boot_thread_number (gate_call i (owners_of session i user.name)) None → Boots first k2 (and_then p (user_part session i user))
+    pub user_boots : (k2 : KernelModel) → next_number p ≡ 1 + 2 * i → Called k1 k2 boot_thread_number (gate_call i (owners_of accounts i user.name)) None → Boots first k2 (and_then p (user_part accounts i user))
     unfolding p1 password_object
     user_boots k2 at c2 =
-        let o2 : Object Levels = record { label = gate_label session i user.name; kind = Gate (gate_clearance session i user.name) (Login i) } in
-        let p2 : Part = one_object p1 (gate_call i (owners_of session i user.name)) o2 in
-        let b2 : Boots first k2 p2 = boots_shared first k1 k2 p1 b1 (gate_call i (owners_of session i user.name)) o2 c2 c2.state in
+        let o2 : Object Levels = record { label = gate_label accounts i user.name; kind = Gate (gate_clearance accounts i user.name) (Login i) } in
+        let p2 : Part = one_object p1 (gate_call i (owners_of accounts i user.name)) o2 in
+        let b2 : Boots first k2 p2 = boots_shared first k1 k2 p1 b1 (gate_call i (owners_of accounts i user.name)) o2 c2 c2.state in
         let next : next_number p1 ≡ 2 + 2 * i = omega (arith, at, length-append p.objects (Some password_object ∷ [])) in
-        boots_same first k2 p2 (and_then p (user_part session i user)) b2
-        (append_assoc p.calls (password_call i user.password ∷ []) (gate_call i (owners_of session i user.name) ∷ []))
+        boots_same first k2 p2 (and_then p (user_part accounts i user)) b2
+        (append_assoc p.calls (password_call i user.password ∷ []) (gate_call i (owners_of accounts i user.name) ∷ []))
         (append_assoc p.linked (next_number p ∷ []) (next_number p1 ∷ []) ∙ (λ j. p.linked ++ at j ∷ next j ∷ []))
         (append_assoc p.objects (Some password_object ∷ []) (Some o2 ∷ []))
         (omega arith)
 
 -- each user has two objects
-pub length-numbered : (session : Session) (i : ℕ) (users : List User) → length (numbered (of_user session) i users) ≡ 2 * length users
-length-numbered session i [] = refl
-length-numbered session i (user ∷ users) = omega (arith, length-append (of_user session i user) (numbered (of_user session) (i + 1) users), length-numbered session (i + 1) users)
+pub length-numbered : (accounts : Accounts) (i : ℕ) (users : List User) → length (numbered (of_user accounts) i users) ≡ 2 * length users
+length-numbered accounts i [] = refl
+length-numbered accounts i (user ∷ users) = omega (arith, length-append (of_user accounts i user) (numbered (of_user accounts) (i + 1) users), length-numbered accounts (i + 1) users)
 
 -- the objects of no user
-pub users_none : (session : Session) (k : KernelModel) (users : List User) → BootsOn k k (IsBefore 3) (users_part session (take 0 users))
-users_none session k users first p at b = boots_same first k p (and_then p (users_part session [])) b (sym (append-nil p.calls)) (sym (append-nil p.linked)) (sym (append-nil p.objects)) (omega arith)
+pub users_none : (accounts : Accounts) (k : KernelModel) (users : List User) → BootsOn k k (IsBefore 3) (users_part accounts (take 0 users))
+users_none accounts k users first p at b = boots_same first k p (and_then p (users_part accounts [])) b (sym (append-nil p.calls)) (sym (append-nil p.linked)) (sym (append-nil p.objects)) (omega arith)
 
 -- a row with two numbers more
 row_next : (m n : ℕ) → n ≡ m + 1 → range_with_len 3 (2 * m) ++ (1 + 2 * n) ∷ (2 + 2 * n) ∷ [] ≡ range_with_len 3 (2 * n)
@@ -185,31 +185,31 @@ row_next m n e =
     ∙ sym (range-suc 3 (suc (2 * m))) ∙ ap (range_with_len 3) twice
 
 -- the objects of one user more
-pub users_next : (session : Session) (old mid new : KernelModel) (users : List User) (i : ℕ) (user : User) → i < length users → user ≡ get_or users i user
-    → BootsOn old mid (IsBefore 3) (users_part session (take i users)) → BootsOn mid new (IsBefore (1 + 2 * (i + 1))) (user_part session (i + 1) user) → BootsOn old new (IsBefore 3) (users_part session (take (i + 1) users))
-users_next session old mid new users i user lt is before more first p at b =
+pub users_next : (accounts : Accounts) (old mid new : KernelModel) (users : List User) (i : ℕ) (user : User) → i < length users → user ≡ get_or users i user
+    → BootsOn old mid (IsBefore 3) (users_part accounts (take i users)) → BootsOn mid new (IsBefore (1 + 2 * (i + 1))) (user_part accounts (i + 1) user) → BootsOn old new (IsBefore 3) (users_part accounts (take (i + 1) users))
+users_next accounts old mid new users i user lt is before more first p at b =
     let some = take i users in
-    let so_far = and_then p (users_part session some) in
-    let all = and_then p (users_part session (take (i + 1) users)) in
+    let so_far = and_then p (users_part accounts some) in
+    let all = and_then p (users_part accounts (take (i + 1) users)) in
     let count : length some ≡ i = length-take-le i users (omega arith) in
     let one_more : length (take (i + 1) users) ≡ i + 1 = length-take-le (i + 1) users (omega arith) in
-    let next : next_number so_far ≡ 1 + 2 * (i + 1) = omega (arith, at, count, length-append p.objects (of_users session some), length-numbered session 1 some) in
-    boots_same first new (and_then so_far (user_part session (i + 1) user)) all (more first so_far next (before first p at b))
-    (append_assoc p.calls (numbered (user_calls session) 1 some) (user_calls session (i + 1) user) ∙ ap (λ (l : List RawCall). p.calls ++ l) (sym (numbered_next (user_calls session) users i user lt is)))
+    let next : next_number so_far ≡ 1 + 2 * (i + 1) = omega (arith, at, count, length-append p.objects (of_users accounts some), length-numbered accounts 1 some) in
+    boots_same first new (and_then so_far (user_part accounts (i + 1) user)) all (more first so_far next (before first p at b))
+    (append_assoc p.calls (numbered (user_calls accounts) 1 some) (user_calls accounts (i + 1) user) ∙ ap (λ (l : List RawCall). p.calls ++ l) (sym (numbered_next (user_calls accounts) users i user lt is)))
     (append_assoc p.linked (range_with_len 3 (2 * length some)) ((1 + 2 * (i + 1)) ∷ (2 + 2 * (i + 1)) ∷ [])
     ∙ ap (λ (l : List ℕ). p.linked ++ l) (row_next (length some) (i + 1) (omega (arith, count)) ∙ ap (λ (n : ℕ). range_with_len 3 (2 * n)) (sym one_more)))
-    (append_assoc p.objects (of_users session some) (of_user session (i + 1) user) ∙ ap (λ (l : List Found). p.objects ++ l) (sym (numbered_next (of_user session) users i user lt is)))
+    (append_assoc p.objects (of_users accounts some) (of_user accounts (i + 1) user) ∙ ap (λ (l : List Found). p.objects ++ l) (sym (numbered_next (of_user accounts) users i user lt is)))
     (omega arith)
 
 -- where boot comes to one user after another
-pub users_way : (session : Session) (old mid : KernelModel) (i : ℕ) → i < length session.users → IsUnderWay (IsBeforeUser session 1) old → BootsOn old mid (IsBefore 3) (users_part session (take i session.users))
-    → IsUnderWay (IsBeforeUser session (i + 1)) mid
-users_way session old mid i lt way before =
-    let some = take i session.users in
-    let count : length some ≡ i = length-take-le i session.users (omega (arith, lt)) in (
+pub users_way : (accounts : Accounts) (old mid : KernelModel) (i : ℕ) → i < length accounts.users → IsUnderWay (IsBeforeUser accounts 1) old → BootsOn old mid (IsBefore 3) (users_part accounts (take i accounts.users))
+    → IsUnderWay (IsBeforeUser accounts (i + 1)) mid
+users_way accounts old mid i lt way before =
+    let some = take i accounts.users in
+    let count : length some ≡ i = length-take-le i accounts.users (omega (arith, lt)) in (
       way.0,
-      and_then way.1 (users_part session some),
-      (omega (arith, way.2.0, count, length-append way.1.objects (of_users session some), length-numbered session 1 some), omega (arith, way.2.1)),
+      and_then way.1 (users_part accounts some),
+      (omega (arith, way.2.0, count, length-append way.1.objects (of_users accounts some), length-numbered accounts 1 some), omega (arith, way.2.1)),
       before way.0 way.1 way.2.0 way.3,
     )
 
@@ -222,18 +222,18 @@ numbered_split f k (x ∷ xs) ys =
     ∙ sym (append_assoc (f k x) (numbered f (k + 1) xs) (numbered f (k + length (x ∷ xs)) ys))
 
 -- boot stops at a user
-pub users_begun : (session : Session) (old mid new : KernelModel) (i : ℕ) (user : User) → i < length session.users → user ≡ get_or session.users i user
-    → BootsOn old mid (IsBefore 3) (users_part session (take i session.users)) → BeginsUser mid new session (i + 1) user → BeginsUsers old new session
-users_begun session old mid new i user lt is before begins first p at b =
-    let some = take i session.users in
-    let rest = drop (i + 1) session.users in
-    let so_far = and_then p (users_part session some) in
-    let count : length some ≡ i = length-take-le i session.users (omega (arith, lt)) in
-    let next : next_number so_far ≡ 1 + 2 * (i + 1) = omega (arith, at, count, length-append p.objects (of_users session some), length-numbered session 1 some) in
+pub users_begun : (accounts : Accounts) (old mid new : KernelModel) (i : ℕ) (user : User) → i < length accounts.users → user ≡ get_or accounts.users i user
+    → BootsOn old mid (IsBefore 3) (users_part accounts (take i accounts.users)) → BeginsUser mid new accounts (i + 1) user → BeginsUsers old new accounts
+users_begun accounts old mid new i user lt is before begins first p at b =
+    let some = take i accounts.users in
+    let rest = drop (i + 1) accounts.users in
+    let so_far = and_then p (users_part accounts some) in
+    let count : length some ≡ i = length-take-le i accounts.users (omega (arith, lt)) in
+    let next : next_number so_far ≡ 1 + 2 * (i + 1) = omega (arith, at, count, length-append p.objects (of_users accounts some), length-numbered accounts 1 some) in
     let begun = begins first so_far next (before first p at b) in
-    let all : numbered (user_calls session) 1 session.users ≡ (numbered (user_calls session) 1 some ++ user_calls session (i + 1) user) ++ numbered (user_calls session) (1 + length (take (i + 1) session.users)) rest =
-    ap (numbered (user_calls session) 1) (sym (take-append-drop (i + 1) session.users)) ∙ numbered_split (user_calls session) 1 (take (i + 1) session.users) rest
-    ∙ ap (λ (l : List RawCall). l ++ numbered (user_calls session) (1 + length (take (i + 1) session.users)) rest) (numbered_next (user_calls session) session.users i user lt is) in
+    let all : numbered (user_calls accounts) 1 accounts.users ≡ (numbered (user_calls accounts) 1 some ++ user_calls accounts (i + 1) user) ++ numbered (user_calls accounts) (1 + length (take (i + 1) accounts.users)) rest =
+    ap (numbered (user_calls accounts) 1) (sym (take-append-drop (i + 1) accounts.users)) ∙ numbered_split (user_calls accounts) 1 (take (i + 1) accounts.users) rest
+    ∙ ap (λ (l : List RawCall). l ++ numbered (user_calls accounts) (1 + length (take (i + 1) accounts.users)) rest) (numbered_next (user_calls accounts) accounts.users i user lt is) in
     subst (HasBegun first new p.calls) (sym all)
-    (begun_more first new p.calls (numbered (user_calls session) 1 some ++ user_calls session (i + 1) user) (numbered (user_calls session) (1 + length (take (i + 1) session.users)) rest)
-    (begun_after first new p.calls (numbered (user_calls session) 1 some) (user_calls session (i + 1) user) begun))
+    (begun_more first new p.calls (numbered (user_calls accounts) 1 some ++ user_calls accounts (i + 1) user) (numbered (user_calls accounts) (1 + length (take (i + 1) accounts.users)) rest)
+    (begun_after first new p.calls (numbered (user_calls accounts) 1 some) (user_calls accounts (i + 1) user) begun))

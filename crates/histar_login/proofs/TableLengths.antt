@@ -3,7 +3,7 @@ use Rattle.std.proofs.Common.{◌≡◌, ℕ, ◌+◌, ◌≤◌, Bool, true, fa
 use Rattle.std.specs.Int.{w64, to_be_bytes}
 use Rattle.std.proofs.lemmas.List.{length-append}
 use Rattle.histar_flat.specs.declared.calls.User.{User}
-use Rattle.histar_flat.specs.Sessions.{Group, has}
+use Rattle.histar_flat.specs.Accounts.{Group, has}
 use Rattle.histar_flat.specs.Words.{Name}
 use Rattle.histar_layout.specs.Categories.{read_category, write_category, group_owner}
 use Rattle.histar_login.specs.Start.{numbers_among, user_entry, group_entry}

@@ -1,7 +1,7 @@
 -- How a machine boots: the raw calls of boot, in their order, and a kernel that was booted by them alone.
 use Rattle.std.specs.Prelude.{◌≡◌, ℕ, zero, suc, ◌+◌, ◌*◌, ◌<◌, List, [], ◌∷◌, ◌++◌, length, take}
 use Rattle.histar_flat.specs.declared.calls.User.{User}
-use Rattle.histar_flat.specs.Sessions.{Session}
+use Rattle.histar_flat.specs.Accounts.{Accounts}
 use Rattle.histar_flat.specs.Words.{Password}
 use Rattle.histar_object.specs.declared.objects.Entry.TheVariants.{Login}
 use Rattle.histar_object.specs.State.{empty_state}
@@ -32,12 +32,12 @@ abbrev pub gate_call : ℕ → List ℕ → RawCall
 gate_call i owners = MakeGate root_number (owners_label owners) (owners_clearance owners) (Login i)
 
 -- the password of user i, and the gate that gives what the user and its groups own
-abbrev pub user_calls : Session → ℕ → User → List RawCall
-user_calls session i user = password_call i user.password ∷ gate_call i (owners_of session i user.name) ∷ []
+abbrev pub user_calls : Accounts → ℕ → User → List RawCall
+user_calls accounts i user = password_call i user.password ∷ gate_call i (owners_of accounts i user.name) ∷ []
 
 -- the user table, which nobody may write
-abbrev pub table_call : Session → RawCall
-table_call session = MakeSegment root_number (written_by root_category) (user_table session)
+abbrev pub table_call : Accounts → RawCall
+table_call accounts = MakeSegment root_number (written_by root_category) (user_table accounts)
 
 -- `/`, which the first user alone may write
 abbrev pub slash_call : RawCall
@@ -48,8 +48,8 @@ abbrev pub listing_call : ℕ → RawCall
 listing_call slash = MakeSegment slash (written_by (write_category 1)) []
 
 -- the user table, and `/`, which is the object 4 + 2n, with its directory segment
-abbrev pub directory_calls : ℕ → Session → List RawCall
-directory_calls n session = table_call session ∷ slash_call ∷ listing_call (4 + 2 * n) ∷ []
+abbrev pub directory_calls : ℕ → Accounts → List RawCall
+directory_calls n accounts = table_call accounts ∷ slash_call ∷ listing_call (4 + 2 * n) ∷ []
 
 -- the container of process 0, which the owner of w writes
 abbrev pub outer_call : ℕ → RawCall
@@ -89,22 +89,22 @@ last_calls = last_call ∷ []
 
 -- the raw calls of boot, in their order: two categories for nobody, for each user and for each group; the objects of each user; the
 -- user table and `/`; process 0
-abbrev pub boot_calls : Session → List RawCall
-boot_calls session =
-    category_calls (1 + declared session)
-    ++ numbered (user_calls session) 1 session.users
-    ++ directory_calls (length session.users) session
-    ++ process_calls (length session.users) (declared session)
+abbrev pub boot_calls : Accounts → List RawCall
+boot_calls accounts =
+    category_calls (1 + declared accounts)
+    ++ numbered (user_calls accounts) 1 accounts.users
+    ++ directory_calls (length accounts.users) accounts
+    ++ process_calls (length accounts.users) (declared accounts)
     ++ last_calls
 
 -- Boot made its raw calls on the empty kernel, one after another on line 0; each was granted, and nothing else was done.
-pub record IsBooted (session : Session) (kernel : KernelModel) : Type 0 where
+pub record IsBooted (accounts : Accounts) (kernel : KernelModel) : Type 0 where
   pub first : KernelModel
   pub empty : state first ≡ empty_state
   pub no_trace : first.trace ≡ []
   pub line : first.line ≡ 0
-  pub made : Granted first kernel boot_thread_number (boot_calls session)
+  pub made : Granted first kernel boot_thread_number (boot_calls accounts)
 
 -- a beginning of boot that is not all of it was made, and each of its raw calls was granted
-abbrev pub HasBegunBoot : Session → KernelModel → KernelModel → Type 0
-HasBegunBoot session old new = (made : ℕ) × (made < length (boot_calls session)) × Granted old new boot_thread_number (take made (boot_calls session))
+abbrev pub HasBegunBoot : Accounts → KernelModel → KernelModel → Type 0
+HasBegunBoot accounts old new = (made : ℕ) × (made < length (boot_calls accounts)) × Granted old new boot_thread_number (take made (boot_calls accounts))

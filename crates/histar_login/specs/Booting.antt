@@ -2,7 +2,7 @@
 use Rattle.std.specs.Prelude.{◌≡◌, ℕ, ◌+◌, ◌*◌, ◌<◌, ◌≤◌, Bool, ◌&&◌, nat_lt, if◌then◌else◌, List, [], ◌∷◌, ◌++◌, length, take, None, Some, Result, Ok, Err, ⊤}
 use Rattle.std.specs.List.{range_with_len}
 use Rattle.histar_flat.specs.declared.calls.User.{User}
-use Rattle.histar_flat.specs.Sessions.{Session}
+use Rattle.histar_flat.specs.Accounts.{Accounts}
 use Rattle.histar_object.specs.declared.objects.Object.{Object}
 use Rattle.histar_object.specs.declared.objects.Kind.TheVariants.{Thread}
 use Rattle.histar_object.specs.State.{Found}
@@ -16,9 +16,9 @@ use Rattle.histar_rules.specs.Rules.{check, greatest, IsNextNumber}
 use Rattle.histar_syscall.specs.KernelModel.{KernelModel, state, Called, IsUnchanged}
 use Rattle.histar_syscall.specs.Runs.{Granted}
 use Rattle.histar_layout.specs.Labelling.{written_by}
-use Rattle.histar_calls.specs.declared.places.Home.{Home}
-use Rattle.histar_calls.specs.declared.places.Place.{Place}
-use Rattle.histar_login.specs.Start.{numbered, root_category, declared, own_read_category, container, state_with, places_of, of_user, of_users, of_directory, of_process}
+use Rattle.histar_calls.specs.declared.roots.Home.{Home}
+use Rattle.histar_calls.specs.declared.roots.Place.{Place}
+use Rattle.histar_login.specs.Start.{numbered, root_category, declared, own_read_category, container, state_with, roots_of, of_user, of_users, of_directory, of_process}
 use Rattle.histar_login.specs.Boot.{boot_thread_number, category_calls, user_calls, directory_calls, process_calls}
 
 -- A part of boot: its raw calls, the numbers that the root container links by them, the objects that they make, and how many
@@ -65,7 +65,7 @@ pub record Boots (first now : KernelModel) (p : Part) : Type 0 where
   pub granted : Granted first now boot_thread_number p.calls
   pub boot : Object Levels
   pub owner : OwnsMade (next_made p) boot
-  pub stands : state now ≡ state_with (table_of boot p) (next_made p)
+  pub agrees : state now ≡ state_with (table_of boot p) (next_made p)
 
 -- where boot had come so far that this holds, it has gone on by this part
 abbrev pub BootsOn : KernelModel → KernelModel → (Part → Type 0) → Part → Type 0
@@ -143,58 +143,58 @@ abbrev pub categories_part : ℕ → Part
 categories_part count = record { calls = category_calls count; linked = []; objects = []; categories = 2 * count }
 
 -- the password and the gate of user i
-abbrev pub user_part : Session → ℕ → User → Part
-user_part session i user = record { calls = user_calls session i user; linked = (1 + 2 * i) ∷ (2 + 2 * i) ∷ []; objects = of_user session i user; categories = 0 }
+abbrev pub user_part : Accounts → ℕ → User → Part
+user_part accounts i user = record { calls = user_calls accounts i user; linked = (1 + 2 * i) ∷ (2 + 2 * i) ∷ []; objects = of_user accounts i user; categories = 0 }
 
 -- boot has come to the user of this number
-abbrev pub IsBeforeUser : Session → ℕ → Part → Type 0
-IsBeforeUser session i = IsBeforeBoth (1 + 2 * i) (own_read_category (declared session))
+abbrev pub IsBeforeUser : Accounts → ℕ → Part → Type 0
+IsBeforeUser accounts i = IsBeforeBoth (1 + 2 * i) (own_read_category (declared accounts))
 
 -- the password and the gate of user i were made
-abbrev pub MakesUser : KernelModel → KernelModel → Session → ℕ → User → Type 0
-MakesUser old new session i user = BootsOn old new (IsBefore (1 + 2 * i)) (user_part session i user)
+abbrev pub MakesUser : KernelModel → KernelModel → Accounts → ℕ → User → Type 0
+MakesUser old new accounts i user = BootsOn old new (IsBefore (1 + 2 * i)) (user_part accounts i user)
 
 -- the password and the gate of user i were begun
-abbrev pub BeginsUser : KernelModel → KernelModel → Session → ℕ → User → Type 0
-BeginsUser old new session i user = BeginsOn old new (IsBefore (1 + 2 * i)) (user_part session i user)
+abbrev pub BeginsUser : KernelModel → KernelModel → Accounts → ℕ → User → Type 0
+BeginsUser old new accounts i user = BeginsOn old new (IsBefore (1 + 2 * i)) (user_part accounts i user)
 
 -- the passwords and the gates of these users
-abbrev pub users_part : Session → List User → Part
-users_part session users = record {
-  calls = numbered (user_calls session) 1 users;
+abbrev pub users_part : Accounts → List User → Part
+users_part accounts users = record {
+  calls = numbered (user_calls accounts) 1 users;
   linked = range_with_len 3 (2 * length users);
-  objects = of_users session users;
+  objects = of_users accounts users;
   categories = 0;
 }
 
 -- the user table and `/`
-abbrev pub directory_part : ℕ → Session → Part
-directory_part n session = record { calls = directory_calls n session; linked = (3 + 2 * n) ∷ (4 + 2 * n) ∷ []; objects = of_directory n session; categories = 0 }
+abbrev pub directory_part : ℕ → Accounts → Part
+directory_part n accounts = record { calls = directory_calls n accounts; linked = (3 + 2 * n) ∷ (4 + 2 * n) ∷ []; objects = of_directory n accounts; categories = 0 }
 
 -- the passwords and the gates of all users were made
-abbrev pub MakesUsers : KernelModel → KernelModel → Session → Type 0
-MakesUsers old new session = BootsOn old new (IsBefore 3) (users_part session session.users)
+abbrev pub MakesUsers : KernelModel → KernelModel → Accounts → Type 0
+MakesUsers old new accounts = BootsOn old new (IsBefore 3) (users_part accounts accounts.users)
 
 -- the passwords and the gates of all users were begun
-abbrev pub BeginsUsers : KernelModel → KernelModel → Session → Type 0
-BeginsUsers old new session = BeginsOn old new (IsBefore 3) (users_part session session.users)
+abbrev pub BeginsUsers : KernelModel → KernelModel → Accounts → Type 0
+BeginsUsers old new accounts = BeginsOn old new (IsBefore 3) (users_part accounts accounts.users)
 
 -- boot has come to the user table and `/`, and there is room for them
-pub record IsBeforeDirectory (session : Session) (p : Part) : Type 0 where
-  pub comes : IsBeforeBoth (3 + 2 * length session.users) (own_read_category (declared session)) p
+pub record IsBeforeDirectory (accounts : Accounts) (p : Part) : Type 0 where
+  pub comes : IsBeforeBoth (3 + 2 * length accounts.users) (own_read_category (declared accounts)) p
   pub room : HasRoom 0 3 p
 
 -- the user table and `/` were begun there
-abbrev pub BeginsDirectory : KernelModel → KernelModel → Session → Type 0
-BeginsDirectory old new session = BeginsOn old new (IsBefore (3 + 2 * length session.users)) (directory_part (length session.users) session)
+abbrev pub BeginsDirectory : KernelModel → KernelModel → Accounts → Type 0
+BeginsDirectory old new accounts = BeginsOn old new (IsBefore (3 + 2 * length accounts.users)) (directory_part (length accounts.users) accounts)
 
 -- the user table and `/` were made behind the passwords and the gates of all users
-abbrev pub MakesDirectory : KernelModel → KernelModel → Session → Type 0
-MakesDirectory old new session = BootsOn old new (IsBefore (3 + 2 * length session.users)) (directory_part (length session.users) session)
+abbrev pub MakesDirectory : KernelModel → KernelModel → Accounts → Type 0
+MakesDirectory old new accounts = BootsOn old new (IsBefore (3 + 2 * length accounts.users)) (directory_part (length accounts.users) accounts)
 
 -- the container and the segment that are made there are those of `/`
-abbrev pub IsFirstDirectory : KernelModel → Session → Place → Type 0
-IsFirstDirectory old session slash = FollowsOfBoot old (IsBefore (3 + 2 * length session.users)) (slash ≡ (places_of (length session.users)).slash)
+abbrev pub IsFirstDirectory : KernelModel → Accounts → Place → Type 0
+IsFirstDirectory old accounts slash = FollowsOfBoot old (IsBefore (3 + 2 * length accounts.users)) (slash ≡ (roots_of (length accounts.users)).slash)
 
 -- process 0
 abbrev pub process_part : ℕ → ℕ → Part
@@ -210,4 +210,4 @@ BeginsProcess old new = (n owners : ℕ) → BeginsOn old new (IsBeforeBoth (6 +
 
 -- the container and the segment that are made behind `/` are those of process 0
 abbrev pub IsFirstHome : KernelModel → Home → Type 0
-IsFirstHome old home = (n owners : ℕ) → FollowsOfBoot old (IsBeforeBoth (6 + 2 * n) (own_read_category owners)) (home ≡ (places_of n).home)
+IsFirstHome old home = (n owners : ℕ) → FollowsOfBoot old (IsBeforeBoth (6 + 2 * n) (own_read_category owners)) (home ≡ (roots_of n).home)

@@ -5,7 +5,7 @@ use Rattle.histar_flat.specs.declared.calls.User.{User}
 use Rattle.histar_flat.specs.declared.replies.Errno.TheVariants.{ENOENT, EAUTH}
 use Rattle.histar_flat.specs.declared.replies.Reply.{Reply}
 use Rattle.histar_flat.specs.declared.replies.Reply.TheVariants.{Done, Refused}
-use Rattle.histar_flat.specs.Sessions.{Session}
+use Rattle.histar_flat.specs.Accounts.{Accounts}
 use Rattle.histar_flat.specs.Words.{Name}
 use Rattle.histar_label.specs.Levels.{Levels}
 use Rattle.histar_label.specs.Floors.{join_of, floor_of}
@@ -70,8 +70,8 @@ label_if false caller owners own = own
 
 -- and the clearance
 abbrev pub clearance_if : Bool → Caller → List ℕ → Levels → Levels
-clearance_if true caller owners most = user_clearance caller owners
-clearance_if false caller owners most = most
+clearance_if true caller owners own_clearance = user_clearance caller owners
+clearance_if false caller owners own_clearance = own_clearance
 
 -- the thread takes the label and the clearance that are its due
 abbrev pub take_due : Bool → Caller → List ℕ → Levels × Levels → Part (Unit {0})
@@ -96,14 +96,14 @@ login_as_program caller i owners password = do
   Answers (reply_if right)
 
 -- a login as the user of this name at a place, if there is one
-abbrev pub login_at : Session → Caller → Name → List ℕ → Option ℕ → Program
-login_at session caller name password None = Answers (Refused ENOENT)
-login_at session caller name password (Some place) = login_as_program caller (place + 1) (owners_of session (place + 1) name) password
+abbrev pub login_at : Accounts → Caller → Name → List ℕ → Option ℕ → Program
+login_at accounts caller name password None = Answers (Refused ENOENT)
+login_at accounts caller name password (Some place) = login_as_program caller (place + 1) (owners_of accounts (place + 1) name) password
 
 -- the program of `login NAME PASSWORD`
-abbrev pub login_program : Session → Caller → Name → List ℕ → Program
-login_program session caller name password = login_at session caller name password (place_of session.users name)
+abbrev pub login_program : Accounts → Caller → Name → List ℕ → Program
+login_program accounts caller name password = login_at accounts caller name password (place_of accounts.users name)
 
 -- the programs of logins reply to their refusals
 abbrev pub LoginsReplyToRefusals : Type 0
-LoginsReplyToRefusals = (session : Session) (caller : Caller) (name : Name) (password : List ℕ) → RepliesToRefusals (login_program session caller name password)
+LoginsReplyToRefusals = (accounts : Accounts) (caller : Caller) (name : Name) (password : List ℕ) → RepliesToRefusals (login_program accounts caller name password)

@@ -5,7 +5,7 @@ use Rattle.std.specs.Int.{w64, to_be_bytes}
 use Rattle.std.specs.List.{range_with_len}
 use Rattle.std.specs.FinSet as set
 use Rattle.histar_flat.specs.declared.calls.User.{User}
-use Rattle.histar_flat.specs.Sessions.{Group, Session, has}
+use Rattle.histar_flat.specs.Accounts.{Group, Accounts, has}
 use Rattle.histar_flat.specs.Words.{Name}
 use Rattle.histar_label.specs.declared.levels.Level.{Level}
 use Rattle.histar_label.specs.declared.levels.Level.TheVariants.{Star, L1, L2, L3}
@@ -14,7 +14,7 @@ use Rattle.histar_object.specs.declared.objects.Entry.TheVariants.{Login}
 use Rattle.histar_object.specs.declared.objects.Kind.TheVariants.{Segment, Container, Thread, Gate}
 use Rattle.histar_object.specs.Objects.{Objects}
 use Rattle.histar_object.specs.State.{State, Found}
-use Rattle.histar_calls.specs.declared.places.Places.{Places}
+use Rattle.histar_calls.specs.declared.roots.Roots.{Roots}
 use Rattle.histar_layout.specs.Categories.{read_category, write_category, group_owner, owners_of}
 use Rattle.histar_layout.specs.Labelling.{labelled, written_by, secret_of, owner_of, cleared_of}
 
@@ -28,8 +28,8 @@ abbrev pub root_category : ℕ
 root_category = 1
 
 -- how many users and groups there are together
-abbrev pub declared : Session → ℕ
-declared session = length session.users + length session.groups
+abbrev pub declared : Accounts → ℕ
+declared accounts = length accounts.users + length accounts.groups
 
 -- where there are so many users and groups together, the category that process 0 owns to keep its secrets
 abbrev pub own_read_category : ℕ → ℕ
@@ -53,12 +53,12 @@ abbrev pub owners_clearance : List ℕ → Levels
 owners_clearance owners = labelled (at_both L3 owners) L2
 
 -- the label that the gate of the user i of this name gives: it owns the categories of the user and of its groups
-abbrev pub gate_label : Session → ℕ → Name → Levels
-gate_label session i name = owners_label (owners_of session i name)
+abbrev pub gate_label : Accounts → ℕ → Name → Levels
+gate_label accounts i name = owners_label (owners_of accounts i name)
 
 -- and the clearance of that gate
-abbrev pub gate_clearance : Session → ℕ → Name → Levels
-gate_clearance session i name = owners_clearance (owners_of session i name)
+abbrev pub gate_clearance : Accounts → ℕ → Name → Levels
+gate_clearance accounts i name = owners_clearance (owners_of accounts i name)
 
 -- a segment with these bytes
 abbrev pub segment : Levels → List ℕ → Found
@@ -73,15 +73,15 @@ abbrev pub of_root : ℕ → List Found
 of_root n = container (written_by root_category) (range_with_len 3 (2 + 2 * n) ++ (6 + 2 * n) ∷ []) ∷ None ∷ []
 
 -- 1 + 2i and 2 + 2i are the password of user i, which its owner alone may read, and the gate that gives what the user owns
-abbrev pub of_user : Session → ℕ → User → List Found
-of_user session i user =
+abbrev pub of_user : Accounts → ℕ → User → List Found
+of_user accounts i user =
     segment (secret_of (read_category i) (write_category i)) user.password
-    ∷ Some (record { label = gate_label session i user.name; kind = Gate (gate_clearance session i user.name) (Login i) })
+    ∷ Some (record { label = gate_label accounts i user.name; kind = Gate (gate_clearance accounts i user.name) (Login i) })
     ∷ []
 
 -- 3 to 2 + 2n: the users from number 1 on
-abbrev pub of_users : Session → List User → List Found
-of_users session users = numbered (of_user session) 1 users
+abbrev pub of_users : Accounts → List User → List Found
+of_users accounts users = numbered (of_user accounts) 1 users
 
 -- a user in the user table: the length of the name and the name, the user's two categories, its gate and its password
 unfoldable pub user_entry : Name → ℕ → ℕ → ℕ → List ℕ
@@ -117,13 +117,13 @@ group_part users [] = []
 group_part users (group ∷ groups) = 0 ∷ numbered (group_entry users) 1 (group ∷ groups)
 
 -- the user table: the users, and then the groups
-abbrev pub user_table : Session → List ℕ
-user_table session = user_entries session.users ++ group_part session.users session.groups
+abbrev pub user_table : Accounts → List ℕ
+user_table accounts = user_entries accounts.users ++ group_part accounts.users accounts.groups
 
 -- 3 + 2n is the user table, 4 + 2n is `/`, and 5 + 2n is its directory segment, which is empty; the first user alone may write the last two
-abbrev pub of_directory : ℕ → Session → List Found
-of_directory n session =
-    segment (written_by root_category) (user_table session)
+abbrev pub of_directory : ℕ → Accounts → List Found
+of_directory n accounts =
+    segment (written_by root_category) (user_table accounts)
     ∷ container (written_by (write_category 1)) ((5 + 2 * n) ∷ [])
     ∷ segment (written_by (write_category 1)) []
     ∷ []
@@ -143,12 +143,12 @@ of_process n owners =
     ∷ []
 
 -- the objects of a machine with these users and groups that has just started, from number 1 on
-abbrev pub start_objects : Session → List Found
-start_objects session =
-    of_root (length session.users)
-    ++ of_users session session.users
-    ++ of_directory (length session.users) session
-    ++ of_process (length session.users) (declared session)
+abbrev pub start_objects : Accounts → List Found
+start_objects accounts =
+    of_root (length accounts.users)
+    ++ of_users accounts accounts.users
+    ++ of_directory (length accounts.users) accounts
+    ++ of_process (length accounts.users) (declared accounts)
 
 -- what a table has at each number: the first entry is that of 1, and at 0 is nothing
 abbrev pub object_at : List Found → Objects Levels
@@ -160,12 +160,12 @@ abbrev pub state_with : List Found → ℕ → State
 state_with objects next_category = record { objects = object_at objects; next_object = 1 + length objects; next_category = next_category }
 
 -- the state in which a machine with these n users and m groups starts, once boot made the categories 1 to 5 + 2n + 2m
-abbrev pub start_state : Session → State
-start_state session = state_with (start_objects session) (6 + 2 * declared session)
+abbrev pub start_state : Accounts → State
+start_state accounts = state_with (start_objects accounts) (6 + 2 * declared accounts)
 
 -- where `/` and process 0 are found, where there are so many users
-abbrev pub places_of : ℕ → Places
-places_of users = record {
+abbrev pub roots_of : ℕ → Roots
+roots_of users = record {
   slash = record { container = 4 + 2 * users; listing = 5 + 2 * users };
   home = record { container = 6 + 2 * users; segment = 9 + 2 * users };
 }

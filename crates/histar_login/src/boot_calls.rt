@@ -8,13 +8,13 @@ ghost use Rattle.histar_layout.specs.Categories.{write_category};
 ghost use Rattle.histar_layout.specs.Labelling.{written_by};
 ghost use Rattle.histar_login.specs.Boot.{HasBegunBoot, IsBooted, boot_thread_number, gate_call, inner_call, last_call, listing_call, outer_call, password_call, slash_call, status_call, table_call, thread_call};
 ghost use Rattle.histar_login.specs.Booting.{Allows, BeginsDirectory, BeginsOn, BeginsProcess, BeginsUser, BeginsUsers, BootsOn, Grants, HasRoom, IsAnywhere, IsBeforeDirectory, IsBeforeUser, IsFirstDirectory, IsFirstHome, IsNextCategory, IsUnderWay, IsUndenied, MakesDirectory, MakesObject, MakesProcess, MakesUser, MakesUsers, Passes, categories_part, two_categories};
-ghost use Rattle.histar_login.specs.Start.{first_process_bytes, start_state, places_of};
+ghost use Rattle.histar_login.specs.Start.{first_process_bytes, start_state, roots_of};
 
 use crate::gates::gate_labels;
 use crate::table::user_table;
 use histar_base::Bytes;
-use histar_calls::{Home, Place, Places, Stopped};
-use histar_flat::{Session, User};
+use histar_calls::{Home, Place, Roots, Stopped};
+use histar_flat::{Accounts, User};
 use histar_label::{Category, Label, LabelStore, Level};
 use histar_layout::{label_of, owners_among, read_category, write_category};
 use histar_object::{Entry, ObjId};
@@ -110,26 +110,26 @@ fn make_login_gate<S: LabelStore + Drop>(
     requires { Allows kernel.old (gate_call number owners.now) }
     ensures { MakesObject kernel.old kernel.new (gate_call number owners.now) result }
 {
-    let (given, most) = gate_labels(alloc, owners)?;
+    let (given, clearance) = gate_labels(alloc, owners)?;
     let entry = Entry::Login(number);
-    granted(kernel.make_gate(boot_thread(), root_container(), given, most, entry))
+    granted(kernel.make_gate(boot_thread(), root_container(), given, clearance, entry))
 }
 
 /// Makes the password and the gate of a user.
 fn make_user<S: LabelStore + Drop>(
     alloc: Global,
     kernel: &mut Kernel<S>,
-    session: &Session,
+    accounts: &Accounts,
     number: u8,
     user: &User,
 ) -> Result<(), Stopped>
-    requires number { number ≤ length session.now.users }
-    requires begins { IsUnderWay (IsBeforeUser session.now number) kernel.old }
-    ensures ok { OnOk result (MakesUser kernel.old kernel.new session.now number user.now) }
-    ensures err { OnErr result (BeginsUser kernel.old kernel.new session.now number user.now) }
+    requires number { number ≤ length accounts.now.users }
+    requires begins { IsUnderWay (IsBeforeUser accounts.now number) kernel.old }
+    ensures ok { OnOk result (MakesUser kernel.old kernel.new accounts.now number user.now) }
+    ensures err { OnErr result (BeginsUser kernel.old kernel.new accounts.now number user.now) }
 {
-    let users = session.users();
-    let groups = session.groups();
+    let users = accounts.users();
+    let groups = accounts.groups();
     let owners = owners_among(alloc, users.len(), groups, number, user.name)?;
     make_password(alloc, kernel, number, user.password.as_bytes())?;
     make_login_gate(alloc, kernel, number, owners.as_slice())?;
@@ -140,15 +140,15 @@ fn make_user<S: LabelStore + Drop>(
 fn make_users<S: LabelStore + Drop>(
     alloc: Global,
     kernel: &mut Kernel<S>,
-    session: &Session,
+    accounts: &Accounts,
 ) -> Result<(), Stopped>
-    requires { IsUnderWay (IsBeforeUser session.now 1) kernel.old }
-    ensures ok { OnOk result (MakesUsers kernel.old kernel.new session.now) }
-    ensures err { OnErr result (BeginsUsers kernel.old kernel.new session.now) }
+    requires { IsUnderWay (IsBeforeUser accounts.now 1) kernel.old }
+    ensures ok { OnOk result (MakesUsers kernel.old kernel.new accounts.now) }
+    ensures err { OnErr result (BeginsUsers kernel.old kernel.new accounts.now) }
 {
-    let users = session.users();
+    let users = accounts.users();
     for (i, user) in users.iter().enumerate() {
-        make_user(alloc, kernel, session, i as u8 + 1, user)?;
+        make_user(alloc, kernel, accounts, i as u8 + 1, user)?;
     }
     Ok(())
 }
@@ -157,13 +157,13 @@ fn make_users<S: LabelStore + Drop>(
 fn make_user_table<S: LabelStore + Drop>(
     alloc: Global,
     kernel: &mut Kernel<S>,
-    session: &Session,
+    accounts: &Accounts,
 ) -> Result<ObjId, Stopped>
-    requires { IsUnderWay (IsBeforeDirectory session.now) kernel.old }
-    ensures { MakesObject kernel.old kernel.new (table_call session.now) result }
+    requires { IsUnderWay (IsBeforeDirectory accounts.now) kernel.old }
+    ensures { MakesObject kernel.old kernel.new (table_call accounts.now) result }
 {
     let guarded = label_of(alloc, Level::L1, &[(Category::new(BOOT), Level::L0)])?;
-    let table = user_table(alloc, session)?;
+    let table = user_table(alloc, accounts)?;
     granted(kernel.make_segment(alloc, boot_thread(), root_container(), guarded, table))
 }
 
@@ -201,15 +201,15 @@ fn make_listing<S: LabelStore + Drop>(
 fn make_directory<S: LabelStore + Drop>(
     alloc: Global,
     kernel: &mut Kernel<S>,
-    session: &Session,
+    accounts: &Accounts,
 ) -> Result<Place, Stopped>
-    requires some { 0 < length session.now.users }
-    requires begins { IsUnderWay (IsBeforeDirectory session.now) kernel.old }
-    ensures boots { OnOk result (MakesDirectory kernel.old kernel.new session.now) }
-    ensures slash { IfOk result (IsFirstDirectory kernel.old session.now) }
-    ensures err { OnErr result (BeginsDirectory kernel.old kernel.new session.now) }
+    requires some { 0 < length accounts.now.users }
+    requires begins { IsUnderWay (IsBeforeDirectory accounts.now) kernel.old }
+    ensures boots { OnOk result (MakesDirectory kernel.old kernel.new accounts.now) }
+    ensures slash { IfOk result (IsFirstDirectory kernel.old accounts.now) }
+    ensures err { OnErr result (BeginsDirectory kernel.old kernel.new accounts.now) }
 {
-    make_user_table(alloc, kernel, session)?;
+    make_user_table(alloc, kernel, accounts)?;
     let container = make_slash(alloc, kernel)?;
     let listing = make_listing(alloc, kernel, container)?;
     Ok(Place { container, listing })
@@ -269,8 +269,8 @@ fn make_first_thread<S: LabelStore + Drop>(
         Level::L1,
         &[(read, Level::Star), (write, Level::Star)],
     )?;
-    let most = label_of(alloc, Level::L2, &[(read, Level::L3), (write, Level::L3)])?;
-    granted(kernel.make_thread(boot_thread(), internal, own, most))
+    let clearance = label_of(alloc, Level::L2, &[(read, Level::L3), (write, Level::L3)])?;
+    granted(kernel.make_thread(boot_thread(), internal, own, clearance))
 }
 
 /// Makes the process segment of process 0.
@@ -331,23 +331,23 @@ fn unlink_boot_thread<S: LabelStore + Drop>(
 fn boot_on<S: LabelStore + Drop>(
     alloc: Global,
     kernel: &mut Kernel<S>,
-    session: &Session,
-) -> Result<Places, Stopped>
-    requires some { 0 < length session.now.users }
+    accounts: &Accounts,
+) -> Result<Roots, Stopped>
+    requires some { 0 < length accounts.now.users }
     requires state { state kernel.old ≡ empty_state }
     requires trace { kernel.old.trace ≡ [] }
     requires line { kernel.old.line ≡ 0 }
-    ensures booted { OnOk result (IsBooted session.now kernel.new) }
-    ensures state { OnOk result (state kernel.new ≡ start_state session.now) }
-    ensures places { IfOk result (λ places. places ≡ places_of (length session.now.users)) }
-    ensures err { OnErr result (HasBegunBoot session.now kernel.old kernel.new) }
+    ensures booted { OnOk result (IsBooted accounts.now kernel.new) }
+    ensures state { OnOk result (state kernel.new ≡ start_state accounts.now) }
+    ensures roots { IfOk result (λ roots. roots ≡ roots_of (length accounts.now.users)) }
+    ensures err { OnErr result (HasBegunBoot accounts.now kernel.old kernel.new) }
 {
-    make_categories(kernel, 1 + session.users().len() + session.groups().len())?;
-    make_users(alloc, kernel, session)?;
-    let slash = make_directory(alloc, kernel, session)?;
+    make_categories(kernel, 1 + accounts.users().len() + accounts.groups().len())?;
+    make_users(alloc, kernel, accounts)?;
+    let slash = make_directory(alloc, kernel, accounts)?;
     let home = make_process(alloc, kernel)?;
     unlink_boot_thread(alloc, kernel)?;
-    Ok(Places { slash, home })
+    Ok(Roots { slash, home })
 }
 
 /// Boots a machine, and returns its kernel, and where `/` and process 0 are found. It stops where memory
@@ -356,14 +356,14 @@ fn boot_on<S: LabelStore + Drop>(
 pub fn boot<S: LabelStore + Drop>(
     alloc: Global,
     store: S,
-    session: &Session,
-) -> Result<(Kernel<S>, Places), Stopped>
-    requires { 0 < length session.now.users }
-    ensures booted { IfOk result (λ r. IsBooted session.now r.0) }
-    ensures state { IfOk result (λ r. state r.0 ≡ start_state session.now) }
-    ensures places { IfOk result (λ r. r.1 ≡ places_of (length session.now.users)) }
+    accounts: &Accounts,
+) -> Result<(Kernel<S>, Roots), Stopped>
+    requires { 0 < length accounts.now.users }
+    ensures booted { IfOk result (λ r. IsBooted accounts.now r.0) }
+    ensures state { IfOk result (λ r. state r.0 ≡ start_state accounts.now) }
+    ensures roots { IfOk result (λ r. r.1 ≡ roots_of (length accounts.now.users)) }
 {
     let mut kernel = Kernel::new(alloc, store)?;
-    let places = boot_on(alloc, &mut kernel, session)?;
-    Ok((kernel, places))
+    let roots = boot_on(alloc, &mut kernel, accounts)?;
+    Ok((kernel, roots))
 }

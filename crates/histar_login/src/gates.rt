@@ -12,8 +12,8 @@ pub(crate) fn gate_labels(alloc: Global, owners: &[u8]) -> Result<(Label, Label)
     ensures { IfOk result (λ gate. (gate.0 ≡ owners_label owners.now) × (gate.1 ≡ owners_clearance owners.now)) }
 {
     let given = label_at_both(alloc, Level::L1, Level::Star, owners)?;
-    let most = label_at_both(alloc, Level::L2, Level::L3, owners)?;
-    Ok((given, most))
+    let clearance = label_at_both(alloc, Level::L2, Level::L3, owners)?;
+    Ok((given, clearance))
 }
 
 /// The label with one level at both categories of each of these users and groups, and another at all

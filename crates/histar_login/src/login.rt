@@ -9,7 +9,7 @@ ghost use Rattle.histar_login.specs.Login.{AreEntryLabels, user_label, user_clea
 
 use crate::gates::gate_labels;
 use histar_base::Bytes;
-use histar_calls::{Ending, Stopped, settle};
+use histar_calls::{CallError, Stopped, settle};
 use histar_flat::{Errno, Name, Password, Reply};
 use histar_label::{Label, LabelStore};
 use histar_layout::{UserTable, cleared_at, owner_label, owners_of};
@@ -76,7 +76,7 @@ fn enter_gate<S: LabelStore + Drop>(
     number: u8,
     owners: &[u8],
     own: &(Label, Label),
-) -> Result<Entry, Ending>
+) -> Result<Entry, CallError>
     ensures { RunsPart (ask (entering owners.now number own.now.0 own.now.1)) kernel.old kernel.new thread result }
 {
     let EntryLabels {
@@ -96,7 +96,7 @@ fn ask_password<S: LabelStore + Drop>(
     thread: ObjId,
     number: u8,
     password: Password,
-) -> Result<bool, Ending>
+) -> Result<bool, CallError>
     ensures { RunsPart (ask_password number password) kernel.old kernel.new thread result }
 {
     let kept = kernel.read_copy(alloc, thread, ObjId::new(1), password_segment(number))?;
@@ -129,7 +129,7 @@ fn take_due<S: LabelStore + Drop>(
     caller: &Caller,
     owners: &[u8],
     own: (Label, Label),
-) -> Result<(), Ending>
+) -> Result<(), CallError>
     ensures { RunsPart (take_due right caller.now owners.now own) kernel.old kernel.new caller.now.thread result }
 {
     let (label, clearance) = due_labels(alloc, right, caller, owners, own)?;
@@ -184,7 +184,7 @@ fn login_as<S: LabelStore + Drop>(
     number: u8,
     owners: &[u8],
     password: Password,
-) -> Result<Reply, Ending>
+) -> Result<Reply, CallError>
     ensures { Runs (login_as_program caller.now number owners.now password) kernel.old kernel.new
         caller.now.thread (settled result) }
 {

@@ -1,11 +1,11 @@
 //! The bytes of the user table: who the users are, which groups they are in, and where boot left what
 //! is theirs.
 ghost use Rattle.std.specs.Prelude.{◌≡◌, ◌+◌, ◌<◌, ◌≤◌, ◌++◌, length, IfOk, OnOk};
-ghost use Rattle.histar_flat.specs.Sessions.{most_groups, most_users};
+ghost use Rattle.histar_flat.specs.Accounts.{most_groups, most_users};
 ghost use Rattle.histar_login.specs.Start.{numbers_among, user_entry, group_entry, group_part, user_table};
 
 use histar_base::Bytes;
-use histar_flat::{Group, Session, User};
+use histar_flat::{Accounts, Group, User};
 use histar_layout::{group_owner, read_category, write_category};
 use std::alloc::{AllocError, Global};
 
@@ -49,16 +49,16 @@ fn push_members(table: &mut Vec<u8>, users: &[User], group: &Group) -> Result<()
 /// many members it has, and the numbers of these.
 fn push_group(
     table: &mut Vec<u8>,
-    session: &Session,
+    accounts: &Accounts,
     number: u8,
     group: &Group,
 ) -> Result<(), AllocError>
     requires { number ≤ most_groups }
     ensures adds { OnOk result (table.new.items
-        ≡ table.old.items ++ group_entry session.now.users number group.now) }
+        ≡ table.old.items ++ group_entry accounts.now.users number group.now) }
     ensures few { OnOk result (length table.new.items ≤ length table.old.items + 66) }
 {
-    let users = session.users();
+    let users = accounts.users();
     let name = group.name();
     let owner = group_owner(users.len(), number);
     table.push(name.as_bytes().len() as u8)?;
@@ -70,32 +70,32 @@ fn push_group(
 }
 
 /// Adds the groups to the user table, which has a zero before them where a group is.
-fn push_groups(table: &mut Vec<u8>, session: &Session) -> Result<(), AllocError>
+fn push_groups(table: &mut Vec<u8>, accounts: &Accounts) -> Result<(), AllocError>
     ensures adds { OnOk result (table.new.items
-        ≡ table.old.items ++ group_part session.now.users session.now.groups) }
+        ≡ table.old.items ++ group_part accounts.now.users accounts.now.groups) }
     ensures few { OnOk result (length table.new.items ≤ length table.old.items + 529) }
 {
-    let groups = session.groups();
+    let groups = accounts.groups();
     if groups.is_empty() {
         return Ok(());
     }
     table.push(0)?;
     for (k, group) in groups.iter().enumerate() {
-        push_group(table, session, k as u8 + 1, group)?;
+        push_group(table, accounts, k as u8 + 1, group)?;
     }
     Ok(())
 }
 
 /// The bytes of the user table: nobody first, then the users in their order, and then the groups.
-pub(crate) fn user_table(alloc: Global, session: &Session) -> Result<Bytes, AllocError>
-    ensures value { IfOk result (λ b. b ≡ user_table session.now) }
+pub(crate) fn user_table(alloc: Global, accounts: &Accounts) -> Result<Bytes, AllocError>
+    ensures value { IfOk result (λ b. b ≡ user_table accounts.now) }
 
     // They fit into a segment.
     ensures few { IfOk result (λ b. length b ≤ 4096) }
 {
     let mut table = Vec::new(alloc);
     push_user(&mut table, b"nobody", 0, 0, 0)?;
-    let users = session.users();
+    let users = accounts.users();
     for (i, user) in users.iter().enumerate() {
         let at = i as u64;
         push_user(
@@ -106,6 +106,6 @@ pub(crate) fn user_table(alloc: Global, session: &Session) -> Result<Bytes, Allo
             2 * at + 3,
         )?;
     }
-    push_groups(&mut table, session)?;
+    push_groups(&mut table, accounts)?;
     Ok(Bytes::from_vec(table))
 }

@@ -11,8 +11,8 @@ use Rattle.histar_layout.specs.Listing.{object_of}
 use Rattle.histar_layout.specs.declared.entry.Target.{Target}
 use Rattle.histar_layout.specs.declared.entry.Target.TheVariants as targets
 use Rattle.histar_calls.specs.declared.directory.Directory.{Directory}
-use Rattle.histar_calls.specs.declared.places.Place.{Place}
-use Rattle.histar_calls.specs.declared.places.Places.{Places}
+use Rattle.histar_calls.specs.declared.roots.Place.{Place}
+use Rattle.histar_calls.specs.declared.roots.Roots.{Roots}
 use Rattle.histar_calls.specs.Laws.{RepliesToRefusals}
 use Rattle.histar_calls.specs.Parts.{given, entry_at, read_directory, target_named, write_entries}
 use Rattle.histar_calls.specs.Programs.{Program}
@@ -27,14 +27,14 @@ use Rattle.histar_moves.specs.Rmtree.{rmtree_program}
 use Rattle.histar_moves.specs.Unlink.{unlink_program}
 
 -- the search for an entry replies to its refusals
-entry_replies : (places : Places) (path : Path) (rest : FoundEntry → Program) → ((entry : FoundEntry) → RepliesToRefusals (rest entry)) → RepliesToRefusals (find_entry places path rest)
+entry_replies : (roots : Roots) (path : Path) (rest : FoundEntry → Program) → ((entry : FoundEntry) → RepliesToRefusals (rest entry)) → RepliesToRefusals (find_entry roots path rest)
 unfolding find_entry
-entry_replies places [] rest tells = (refl, refl)
-entry_replies places (name ∷ parent) rest tells = walk_replies places parent _ (λ directory. by directory (target_named directory name))
+entry_replies roots [] rest obeys = (refl, refl)
+entry_replies roots (name ∷ parent) rest obeys = walk_replies roots parent _ (λ directory. by directory (target_named directory name))
   where
     by : (directory : Directory) (target : Option Target) → RepliesToRefusals (given (entry_at target) (λ found. rest (record { place = directory.place; entries = directory.entries; name = name; target = found })))
     by directory None = (refl, refl)
-    by directory (Some target) = tells (record { place = directory.place; entries = directory.entries; name = name; target = target })
+    by directory (Some target) = obeys (record { place = directory.place; entries = directory.entries; name = name; target = target })
 
 -- and so does the last part of a call, which writes a directory and is done
 written_replies : (place : Place) (entries : Entries) → RepliesToRefusals (write_entries place entries (λ _. Answers Done))
@@ -45,21 +45,21 @@ away_replies : (entry : FoundEntry) → RepliesToRefusals (take_away entry (λ _
 unfolding take_away
 away_replies entry = ask_replies (Unlink entry.place.container (object_of entry.target)) (λ gone. write_entries entry.place (map.remove entry.entries entry.name) (λ _. Answers Done)) (λ gone. written_replies entry.place (map.remove entry.entries entry.name))
 
-unlink_program_replies : (places : Places) (path : Path) → RepliesToRefusals (unlink_program places path)
+unlink_program_replies : (roots : Roots) (path : Path) → RepliesToRefusals (unlink_program roots path)
 unfolding unlink_program
-unlink_program_replies places path = entry_replies places path _ (λ entry. by entry entry.target)
+unlink_program_replies roots path = entry_replies roots path _ (λ entry. by entry entry.target)
   where
     by : (entry : FoundEntry) (target : Target) → RepliesToRefusals (given (must_be_file target) (λ _. take_away entry (λ _. Answers Done)))
     by entry (targets.File file) = away_replies entry
     by entry (targets.Directory container listing) = (refl, refl)
 
-rmtree_program_replies : (places : Places) (path : Path) → RepliesToRefusals (rmtree_program places path)
+rmtree_program_replies : (roots : Roots) (path : Path) → RepliesToRefusals (rmtree_program roots path)
 unfolding rmtree_program
-rmtree_program_replies places path = entry_replies places path _ away_replies
+rmtree_program_replies roots path = entry_replies roots path _ away_replies
 
-rename_program_replies : (places : Places) (path : Path) (name : Name) → RepliesToRefusals (rename_program places path name)
+rename_program_replies : (roots : Roots) (path : Path) (name : Name) → RepliesToRefusals (rename_program roots path name)
 unfolding rename_program
-rename_program_replies places path name = entry_replies places path _ (λ entry. by entry (map.get entry.entries name))
+rename_program_replies roots path name = entry_replies roots path _ (λ entry. by entry (map.get entry.entries name))
   where
     by : (entry : FoundEntry) (target : Option Target) → RepliesToRefusals (given (must_be_free target) (λ _. write_entries entry.place (map.insert (map.remove entry.entries entry.name) name entry.target) (λ _. Answers Done)))
     by entry None = written_replies entry.place (map.insert (map.remove entry.entries entry.name) name entry.target)
@@ -70,9 +70,9 @@ empty_replies : (entry : FoundEntry) (empty : Bool) → RepliesToRefusals (given
 empty_replies entry true = away_replies entry
 empty_replies entry false = (refl, refl)
 
-rmdir_program_replies : (places : Places) (path : Path) → RepliesToRefusals (rmdir_program places path)
+rmdir_program_replies : (roots : Roots) (path : Path) → RepliesToRefusals (rmdir_program roots path)
 unfolding rmdir_program
-rmdir_program_replies places path = entry_replies places path _ (λ entry. by entry entry.target)
+rmdir_program_replies roots path = entry_replies roots path _ (λ entry. by entry entry.target)
   where
     by : (entry : FoundEntry) (target : Target) → RepliesToRefusals (given (must_be_directory target) (λ place. read_directory place (λ directory. given (must_be_empty directory.entries) (λ _. take_away entry (λ _. Answers Done)))))
     by entry (targets.File file) = (refl, refl)

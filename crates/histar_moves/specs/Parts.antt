@@ -10,18 +10,18 @@ use Rattle.histar_layout.specs.Directory.{Entries}
 use Rattle.histar_layout.specs.Listing.{object_of}
 use Rattle.histar_layout.specs.declared.entry.Target.{Target}
 use Rattle.histar_layout.specs.declared.entry.Target.TheVariants.{File, Directory}
-use Rattle.histar_calls.specs.declared.places.Place.{Place}
-use Rattle.histar_calls.specs.declared.places.Places.{Places}
+use Rattle.histar_calls.specs.declared.roots.Place.{Place}
+use Rattle.histar_calls.specs.declared.roots.Roots.{Roots}
 use Rattle.histar_calls.specs.Programs.{Part}
 use Rattle.histar_calls.specs.Programs.Program.{Answers}
 use Rattle.histar_calls.specs.Parts.{◌>>=◌, ◌>>◌, ask, given, entry_at, target_named, walk_to, write_entries}
 use Rattle.histar_moves.specs.declared.entry.FoundEntry.{FoundEntry}
 
 -- the entry of a path: `/` has none; else the walk is made, and the last name must lead somewhere
-unfoldable pub find_entry : Places → Path → Part FoundEntry
-find_entry places [] rest = Answers (Refused EBUSY)
-find_entry places (name ∷ parent) rest = do
-  directory ← walk_to places parent
+unfoldable pub find_entry : Roots → Path → Part FoundEntry
+find_entry roots [] rest = Answers (Refused EBUSY)
+find_entry roots (name ∷ parent) rest = do
+  directory ← walk_to roots parent
   target ← given (entry_at (target_named directory name))
   rest (record { place = directory.place; entries = directory.entries; name = name; target = target })
 

@@ -2,16 +2,16 @@
 use Rattle.std.specs.FinMap as map
 use Rattle.histar_flat.specs.Words.{Name, Path}
 use Rattle.histar_flat.specs.declared.replies.Reply.TheVariants.{Done}
-use Rattle.histar_calls.specs.declared.places.Places.{Places}
+use Rattle.histar_calls.specs.declared.roots.Roots.{Roots}
 use Rattle.histar_calls.specs.Programs.{Program}
 use Rattle.histar_calls.specs.Programs.Program.{Answers}
 use Rattle.histar_calls.specs.Parts.{◌>>=◌, ◌>>◌, given, write_entries}
 use Rattle.histar_moves.specs.Parts.{find_entry, must_be_free}
 
 -- the entry is found, its directory must not have the new name, and is written with the entry under the new name in place of the old
-unfoldable pub rename_program : Places → Path → Name → Program
-rename_program places path name = do
-  entry ← find_entry places path
+unfoldable pub rename_program : Roots → Path → Name → Program
+rename_program roots path name = do
+  entry ← find_entry roots path
   given (must_be_free (map.get entry.entries name))
   write_entries entry.place (map.insert (map.remove entry.entries entry.name) name entry.target)
   Answers Done

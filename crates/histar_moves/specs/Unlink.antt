@@ -1,16 +1,16 @@
 -- The program of `unlink PATH`.
 use Rattle.histar_flat.specs.Words.{Path}
 use Rattle.histar_flat.specs.declared.replies.Reply.TheVariants.{Done}
-use Rattle.histar_calls.specs.declared.places.Places.{Places}
+use Rattle.histar_calls.specs.declared.roots.Roots.{Roots}
 use Rattle.histar_calls.specs.Programs.{Program}
 use Rattle.histar_calls.specs.Programs.Program.{Answers}
 use Rattle.histar_calls.specs.Parts.{◌>>=◌, ◌>>◌, given}
 use Rattle.histar_moves.specs.Parts.{find_entry, must_be_file, take_away}
 
 -- the entry is found, which must be a file's, and is taken away
-unfoldable pub unlink_program : Places → Path → Program
-unlink_program places path = do
-  entry ← find_entry places path
+unfoldable pub unlink_program : Roots → Path → Program
+unlink_program roots path = do
+  entry ← find_entry roots path
   given (must_be_file entry.target)
   take_away entry
   Answers Done

@@ -4,7 +4,7 @@ ghost use Rattle.std.specs.FinMap as map;
 ghost use Rattle.histar_calls.specs.Programs.{RunsPart};
 ghost use Rattle.histar_moves.specs.Parts.{find_entry, must_be_file, must_be_directory, must_be_empty, must_be_free, take_away};
 
-use histar_calls::{Directory, Ending, Place, Places, walk, write_entries};
+use histar_calls::{CallError, Directory, Place, Roots, walk, write_entries};
 use histar_flat::{Errno, Name};
 use histar_label::LabelStore;
 use histar_layout::{Dir, Target};
@@ -90,17 +90,17 @@ pub fn must_be_empty(entries: &Dir) -> Result<(), Errno>
 pub fn find_entry<S: LabelStore + Drop>(
     alloc: Global,
     kernel: &mut Kernel<S>,
-    places: &Places,
+    roots: &Roots,
     thread: ObjId,
     path: &[Name],
-) -> Result<FoundEntry, Ending>
-    ensures runs { RunsPart (find_entry places.now path.now) kernel.old kernel.new thread result }
+) -> Result<FoundEntry, CallError>
+    ensures runs { RunsPart (find_entry roots.now path.now) kernel.old kernel.new thread result }
     ensures there { IfOk result (λ entry. map.get entry.entries entry.name ≡ Some entry.target) }
 {
     let [name, parent @ ..] = path else {
-        return Err(Ending::Refused(Errno::EBUSY));
+        return Err(CallError::Refused(Errno::EBUSY));
     };
-    let directory = walk(alloc, kernel, places, thread, parent)?;
+    let directory = walk(alloc, kernel, roots, thread, parent)?;
     let target = directory.entry_at(name)?;
     let Directory { place, entries } = directory;
     Ok(FoundEntry {
@@ -118,7 +118,7 @@ pub fn take_away<S: LabelStore + Drop>(
     kernel: &mut Kernel<S>,
     thread: ObjId,
     entry: FoundEntry,
-) -> Result<(), Ending>
+) -> Result<(), CallError>
     ensures { RunsPart (take_away entry) kernel.old kernel.new thread result }
 {
     let FoundEntry {

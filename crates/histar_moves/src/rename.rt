@@ -4,7 +4,7 @@ ghost use Rattle.histar_calls.specs.Refusals.{settled};
 ghost use Rattle.histar_moves.specs.Rename.{rename_program};
 
 use crate::entry::find_entry;
-use histar_calls::{Ending, Places, Stopped, settle, write_entries};
+use histar_calls::{CallError, Roots, Stopped, settle, write_entries};
 use histar_flat::{Name, Reply};
 use histar_label::LabelStore;
 use histar_object::ObjId;
@@ -18,27 +18,27 @@ use std::alloc::Global;
 pub fn rename<S: LabelStore + Drop>(
     alloc: Global,
     kernel: &mut Kernel<S>,
-    places: &Places,
+    roots: &Roots,
     thread: ObjId,
     path: &[Name],
     name: &Name,
 ) -> Result<Reply, Stopped>
-    ensures { Runs (rename_program places.now path.now name.now) kernel.old kernel.new thread result }
+    ensures { Runs (rename_program roots.now path.now name.now) kernel.old kernel.new thread result }
 {
-    settle(rename_entry(alloc, kernel, places, thread, path, name))
+    settle(rename_entry(alloc, kernel, roots, thread, path, name))
 }
 
 fn rename_entry<S: LabelStore + Drop>(
     alloc: Global,
     kernel: &mut Kernel<S>,
-    places: &Places,
+    roots: &Roots,
     thread: ObjId,
     path: &[Name],
     name: &Name,
-) -> Result<Reply, Ending>
-    ensures { Runs (rename_program places.now path.now name.now) kernel.old kernel.new thread (settled result) }
+) -> Result<Reply, CallError>
+    ensures { Runs (rename_program roots.now path.now name.now) kernel.old kernel.new thread (settled result) }
 {
-    let entry = find_entry(alloc, kernel, places, thread, path)?;
+    let entry = find_entry(alloc, kernel, roots, thread, path)?;
     entry.must_be_free(name)?;
     let place = entry.place;
     let entries = entry.renamed(alloc, name)?;

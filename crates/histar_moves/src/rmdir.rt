@@ -4,7 +4,7 @@ ghost use Rattle.histar_calls.specs.Refusals.{settled};
 ghost use Rattle.histar_moves.specs.Rmdir.{rmdir_program};
 
 use crate::entry::{find_entry, must_be_empty, take_away};
-use histar_calls::{Directory, Ending, Places, Stopped, settle};
+use histar_calls::{CallError, Directory, Roots, Stopped, settle};
 use histar_flat::{Name, Reply};
 use histar_label::LabelStore;
 use histar_object::ObjId;
@@ -18,25 +18,25 @@ use std::alloc::Global;
 pub fn rmdir<S: LabelStore + Drop>(
     alloc: Global,
     kernel: &mut Kernel<S>,
-    places: &Places,
+    roots: &Roots,
     thread: ObjId,
     path: &[Name],
 ) -> Result<Reply, Stopped>
-    ensures { Runs (rmdir_program places.now path.now) kernel.old kernel.new thread result }
+    ensures { Runs (rmdir_program roots.now path.now) kernel.old kernel.new thread result }
 {
-    settle(remove_directory(alloc, kernel, places, thread, path))
+    settle(remove_directory(alloc, kernel, roots, thread, path))
 }
 
 fn remove_directory<S: LabelStore + Drop>(
     alloc: Global,
     kernel: &mut Kernel<S>,
-    places: &Places,
+    roots: &Roots,
     thread: ObjId,
     path: &[Name],
-) -> Result<Reply, Ending>
-    ensures { Runs (rmdir_program places.now path.now) kernel.old kernel.new thread (settled result) }
+) -> Result<Reply, CallError>
+    ensures { Runs (rmdir_program roots.now path.now) kernel.old kernel.new thread (settled result) }
 {
-    let entry = find_entry(alloc, kernel, places, thread, path)?;
+    let entry = find_entry(alloc, kernel, roots, thread, path)?;
     let place = entry.must_be_directory()?;
     let directory = Directory::read(alloc, kernel, thread, place)?;
     must_be_empty(&directory.entries)?;

@@ -4,7 +4,7 @@ ghost use Rattle.histar_calls.specs.Refusals.{settled};
 ghost use Rattle.histar_moves.specs.Unlink.{unlink_program};
 
 use crate::entry::{find_entry, take_away};
-use histar_calls::{Ending, Places, Stopped, settle};
+use histar_calls::{CallError, Roots, Stopped, settle};
 use histar_flat::{Name, Reply};
 use histar_label::LabelStore;
 use histar_object::ObjId;
@@ -17,25 +17,25 @@ use std::alloc::Global;
 pub fn unlink<S: LabelStore + Drop>(
     alloc: Global,
     kernel: &mut Kernel<S>,
-    places: &Places,
+    roots: &Roots,
     thread: ObjId,
     path: &[Name],
 ) -> Result<Reply, Stopped>
-    ensures { Runs (unlink_program places.now path.now) kernel.old kernel.new thread result }
+    ensures { Runs (unlink_program roots.now path.now) kernel.old kernel.new thread result }
 {
-    settle(unlink_file(alloc, kernel, places, thread, path))
+    settle(unlink_file(alloc, kernel, roots, thread, path))
 }
 
 fn unlink_file<S: LabelStore + Drop>(
     alloc: Global,
     kernel: &mut Kernel<S>,
-    places: &Places,
+    roots: &Roots,
     thread: ObjId,
     path: &[Name],
-) -> Result<Reply, Ending>
-    ensures { Runs (unlink_program places.now path.now) kernel.old kernel.new thread (settled result) }
+) -> Result<Reply, CallError>
+    ensures { Runs (unlink_program roots.now path.now) kernel.old kernel.new thread (settled result) }
 {
-    let entry = find_entry(alloc, kernel, places, thread, path)?;
+    let entry = find_entry(alloc, kernel, roots, thread, path)?;
     entry.must_be_file()?;
     take_away(alloc, kernel, thread, entry)?;
     Ok(Reply::Done)

@@ -101,13 +101,13 @@ module _ {X : Type 0} (at : ℕ → Option X) where
   none_at slots is q none = lookup-placed slots is q ∙ ap found none
 
   -- a slot that is told has an object
-  slot_told : (o : Option ℕ) → ((k : ℕ) → o ≡ Some k → IsSome (at k)) → found o ≡ None → o ≡ None
-  slot_told None stands none = refl
-  slot_told (Some k) stands none = absurd (false≢true (ap is_some (sym none) ∙ stands k refl))
+  slot_revealed : (o : Option ℕ) → ((k : ℕ) → o ≡ Some k → IsSome (at k)) → found o ≡ None → o ≡ None
+  slot_revealed None stands none = refl
+  slot_revealed (Some k) stands none = absurd (false≢true (ap is_some (sym none) ∙ stands k refl))
 
   -- where there is no object, the number has no slot
   pub no_slot : (slots : List (ℕ × ℕ)) → IsPlaced at slots → (q : ℕ) → object_at (placed at slots) q ≡ None → slot_at slots q ≡ None
-  no_slot slots is q none = slot_told (slot_at slots q) (is.stands q) (sym (lookup-placed slots is q) ∙ none)
+  no_slot slots is q none = slot_revealed (slot_at slots q) (is.stands q) (sym (lookup-placed slots is q) ∙ none)
 
 module _ {X : Type 0} (at new_at : ℕ → Option X) (es fs : List (ℕ × ℕ)) (was : IsPlaced at es) (kept : new_at ≡ at) (same : (q : ℕ) → slot_at fs q ≡ slot_at es q) where
   -- slots are kept in another order, and their objects stay
@@ -130,7 +130,7 @@ module _ {X : Type 0} (at new_at : ℕ → Option X) (es fs : List (ℕ × ℕ))
     pub updated : HasSlot es fs n w
     pub changed : new_at s ≡ x
     pub others : KeepsOthers at new_at s
-    pub told : found new_at w ≡ x
+    pub revealed : found new_at w ≡ x
     pub only : (k : ℕ) → w ≡ Some k → (k ≡ s) × IsSome x
     pub named : IsSome x → w ≡ Some s
     pub own : (k : ℕ) → slot_at es n ≡ Some k → k ≡ s
@@ -153,7 +153,7 @@ module _ {X : Type 0} (at new_at : ℕ → Option X) (es fs : List (ℕ × ℕ))
     -- the number has the object x, and every other number the object that it had
     found_after : (q : ℕ) → found new_at (slot_at fs q) ≡ (if q == n then x else found at (slot_at es q))
     found_after q = elim (eqb_tells q n) [
-      | inl same ↦ ap (found new_at) (at_own q same.1) ∙ one.told ∙ sym (ap (λ b. if b then x else found at (slot_at es q)) same.0)
+      | inl same ↦ ap (found new_at) (at_own q same.1) ∙ one.revealed ∙ sym (ap (λ b. if b then x else found at (slot_at es q)) same.0)
       | inr other ↦ ap (found new_at) (at_other q other.1) ∙ found_same (slot_at es q) (λ k. one.apart q k other.1) ∙ sym (ap (λ b. if b then x else found at (slot_at es q)) other.0)
     ]
 
@@ -215,7 +215,7 @@ module _ {X : Type 0} (at new_at : ℕ → Option X) (es : List (ℕ × ℕ)) (w
     updated = slot_stays here;
     changed = changed;
     others = others;
-    told = changed;
+    revealed = changed;
     only = λ k is. (sym (one_some s k is), refl);
     named = λ some. refl;
     own = slot_own here;
@@ -228,7 +228,7 @@ module _ {X : Type 0} (at new_at : ℕ → Option X) (es : List (ℕ × ℕ)) (w
     updated = updated;
     changed = changed;
     others = others;
-    told = changed;
+    revealed = changed;
     only = λ k is. (sym (one_some s k is), refl);
     named = λ some. refl;
     own = λ k is. absurd (none_or_some k (sym none ∙ is));
@@ -241,7 +241,7 @@ module _ {X : Type 0} (at new_at : ℕ → Option X) (es : List (ℕ × ℕ)) (w
     updated = updated;
     changed = changed;
     others = others;
-    told = refl;
+    revealed = refl;
     only = λ k is. absurd (none_or_some k is);
     named = λ some. absurd (false≢true some);
     own = slot_own here;

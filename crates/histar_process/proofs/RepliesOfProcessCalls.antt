@@ -2,7 +2,7 @@
 use Rattle.std.proofs.Common.{ℕ, Bool, true, false, [], ◌∷◌, ◌+◌, length, Option, None, Some, refl}
 use Rattle.std.specs.Prelude.{nat_lt, not}
 use Rattle.histar_flat.specs.Words.{ProcName, most_children, most_numbers}
-use Rattle.histar_flat.specs.Sessions.{Session}
+use Rattle.histar_flat.specs.Accounts.{Accounts}
 use Rattle.histar_flat.specs.declared.replies.Reply.TheVariants as replies
 use Rattle.histar_label.specs.Levels.{Levels}
 use Rattle.histar_rules.specs.Sound.{root_number}
@@ -14,8 +14,8 @@ use Rattle.histar_calls.specs.Laws.{RepliesToRefusals}
 use Rattle.histar_calls.specs.Parts.{ask, given, if_there}
 use Rattle.histar_calls.specs.Programs.{Program}
 use Rattle.histar_calls.specs.Programs.Program.{Answers}
-use Rattle.histar_calls.specs.declared.places.Home.{Home}
-use Rattle.histar_calls.specs.declared.places.Places.{Places}
+use Rattle.histar_calls.specs.declared.roots.Home.{Home}
+use Rattle.histar_calls.specs.declared.roots.Roots.{Roots}
 use Rattle.histar_calls.proofs.RepliesOfPrograms.{ask_replies}
 use Rattle.histar_process.specs.Birth.{birth, inner_label, outer_label, thread_clearance, thread_label}
 use Rattle.histar_process.specs.ExitCall.{exit_program}
@@ -31,45 +31,45 @@ use Rattle.histar_process.specs.Whoami.{whoami_program}
 -- what comes after a process segment was read tells, where what comes after what it tells does
 status_replies : (home : Home) (rest : ProcessStatus → Program) → ((status : ProcessStatus) → RepliesToRefusals (rest status)) → RepliesToRefusals (read_status home rest)
 unfolding read_status
-status_replies home rest tells = ask_replies (Read home.container home.segment) (λ bytes. if_there rest (status_in bytes)) (λ bytes. by (status_in bytes))
+status_replies home rest obeys = ask_replies (Read home.container home.segment) (λ bytes. if_there rest (status_in bytes)) (λ bytes. by (status_in bytes))
   where
     by : (found : Option ProcessStatus) → RepliesToRefusals (if_there rest found)
     by None = tt
-    by (Some status) = tells status
+    by (Some status) = obeys status
 
 -- the same of a process that is found
 home_replies : (first : Home) (name : ProcName) (rest : Home → Program) → ((home : Home) → RepliesToRefusals (rest home)) → RepliesToRefusals (find_home first name rest)
 unfolding find_home
-home_replies first [] rest tells = tells first
-home_replies first (n ∷ above) rest tells = home_replies first above _ (λ home. status_replies home _ (λ status. by (child_at status.children n)))
+home_replies first [] rest obeys = obeys first
+home_replies first (n ∷ above) rest obeys = home_replies first above _ (λ home. status_replies home _ (λ status. by (child_at status.children n)))
   where
     by : (found : Option Child) → RepliesToRefusals (given (must_be_there found) (λ child. rest (home_of child)))
     by None = (refl, refl)
-    by (Some child) = tells (home_of child)
+    by (Some child) = obeys (home_of child)
 
 -- of a process segment that is written, and of an object that is taken away
 written_replies : (home : Home) (status : ProcessStatus) (rest : Program) → RepliesToRefusals rest → RepliesToRefusals (write_status home status (λ _. rest))
-written_replies home status rest tells = ask_replies (Write home.container home.segment 0 (status_bytes status)) (λ _. rest) (λ _. tells)
+written_replies home status rest obeys = ask_replies (Write home.container home.segment 0 (status_bytes status)) (λ _. rest) (λ _. obeys)
 
 unlinked_replies : (container object : ℕ) (rest : Program) → RepliesToRefusals rest → RepliesToRefusals (ask (Unlink container object) (λ _. rest))
-unlinked_replies container object rest tells = ask_replies (Unlink container object) (λ _. rest) (λ _. tells)
+unlinked_replies container object rest obeys = ask_replies (Unlink container object) (λ _. rest) (λ _. obeys)
 
-whoami_replies : (session : Session) → RepliesToRefusals (whoami_program session)
+whoami_replies : (accounts : Accounts) → RepliesToRefusals (whoami_program accounts)
 unfolding whoami_program
-whoami_replies session = ask_replies OwnLabel (λ own. Answers (replies.User (user_name session.users (user_of own.0 (length session.users))) (not (is_empty (jobs_in own.0))))) (λ own. (refl, refl))
+whoami_replies accounts = ask_replies OwnLabel (λ own. Answers (replies.User (user_name accounts.users (user_of own.0 (length accounts.users))) (not (is_empty (jobs_in own.0))))) (λ own. (refl, refl))
 
 life_replies : (life : Option ℕ) → RepliesToRefusals (Answers (status_reply life))
 life_replies None = (refl, refl)
 life_replies (Some number) = (refl, refl)
 
-status_program_replies : (places : Places) (name : ProcName) → RepliesToRefusals (status_program places name)
+status_program_replies : (roots : Roots) (name : ProcName) → RepliesToRefusals (status_program roots name)
 unfolding status_program
-status_program_replies places name = home_replies places.home name _ (λ home. status_replies home _ (λ status. life_replies status.exited))
+status_program_replies roots name = home_replies roots.home name _ (λ home. status_replies home _ (λ status. life_replies status.exited))
 
-kill_program_replies : (places : Places) (name : ProcName) → RepliesToRefusals (kill_program places name)
+kill_program_replies : (roots : Roots) (name : ProcName) → RepliesToRefusals (kill_program roots name)
 unfolding kill_program
-kill_program_replies places [] = status_replies places.home _ (λ status. unlinked_replies root_number places.home.container (Answers replies.Done) (refl, refl))
-kill_program_replies places (n ∷ above) = home_replies places.home above _ (λ home. status_replies home _ (λ status. by home status (child_at status.children n)))
+kill_program_replies roots [] = status_replies roots.home _ (λ status. unlinked_replies root_number roots.home.container (Answers replies.Done) (refl, refl))
+kill_program_replies roots (n ∷ above) = home_replies roots.home above _ (λ home. status_replies home _ (λ status. by home status (child_at status.children n)))
   where
     by : (home : Home) (status : ProcessStatus) (found : Option Child)
         → RepliesToRefusals (given (must_be_there found) (λ child. read_status (home_of child) (λ _. ask (Unlink home.container child.container) (λ _. write_status home (without_child n status) (λ _. Answers replies.Done)))))
@@ -106,20 +106,20 @@ module _ (parent : Home) (status : ProcessStatus) (kin : Kin) (rest : Unit {0} �
   -- a birth tells, where what comes after it does
   pub birth_replies : RepliesToRefusals (rest tt) → RepliesToRefusals (birth parent status kin rest)
   unfolding birth
-  birth_replies tells =
+  birth_replies obeys =
       ask_replies MakeCategory at_read (λ read. ask_replies MakeCategory (at_write read) (λ write.
       ask_replies (MakeContainer parent.container (outer_label kin write)) (at_container read write) (λ container.
       ask_replies (MakeContainer container (inner_label kin read write)) (at_internal read write container) (λ internal.
       ask_replies (MakeThread internal (thread_label kin read write) (thread_clearance kin read write)) (at_thread write container internal) (λ thread.
       ask_replies (MakeSegment container (outer_label kin write) (status_bytes (started internal thread))) (at_segment container) (λ segment.
-      written_replies parent (with_child_listed container segment status) (rest tt) tells))))))
+      written_replies parent (with_child_listed container segment status) (rest tt) obeys))))))
 
 -- ---- room for a child
 
-module _ (name : ProcName) (me : Home) (rest : ProcessStatus → Program) (tells : (status : ProcessStatus) → RepliesToRefusals (rest status)) where
+module _ (name : ProcName) (me : Home) (rest : ProcessStatus → Program) (obeys : (status : ProcessStatus) → RepliesToRefusals (rest status)) where
   children_replies : (status : ProcessStatus) (room : Bool) → RepliesToRefusals (given (must_have_room room) (λ _. rest status))
   children_replies status false = (refl, refl)
-  children_replies status true = tells status
+  children_replies status true = obeys status
 
   depth_replies : (room : Bool) → RepliesToRefusals (given (must_have_room room) (λ _. read_status me (λ status. given (must_have_room (nat_lt status.born most_children)) (λ _. rest status))))
   depth_replies false = (refl, refl)
@@ -129,7 +129,7 @@ module _ (name : ProcName) (me : Home) (rest : ProcessStatus → Program) (tells
   pub child_replies : RepliesToRefusals (room_for_child name me rest)
   child_replies = depth_replies (nat_lt (length name) most_numbers)
 
-module _ (session : Session) (name : ProcName) (me : Home) where
+module _ (accounts : Accounts) (name : ProcName) (me : Home) where
   -- what comes after the birth
   abbrev restored : ProcessStatus → Levels × Levels → Program
   restored status own = ask (SetLabel own.0) (λ _. ask (SetClearance own.1) (λ _. Answers (replies.Child ((status.born + 1) ∷ name))))
@@ -141,12 +141,12 @@ module _ (session : Session) (name : ProcName) (me : Home) where
 
   -- what comes after the thread's own labels
   abbrev born : ProcessStatus → Levels × Levels → Program
-  born status own = birth me status (kin_of session own.0) (λ _. restored status own)
+  born status own = birth me status (kin_of accounts own.0) (λ _. restored status own)
 
   born_replies : (status : ProcessStatus) → RepliesToRefusals (ask OwnLabel (born status))
-  born_replies status = ask_replies OwnLabel (born status) (λ own. birth_replies me status (kin_of session own.0) (λ _. restored status own) (restored_replies status own))
+  born_replies status = ask_replies OwnLabel (born status) (λ own. birth_replies me status (kin_of accounts own.0) (λ _. restored status own) (restored_replies status own))
 
-  spawn_program_replies : RepliesToRefusals (spawn_program session name me)
+  spawn_program_replies : RepliesToRefusals (spawn_program accounts name me)
   unfolding spawn_program
   spawn_program_replies = child_replies name me (λ status. ask OwnLabel (born status)) born_replies
 

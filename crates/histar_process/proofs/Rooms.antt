@@ -9,9 +9,9 @@ use Rattle.histar_syscall.specs.KernelModel.{KernelModel}
 use Rattle.histar_layout.specs.Status.{ProcessStatus}
 use Rattle.histar_calls.specs.Parts.{given}
 use Rattle.histar_calls.specs.Programs.{Part, RunsPart}
-use Rattle.histar_calls.specs.declared.ending.Ending.{Ending}
-use Rattle.histar_calls.specs.declared.ending.Ending.TheVariants.{Refused}
-use Rattle.histar_calls.specs.declared.places.Home.{Home}
+use Rattle.histar_calls.specs.declared.call_error.CallError.{CallError}
+use Rattle.histar_calls.specs.declared.call_error.CallError.TheVariants.{Refused}
+use Rattle.histar_calls.specs.declared.roots.Home.{Home}
 use Rattle.histar_calls.proofs.Running.{hands, then_part, part_fails}
 use Rattle.histar_process.specs.declared.find.Segment.{Segment}
 use Rattle.histar_process.specs.Parts.{read_status}
@@ -35,16 +35,16 @@ module _ (t : ℕ) (name : ProcName) (home : Home) (old : KernelModel) where
 
   module _ (new : KernelModel) (deep : Ok tt ≡ must_have_room (nat_lt (length name) most_numbers)) where
     -- it has
-    here : (result : Result ProcessStatus Ending) → RunsPart (after_depth home tt) old new t result → RunsPart (room_for_child name home) old new t result
+    here : (result : Result ProcessStatus CallError) → RunsPart (after_depth home tt) old new t result → RunsPart (room_for_child name home) old new t result
     here result runs =
         then_part t (given (must_have_room (nat_lt (length name) most_numbers))) old new (after_depth home) old tt (decided t old (must_have_room (nat_lt (length name) most_numbers)) tt deep) result runs
 
     -- the segment was not read
-    pub reading_fails : (ending : Ending) → RunsPart (read_status home) old new t (Err ending) → RunsPart (room_for_child name home) old new t (Err ending)
-    reading_fails ending first = here (Err ending) (part_fails t (read_status home) old new if_room ending first)
+    pub reading_fails : (call_error : CallError) → RunsPart (read_status home) old new t (Err call_error) → RunsPart (room_for_child name home) old new t (Err call_error)
+    reading_fails call_error first = here (Err call_error) (part_fails t (read_status home) old new if_room call_error first)
 
     module _ (status : ProcessStatus) (first : RunsPart (read_status home) old new t (Ok status)) where
-      read : (result : Result ProcessStatus Ending) → RunsPart (if_room status) new new t result → RunsPart (room_for_child name home) old new t result
+      read : (result : Result ProcessStatus CallError) → RunsPart (if_room status) new new t result → RunsPart (room_for_child name home) old new t result
       read result runs = here result (then_part t (read_status home) old new if_room new status first result runs)
 
       -- too many children were born
@@ -58,7 +58,7 @@ module _ (t : ℕ) (name : ProcName) (home : Home) (old : KernelModel) where
           read (Ok status) (then_part t (given (must_have_room (nat_lt status.born most_children))) new new (λ (done : Unit {0}) (rest : ProcessStatus → _). rest status) new tt (decided t new (must_have_room (nat_lt status.born most_children)) tt is) (Ok status) (hands t new status))
 
   -- an error that came by `?`
-  pub room_fails_so : (new : KernelModel) (ending : Ending) (result : Result Segment Ending) → IsErrAnd result (λ e. e ≡ ending) → RunsPart (room_for_child name home) old new t (Err ending) → RunsRoom name home old new t result
-  room_fails_so new ending result gave fails =
+  pub room_fails_so : (new : KernelModel) (call_error : CallError) (result : Result Segment CallError) → IsErrAnd result (λ e. e ≡ call_error) → RunsPart (room_for_child name home) old new t (Err call_error) → RunsRoom name home old new t result
+  room_fails_so new call_error result gave fails =
       let error = err_from_is_err_and result gave in
       subst (RunsRoom name home old new t) (sym (error.1 ∙ ap Err error.2)) fails

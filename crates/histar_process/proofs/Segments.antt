@@ -13,9 +13,9 @@ use Rattle.histar_layout.specs.Status.{ProcessStatus, child_at, head_of, look_fo
 use Rattle.histar_layout.specs.declared.status.Child.{Child}
 use Rattle.histar_layout.specs.declared.status.NotAStatus.{NotAStatus}
 use Rattle.histar_layout.specs.declared.status.StatusHead.{StatusHead}
-use Rattle.histar_calls.specs.declared.ending.Ending.{Ending}
-use Rattle.histar_calls.specs.declared.ending.Ending.TheVariants.{Refused, Stopped}
-use Rattle.histar_calls.specs.declared.places.Home.{Home}
+use Rattle.histar_calls.specs.declared.call_error.CallError.{CallError}
+use Rattle.histar_calls.specs.declared.call_error.CallError.TheVariants.{Refused, Stopped}
+use Rattle.histar_calls.specs.declared.roots.Home.{Home}
 use Rattle.histar_calls.specs.Programs.{Program, Part, RunsPart}
 use Rattle.histar_calls.specs.Parts.{ask, given, if_there}
 use Rattle.histar_calls.proofs.Running.{gives, gives_not, hands, refuses_at_once, then_part, part_fails}
@@ -26,14 +26,14 @@ use Rattle.histar_process.specs.Reading.{RunsReading, read_head, look_up}
 -- ---- what readers answer of bytes
 
 -- no head is told where nothing is
-nothing_told : (o : Option ProcessStatus) → None ≡ option_map head_of o → o ≡ None
-nothing_told None e = refl
-nothing_told (Some status) e = absurd cc
+nothing_revealed : (o : Option ProcessStatus) → None ≡ option_map head_of o → o ≡ None
+nothing_revealed None e = refl
+nothing_revealed (Some status) e = absurd cc
 
 -- a head is that of what is told
-head_told : (o : Option ProcessStatus) (head : StatusHead) → Some head ≡ option_map head_of o → (status : ProcessStatus) × (o ≡ Some status) × (head ≡ head_of status)
-head_told None head e = absurd cc
-head_told (Some status) head e = (status, refl, same_Some head (head_of status) e)
+head_revealed : (o : Option ProcessStatus) (head : StatusHead) → Some head ≡ option_map head_of o → (status : ProcessStatus) × (o ≡ Some status) × (head ≡ head_of status)
+head_revealed None head e = absurd cc
+head_revealed (Some status) head e = (status, refl, same_Some head (head_of status) e)
 
 -- no child is looked for where nothing is told
 nothing_looked : (o : Option ProcessStatus) (number : ℕ) (fault : NotAStatus) → Err fault ≡ look_for o number → o ≡ None
@@ -57,19 +57,19 @@ after_bytes bytes rest = if_there rest (status_in bytes)
 
 module _ (t : ℕ) (old new : KernelModel) (home : Home) where
   -- it was not read
-  pub read_fails : (ending : Ending) → RunsPart (ask (Read home.container home.segment)) old new t (Err ending) → RunsPart (read_status home) old new t (Err ending)
+  pub read_fails : (call_error : CallError) → RunsPart (ask (Read home.container home.segment)) old new t (Err call_error) → RunsPart (read_status home) old new t (Err call_error)
   unfolding read_status
-  read_fails ending first = part_fails t (ask (Read home.container home.segment)) old new after_bytes ending first
+  read_fails call_error first = part_fails t (ask (Read home.container home.segment)) old new after_bytes call_error first
 
   -- its head was not
-  pub head_fails : (ending : Ending) → RunsPart (ask (Read home.container home.segment)) old new t (Err ending) → RunsPart (read_head home) old new t (Err ending)
+  pub head_fails : (call_error : CallError) → RunsPart (ask (Read home.container home.segment)) old new t (Err call_error) → RunsPart (read_head home) old new t (Err call_error)
   unfolding read_head
-  head_fails ending first = part_fails t (read_status home) old new (λ (status : ProcessStatus) (rest : StatusHead → Program). rest (head_of status)) ending (read_fails ending first)
+  head_fails call_error first = part_fails t (read_status home) old new (λ (status : ProcessStatus) (rest : StatusHead → Program). rest (head_of status)) call_error (read_fails call_error first)
 
   -- no child was looked up
-  pub look_fails : (ending : Ending) (number : ℕ) → RunsPart (ask (Read home.container home.segment)) old new t (Err ending) → RunsPart (look_up home number) old new t (Err ending)
+  pub look_fails : (call_error : CallError) (number : ℕ) → RunsPart (ask (Read home.container home.segment)) old new t (Err call_error) → RunsPart (look_up home number) old new t (Err call_error)
   unfolding look_up
-  look_fails ending number first = part_fails t (read_status home) old new (λ (status : ProcessStatus) (rest : Option Child → Program). rest (child_at status.children number)) ending (read_fails ending first)
+  look_fails call_error number first = part_fails t (read_status home) old new (λ (status : ProcessStatus) (rest : Option Child → Program). rest (child_at status.children number)) call_error (read_fails call_error first)
 
   module _ (bytes : List ℕ) (first : RunsPart (ask (Read home.container home.segment)) old new t (Ok bytes)) where
     -- its bytes tell nothing
@@ -88,7 +88,7 @@ module _ (t : ℕ) (old new : KernelModel) (home : Home) where
 
     -- no head is told
     pub segment_none : None ≡ option_map head_of (status_in bytes) → RunsPart (read_status home) old new t (Err Stopped)
-    segment_none none = reads_none (nothing_told (status_in bytes) none)
+    segment_none none = reads_none (nothing_revealed (status_in bytes) none)
 
     pub head_none : None ≡ option_map head_of (status_in bytes) → RunsPart (read_head home) old new t (Err Stopped)
     unfolding read_head
@@ -97,13 +97,13 @@ module _ (t : ℕ) (old new : KernelModel) (home : Home) where
     -- this head is told
     pub segment_read : (head : StatusHead) → Some head ≡ option_map head_of (status_in bytes) → RunsReading home old new t (Ok (record { head = head; bytes = bytes }))
     segment_read head is =
-        let status_is = head_told (status_in bytes) head is in
+        let status_is = head_revealed (status_in bytes) head is in
         (status_is.0, record { status_is = status_is.1; head = status_is.2 }, reads status_is.0 status_is.1)
 
     pub head_read : (head : StatusHead) → Some head ≡ option_map head_of (status_in bytes) → RunsPart (read_head home) old new t (Ok head)
     unfolding read_head
     head_read head is =
-        let status_is = head_told (status_in bytes) head is in
+        let status_is = head_revealed (status_in bytes) head is in
         subst (λ (h : StatusHead). RunsPart (read_head home) old new t (Ok h)) (sym status_is.2)
         (then_part t (read_status home) old new (λ (status : ProcessStatus) (rest : StatusHead → Program). rest (head_of status)) new status_is.0 (reads status_is.0 status_is.1) (Ok (head_of status_is.0)) (hands t new (head_of status_is.0)))
 
@@ -122,8 +122,8 @@ module _ (t : ℕ) (old new : KernelModel) (home : Home) where
         (then_part t (read_status home) old new (λ (status : ProcessStatus) (rest : Option Child → Program). rest (child_at status.children number)) new status_is.0 (reads status_is.0 status_is.1) (Ok (child_at status_is.0.children number)) (hands t new (child_at status_is.0.children number)))
 
 -- an error that came by `?` from a process segment
-pub reading_fails : (t : ℕ) (home : Home) (old new : KernelModel) (ending : Ending) (result : Result Segment Ending) → IsErrAnd result (λ e. e ≡ ending) → RunsPart (read_status home) old new t (Err ending) → RunsReading home old new t result
-reading_fails t home old new ending result gave fails =
+pub reading_fails : (t : ℕ) (home : Home) (old new : KernelModel) (call_error : CallError) (result : Result Segment CallError) → IsErrAnd result (λ e. e ≡ call_error) → RunsPart (read_status home) old new t (Err call_error) → RunsReading home old new t result
+reading_fails t home old new call_error result gave fails =
     let error = err_from_is_err_and result gave in
     subst (RunsReading home old new t) (sym (error.1 ∙ ap Err error.2)) fails
 
@@ -165,8 +165,8 @@ then_there found rest = given (must_be_there found) (λ child. rest (home_of chi
 
 module _ (t : ℕ) (old new : KernelModel) (number : ℕ) (home : Home) where
   -- the number was not looked up
-  pub into_fails : (ending : Ending) → RunsPart (look_up home number) old new t (Err ending) → RunsPart (into number home) old new t (Err ending)
-  into_fails ending first = part_fails t (look_up home number) old new then_there ending first
+  pub into_fails : (call_error : CallError) → RunsPart (look_up home number) old new t (Err call_error) → RunsPart (into number home) old new t (Err call_error)
+  into_fails call_error first = part_fails t (look_up home number) old new then_there call_error first
 
   module _ (found : Option Child) (first : RunsPart (look_up home number) old new t (Ok found)) where
     -- a child has it
@@ -188,14 +188,14 @@ module _ (t : ℕ) (first : Home) (old new : KernelModel) (numbers : List ℕ) w
   finds_first none = subst (λ (n : List ℕ). RunsPart (find_home first n) old old t (Ok first)) (sym none) (hands t old first)
 
   module _ (number : ℕ) (above : ProcName) (split : numbers ≡ number ∷ above) where
-    here : (result : Result Home Ending) → RunsPart (λ rest. find_home first above (λ home. into number home rest)) old new t result → RunsPart (find_home first numbers) old new t result
+    here : (result : Result Home CallError) → RunsPart (λ rest. find_home first above (λ home. into number home rest)) old new t result → RunsPart (find_home first numbers) old new t result
     unfolding find_home look_up
     here result runs = subst (λ (n : List ℕ). RunsPart (find_home first n) old new t result) (sym split) runs
 
     -- the process above was not found
-    pub find_fails : (ending : Ending) → RunsPart (find_home first above) old new t (Err ending) → RunsPart (find_home first numbers) old new t (Err ending)
-    find_fails ending before = here (Err ending) (part_fails t (find_home first above) old new (into number) ending before)
+    pub find_fails : (call_error : CallError) → RunsPart (find_home first above) old new t (Err call_error) → RunsPart (find_home first numbers) old new t (Err call_error)
+    find_fails call_error before = here (Err call_error) (part_fails t (find_home first above) old new (into number) call_error before)
 
     -- it was found, and the number is looked up in its segment
-    pub finds_on : (mid : KernelModel) (home : Home) → RunsPart (find_home first above) old mid t (Ok home) → (result : Result Home Ending) → RunsPart (into number home) mid new t result → RunsPart (find_home first numbers) old new t result
+    pub finds_on : (mid : KernelModel) (home : Home) → RunsPart (find_home first above) old mid t (Ok home) → (result : Result Home CallError) → RunsPart (into number home) mid new t result → RunsPart (find_home first numbers) old new t result
     finds_on mid home before result then = here result (then_part t (find_home first above) old new (into number) mid home before result then)

@@ -4,7 +4,7 @@ use Rattle.std.specs.Prelude.{ℕ, [], ◌∷◌, ◌++◌}
 use Rattle.histar_rules.specs.declared.raw.RawCall.TheVariants.{MakeCategory, MakeSegment, MakeContainer, MakeThread}
 use Rattle.histar_label.specs.Levels.{Levels}
 use Rattle.histar_layout.specs.Status.{ProcessStatus, started, status_bytes, with_child_listed}
-use Rattle.histar_calls.specs.declared.places.Home.{Home}
+use Rattle.histar_calls.specs.declared.roots.Home.{Home}
 use Rattle.histar_layout.specs.Labelling.{guarded_by, owner_label, cleared_at}
 use Rattle.histar_calls.specs.Programs.{Part}
 use Rattle.histar_calls.specs.Parts.{◌>>=◌, ◌>>◌, ask}

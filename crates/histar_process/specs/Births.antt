@@ -3,8 +3,8 @@ use Rattle.std.specs.Prelude.{◌≡◌, ℕ, List, [], ◌∷◌, ◌++◌, Som
 use Rattle.histar_rules.specs.declared.raw.RawCall.TheVariants.{MakeCategory, MakeSegment, MakeContainer, MakeThread}
 use Rattle.histar_syscall.specs.KernelModel.{KernelModel}
 use Rattle.histar_layout.specs.Status.{ProcessStatus, started, status_bytes, status_in}
-use Rattle.histar_calls.specs.declared.ending.Ending.{Ending}
-use Rattle.histar_calls.specs.declared.places.Home.{Home}
+use Rattle.histar_calls.specs.declared.call_error.CallError.{CallError}
+use Rattle.histar_calls.specs.declared.roots.Home.{Home}
 use Rattle.histar_layout.specs.Labelling.{guarded_by, owner_label, cleared_at}
 use Rattle.histar_calls.specs.Programs.{Part, RunsPart}
 use Rattle.histar_calls.specs.Parts.{◌>>=◌, ask}
@@ -33,6 +33,6 @@ abbrev pub make_segment : ℕ → List ℕ → ℕ → ℕ → ℕ → Part ℕ
 make_segment container jobs write internal thread = ask (MakeSegment container (guarded_by jobs (write ∷ [])) (status_bytes (started internal thread)))
 
 -- a child is born to the process that these bytes tell of: it owns these categories, and is in the jobs of those
-abbrev pub RunsBirth : Home → List ℕ → List ℕ → List ℕ → KernelModel → KernelModel → ℕ → Result (Unit {0}) Ending → Type 0
+abbrev pub RunsBirth : Home → List ℕ → List ℕ → List ℕ → KernelModel → KernelModel → ℕ → Result (Unit {0}) CallError → Type 0
 RunsBirth parent bytes owned jobs old new thread result =
     (status : ProcessStatus) → status_in bytes ≡ Some status → RunsPart (birth parent status (record { owned = owned; jobs = jobs })) old new thread result

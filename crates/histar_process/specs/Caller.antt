@@ -10,7 +10,7 @@ use Rattle.histar_object.specs.State.{State}
 use Rattle.histar_layout.specs.Reading.{◌>>=◌}
 use Rattle.histar_layout.specs.Status.{ProcessStatus, child_at, status_in}
 use Rattle.histar_layout.specs.Jobs.{is_three}
-use Rattle.histar_calls.specs.declared.places.Home.{Home}
+use Rattle.histar_calls.specs.declared.roots.Home.{Home}
 use Rattle.histar_process.specs.declared.caller.Caller.{Caller}
 
 -- level 0

@@ -6,9 +6,9 @@ use Rattle.histar_rules.specs.Sound.{root_number}
 use Rattle.histar_rules.specs.declared.raw.RawCall.TheVariants.{Unlink}
 use Rattle.histar_syscall.specs.KernelModel.{KernelModel}
 use Rattle.histar_layout.specs.Status.{ProcessStatus, child_at, status_in, without_child}
-use Rattle.histar_calls.specs.declared.ending.Ending.{Ending}
-use Rattle.histar_calls.specs.declared.places.Home.{Home}
-use Rattle.histar_calls.specs.declared.places.Places.{Places}
+use Rattle.histar_calls.specs.declared.call_error.CallError.{CallError}
+use Rattle.histar_calls.specs.declared.roots.Home.{Home}
+use Rattle.histar_calls.specs.declared.roots.Roots.{Roots}
 use Rattle.histar_calls.specs.Programs.{Part, Program, RunsPart}
 use Rattle.histar_calls.specs.Programs.Program.{Answers}
 use Rattle.histar_calls.specs.Parts.{◌>>=◌, ◌>>◌, ask, given}
@@ -25,19 +25,19 @@ kill_known home status n rest = do
   rest tt
 
 -- a child of the process whose segment has these bytes is killed, whatever status they show
-abbrev pub KillsKnown : Home → List ℕ → ℕ → KernelModel → KernelModel → ℕ → Result (Unit {0}) Ending → Type 0
+abbrev pub KillsKnown : Home → List ℕ → ℕ → KernelModel → KernelModel → ℕ → Result (Unit {0}) CallError → Type 0
 KillsKnown home bytes n old new thread result =
     (status : ProcessStatus) → status_in bytes ≡ Some status → RunsPart (kill_known home status n) old new thread result
 
 -- The process above is found and its segment read, as for its status, and the child is killed. Above process 0 is the root container, and
 -- no segment.
-unfoldable pub kill_program : Places → ProcName → Program
-kill_program places [] = do
-  status ← read_status places.home
-  ask (Unlink root_number places.home.container)
+unfoldable pub kill_program : Roots → ProcName → Program
+kill_program roots [] = do
+  status ← read_status roots.home
+  ask (Unlink root_number roots.home.container)
   Answers Done
-kill_program places (n ∷ above) = do
-  home ← find_home places.home above
+kill_program roots (n ∷ above) = do
+  home ← find_home roots.home above
   status ← read_status home
   kill_known home status n
   Answers Done

@@ -2,7 +2,7 @@
 use Rattle.std.specs.Prelude.{ℕ, zero, suc, Bool, List, [], ◌∷◌, ◌++◌, length, map, if◌then◌else◌}
 use Rattle.histar_flat.specs.Words.{Name}
 use Rattle.histar_flat.specs.declared.calls.User.{User}
-use Rattle.histar_flat.specs.Sessions.{Session}
+use Rattle.histar_flat.specs.Accounts.{Accounts}
 use Rattle.histar_flat.specs.Classes.{nobody}
 use Rattle.histar_label.specs.Levels.{Levels}
 use Rattle.histar_layout.specs.Jobs.{jobs_in, is_empty}
@@ -21,9 +21,9 @@ categories_of owners free = map read_category owners ++ (if free then map write_
 
 -- What a process owns as the user of this number: the categories by which the user and its groups read and, but in a job, those by
 -- which they write. As nobody, who is number 0, it owns none.
-abbrev pub owned_by : Session → ℕ → Bool → List ℕ
-owned_by session zero free = []
-owned_by session (suc i) free = categories_of (owners_of session (suc i) (user_name session.users (suc i))) free
+abbrev pub owned_by : Accounts → ℕ → Bool → List ℕ
+owned_by accounts zero free = []
+owned_by accounts (suc i) free = categories_of (owners_of accounts (suc i) (user_name accounts.users (suc i))) free
 
 -- what a child gets from its parent: what it owns as the parent's user, and the jobs that it is in
 pub record Kin : Type 0 where
@@ -31,5 +31,5 @@ pub record Kin : Type 0 where
   pub jobs : List ℕ
 
 -- by its parent's own label
-abbrev pub kin_of : Session → Levels → Kin
-kin_of session own = record { owned = owned_by session (user_of own (length session.users)) (is_empty (jobs_in own)); jobs = jobs_in own }
+abbrev pub kin_of : Accounts → Levels → Kin
+kin_of accounts own = record { owned = owned_by accounts (user_of own (length accounts.users)) (is_empty (jobs_in own)); jobs = jobs_in own }

@@ -6,8 +6,8 @@ use Rattle.histar_rules.specs.declared.raw.RawCall.TheVariants.{Write}
 use Rattle.histar_layout.specs.Status.{ProcessStatus, child_at, head_of, status_in}
 use Rattle.histar_layout.specs.declared.status.Child.{Child}
 use Rattle.histar_layout.specs.declared.status.StatusHead.{StatusHead}
-use Rattle.histar_calls.specs.declared.ending.Ending.{Ending}
-use Rattle.histar_calls.specs.declared.places.Home.{Home}
+use Rattle.histar_calls.specs.declared.call_error.CallError.{CallError}
+use Rattle.histar_calls.specs.declared.roots.Home.{Home}
 use Rattle.histar_calls.specs.Programs.{Part, RunsPart}
 use Rattle.histar_calls.specs.Parts.{◌>>=◌, ask}
 use Rattle.histar_process.specs.Parts.{read_status}
@@ -32,15 +32,15 @@ pub record IsSegment (segment : Segment) (status : ProcessStatus) : Type 0 where
   pub head : segment.head ≡ head_of status
 
 -- a process segment is read, and the code has what it tells
-abbrev pub RunsReading : Home → KernelModel → KernelModel → ℕ → Result Segment Ending → Type 0
+abbrev pub RunsReading : Home → KernelModel → KernelModel → ℕ → Result Segment CallError → Type 0
 RunsReading home old new thread (Ok segment) = (status : ProcessStatus) × IsSegment segment status × RunsPart (read_status home) old new thread (Ok status)
-RunsReading home old new thread (Err ending) = RunsPart (read_status home) old new thread (Err ending)
+RunsReading home old new thread (Err call_error) = RunsPart (read_status home) old new thread (Err call_error)
 
 -- there is room for a child more of the process of this name, and the code has what the process segment tells
-abbrev pub RunsRoom : ProcName → Home → KernelModel → KernelModel → ℕ → Result Segment Ending → Type 0
+abbrev pub RunsRoom : ProcName → Home → KernelModel → KernelModel → ℕ → Result Segment CallError → Type 0
 RunsRoom name home old new thread (Ok segment) = (status : ProcessStatus) × IsSegment segment status × RunsPart (room_for_child name home) old new thread (Ok status)
-RunsRoom name home old new thread (Err ending) = RunsPart (room_for_child name home) old new thread (Err ending)
+RunsRoom name home old new thread (Err call_error) = RunsPart (room_for_child name home) old new thread (Err call_error)
 
 -- these bytes are written in a process segment
-abbrev pub IsRewritten : Home → List ℕ → KernelModel → KernelModel → ℕ → Result (Unit {0}) Ending → Type 0
+abbrev pub IsRewritten : Home → List ℕ → KernelModel → KernelModel → ℕ → Result (Unit {0}) CallError → Type 0
 IsRewritten home bytes old new thread result = RunsPart (ask (Write home.container home.segment 0 bytes)) old new thread result

@@ -1,6 +1,6 @@
 -- The program of `spawn`.
 use Rattle.std.specs.Prelude.{◌+◌, Bool, true, false, nat_lt, ◌∷◌, length, Result, Ok, Err}
-use Rattle.histar_flat.specs.Sessions.{Session}
+use Rattle.histar_flat.specs.Accounts.{Accounts}
 use Rattle.histar_flat.specs.Words.{ProcName, most_children, most_numbers}
 use Rattle.histar_flat.specs.declared.replies.Errno.{Errno}
 use Rattle.histar_flat.specs.declared.replies.Errno.TheVariants.{EAGAIN}
@@ -8,7 +8,7 @@ use Rattle.histar_flat.specs.declared.replies.Reply.TheVariants as replies
 use Rattle.histar_label.specs.Levels.{Levels}
 use Rattle.histar_rules.specs.declared.raw.RawCall.TheVariants.{OwnLabel, SetLabel, SetClearance}
 use Rattle.histar_layout.specs.Status.{ProcessStatus}
-use Rattle.histar_calls.specs.declared.places.Home.{Home}
+use Rattle.histar_calls.specs.declared.roots.Home.{Home}
 use Rattle.histar_calls.specs.Programs.{Program, Part}
 use Rattle.histar_calls.specs.Programs.Program.{Answers}
 use Rattle.histar_calls.specs.Parts.{◌>>=◌, ◌>>◌, ask, given}
@@ -38,10 +38,10 @@ take_labels own rest = do
   rest tt
 
 -- There is room for a child. The thread asks for its own labels, the child is born, and the thread takes its own labels again.
-unfoldable pub spawn_program : Session → ProcName → Home → Program
-spawn_program session name me = do
+unfoldable pub spawn_program : Accounts → ProcName → Home → Program
+spawn_program accounts name me = do
   status ← room_for_child name me
   own ← ask OwnLabel
-  birth me status (kin_of session own.0)
+  birth me status (kin_of accounts own.0)
   take_labels own
   Answers (replies.Child ((status.born + 1) ∷ name))

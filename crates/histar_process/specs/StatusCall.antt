@@ -3,7 +3,7 @@ use Rattle.std.specs.Prelude.{ℕ, Option, None, Some}
 use Rattle.histar_flat.specs.Words.{ProcName}
 use Rattle.histar_flat.specs.declared.replies.Reply.{Reply}
 use Rattle.histar_flat.specs.declared.replies.Reply.TheVariants.{Running, Exited}
-use Rattle.histar_calls.specs.declared.places.Places.{Places}
+use Rattle.histar_calls.specs.declared.roots.Roots.{Roots}
 use Rattle.histar_calls.specs.Programs.{Program}
 use Rattle.histar_calls.specs.Programs.Program.{Answers}
 use Rattle.histar_calls.specs.Parts.{◌>>=◌}
@@ -15,8 +15,8 @@ status_reply None = Running
 status_reply (Some number) = Exited number
 
 -- the process is found, and its segment is read
-unfoldable pub status_program : Places → ProcName → Program
-status_program places name = do
-  home ← find_home places.home name
+unfoldable pub status_program : Roots → ProcName → Program
+status_program roots name = do
+  home ← find_home roots.home name
   status ← read_status home
   Answers (status_reply status.exited)

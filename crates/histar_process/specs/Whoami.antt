@@ -1,6 +1,6 @@
 -- The program of `whoami`.
 use Rattle.std.specs.Prelude.{not, length}
-use Rattle.histar_flat.specs.Sessions.{Session}
+use Rattle.histar_flat.specs.Accounts.{Accounts}
 use Rattle.histar_flat.specs.declared.replies.Reply.TheVariants as replies
 use Rattle.histar_rules.specs.declared.raw.RawCall.TheVariants.{OwnLabel}
 use Rattle.histar_layout.specs.Categories.{user_of}
@@ -11,7 +11,7 @@ use Rattle.histar_process.specs.Kin.{user_name}
 use Rattle.histar_layout.specs.Jobs.{jobs_in, is_empty}
 
 -- the thread asks for its own label, which tells the user and whether the process is in a job
-unfoldable pub whoami_program : Session → Program
-whoami_program session = do
+unfoldable pub whoami_program : Accounts → Program
+whoami_program accounts = do
   own ← ask OwnLabel
-  Answers (replies.User (user_name session.users (user_of own.0 (length session.users))) (not (is_empty (jobs_in own.0))))
+  Answers (replies.User (user_name accounts.users (user_of own.0 (length accounts.users))) (not (is_empty (jobs_in own.0))))

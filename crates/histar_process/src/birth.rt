@@ -10,7 +10,7 @@ ghost use Rattle.histar_process.specs.Births.{RunsBirth, make_categories, make_c
 
 use crate::find::write_segment;
 use crate::kin::joined;
-use histar_calls::{Ending, Home};
+use histar_calls::{CallError, Home};
 use histar_label::{Category, LabelStore};
 use histar_layout::{add_child, cleared_at, first_status, guarded_by, owner_label};
 use histar_object::ObjId;
@@ -28,7 +28,7 @@ pub fn give_birth<S: LabelStore + Drop>(
     bytes: &[u8],
     owned: &[Category],
     jobs: &[Category],
-) -> Result<(), Ending>
+) -> Result<(), CallError>
     requires { HasRoomForChild bytes.now }
     ensures { RunsBirth parent.now bytes.now owned.now jobs.now kernel.old kernel.new thread result }
 {
@@ -54,7 +54,7 @@ pub fn give_birth<S: LabelStore + Drop>(
 fn make_categories<S: LabelStore + Drop>(
     kernel: &mut Kernel<S>,
     thread: ObjId,
-) -> Result<(Category, Category), Ending>
+) -> Result<(Category, Category), CallError>
     ensures { RunsPart make_categories kernel.old kernel.new thread result }
 {
     let read = kernel.make_category(thread)?;
@@ -71,7 +71,7 @@ fn make_containers<S: LabelStore + Drop>(
     jobs: &[Category],
     read: Category,
     write: Category,
-) -> Result<(ObjId, ObjId), Ending>
+) -> Result<(ObjId, ObjId), CallError>
     ensures { RunsPart (make_containers parent jobs.now read write) kernel.old kernel.new thread result }
 {
     let container = make_guarded(alloc, kernel, thread, parent, jobs, write)?;
@@ -88,7 +88,7 @@ fn make_guarded<S: LabelStore + Drop>(
     container: ObjId,
     secret: &[Category],
     write: Category,
-) -> Result<ObjId, Ending>
+) -> Result<ObjId, CallError>
     ensures { RunsPart (ask (calls.MakeContainer container (guarded_by secret.now (write ∷ []))))
         kernel.old kernel.new thread result }
 {
@@ -107,7 +107,7 @@ fn make_thread<S: LabelStore + Drop>(
     jobs: &[Category],
     read: Category,
     write: Category,
-) -> Result<ObjId, Ending>
+) -> Result<ObjId, CallError>
     ensures { RunsPart (make_thread internal owned.now jobs.now read write) kernel.old kernel.new thread result }
 {
     let all = joined(alloc, &[read, write], owned)?;
@@ -128,7 +128,7 @@ fn make_segment<S: LabelStore + Drop>(
     write: Category,
     internal: ObjId,
     child: ObjId,
-) -> Result<ObjId, Ending>
+) -> Result<ObjId, CallError>
     ensures { RunsPart (make_segment container jobs.now write internal child) kernel.old kernel.new thread result }
 {
     let label = guarded_by(alloc, jobs, &[write])?;

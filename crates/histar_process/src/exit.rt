@@ -5,7 +5,7 @@ ghost use Rattle.histar_process.specs.ExitCall.{exit_program};
 
 use crate::caller::Caller;
 use crate::find::{Segment, read_segment, write_segment};
-use histar_calls::{Ending, Stopped, settle};
+use histar_calls::{CallError, Stopped, settle};
 use histar_flat::Reply;
 use histar_label::LabelStore;
 use histar_layout::exit_status;
@@ -30,7 +30,7 @@ fn exit_process<S: LabelStore + Drop>(
     kernel: &mut Kernel<S>,
     caller: &Caller,
     number: u8,
-) -> Result<Reply, Ending>
+) -> Result<Reply, CallError>
     ensures { Runs (exit_program caller.now.home number) kernel.old kernel.new caller.now.thread (settled result) }
 {
     let (home, thread) = (&caller.home, caller.thread);

@@ -5,7 +5,7 @@ ghost use Rattle.histar_process.specs.Parts.{find_home, home_of, must_be_there};
 ghost use Rattle.histar_process.specs.Reading.{IsRewritten, RunsReading, read_head, look_up};
 
 use histar_base::Bytes;
-use histar_calls::{Ending, Home, written};
+use histar_calls::{CallError, Home, written};
 use histar_flat::Errno;
 use histar_label::LabelStore;
 use histar_layout::{Child, StatusHead, find_child, read_status};
@@ -48,12 +48,12 @@ pub fn read_head<S: LabelStore + Drop>(
     kernel: &mut Kernel<S>,
     thread: ObjId,
     home: &Home,
-) -> Result<StatusHead, Ending>
+) -> Result<StatusHead, CallError>
     ensures { RunsPart (read_head home.now) kernel.old kernel.new thread result }
 {
     let bytes = kernel.read(thread, home.container, home.segment)?;
     let Some(head) = read_status(bytes) else {
-        return Err(Ending::Stopped);
+        return Err(CallError::Stopped);
     };
     Ok(head)
 }
@@ -65,12 +65,12 @@ pub fn read_segment<S: LabelStore + Drop>(
     kernel: &mut Kernel<S>,
     thread: ObjId,
     home: &Home,
-) -> Result<Segment, Ending>
+) -> Result<Segment, CallError>
     ensures { RunsReading home.now kernel.old kernel.new thread result }
 {
     let bytes = kernel.read_copy(alloc, thread, home.container, home.segment)?;
     let Some(head) = read_status(bytes.as_slice()) else {
-        return Err(Ending::Stopped);
+        return Err(CallError::Stopped);
     };
     Ok(Segment { head, bytes })
 }
@@ -82,7 +82,7 @@ pub fn write_segment<S: LabelStore + Drop>(
     thread: ObjId,
     home: &Home,
     bytes: Bytes,
-) -> Result<(), Ending>
+) -> Result<(), CallError>
     ensures { IsRewritten home.now bytes kernel.old kernel.new thread result }
 {
     written(kernel.write(alloc, thread, home.container, home.segment, 0, bytes))
@@ -95,7 +95,7 @@ fn look_up<S: LabelStore + Drop>(
     thread: ObjId,
     home: &Home,
     number: u8,
-) -> Result<Option<Child>, Ending>
+) -> Result<Option<Child>, CallError>
     ensures { RunsPart (look_up home.now number) kernel.old kernel.new thread result }
 {
     let bytes = kernel.read(thread, home.container, home.segment)?;
@@ -111,7 +111,7 @@ pub fn find_home<S: LabelStore + Drop>(
     first: Home,
     thread: ObjId,
     numbers: &[u8],
-) -> Result<Home, Ending>
+) -> Result<Home, CallError>
     ensures { RunsPart (find_home first numbers.now) kernel.old kernel.new thread result }
 {
     let [number, above @ ..] = numbers else {

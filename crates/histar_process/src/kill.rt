@@ -7,7 +7,7 @@ ghost use Rattle.histar_process.specs.KillCall.{KillsKnown, kill_program};
 use crate::find::{
     Segment, find_home, home_of, must_be_there, read_head, read_segment, write_segment,
 };
-use histar_calls::{Ending, Home, Places, Stopped, settle};
+use histar_calls::{CallError, Home, Roots, Stopped, settle};
 use histar_flat::{ProcName, Reply};
 use histar_label::LabelStore;
 use histar_layout::{find_child, remove_child};
@@ -24,41 +24,41 @@ const ROOT: u64 = 1;
 pub fn kill<S: LabelStore + Drop>(
     alloc: Global,
     kernel: &mut Kernel<S>,
-    places: &Places,
+    roots: &Roots,
     thread: ObjId,
     name: &ProcName,
 ) -> Result<Reply, Stopped>
-    ensures { Runs (kill_program places.now name.now) kernel.old kernel.new thread result }
+    ensures { Runs (kill_program roots.now name.now) kernel.old kernel.new thread result }
 {
-    settle(kill_process(alloc, kernel, places, thread, name))
+    settle(kill_process(alloc, kernel, roots, thread, name))
 }
 
 fn kill_process<S: LabelStore + Drop>(
     alloc: Global,
     kernel: &mut Kernel<S>,
-    places: &Places,
+    roots: &Roots,
     thread: ObjId,
     name: &ProcName,
-) -> Result<Reply, Ending>
-    ensures { Runs (kill_program places.now name.now) kernel.old kernel.new thread (settled result) }
+) -> Result<Reply, CallError>
+    ensures { Runs (kill_program roots.now name.now) kernel.old kernel.new thread (settled result) }
 {
     let [number, above @ ..] = name.numbers() else {
-        return kill_first(alloc, kernel, places, thread);
+        return kill_first(alloc, kernel, roots, thread);
     };
-    kill_child(alloc, kernel, places, thread, *number, above)
+    kill_child(alloc, kernel, roots, thread, *number, above)
 }
 
 /// Kills process 0.
 fn kill_first<S: LabelStore + Drop>(
     alloc: Global,
     kernel: &mut Kernel<S>,
-    places: &Places,
+    roots: &Roots,
     thread: ObjId,
-) -> Result<Reply, Ending>
-    ensures { Runs (kill_program places.now []) kernel.old kernel.new thread (settled result) }
+) -> Result<Reply, CallError>
+    ensures { Runs (kill_program roots.now []) kernel.old kernel.new thread (settled result) }
 {
-    read_head(kernel, thread, &places.home)?;
-    kernel.unlink(alloc, thread, ObjId::new(ROOT), places.home.container)?;
+    read_head(kernel, thread, &roots.home)?;
+    kernel.unlink(alloc, thread, ObjId::new(ROOT), roots.home.container)?;
     Ok(Reply::Done)
 }
 
@@ -66,14 +66,14 @@ fn kill_first<S: LabelStore + Drop>(
 fn kill_child<S: LabelStore + Drop>(
     alloc: Global,
     kernel: &mut Kernel<S>,
-    places: &Places,
+    roots: &Roots,
     thread: ObjId,
     number: u8,
     above: &[u8],
-) -> Result<Reply, Ending>
-    ensures { Runs (kill_program places.now (number ∷ above.now)) kernel.old kernel.new thread (settled result) }
+) -> Result<Reply, CallError>
+    ensures { Runs (kill_program roots.now (number ∷ above.now)) kernel.old kernel.new thread (settled result) }
 {
-    let home = find_home(kernel, places.home, thread, above)?;
+    let home = find_home(kernel, roots.home, thread, above)?;
     let Segment { bytes, .. } = read_segment(alloc, kernel, thread, &home)?;
     kill_known(alloc, kernel, thread, &home, bytes.as_slice(), number)?;
     Ok(Reply::Done)
@@ -87,7 +87,7 @@ fn kill_known<S: LabelStore + Drop>(
     home: &Home,
     bytes: &[u8],
     number: u8,
-) -> Result<(), Ending>
+) -> Result<(), CallError>
     ensures { KillsKnown home.now bytes.now number kernel.old kernel.new thread result }
 {
     let found = find_child(bytes, number)?;

@@ -13,7 +13,7 @@ use crate::birth::give_birth;
 use crate::caller::Caller;
 use crate::find::{Segment, read_segment};
 use crate::kin::owned_by;
-use histar_calls::{Ending, Home, Stopped, settle};
+use histar_calls::{CallError, Home, Stopped, settle};
 use histar_flat::{Errno, MOST_NUMBERS, ProcName, Reply};
 use histar_label::{Label, LabelStore};
 use histar_layout::{UserTable, is_in_job, jobs_in, user_of};
@@ -45,7 +45,7 @@ fn spawn_child<S: LabelStore + Drop>(
     users: &UserTable,
     name: &ProcName,
     caller: &Caller,
-) -> Result<Reply, Ending>
+) -> Result<Reply, CallError>
     ensures { Runs (spawn_program users.now name.now caller.now.home) kernel.old kernel.new
         caller.now.thread (settled result) }
 {
@@ -66,7 +66,7 @@ fn bear_child<S: LabelStore + Drop>(
     caller: &Caller,
     bytes: &[u8],
     own: &Label,
-) -> Result<(), Ending>
+) -> Result<(), CallError>
     requires { HasRoomForChild bytes.now }
     ensures { let kin = kin_of users.now own.now in
         RunsBirth caller.now.home bytes.now kin.owned kin.jobs kernel.old kernel.new caller.now.thread result }
@@ -90,7 +90,7 @@ fn take_labels<S: LabelStore + Drop>(
     thread: ObjId,
     own: Label,
     clearance: Label,
-) -> Result<(), Ending>
+) -> Result<(), CallError>
     ensures { RunsPart (take_labels (own, clearance)) kernel.old kernel.new thread result }
 {
     kernel.set_label(thread, own)?;
@@ -107,7 +107,7 @@ pub fn room_for_child<S: LabelStore + Drop>(
     thread: ObjId,
     name: &ProcName,
     home: &Home,
-) -> Result<Segment, Ending>
+) -> Result<Segment, CallError>
     ensures runs { RunsRoom name.now home.now kernel.old kernel.new thread result }
     ensures name { IfOk result (λ segment. length name.now < most_numbers) }
     ensures born { IfOk result (λ segment. segment.head.born < most_children) }

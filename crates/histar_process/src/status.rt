@@ -5,7 +5,7 @@ ghost use Rattle.histar_calls.specs.Refusals.{settled};
 ghost use Rattle.histar_process.specs.StatusCall.{status_reply, status_program};
 
 use crate::find::{find_home, read_head};
-use histar_calls::{Ending, Places, Stopped, settle};
+use histar_calls::{CallError, Roots, Stopped, settle};
 use histar_flat::{ProcName, Reply};
 use histar_label::LabelStore;
 use histar_object::ObjId;
@@ -15,24 +15,24 @@ use histar_syscall::Kernel;
 /// observe its segment or one above it, ESRCH where it was not born or was killed.
 pub fn status<S: LabelStore + Drop>(
     kernel: &mut Kernel<S>,
-    places: &Places,
+    roots: &Roots,
     thread: ObjId,
     name: &ProcName,
 ) -> Result<Reply, Stopped>
-    ensures { Runs (status_program places.now name.now) kernel.old kernel.new thread result }
+    ensures { Runs (status_program roots.now name.now) kernel.old kernel.new thread result }
 {
-    settle(reply_status(kernel, places, thread, name))
+    settle(reply_status(kernel, roots, thread, name))
 }
 
 fn reply_status<S: LabelStore + Drop>(
     kernel: &mut Kernel<S>,
-    places: &Places,
+    roots: &Roots,
     thread: ObjId,
     name: &ProcName,
-) -> Result<Reply, Ending>
-    ensures { Runs (status_program places.now name.now) kernel.old kernel.new thread (settled result) }
+) -> Result<Reply, CallError>
+    ensures { Runs (status_program roots.now name.now) kernel.old kernel.new thread (settled result) }
 {
-    let home = find_home(kernel, places.home, thread, name.numbers())?;
+    let home = find_home(kernel, roots.home, thread, name.numbers())?;
     let head = read_head(kernel, thread, &home)?;
     Ok(status_reply(head.exited))
 }

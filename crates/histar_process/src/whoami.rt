@@ -4,7 +4,7 @@ ghost use Rattle.histar_calls.specs.Refusals.{settled};
 ghost use Rattle.histar_process.specs.Whoami.{whoami_program};
 
 use crate::kin::user_name;
-use histar_calls::{Ending, Stopped, settle};
+use histar_calls::{CallError, Stopped, settle};
 use histar_flat::Reply;
 use histar_label::LabelStore;
 use histar_layout::{UserTable, is_in_job, user_of};
@@ -27,7 +27,7 @@ fn reply_user<S: LabelStore + Drop>(
     kernel: &mut Kernel<S>,
     users: &UserTable,
     thread: ObjId,
-) -> Result<Reply, Ending>
+) -> Result<Reply, CallError>
     ensures { Runs (whoami_program users.now) kernel.old kernel.new thread (settled result) }
 {
     let (own, _most) = kernel.own_label(thread)?;

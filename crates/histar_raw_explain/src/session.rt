@@ -1,6 +1,6 @@
 //! A raw session with explanations, from bytes to bytes.
 ghost use Rattle.std.specs.Prelude.{◌≡◌, ◌++◌, false, IfErr, IfOk, IfSome, OnOk, OnErr};
-ghost use Rattle.histar_devices.specs.Device.{CountsFailure};
+ghost use Rattle.histar_io.specs.Device.{CountsFailure};
 ghost use Rattle.histar_script.specs.Runs.{IsOutputFault, LeavesSink, RunsInput, is_read_failed, is_write_failed};
 ghost use Rattle.histar_syscall.specs.KernelModel.{state};
 ghost use Rattle.histar_raw_session.specs.Answers.{AnswersCall, AnswersCalls, BeginsAnswer, BeginsAnswers};
@@ -8,8 +8,8 @@ ghost use Rattle.histar_raw_explain.specs.Explained.{ExplainsLast, ExplainsOne, 
 
 use crate::lines::push_explanation;
 use crate::wording::ByNumber;
-use histar_devices::{Sink, Source, read_input, write_bytes};
 use histar_explain::explain;
+use histar_io::{Sink, Source, read_input, write_bytes};
 use histar_label::{LabelStore, OutOfMemory, PlainStore};
 use histar_raw_session::read_session::read_session;
 use histar_raw_session::{RawLine, answer_call};

@@ -6,7 +6,7 @@ use Rattle.std.specs.Io.KnownBytes.{Keeps}
 use Rattle.histar_script.specs.declared.fault.Fault.{Fault}
 use Rattle.histar_script.specs.declared.fault.Fault.TheVariants.{BadScript, TooLong, OutOfMemory, ReadFailed, WriteFailed}
 use Rattle.histar_script.specs.Lines.{is_too_long, lines_of}
-use Rattle.histar_script.specs.Script.{Reading, nothing_read}
+use Rattle.histar_script.specs.Script.{ScriptModel, nothing_read}
 use Rattle.histar_script.specs.Reading.{reading, script_of, with_line, with_lines}
 use Rattle.histar_script.specs.Runs.{RunsInput}
 use Rattle.histar_script.proofs.FirstBad.{failed}
@@ -15,7 +15,7 @@ use Rattle.histar_script.proofs.ScriptsBack.{after}
 use Rattle.histar_raw_lint.specs.Session.{LintsRaw}
 
 -- no line is too long for a script
-lines_not_long : (s : Reading) (n : ℕ) (lines : List (List ℕ)) → with_lines s n lines ≡ Err TooLong → ⊥
+lines_not_long : (s : ScriptModel) (n : ℕ) (lines : List (List ℕ)) → with_lines s n lines ≡ Err TooLong → ⊥
 unfolding with_lines
 lines_not_long s n [] e = by (eqb (length s.session.users) 0) e
   where
@@ -24,7 +24,7 @@ lines_not_long s n [] e = by (eqb (length s.session.users) 0) e
     by false e = absurd cc
 lines_not_long s n (line ∷ lines) e = by (with_line s (n + 1) line) (λ t. lines_not_long t (n + 1) lines) e
   where
-    by : (o : Option Reading) → ((t : Reading) → with_lines t (n + 1) lines ≡ Err TooLong → ⊥)
+    by : (o : Option ScriptModel) → ((t : ScriptModel) → with_lines t (n + 1) lines ≡ Err TooLong → ⊥)
         → after (n + 1) (λ t. with_lines t (n + 1) lines) o ≡ Err TooLong → ⊥
     by None go_on e = let same : BadScript (n + 1) ≡ TooLong = cc in absurd cc
     by (Some t) go_on e = go_on t e

@@ -1,7 +1,7 @@
 -- What is said of a raw session: nothing of a right one, and of a bad one its first bad line, with the sentence of the first rule that it breaks.
 use Rattle.std.specs.Prelude.{◌≡◌, ℕ, false, true, IsTrue, List, Option, Some, Result, Ok, Err, Bool}
 use Rattle.std.specs.Io.KnownBytes.{Appends, Keeps}
-use Rattle.histar_devices.specs.Writing.{AppendsFront}
+use Rattle.histar_io.specs.Writing.{AppendsFront}
 use Rattle.histar_script.specs.declared.fault.Fault.{Fault}
 use Rattle.histar_script.specs.declared.fault.Fault.TheVariants.{BadScript, TooLong, OutOfMemory, ReadFailed, WriteFailed}
 use Rattle.histar_script.specs.Lines.{is_too_long}

@@ -1,6 +1,6 @@
 //! Linting a raw session, from bytes to bytes.
 ghost use Rattle.std.specs.Prelude.{◌≡◌, false, IfOk, IfErr, IfSome};
-ghost use Rattle.histar_devices.specs.Device.{CountsFailure};
+ghost use Rattle.histar_io.specs.Device.{CountsFailure};
 ghost use Rattle.histar_script.specs.Runs.{LeavesSink, RunsInput, is_read_failed, is_write_failed};
 ghost use Rattle.histar_raw_session.specs.Session.{IsFirstBadLine};
 ghost use Rattle.histar_lint.specs.Session.{IsMemory, finding_text};
@@ -8,7 +8,7 @@ ghost use Rattle.histar_raw_lint.specs.Session.{IsFinding, IsFirstBad, LintsRaw}
 
 use crate::findings::sentence;
 use crate::texts::push_number;
-use histar_devices::{Sink, Source, read_input, write_bytes};
+use histar_io::{Sink, Source, read_input, write_bytes};
 use histar_raw_session::read_session::read_session;
 use histar_script::{Fault, split_line};
 use std::alloc::{AllocError, Global};

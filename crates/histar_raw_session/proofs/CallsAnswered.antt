@@ -4,8 +4,8 @@ use Rattle.std.specs.Prelude.{IfOk, OnOk}
 use Rattle.std.proofs.lemmas.List.{drop_more}
 use Rattle.std.proofs.KnownBytes.{Appends-nil, Appends-kept, Appends-trans}
 use Rattle.std.specs.Io.KnownBytes.{Appends}
-use Rattle.histar_devices.specs.Writing.{AppendsFront}
-use Rattle.histar_devices.proofs.WritingLemmas.{whole_front}
+use Rattle.histar_io.specs.Writing.{AppendsFront}
+use Rattle.histar_io.proofs.WritingLemmas.{whole_front}
 use Rattle.histar_object.specs.State.{State}
 use Rattle.histar_rules.specs.declared.raw.Denied.{Denied}
 use Rattle.histar_syscall.specs.declared.answers.Answer.{Answer}
@@ -17,11 +17,11 @@ use Rattle.histar_raw_session.specs.Answers.{line_text, PrintsCall, PrintsCalls,
 -- ---- one call
 
 -- what the kernel answers is the outcome, and its line tells it
-pub granted : {X E : Type 0} (first : State) (old new : KernelModel) (asked : RawLine) (told : Answer) (items : X → List ℕ) (result : Result X E) → state old ≡ first → Called old new asked.thread asked.call None → raw_answer (state old) asked.thread asked.call ≡ Some told → IfOk result (λ line. items line ≡ line_text asked.line (Ok told))
+pub granted : {X E : Type 0} (first : State) (old new : KernelModel) (asked : RawLine) (revealed : Answer) (items : X → List ℕ) (result : Result X E) → state old ≡ first → Called old new asked.thread asked.call None → raw_answer (state old) asked.thread asked.call ≡ Some revealed → IfOk result (λ line. items line ≡ line_text asked.line (Ok revealed))
     → IfOk result (λ line. PrintsCall first (state new) asked (items line))
-granted first old new asked told items (Ok line) same called right text =
-    subst (λ (s : State). PrintsCall s (state new) asked (items line)) same (record { outcome = Ok told; has = (called.outcome, right, called.state); prints = text })
-granted first old new asked told items (Err e) same called right text = tt
+granted first old new asked revealed items (Ok line) same called right text =
+    subst (λ (s : State). PrintsCall s (state new) asked (items line)) same (record { outcome = Ok revealed; has = (called.outcome, right, called.state); prints = text })
+granted first old new asked revealed items (Err e) same called right text = tt
 
 -- and so with what it denies
 pub denied : {X E : Type 0} (first : State) (old new : KernelModel) (asked : RawLine) (d : Denied) (items : X → List ℕ) (result : Result X E) → state old ≡ first → Called old new asked.thread asked.call (Some d) → IfOk result (λ line. items line ≡ line_text asked.line (Err d)) → IfOk result (λ line. PrintsCall first (state new) asked (items line))

@@ -1,6 +1,6 @@
 //! A raw session, from bytes to bytes.
 ghost use Rattle.std.specs.Prelude.{◌≡◌, false, IfErr, IfOk, IfSome, OnOk, OnErr};
-ghost use Rattle.histar_devices.specs.Device.{CountsFailure};
+ghost use Rattle.histar_io.specs.Device.{CountsFailure};
 ghost use Rattle.histar_script.specs.Runs.{IsOutputFault, LeavesSink, RunsInput, is_read_failed, is_write_failed};
 ghost use Rattle.histar_syscall.specs.KernelModel.{state};
 ghost use Rattle.histar_raw_session.specs.Answers.{AnswersCall, AnswersCalls, BeginsAnswer, BeginsAnswers, IsMadeOnLine, PrintsCall};
@@ -8,7 +8,7 @@ ghost use Rattle.histar_raw_session.specs.Run.{RunsSession};
 
 use crate::lines::{answer_line, denial_line};
 use crate::read_session::{RawLine, read_session};
-use histar_devices::{Sink, Source, read_input, write_bytes};
+use histar_io::{Sink, Source, read_input, write_bytes};
 use histar_label::{LabelStore, OutOfMemory, PlainStore};
 use histar_script::Fault;
 use histar_syscall::{Kernel, Refusal};

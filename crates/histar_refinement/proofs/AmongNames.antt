@@ -4,7 +4,7 @@ use Rattle.std.specs.List.{list_all}
 use Rattle.std.proofs.lemmas.Bool.{and_from, or_left, or_right, or_cases}
 use mathlib.Core.Bool.{true≢false}
 use Rattle.histar_refinement.specs.Categories.{CategoryName, same_category, among}
-use Rattle.histar_refinement.proofs.CategoryTests.{among-append, same_itself, same_told}
+use Rattle.histar_refinement.proofs.CategoryTests.{among-append, same_itself, same_revealed}
 
 -- each of these names is among those
 pub covers : (names others : List CategoryName) → ((c : CategoryName) → among others c ≡ true → among names c ≡ true) → list_all (among names) others ≡ true
@@ -27,7 +27,7 @@ later d names c e = or_right (same_category c d) (among names c) e
 -- a name among others, by its place
 pub each_head : (P : CategoryName → Type 0) (d : CategoryName) (names : List CategoryName) → P d → ((c : CategoryName) → among names c ≡ true → P c) → (c : CategoryName) → among (d ∷ names) c ≡ true → P c
 each_head P d names first others c e = elim (or_cases (same_category c d) (among names c) e) [
-  | inl k ↦ subst P (sym (same_told c d k)) first
+  | inl k ↦ subst P (sym (same_revealed c d k)) first
   | inr k ↦ others c k
 ]
 
@@ -41,5 +41,5 @@ pub each_one : (P : CategoryName → Type 0) (d : CategoryName) → P d → (c :
 each_one P d first = each_head P d [] first (each_none P)
 
 -- what is among one name is this one
-pub told_one : (d c : CategoryName) → among (d ∷ []) c ≡ true → c ≡ d
-told_one d c e = each_one (λ x. x ≡ d) d refl c e
+pub revealed_one : (d c : CategoryName) → among (d ∷ []) c ≡ true → c ≡ d
+revealed_one d c e = each_one (λ x. x ≡ d) d refl c e

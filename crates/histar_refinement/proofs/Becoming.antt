@@ -18,7 +18,7 @@ use Rattle.histar_container.proofs.Addresses.{same_tests_equality}
 use Rattle.histar_container.proofs.TableMoves.{put_here, put_other, changed_here, changed_other}
 use Rattle.histar_rules.specs.Rules.{greatest}
 use Rattle.histar_login.specs.Boot.{boot_thread_number}
-use Rattle.histar_flat.specs.Sessions.{Session, has, user_number}
+use Rattle.histar_flat.specs.Accounts.{Accounts, has, user_number}
 use Rattle.histar_flat.specs.Classes.{Process, nobody, knows}
 use Rattle.histar_flat.specs.FlatState.{Flat, with_process, was_given, is_given}
 use Rattle.histar_refinement.specs.Categories.{CategoryName, IsKnown, IsServed, IsUsed}
@@ -28,14 +28,14 @@ use Rattle.histar_refinement.specs.Labels.{process_guard, thread_rights}
 use Rattle.histar_refinement.specs.Addresses.{Step, same_step, home_address}
 use Rattle.histar_refinement.specs.Addresses.Step.{Inside, Runner}
 use Rattle.histar_refinement.specs.Processes.{process_bytes}
-use Rattle.histar_refinement.specs.Stands.{kind_bare, bare}
+use Rattle.histar_refinement.specs.Agrees.{kind_bare, bare}
 use Rattle.histar_refinement.specs.Expected.{home_object, status_object, inside_object, thread_object, bytes_for, expected_status, expected}
 use Rattle.histar_login.specs.Start.{segment}
 use Rattle.histar_refinement.specs.Represents.{AreInOrder, IsProcess, ObjectsMatch}
 use Rattle.histar_refinement.proofs.ProcessBytes.{alike_bytes}
-use Rattle.histar_refinement.proofs.Places.{AsksAlike, asked_alike, asked_runner}
+use Rattle.histar_refinement.proofs.Roots.{AsksAlike, asked_alike, asked_runner}
 use Rattle.histar_refinement.proofs.Steps.{step_tests_equality}
-use Rattle.histar_refinement.proofs.Moving.{at_number, bare_is, stands_changed, stands_same}
+use Rattle.histar_refinement.proofs.Moving.{at_number, bare_is, agrees_changed, agrees_same}
 
 -- a thread is given another label and another clearance
 abbrev becoming : Levels → Levels → Object Levels → Object Levels
@@ -60,9 +60,9 @@ bared label clearance (Some o) = ap (λ (k : Kind Levels). Some (record { label 
     by (Thread old) = refl
     by (Gate old entry) = refl
 
-module _ (session : Session) (s : State) (f : Flat) (l : ObjectsMatch session s f) (me : ProcName) (p : Process) (here : f.processes me ≡ Some p) (runs : p.exited ≡ None)
-    (name : Name) (known_user : (name ≡ nobody) ⊎ (is_some (user_number session name) ≡ true)) (held : List ProcName) (held_used : (job : ProcName) → has held job ≡ true → IsUsed session f (OfJob job))
-    (held_ordered : AreInOrder l.category held) (held_apart : (job : ProcName) → has p.chain job ≡ true → has held job ≡ false) (held_free : is_some (user_number session name) ≡ false → (p.chain ≡ []) × (held ≡ [])) (T : ℕ) (at_thread : l.naming.number (Runner ∷ Inside ∷ home_address me) ≡ Some T) where
+module _ (accounts : Accounts) (s : State) (f : Flat) (l : ObjectsMatch accounts s f) (me : ProcName) (p : Process) (here : f.processes me ≡ Some p) (runs : p.exited ≡ None)
+    (name : Name) (known_user : (name ≡ nobody) ⊎ (is_some (user_number accounts name) ≡ true)) (held : List ProcName) (held_used : (job : ProcName) → has held job ≡ true → IsUsed accounts f (OfJob job))
+    (held_ordered : AreInOrder l.category held) (held_apart : (job : ProcName) → has p.chain job ≡ true → has held job ≡ false) (held_free : is_some (user_number accounts name) ≡ false → (p.chain ≡ []) × (held ≡ [])) (T : ℕ) (at_thread : l.naming.number (Runner ∷ Inside ∷ home_address me) ≡ Some T) where
   -- the process as the new user's, which holds these jobs
   abbrev changed : Process
   changed = record { user = name; chain = p.chain; held = held; exited = p.exited; born = p.born }
@@ -71,19 +71,19 @@ module _ (session : Session) (s : State) (f : Flat) (l : ObjectsMatch session s 
   after = with_process f me changed
 
   abbrev label : Levels
-  label = rights_label l.category (thread_rights session me changed)
+  label = rights_label l.category (thread_rights accounts me changed)
 
   abbrev clearance : Levels
-  clearance = rights_clearance l.category (thread_rights session me changed)
+  clearance = rights_clearance l.category (thread_rights accounts me changed)
 
   abbrev old_thread : Object Levels
-  old_thread = thread_of (rights_label l.category (thread_rights session me p)) (rights_clearance l.category (thread_rights session me p))
+  old_thread = thread_of (rights_label l.category (thread_rights accounts me p)) (rights_clearance l.category (thread_rights accounts me p))
 
   abbrev old_asked : Address Step → Found
-  old_asked = expected session l.category f l.naming.number
+  old_asked = expected accounts l.category f l.naming.number
 
   abbrev wish : Address Step → Found
-  wish = expected session l.category after l.naming.number
+  wish = expected accounts l.category after l.naming.number
 
   abbrev runner : Address Step
   runner = Runner ∷ Inside ∷ home_address me
@@ -98,15 +98,15 @@ module _ (session : Session) (s : State) (f : Flat) (l : ObjectsMatch session s 
   which x = elim (same_name_found me x) [ inl e ↦ inl (sym e.1) | inr e ↦ inr (λ k. e.1 (sym k)) ]
 
   old_runner : old_asked runner ≡ Some old_thread
-  old_runner = asked_runner session l.category f l.naming.number me ∙ ap (thread_object session l.category me) here
+  old_runner = asked_runner accounts l.category f l.naming.number me ∙ ap (thread_object accounts l.category me) here
       ∙ ap (λ (e : Option ℕ). elim e as (λ _. Found) [ None ↦ Some old_thread | Some n ↦ None ]) runs
 
   new_runner : wish runner ≡ Some (thread_of label clearance)
-  new_runner = asked_runner session l.category after l.naming.number me ∙ ap (thread_object session l.category me) at_me
+  new_runner = asked_runner accounts l.category after l.naming.number me ∙ ap (thread_object accounts l.category me) at_me
       ∙ ap (λ (e : Option ℕ). elim e as (λ _. Found) [ None ↦ Some (thread_of label clearance) | Some n ↦ None ]) runs
 
-  pub thread_stands : s.objects T ≡ Some old_thread
-  thread_stands = bare_is (s.objects T) old_thread refl (at_number same_step step_tests_equality s l.naming old_asked l.stands runner T at_thread ∙ old_runner)
+  pub thread_agrees : s.objects T ≡ Some old_thread
+  thread_agrees = bare_is (s.objects T) old_thread refl (at_number same_step step_tests_equality s l.naming old_asked l.agrees runner T at_thread ∙ old_runner)
 
   there_alike : (x : ProcName) → is_some (f.processes x) ≡ is_some (after.processes x)
   there_alike x = elim (which x) [
@@ -124,24 +124,24 @@ module _ (session : Session) (s : State) (f : Flat) (l : ObjectsMatch session s 
     | inr other ↦ ap (object q) (sym (at_other q other))
   ]
 
-  status_alike : (q : ProcName) → expected_status session l.category f l.naming.number (Some q) ≡ expected_status session l.category after l.naming.number (Some q)
-  status_alike q = by (f.processes q) ∙ object_alike (λ x o. status_object session l.category (bytes_for session l.category after l.naming.number x o) x o) refl q
+  status_alike : (q : ProcName) → expected_status accounts l.category f l.naming.number (Some q) ≡ expected_status accounts l.category after l.naming.number (Some q)
+  status_alike q = by (f.processes q) ∙ object_alike (λ x o. status_object accounts l.category (bytes_for accounts l.category after l.naming.number x o) x o) refl q
     where
-      by : (o : Option Process) → status_object session l.category (bytes_for session l.category f l.naming.number q o) q o ≡ status_object session l.category (bytes_for session l.category after l.naming.number q o) q o
+      by : (o : Option Process) → status_object accounts l.category (bytes_for accounts l.category f l.naming.number q o) q o ≡ status_object accounts l.category (bytes_for accounts l.category after l.naming.number q o) q o
       by None = refl
       by (Some x) = ap (segment (guard_label l.category (process_guard q x))) (same_bytes q x)
 
-  files_alike : AsksAlike session l.category l.category f after l.naming.number l.naming.number
+  files_alike : AsksAlike accounts l.category l.category f after l.naming.number l.naming.number
   files_alike = record { at_path = λ q. refl; in_directory = λ d. refl }
 
   wish_other : (a : Address Step) → runner ≢ a → old_asked a ≡ wish a
-  wish_other a other = asked_alike session l.category l.category f after l.naming.number l.naming.number files_alike a (record {
-    home = λ q is. object_alike (home_object session l.category) refl q;
+  wish_other a other = asked_alike accounts l.category l.category f after l.naming.number l.naming.number files_alike a (record {
+    home = λ q is. object_alike (home_object accounts l.category) refl q;
     status = λ q is. status_alike q;
-    inside = λ q is. object_alike (inside_object session l.category) refl q;
+    inside = λ q is. object_alike (inside_object accounts l.category) refl q;
     runner = λ q is. elim (which q) [
       | inl e ↦ absurd (other (ap (λ (x : ProcName). Runner ∷ Inside ∷ home_address x) (sym e) ∙ sym is))
-      | inr not_me ↦ ap (thread_object session l.category q) (sym (at_other q not_me))
+      | inr not_me ↦ ap (thread_object accounts l.category q) (sym (at_other q not_me))
     ];
   })
 
@@ -155,12 +155,12 @@ module _ (session : Session) (s : State) (f : Flat) (l : ObjectsMatch session s 
   same_objects q = elim (eqb_tells q T) [
     | inl e ↦
         ap (with_own s T label clearance).objects e.1 ∙ put_here s.objects T (thread_of label clearance)
-        ∙ sym (ap (changed_at s.objects T (becoming label clearance)) e.1 ∙ changed_here s.objects T (becoming label clearance) ∙ ap (option_map (becoming label clearance)) thread_stands)
+        ∙ sym (ap (changed_at s.objects T (becoming label clearance)) e.1 ∙ changed_here s.objects T (becoming label clearance) ∙ ap (option_map (becoming label clearance)) thread_agrees)
     | inr e ↦ put_other s.objects T (thread_of label clearance) q e.1 ∙ sym (changed_other s.objects T (becoming label clearance) q e.1)
   ]
 
   -- what is known and used then was
-  known_then : (job x : ProcName) (px : Process) → after.processes x ≡ Some px → knows px job ≡ true → IsUsed session f (OfJob job)
+  known_then : (job x : ProcName) (px : Process) → after.processes x ≡ Some px → knows px job ≡ true → IsUsed accounts f (OfJob job)
   known_then job x px at known = elim (which x) [
     | inl e ↦
         let is : changed ≡ px = same_Some changed px (sym at_me ∙ ap after.processes (sym e) ∙ at) in
@@ -169,11 +169,11 @@ module _ (session : Session) (s : State) (f : Flat) (l : ObjectsMatch session s 
     | inr other ↦ inl (x, px, sym (at_other x other) ∙ at, known)
   ]
 
-  pub job_used : (job : ProcName) → IsKnown after job ⊎ IsServed after job → IsUsed session f (OfJob job)
+  pub job_used : (job : ProcName) → IsKnown after job ⊎ IsServed after job → IsUsed accounts f (OfJob job)
   job_used job (inl k) = known_then job k.0 k.1 k.2 k.3
   job_used job (inr served) = inr served
 
-  used_then : (c : CategoryName) → IsUsed session after c → IsUsed session f c
+  used_then : (c : CategoryName) → IsUsed accounts after c → IsUsed accounts f c
   used_then OfBoot u = u
   used_then (ReadsUser i) u = u
   used_then (WritesUser i) u = u
@@ -193,27 +193,27 @@ module _ (session : Session) (s : State) (f : Flat) (l : ObjectsMatch session s 
   given_then [] = refl
   given_then (k ∷ y) = λ i. given_alike y k i && given_then y i
 
-  process_then : (x : ProcName) (px : Process) → after.processes x ≡ Some px → IsProcess session l.category px
+  process_then : (x : ProcName) (px : Process) → after.processes x ≡ Some px → IsProcess accounts l.category px
   process_then x px at = elim (which x) [
     | inl e ↦
         let o = l.processes me p here in
-        subst (IsProcess session l.category) (same_Some changed px (sym at_me ∙ ap after.processes (sym e) ∙ at))
+        subst (IsProcess accounts l.category) (same_Some changed px (sym at_me ∙ ap after.processes (sym e) ∙ at))
         (record { someone = λ r. known_user; free = λ r u. held_free u; apart = λ r. held_apart; chain = o.chain; held = λ r. held_ordered; few = o.few; status = o.status })
     | inr other ↦ l.processes x px (sym (at_other x other) ∙ at)
   ]
 
   gone_then : (with_own s T label clearance).objects boot_thread_number ≡ None
-  gone_then = put_other s.objects T (thread_of label clearance) boot_thread_number (λ e. none-some old_thread (sym l.boot_thread_gone ∙ ap s.objects e ∙ thread_stands)) ∙ l.boot_thread_gone
+  gone_then = put_other s.objects T (thread_of label clearance) boot_thread_number (λ e. none-some old_thread (sym l.boot_thread_gone ∙ ap s.objects e ∙ thread_agrees)) ∙ l.boot_thread_gone
 
   -- The kernel represents the flat state with the process so.
   pub becomes : (new : State) → ((q : ℕ) → new.objects q ≡ (with_own s T label clearance).objects q) → new.next_object ≡ s.next_object → s.next_category ≤ new.next_category
-      → (later : ObjectsMatch session new after) × (later.naming ≡ l.naming) × (later.category ≡ l.category)
+      → (later : ObjectsMatch accounts new after) × (later.naming ≡ l.naming) × (later.category ≡ l.category)
   becomes new objects next_is categories = (
     record {
       naming = l.naming;
       category = l.category;
-      stands = stands_same same_step _ new l.naming _ wish
-          (stands_changed same_step step_tests_equality s l.naming old_asked l.stands T runner (becoming label clearance) at_thread (same_links label clearance) (bared label clearance)) asks (λ q. objects q ∙ same_objects q) next_is;
+      agrees = agrees_same same_step _ new l.naming _ wish
+          (agrees_changed same_step step_tests_equality s l.naming old_asked l.agrees T runner (becoming label clearance) at_thread (same_links label clearance) (bared label clearance)) asks (λ q. objects q ∙ same_objects q) next_is;
       numbered = subst (λ (m : ℕ). m ≤ greatest) (sym next_is) l.numbered;
       as_booted = l.as_booted;
       different = l.different;

@@ -16,9 +16,9 @@ use Rattle.histar_container.proofs.TableMoves.{new_none}
 use Rattle.histar_container.proofs.Trees.{kind_held_links}
 use Rattle.histar_refinement.specs.Addresses.{Step, same_step, home_address}
 use Rattle.histar_refinement.specs.Addresses.Step.{Status, Inside, Runner, Child}
-use Rattle.histar_refinement.specs.Stands.{Stands}
+use Rattle.histar_refinement.specs.Agrees.{Agrees}
 use Rattle.histar_refinement.proofs.Steps.{step_tests_equality}
-use Rattle.histar_refinement.proofs.Moving.{bare_held, stands_added, stands_changed}
+use Rattle.histar_refinement.proofs.Moving.{bare_held, agrees_added, agrees_changed}
 
 -- the number that an address was given, and the others
 pub given : (naming : Naming Step) (k : ℕ) (a : Address Step) → (with_number same_step naming k a).number a ≡ Some k
@@ -27,7 +27,7 @@ given naming k a = ap (λ (t : Bool). if t then Some k else naming.number a) (sa
 pub given_other : (naming : Naming Step) (k : ℕ) (a b : Address Step) → a ≢ b → (with_number same_step naming k a).number b ≡ naming.number b
 given_other naming k a b other = ap (λ (t : Bool). if t then Some k else naming.number b) (same_other same_step step_tests_equality a b other)
 
-module _ (s : State) (naming : Naming Step) (asked : Address Step → Found) (stands : Stands same_step s naming asked) (me : ProcName) (n C S : ℕ)
+module _ (s : State) (naming : Naming Step) (asked : Address Step → Found) (agrees : Agrees same_step s naming asked) (me : ProcName) (n C S : ℕ)
     (at_home : naming.number (home_address me) ≡ Some C) (at_status : naming.number (Status ∷ home_address me) ≡ Some S) (holder : is_container (asked (home_address me)) ≡ true)
     (no_home : is_present (asked (home_address (n ∷ me))) ≡ false) (no_inside : is_present (asked (Inside ∷ home_address (n ∷ me))) ≡ false)
     (no_runner : is_present (asked (Runner ∷ Inside ∷ home_address (n ∷ me))) ≡ false) (no_status : is_present (asked (Status ∷ home_address (n ∷ me))) ≡ false)
@@ -99,18 +99,18 @@ module _ (s : State) (naming : Naming Step) (asked : Address Step → Found) (st
   inside_holds : is_container (asked_second (Inside ∷ home)) ≡ true
   inside_holds = ap (λ (t : Bool). is_container (if t then Some internal else asked_first (Inside ∷ home))) (same_itself same_step step_tests_equality (Inside ∷ home))
 
-  stands_first : Stands same_step first naming_first asked_first
-  stands_first = stands_added same_step step_tests_equality s naming asked stands C (home_address me) (Child n) container at_home holder no_home empty_links
+  agrees_first : Agrees same_step first naming_first asked_first
+  agrees_first = agrees_added same_step step_tests_equality s naming asked agrees C (home_address me) (Child n) container at_home holder no_home empty_links
 
-  stands_second : Stands same_step second naming_second asked_second
-  stands_second = stands_added same_step step_tests_equality first naming_first asked_first stands_first s.next_object home Inside internal (given naming s.next_object home) home_holds no_inside empty_links
+  agrees_second : Agrees same_step second naming_second asked_second
+  agrees_second = agrees_added same_step step_tests_equality first naming_first asked_first agrees_first s.next_object home Inside internal (given naming s.next_object home) home_holds no_inside empty_links
 
-  stands_third : Stands same_step third naming_third asked_third
-  stands_third = stands_added same_step step_tests_equality second naming_second asked_second stands_second (s.next_object + 1) (Inside ∷ home) Runner (thread_of label clearance)
+  agrees_third : Agrees same_step third naming_third asked_third
+  agrees_third = agrees_added same_step step_tests_equality second naming_second asked_second agrees_second (s.next_object + 1) (Inside ∷ home) Runner (thread_of label clearance)
       (given naming_first (s.next_object + 1) (Inside ∷ home)) inside_holds no_runner empty_links
 
-  stands_fourth : Stands same_step fourth born_naming asked_fourth
-  stands_fourth = stands_added same_step step_tests_equality third naming_third asked_third stands_third s.next_object home Status segment (given naming s.next_object home) home_holds no_status empty_links
+  agrees_fourth : Agrees same_step fourth born_naming asked_fourth
+  agrees_fourth = agrees_added same_step step_tests_equality third naming_third asked_third agrees_third s.next_object home Status segment (given naming s.next_object home) home_holds no_status empty_links
 
   -- the child's process segment is not its parent's
   apart_status : Status ∷ home ≢ Status ∷ home_address me
@@ -119,8 +119,8 @@ module _ (s : State) (naming : Naming Step) (asked : Address Step → Found) (st
   status_stays : born_naming.number (Status ∷ home_address me) ≡ Some S
   status_stays = given_other naming_third (s.next_object + 1 + 1 + 1) (Status ∷ home) (Status ∷ home_address me) apart_status ∙ at_status
 
-  pub stands_born : Stands same_step born_state born_naming born_asked
-  stands_born = stands_changed same_step step_tests_equality fourth born_naming asked_fourth stands_fourth S (Status ∷ home_address me) (holding own_bytes) status_stays (λ o. kind_held_links own_bytes o.kind) (bare_held own_bytes)
+  pub agrees_born : Agrees same_step born_state born_naming born_asked
+  agrees_born = agrees_changed same_step step_tests_equality fourth born_naming asked_fourth agrees_fourth S (Status ∷ home_address me) (holding own_bytes) status_stays (λ o. kind_held_links own_bytes o.kind) (bare_held own_bytes)
 
   -- the numbers that the new objects have
   pub at_new_home : born_naming.number home ≡ Some s.next_object

@@ -8,7 +8,7 @@ use Rattle.std.proofs.lemmas.List.Sums.{length-filter, count_by-le-length}
 use Rattle.std.proofs.lemmas.Option.{none-some, same_Some}
 use mathlib.Core.Bool.{true≢false}
 use Rattle.histar_flat.specs.Words.{ProcName, most_children}
-use Rattle.histar_flat.specs.Sessions.{Session}
+use Rattle.histar_flat.specs.Accounts.{Accounts}
 use Rattle.histar_flat.specs.Classes.{Process}
 use Rattle.histar_flat.specs.FlatState.{Flat}
 use Rattle.histar_flat.specs.FlatCalls.{if_running, running}
@@ -18,10 +18,10 @@ use Rattle.histar_object.specs.State.{State}
 use Rattle.histar_layout.specs.declared.status.Child.{Child as Listed}
 use Rattle.histar_layout.specs.Status.{ProcessStatus, child_at}
 use Rattle.histar_layout.proofs.Statuses.{status_again}
-use Rattle.histar_calls.specs.declared.places.Home.{Home as Where}
+use Rattle.histar_calls.specs.declared.roots.Home.{Home as Where}
 use Rattle.histar_process.specs.declared.caller.Caller.{Caller}
 use Rattle.histar_process.specs.Caller.{status_at, home_at, if_runs, caller_by, caller_at, write_category_in, read_category_in}
-use Rattle.histar_login.specs.Start.{places_of}
+use Rattle.histar_login.specs.Start.{roots_of}
 use Rattle.histar_refinement.specs.Categories.CategoryName.{ReadsProcess, WritesProcess}
 use Rattle.histar_refinement.specs.Guards.{guard_label}
 use Rattle.histar_refinement.specs.Labels.{process_guard, inside_guard}
@@ -34,10 +34,10 @@ use Rattle.histar_refinement.specs.Laws.{IsCallerOf, CallersAreFound, CallersAre
 use Rattle.histar_refinement.proofs.CallerLabels.{write_found, read_found}
 use Rattle.histar_refinement.proofs.FileLabels.{label_bare}
 use Rattle.histar_refinement.proofs.Moving.{at_number}
-use Rattle.histar_refinement.proofs.Places.{asked_home, asked_inside}
-use Rattle.histar_refinement.proofs.Standing.{some_of}
+use Rattle.histar_refinement.proofs.Roots.{asked_home, asked_inside}
+use Rattle.histar_refinement.proofs.Agreeing.{some_of}
 use Rattle.histar_refinement.proofs.StatusFound.{child_range, listed_there, listed_back, numbered_home, numbered_status, numbered_runner}
-use Rattle.histar_refinement.proofs.StatusLaid.{holds_status}
+use Rattle.histar_refinement.proofs.StatusMatched.{holds_status}
 use Rattle.histar_refinement.proofs.Steps.{step_tests_equality}
 
 -- a number that is there
@@ -45,9 +45,9 @@ pub is_or_zero : (o : Option ℕ) → is_some o ≡ true → o ≡ Some (or_zero
 is_or_zero None e = absurd (true≢false (sym e))
 is_or_zero (Some q) e = refl
 
-module _ (session : Session) (s : State) (f : Flat) (l : ObjectsMatch session s f) where
+module _ (accounts : Accounts) (s : State) (f : Flat) (l : ObjectsMatch accounts s f) where
   abbrev first : Where
-  first = (places_of (length session.users)).home
+  first = (roots_of (length accounts.users)).home
 
   -- where a process that is there is found
   abbrev pub where_is : ProcName → Where
@@ -57,7 +57,7 @@ module _ (session : Session) (s : State) (f : Flat) (l : ObjectsMatch session s 
   pub status_is : (me : ProcName) (p : Process) → f.processes me ≡ Some p → status_at s (or_zero (l.naming.number (Status ∷ home_address me))) ≡ Some (status_by f.processes l.naming.number me p)
   status_is me p here =
       status_again _ (status_by f.processes l.naming.number me p)
-      (holds_status session s f l me p (or_zero (l.naming.number (Status ∷ home_address me))) here (is_or_zero _ (numbered_status session s f l me ∙ ap is_some here)))
+      (holds_status accounts s f l me p (or_zero (l.naming.number (Status ∷ home_address me))) here (is_or_zero _ (numbered_status accounts s f l me ∙ ap is_some here)))
       few
     where
       few : length (map (listed_by l.naming.number me) (children f.processes me p.born)) ≤ most_children
@@ -81,7 +81,7 @@ module _ (session : Session) (s : State) (f : Flat) (l : ObjectsMatch session s 
       by : (o : Option Process) → f.processes (n ∷ me) ≡ o → child_at (map (listed_by l.naming.number me) (children f.processes me p.born)) n ≡ option_map (λ (q : Process). listed_by l.naming.number me n) o
       by None is = no_other is (child_at (map (listed_by l.naming.number me) (children f.processes me p.born)) n) refl
       by (Some q) is =
-          let range = child_range session s f l n me p here (ap is_some is) in
+          let range = child_range accounts s f l n me p here (ap is_some is) in
           listed_there l.naming.number me (λ k. is_some (f.processes (k ∷ me))) n (ap is_some is) 1 p.born range.0 range.1
 
   -- a process is there only where the one above it is
@@ -91,9 +91,9 @@ module _ (session : Session) (s : State) (f : Flat) (l : ObjectsMatch session s 
       by : (o : Option Process) → f.processes (n ∷ me) ≡ o → o ≡ None
       by None is = refl
       by (Some q) is =
-          let numbered = numbered_home session s f l (n ∷ me) ∙ ap is_some is in
-          let above = l.stands.tree.held (Child n) (home_address me) numbered in
-          absurd (true≢false (sym (sym (numbered_home session s f l me) ∙ above) ∙ ap is_some none))
+          let numbered = numbered_home accounts s f l (n ∷ me) ∙ ap is_some is in
+          let above = l.agrees.tree.held (Child n) (home_address me) numbered in
+          absurd (true≢false (sym (sym (numbered_home accounts s f l me) ∙ above) ∙ ap is_some none))
 
   -- from the process above on to a child
   abbrev below : ℕ → Option Where → Option Where
@@ -136,11 +136,11 @@ module _ (session : Session) (s : State) (f : Flat) (l : ObjectsMatch session s 
     outer_label : label_there (s.objects (where_is me).container) ≡ Some (guard_label l.category (process_guard me p))
     outer_label =
         sym (label_bare (s.objects (where_is me).container))
-        ∙ ap label_there (at_number same_step step_tests_equality s l.naming (expected session l.category f l.naming.number) l.stands (home_address me) (where_is me).container (is_or_zero _ (numbered_home session s f l me ∙ ap is_some here)))
-        ∙ ap label_there (asked_home session l.category f l.naming.number me ∙ ap (home_object session l.category me) here)
+        ∙ ap label_there (at_number same_step step_tests_equality s l.naming (expected accounts l.category f l.naming.number) l.agrees (home_address me) (where_is me).container (is_or_zero _ (numbered_home accounts s f l me ∙ ap is_some here)))
+        ∙ ap label_there (asked_home accounts l.category f l.naming.number me ∙ ap (home_object accounts l.category me) here)
 
     abbrev of_inner : ProcessStatus → Levels → Levels → Option Caller
-    of_inner told outer inner = option_and_then (λ write. option_and_then (λ read. Some (record { home = where_is me; thread = told.thread; read = read; write = write })) (read_category_in outer inner)) (write_category_in outer)
+    of_inner revealed outer inner = option_and_then (λ write. option_and_then (λ read. Some (record { home = where_is me; thread = revealed.thread; read = read; write = write })) (read_category_in outer inner)) (write_category_in outer)
 
     found_here : caller_at s first me ≡ caller_by s (where_is me) status
     found_here =
@@ -149,14 +149,14 @@ module _ (session : Session) (s : State) (f : Flat) (l : ObjectsMatch session s 
 
     module _ (runs : p.exited ≡ None) where
       inner_there : is_some (l.naming.number (Inside ∷ home_address me)) ≡ true
-      inner_there = l.stands.tree.held Runner (Inside ∷ home_address me) (numbered_runner session s f l me p here runs)
+      inner_there = l.agrees.tree.held Runner (Inside ∷ home_address me) (numbered_runner accounts s f l me p here runs)
 
       inner_label : label_there (s.objects (or_zero (l.naming.number (Inside ∷ home_address me)))) ≡ Some (guard_label l.category (inside_guard me p))
       inner_label =
           sym (label_bare (s.objects (or_zero (l.naming.number (Inside ∷ home_address me)))))
-          ∙ ap label_there (at_number same_step step_tests_equality s l.naming (expected session l.category f l.naming.number) l.stands (Inside ∷ home_address me) (or_zero (l.naming.number (Inside ∷ home_address me))) (is_or_zero _ inner_there))
-          ∙ ap label_there (asked_inside session l.category f l.naming.number me ∙ ap (inside_object session l.category me) here)
-          ∙ ap (λ (e : Option ℕ). label_there (inside_object session l.category me (Some (record p { exited = e })))) runs
+          ∙ ap label_there (at_number same_step step_tests_equality s l.naming (expected accounts l.category f l.naming.number) l.agrees (Inside ∷ home_address me) (or_zero (l.naming.number (Inside ∷ home_address me))) (is_or_zero _ inner_there))
+          ∙ ap label_there (asked_inside accounts l.category f l.naming.number me ∙ ap (inside_object accounts l.category me) here)
+          ∙ ap (λ (e : Option ℕ). label_there (inside_object accounts l.category me (Some (record p { exited = e })))) runs
 
       -- it is found where it is
       pub runs_here : caller_by s (where_is me) status ≡ Some (caller_is me)
@@ -190,24 +190,24 @@ module _ (session : Session) (s : State) (f : Flat) (l : ObjectsMatch session s 
         by None runs = (p, is, runs)
         by (Some n) exited = absurd (none-some caller (sym (exited_lost me p is n exited) ∙ found))
 
-    pub caller_found : (p : Process) × IsCallerOf session s f l me p caller
+    pub caller_found : (p : Process) × IsCallerOf accounts s f l me p caller
     caller_found =
         let there = found_process (f.processes me) refl in
         let same : caller_is me ≡ caller = same_Some (caller_is me) caller (sym (runs_found me there.0 there.1 there.2) ∙ found) in
         let some = ap is_some there.1 in (
           there.0,
           record {
-            runs = (there.1, there.2, is_or_zero _ (numbered_runner session s f l me there.0 there.1 there.2) ∙ ap (λ (c : Caller). Some c.thread) same);
-            home = is_or_zero _ (numbered_home session s f l me ∙ some) ∙ ap (λ (c : Caller). Some c.home.container) same;
-            segment = is_or_zero _ (numbered_status session s f l me ∙ some) ∙ ap (λ (c : Caller). Some c.home.segment) same;
+            runs = (there.1, there.2, is_or_zero _ (numbered_runner accounts s f l me there.0 there.1 there.2) ∙ ap (λ (c : Caller). Some c.thread) same);
+            home = is_or_zero _ (numbered_home accounts s f l me ∙ some) ∙ ap (λ (c : Caller). Some c.home.container) same;
+            segment = is_or_zero _ (numbered_status accounts s f l me ∙ some) ∙ ap (λ (c : Caller). Some c.home.segment) same;
             reads = ap (λ (c : Caller). c.read) same;
             writes = ap (λ (c : Caller). c.write) same;
           },
         )
 
   -- and who is so is found
-  pub caller_told : (me : ProcName) (caller : Caller) (p : Process) → IsCallerOf session s f l me p caller → caller_at s first me ≡ Some caller
-  caller_told me caller p c =
+  pub caller_revealed : (me : ProcName) (caller : Caller) (p : Process) → IsCallerOf accounts s f l me p caller → caller_at s first me ≡ Some caller
+  caller_revealed me caller p c =
       runs_found me p c.runs.0 c.runs.1
       ∙ λ i. Some (record {
         home = record { container = or_zero (c.home i); segment = or_zero (c.segment i) };
@@ -228,7 +228,7 @@ module _ (session : Session) (s : State) (f : Flat) (l : ObjectsMatch session s 
       by (Some p) is = of_life p is p.exited refl
 
 pub callers_are_found : CallersAreFound
-callers_are_found session s f l me caller = ((λ found. caller_found session s f l me caller found), (λ c. caller_told session s f l me caller c.0 c.1))
+callers_are_found accounts s f l me caller = ((λ found. caller_found accounts s f l me caller found), (λ c. caller_revealed accounts s f l me caller c.0 c.1))
 
 pub callers_are_there : CallersAreThere
-callers_are_there session s f l me = caller_there session s f l me
+callers_are_there accounts s f l me = caller_there accounts s f l me

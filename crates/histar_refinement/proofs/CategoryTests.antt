@@ -10,7 +10,7 @@ use Rattle.histar_flat.specs.Words.{ProcName}
 use Rattle.histar_flat.specs.PathOrder.{same}
 use Rattle.histar_flat.proofs.FileLemmas.{same_name_found}
 use Rattle.histar_container.proofs.Addresses.{TestsEquality}
-use Rattle.histar_flat.specs.Sessions.{has}
+use Rattle.histar_flat.specs.Accounts.{has}
 use Rattle.histar_refinement.specs.Categories.{CategoryName, Categories, AreDifferent, split_category, same_category, among}
 use Rattle.histar_refinement.specs.Categories.CategoryName.{OfBoot, ReadsUser, WritesUser, ReadsGroup, WritesGroup, ReadsProcess, WritesProcess, OfJob}
 use Rattle.histar_layout.proofs.Members.{is_in, all_mapped, all_same, equal_itself}
@@ -59,8 +59,8 @@ category_tests_equality x y = elim (eqb_tells (split_category x).0 (split_catego
 pub same_itself : (c : CategoryName) → same_category c c ≡ true
 same_itself c = elim (category_tests_equality c c) [ inl e ↦ e.0 | inr e ↦ absurd (e.1 refl) ]
 
-pub same_told : (c d : CategoryName) → same_category c d ≡ true → c ≡ d
-same_told c d e = elim (category_tests_equality c d) [ inl k ↦ k.1 | inr k ↦ absurd (true≢false (sym e ∙ k.0)) ]
+pub same_revealed : (c d : CategoryName) → same_category c d ≡ true → c ≡ d
+same_revealed c d e = elim (category_tests_equality c d) [ inl k ↦ k.1 | inr k ↦ absurd (true≢false (sym e ∙ k.0)) ]
 
 -- what is among names before others
 pub among-append : (xs ys : List CategoryName) (c : CategoryName) → among (xs ++ ys) c ≡ (among xs c || among ys c)

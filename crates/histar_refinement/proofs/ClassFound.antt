@@ -5,7 +5,7 @@ use Rattle.std.proofs.lemmas.Option.{same_Some}
 use Rattle.std.proofs.lemmas.Simd.{map-map}
 use Rattle.std.proofs.lemmas.Bool.{cases_lt}
 use Rattle.histar_flat.specs.Words.{Path, ProcName}
-use Rattle.histar_flat.specs.Sessions.{Session, user_number, group_number}
+use Rattle.histar_flat.specs.Accounts.{Accounts, user_number, group_number}
 use Rattle.histar_flat.specs.Files.{get}
 use Rattle.histar_flat.specs.Classes.{Class, class_owner, class_mode}
 use Rattle.histar_flat.specs.Classes.Class.{Private, Readable, Open, Scratch, Grouped}
@@ -32,31 +32,31 @@ use Rattle.histar_refinement.proofs.Uses.{job_among}
 
 -- ---- the label of a class
 
-module _ (session : Session) (category : Categories) (as_made : (c : CategoryName) (q : ℕ) → boot_category session c ≡ Some q → category c ≡ q) where
+module _ (accounts : Accounts) (category : Categories) (as_made : (c : CategoryName) (q : ℕ) → boot_category accounts c ≡ Some q → category c ≡ q) where
   -- how what is of a class is guarded is the label of this class
-  labels_match : (class : Class) (g : Guard) → class_guard session class ≡ Some g → class_label session (numbered_class category class) ≡ Some (guard_label category g)
+  labels_match : (class : Class) (g : Guard) → class_guard accounts class ≡ Some g → class_label accounts (numbered_class category class) ≡ Some (guard_label category g)
   labels_match (Private owner) g e =
-      let at = mapped_from private_guard (user_number session owner) g e in
-      let known = (user_range session owner at.0 at.1).1 in
-      ap (option_map owned_label) at.1 ∙ (λ i. Some (guarded_by (sym (user_reads session category as_made at.0 known) i ∷ []) (sym (user_writes session category as_made at.0 known) i ∷ [])))
+      let at = mapped_from private_guard (user_number accounts owner) g e in
+      let known = (user_range accounts owner at.0 at.1).1 in
+      ap (option_map owned_label) at.1 ∙ (λ i. Some (guarded_by (sym (user_reads accounts category as_made at.0 known) i ∷ []) (sym (user_writes accounts category as_made at.0 known) i ∷ [])))
       ∙ ap (λ (x : Guard). Some (guard_label category x)) at.2
   labels_match (Readable owner) g e =
-      let at = mapped_from readable_guard (user_number session owner) g e in
-      let known = (user_range session owner at.0 at.1).1 in
-      ap (option_map (λ user. written_by (write_category user))) at.1 ∙ (λ i. Some (guarded_by [] (sym (user_writes session category as_made at.0 known) i ∷ [])))
+      let at = mapped_from readable_guard (user_number accounts owner) g e in
+      let known = (user_range accounts owner at.0 at.1).1 in
+      ap (option_map (λ user. written_by (write_category user))) at.1 ∙ (λ i. Some (guarded_by [] (sym (user_writes accounts category as_made at.0 known) i ∷ [])))
       ∙ ap (λ (x : Guard). Some (guard_label category x)) at.2
   labels_match Open g e = ap (λ (x : Guard). Some (guard_label category x)) (same_Some open_guard g e)
   labels_match (Scratch owner jobs) g e =
-      let at = mapped_from (scratch_guard jobs) (user_number session owner) g e in
-      let known = (user_range session owner at.0 at.1).1 in
+      let at = mapped_from (scratch_guard jobs) (user_number accounts owner) g e in
+      let known = (user_range accounts owner at.0 at.1).1 in
       ap (option_map (λ user. scratch_label user (job_numbers category jobs))) at.1
-      ∙ (λ i. Some (guarded_by (sym (user_reads session category as_made at.0 known) i ∷ sym (map-map category OfJob jobs) i) []))
+      ∙ (λ i. Some (guarded_by (sym (user_reads accounts category as_made at.0 known) i ∷ sym (map-map category OfJob jobs) i) []))
       ∙ ap (λ (x : Guard). Some (guard_label category x)) at.2
   labels_match (Grouped group) g e =
-      let at = mapped_from group_guard (group_number session group) g e in
-      let range = group_range session group at.0 at.1 in
-      ap (option_map (λ number. owned_label (group_owner (length session.users) number))) at.1
-      ∙ (λ i. Some (guarded_by (sym (group_reads session category as_made at.0 range.0 range.1) i ∷ []) (sym (group_writes session category as_made at.0 range.0 range.1) i ∷ [])))
+      let at = mapped_from group_guard (group_number accounts group) g e in
+      let range = group_range accounts group at.0 at.1 in
+      ap (option_map (λ number. owned_label (group_owner (length accounts.users) number))) at.1
+      ∙ (λ i. Some (guarded_by (sym (group_reads accounts category as_made at.0 range.0 range.1) i ∷ []) (sym (group_writes accounts category as_made at.0 range.0 range.1) i ∷ [])))
       ∙ ap (λ (x : Guard). Some (guard_label category x)) at.2
 
 -- ---- the categories of jobs
@@ -68,49 +68,49 @@ halves (suc q) =
     let h = halves q in
     elim h.1 [ inl e ↦ (h.0, inr (omega (arith, e))) | inr e ↦ (suc h.0, inl (omega (arith, e))) ]
 
-module _ (session : Session) (s : State) (f : Flat) (l : ObjectsMatch session s f) where
+module _ (accounts : Accounts) (s : State) (f : Flat) (l : ObjectsMatch accounts s f) where
   -- no job's category has another name
   apart : (job : ProcName) (c : CategoryName) → (split_category c).0 < 7 → l.category c ≡ l.category (OfJob job) → ⊥
   apart job c kind e = let same : (split_category c).0 ≡ 7 = ap (λ (d : CategoryName). (split_category d).0) (l.different c (OfJob job) e) in omega (arith, same, kind)
 
   -- what stands before the categories of jobs is boot's, nobody's, a user's or a group's
-  named_before : (job : ProcName) (i : ℕ) → (l.category (OfJob job) ≡ 2 * i) ⊎ (l.category (OfJob job) ≡ 2 * i + 1) → 0 < l.category (OfJob job) → l.category (OfJob job) < first_after_groups session → ⊥
+  named_before : (job : ProcName) (i : ℕ) → (l.category (OfJob job) ≡ 2 * i) ⊎ (l.category (OfJob job) ≡ 2 * i + 1) → 0 < l.category (OfJob job) → l.category (OfJob job) < first_after_groups accounts → ⊥
   named_before job zero (inl e) made low = omega (arith, e, made)
   named_before job zero (inr e) made low = apart job OfBoot (omega arith) (l.as_made OfBoot 1 refl ∙ omega (arith, e))
-  named_before job (suc i) half made low = elim (cases_lt (length session.users) i) [
+  named_before job (suc i) half made low = elim (cases_lt (length accounts.users) i) [
     | inr known ↦ elim half [
-      | inl e ↦ apart job (ReadsUser i) (omega arith) (user_reads session l.category l.as_made i known ∙ omega (arith, e))
-      | inr e ↦ apart job (WritesUser i) (omega arith) (user_writes session l.category l.as_made i known ∙ omega (arith, e))
+      | inl e ↦ apart job (ReadsUser i) (omega arith) (user_reads accounts l.category l.as_made i known ∙ omega (arith, e))
+      | inr e ↦ apart job (WritesUser i) (omega arith) (user_writes accounts l.category l.as_made i known ∙ omega (arith, e))
     ]
     | inl over ↦
-        let k = i - length session.users in
+        let k = i - length accounts.users in
         let first : 1 ≤ k = omega (arith, over) in
-        let number : length session.users + k ≡ i = omega (arith, over) in
+        let number : length accounts.users + k ≡ i = omega (arith, over) in
         elim half [
           | inl e ↦
-              let last : k ≤ length session.groups = omega (arith, e, low, number) in
-              apart job (ReadsGroup k) (omega arith) (group_reads session l.category l.as_made k first last ∙ omega (arith, e, number))
+              let last : k ≤ length accounts.groups = omega (arith, e, low, number) in
+              apart job (ReadsGroup k) (omega arith) (group_reads accounts l.category l.as_made k first last ∙ omega (arith, e, number))
           | inr e ↦
-              let last : k ≤ length session.groups = omega (arith, e, low, number) in
-              apart job (WritesGroup k) (omega arith) (group_writes session l.category l.as_made k first last ∙ omega (arith, e, number))
+              let last : k ≤ length accounts.groups = omega (arith, e, low, number) in
+              apart job (WritesGroup k) (omega arith) (group_writes accounts l.category l.as_made k first last ∙ omega (arith, e, number))
         ]
   ]
 
   -- so a job's category, once it was made, stands behind these
-  job_behind : (job : ProcName) → 0 < l.category (OfJob job) → first_after_groups session ≤ l.category (OfJob job)
-  job_behind job made = elim (cases_lt (l.category (OfJob job)) (first_after_groups session)) [
+  job_behind : (job : ProcName) → 0 < l.category (OfJob job) → first_after_groups accounts ≤ l.category (OfJob job)
+  job_behind job made = elim (cases_lt (l.category (OfJob job)) (first_after_groups accounts)) [
     | inl low ↦ let h = halves (l.category (OfJob job)) in absurd (named_before job h.0 h.1 made low)
     | inr high ↦ high
   ]
 
   module _ (q : Path) (there : Node) (at : get f.files q ≡ Some there) where
     -- those of the jobs that a file or a directory is for rise behind these
-    jobs_behind : (class : Class) → there.class ≡ class → HasJobs session (numbered_class l.category class)
+    jobs_behind : (class : Class) → there.class ≡ class → HasJobs accounts (numbered_class l.category class)
     jobs_behind (Private owner) is = tt
     jobs_behind (Readable owner) is = tt
     jobs_behind Open is = tt
     jobs_behind (Scratch owner jobs) is =
-        rises_above 0 (first_after_groups session) (job_numbers l.category jobs) (subst (IsInOrder l.category) is (l.in_order q there at))
+        rises_above 0 (first_after_groups accounts) (job_numbers l.category jobs) (subst (IsInOrder l.category) is (l.in_order q there at))
         (λ n e.
         let named = named_in l.category (map OfJob jobs) n (ap (λ (ns : List ℕ). is_in ns n) (map-map l.category OfJob jobs) ∙ e) in
         let found = job_among jobs named.0 named.2 in
@@ -121,8 +121,8 @@ module _ (session : Session) (s : State) (f : Flat) (l : ObjectsMatch session s 
     jobs_behind (Grouped group) is = tt
 
     -- What stands at a path has the label of its class.
-    pub label_of_class : (g : Guard) → class_guard session there.class ≡ Some g → IsClassLabel session (numbered_class l.category there.class) (guard_label l.category g)
-    label_of_class g e = record { jobs = jobs_behind there.class refl; is = labels_match session l.category l.as_made there.class g e }
+    pub label_of_class : (g : Guard) → class_guard accounts there.class ≡ Some g → IsClassLabel accounts (numbered_class l.category there.class) (guard_label l.category g)
+    label_of_class g e = record { jobs = jobs_behind there.class refl; is = labels_match accounts l.category l.as_made there.class g e }
 
 -- ---- its owner and its mode
 
@@ -149,11 +149,11 @@ same_mode category (Scratch owner jobs) = refl
 same_mode category (Grouped group) = refl
 
 -- The label of what stands at a path shows the owner and the mode of its class.
-pub class_told : (session : Session) (s : State) (f : Flat) (l : ObjectsMatch session s f) (q : Path) (there : Node) → get f.files q ≡ Some there → (g : Guard) → class_guard session there.class ≡ Some g
-    → HasOwnerAndMode there.class (class_shown session (guard_label l.category g))
-class_told session s f l q there at g e = record {
+pub class_revealed : (accounts : Accounts) (s : State) (f : Flat) (l : ObjectsMatch accounts s f) (q : Path) (there : Node) → get f.files q ≡ Some there → (g : Guard) → class_guard accounts there.class ≡ Some g
+    → HasOwnerAndMode there.class (class_shown accounts (guard_label l.category g))
+class_revealed accounts s f l q there at g e = record {
   shown_class = without_jobs (numbered_class l.category there.class);
-  is = classes_shown session (numbered_class l.category there.class) (guard_label l.category g) (label_of_class session s f l q there at g e);
+  is = classes_shown accounts (numbered_class l.category there.class) (guard_label l.category g) (label_of_class accounts s f l q there at g e);
   owner = same_owner l.category there.class;
   mode = same_mode l.category there.class;
 }

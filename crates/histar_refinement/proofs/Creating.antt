@@ -18,7 +18,7 @@ use Rattle.histar_container.proofs.Links.{none_linked}
 use Rattle.histar_container.proofs.TableMoves.{new_none}
 use Rattle.histar_rules.specs.Rules.{greatest}
 use Rattle.histar_login.specs.Boot.{boot_thread_number}
-use Rattle.histar_flat.specs.Sessions.{Session}
+use Rattle.histar_flat.specs.Accounts.{Accounts}
 use Rattle.histar_flat.specs.Classes.{Class}
 use Rattle.histar_flat.specs.FlatState.{Node, Flat, is_dir_at, is_some_and, is_dir, entries_in, with_node}
 use Rattle.histar_flat.specs.FlatCalls.{most_entries}
@@ -29,54 +29,54 @@ use Rattle.histar_refinement.specs.Labels.{class_guard}
 use Rattle.histar_refinement.specs.Addresses.{Step, same_step, address_of}
 use Rattle.histar_refinement.specs.Addresses.Step.{Listing, Named}
 use Rattle.histar_refinement.specs.Directories.{both_numbers, directory_of}
-use Rattle.histar_refinement.specs.Stands.{Stands}
+use Rattle.histar_refinement.specs.Agrees.{Agrees}
 use Rattle.histar_refinement.specs.Expected.{bare_container, guarded_object, node_object, listing_object, expected}
 use Rattle.histar_login.specs.Start.{segment}
 use Rattle.histar_refinement.specs.Represents.{ObjectsMatch}
 use Rattle.histar_refinement.proofs.Steps.{step_tests_equality}
-use Rattle.histar_refinement.proofs.Moving.{number_below, stands_added, number_new, number_old}
-use Rattle.histar_refinement.proofs.Places.{asked_path, asked_listing}
-use Rattle.histar_refinement.proofs.FileRows.{SameNumbers, ClassFits}
-use Rattle.histar_refinement.proofs.Making.{boot_thread_below, Standing, same_numbers, laid_made}
+use Rattle.histar_refinement.proofs.Moving.{number_below, agrees_added, number_new, number_old}
+use Rattle.histar_refinement.proofs.Roots.{asked_path, asked_listing}
+use Rattle.histar_refinement.proofs.ListedFiles.{SameNumbers, ClassFits}
+use Rattle.histar_refinement.proofs.Making.{boot_thread_below, Agreeing, same_numbers, matched_made}
 
 -- what was nothing and is not the next number stays nothing
 gone_added : (s : State) (d b : ℕ) (o : Object Levels) → s.objects b ≡ None → b ≢ s.next_object → (with_object s d o).objects b ≡ None
 gone_added s d b o nothing other = new_none s.objects s.next_object d o b nothing other
 
 -- what has a guard is a container, where its kind is one
-container_there : (session : Session) (category : Categories) (g : Option Guard) → g ≢ None → is_container (guarded_object session category (Container set.empty) g) ≡ true
-container_there session category None some = absurd (some refl)
-container_there session category (Some g) some = refl
+container_there : (accounts : Accounts) (category : Categories) (g : Option Guard) → g ≢ None → is_container (guarded_object accounts category (Container set.empty) g) ≡ true
+container_there accounts category None some = absurd (some refl)
+container_there accounts category (Some g) some = refl
 
-module _ (session : Session) (s : State) (f : Flat) (l : ObjectsMatch session s f) (d : Path) (above : Class) (at_parent : get f.files d ≡ Some (record { class = above; content = Dir }))
+module _ (accounts : Accounts) (s : State) (f : Flat) (l : ObjectsMatch accounts s f) (d : Path) (above : Class) (at_parent : get f.files d ≡ Some (record { class = above; content = Dir }))
     (D N : ℕ) (at_directory : l.naming.number (address_of d) ≡ Some D) (at_listing : l.naming.number (Listing ∷ address_of d) ≡ Some N)
-    (m : Name) (absent : get f.files (m ∷ d) ≡ None) (class : Class) (fits : ClassFits session s f l class) (g : Guard) (class_has : class_guard session class ≡ Some g) where
+    (m : Name) (absent : get f.files (m ∷ d) ≡ None) (class : Class) (fits : ClassFits accounts s f l class) (g : Guard) (class_has : class_guard accounts class ≡ Some g) where
   abbrev label : Levels
   label = guard_label l.category g
 
   abbrev old_asked : Address Step → Found
-  old_asked = expected session l.category f l.naming.number
+  old_asked = expected accounts l.category f l.naming.number
 
   abbrev here : Address Step
   here = Named m ∷ address_of d
 
   holder : is_container (old_asked (address_of d)) ≡ true
-  holder = ap is_container (asked_path session l.category f l.naming.number d ∙ ap (node_object session l.category) at_parent) ∙ container_there session l.category (class_guard session above) (l.guarded d (record { class = above; content = Dir }) at_parent)
+  holder = ap is_container (asked_path accounts l.category f l.naming.number d ∙ ap (node_object accounts l.category) at_parent) ∙ container_there accounts l.category (class_guard accounts above) (l.guarded d (record { class = above; content = Dir }) at_parent)
 
   free : is_present (old_asked here) ≡ false
-  free = ap is_present (asked_path session l.category f l.naming.number (m ∷ d) ∙ ap (node_object session l.category) absent)
+  free = ap is_present (asked_path accounts l.category f l.naming.number (m ∷ d) ∙ ap (node_object accounts l.category) absent)
 
   nothing_inner : old_asked (Listing ∷ here) ≡ None
-  nothing_inner = asked_listing session l.category f l.naming.number (m ∷ d) ∙ ap (listing_object session l.category _) absent
+  nothing_inner = asked_listing accounts l.category f l.naming.number (m ∷ d) ∙ ap (listing_object accounts l.category _) absent
 
   parent_is_dir : is_dir_at f d ≡ true
   parent_is_dir = ap (λ (o : Option Node). is_some_and o is_dir) at_parent
 
   below : D < s.next_object
-  below = number_below same_step step_tests_equality s l.naming old_asked l.stands (address_of d) D at_directory
+  below = number_below same_step step_tests_equality s l.naming old_asked l.agrees (address_of d) D at_directory
 
   not_boot : boot_thread_number ≢ s.next_object
-  not_boot e = let low = boot_thread_below session s f l in absurd (omega (arith, low, e))
+  not_boot e = let low = boot_thread_below accounts s f l in absurd (omega (arith, low, e))
 
   other_set : (asked : Address Step → Found) (a b : Address Step) (o : Found) → a ≢ b → set_at same_step asked a o b ≡ asked b
   other_set asked a b o other = ap (λ (t : Bool). if t then o else asked b) (same_other same_step step_tests_equality a b other)
@@ -99,11 +99,11 @@ module _ (session : Session) (s : State) (f : Flat) (l : ObjectsMatch session s 
   abbrev file_asked : Address Step → Found
   file_asked = set_at same_step old_asked here (segment label [])
 
-  file_stands : s.next_object < greatest → Standing session s f l d m class (File []) absent fits with_file file_naming file_asked
-  file_stands few = record {
-    stands = stands_added same_step step_tests_equality s l.naming old_asked l.stands D (address_of d) (Named m) empty_segment at_directory holder free (λ c. sym (none_linked c));
-    elsewhere = λ a not_here not_inner. number_old same_step step_tests_equality s l.naming old_asked l.stands D (address_of d) (Named m) empty_segment at_directory holder free (λ c. sym (none_linked c)) a not_here;
-    asked_new = itself_set old_asked here (segment label []) ∙ sym (ap (guarded_object session l.category (Segment [])) class_has);
+  file_agrees : s.next_object < greatest → Agreeing accounts s f l d m class (File []) absent fits with_file file_naming file_asked
+  file_agrees few = record {
+    agrees = agrees_added same_step step_tests_equality s l.naming old_asked l.agrees D (address_of d) (Named m) empty_segment at_directory holder free (λ c. sym (none_linked c));
+    elsewhere = λ a not_here not_inner. number_old same_step step_tests_equality s l.naming old_asked l.agrees D (address_of d) (Named m) empty_segment at_directory holder free (λ c. sym (none_linked c)) a not_here;
+    asked_new = itself_set old_asked here (segment label []) ∙ sym (ap (guarded_object accounts l.category (Segment [])) class_has);
     asked_inner = other_set old_asked here (Listing ∷ here) (segment label []) (λ e. longer same_step step_tests_equality Listing here (sym e)) ∙ nothing_inner;
     asked_old = λ a not_here not_inner. other_set old_asked here a (segment label []) not_here;
     numbered = omega (arith, few);
@@ -112,10 +112,10 @@ module _ (session : Session) (s : State) (f : Flat) (l : ObjectsMatch session s 
   }
 
   -- The file is made, and the parent's segment is written: `create` at any depth.
-  pub laid_created : IsTrue (is_name m) → length (entries_in f d) < most_entries → s.next_object < greatest
-      → (later : ObjectsMatch session (with_segment_bytes with_file N (spelling (map.insert (directory_of f.files l.naming.number d) m (targets.File s.next_object)))) (with_node f (m ∷ d) class (File []))) × (later.naming ≡ file_naming) × (later.category ≡ l.category)
-  laid_created name room few = laid_made session s f l d m class (File []) absent fits with_file file_naming file_asked (file_stands few) N at_listing (targets.File s.next_object)
-      (ap (option_map targets.File) (number_new same_step step_tests_equality s l.naming old_asked l.stands D (address_of d) (Named m) empty_segment at_directory holder free (λ c. sym (none_linked c))))
+  pub matched_created : IsTrue (is_name m) → length (entries_in f d) < most_entries → s.next_object < greatest
+      → (later : ObjectsMatch accounts (with_segment_bytes with_file N (spelling (map.insert (directory_of f.files l.naming.number d) m (targets.File s.next_object)))) (with_node f (m ∷ d) class (File []))) × (later.naming ≡ file_naming) × (later.category ≡ l.category)
+  matched_created name room few = matched_made accounts s f l d m class (File []) absent fits with_file file_naming file_asked (file_agrees few) N at_listing (targets.File s.next_object)
+      (ap (option_map targets.File) (number_new same_step step_tests_equality s l.naming old_asked l.agrees D (address_of d) (Named m) empty_segment at_directory holder free (λ c. sym (none_linked c))))
       name (omega (arith, below), omega (arith, few)) parent_is_dir room
 
   -- ---- a directory
@@ -142,11 +142,11 @@ module _ (session : Session) (s : State) (f : Flat) (l : ObjectsMatch session s 
   abbrev directory_asked : Address Step → Found
   directory_asked = set_at same_step container_asked (Listing ∷ here) (segment label [])
 
-  container_stands : Stands same_step with_container container_naming container_asked
-  container_stands = stands_added same_step step_tests_equality s l.naming old_asked l.stands D (address_of d) (Named m) empty_container at_directory holder free (λ c. sym (none_linked c))
+  container_agrees : Agrees same_step with_container container_naming container_asked
+  container_agrees = agrees_added same_step step_tests_equality s l.naming old_asked l.agrees D (address_of d) (Named m) empty_container at_directory holder free (λ c. sym (none_linked c))
 
   number_here : container_naming.number here ≡ Some s.next_object
-  number_here = number_new same_step step_tests_equality s l.naming old_asked l.stands D (address_of d) (Named m) empty_container at_directory holder free (λ c. sym (none_linked c))
+  number_here = number_new same_step step_tests_equality s l.naming old_asked l.agrees D (address_of d) (Named m) empty_container at_directory holder free (λ c. sym (none_linked c))
 
   holder_here : is_container (container_asked here) ≡ true
   holder_here = ap is_container (itself_set old_asked here (bare_container label))
@@ -157,34 +157,34 @@ module _ (session : Session) (s : State) (f : Flat) (l : ObjectsMatch session s 
   free_here : is_present (container_asked (Listing ∷ here)) ≡ false
   free_here = ap is_present (other_set old_asked here (Listing ∷ here) (bare_container label) inner_other ∙ nothing_inner)
 
-  directory_stands : s.next_object + 1 < greatest → Standing session s f l d m class Dir absent fits with_directory directory_naming directory_asked
-  directory_stands few = record {
-    stands = stands_added same_step step_tests_equality with_container container_naming container_asked container_stands s.next_object here Listing empty_segment number_here holder_here free_here (λ c. sym (none_linked c));
+  directory_agrees : s.next_object + 1 < greatest → Agreeing accounts s f l d m class Dir absent fits with_directory directory_naming directory_asked
+  directory_agrees few = record {
+    agrees = agrees_added same_step step_tests_equality with_container container_naming container_asked container_agrees s.next_object here Listing empty_segment number_here holder_here free_here (λ c. sym (none_linked c));
     elsewhere = λ a not_here not_inner.
-        number_old same_step step_tests_equality with_container container_naming container_asked container_stands s.next_object here Listing empty_segment number_here holder_here free_here (λ c. sym (none_linked c)) a not_inner
-        ∙ number_old same_step step_tests_equality s l.naming old_asked l.stands D (address_of d) (Named m) empty_container at_directory holder free (λ c. sym (none_linked c)) a not_here;
-    asked_new = other_set container_asked (Listing ∷ here) here (segment label []) (λ e. inner_other (sym e)) ∙ itself_set old_asked here (bare_container label) ∙ sym (ap (guarded_object session l.category (Container set.empty)) class_has);
-    asked_inner = itself_set container_asked (Listing ∷ here) (segment label []) ∙ sym (ap (guarded_object session l.category (Segment [])) class_has);
+        number_old same_step step_tests_equality with_container container_naming container_asked container_agrees s.next_object here Listing empty_segment number_here holder_here free_here (λ c. sym (none_linked c)) a not_inner
+        ∙ number_old same_step step_tests_equality s l.naming old_asked l.agrees D (address_of d) (Named m) empty_container at_directory holder free (λ c. sym (none_linked c)) a not_here;
+    asked_new = other_set container_asked (Listing ∷ here) here (segment label []) (λ e. inner_other (sym e)) ∙ itself_set old_asked here (bare_container label) ∙ sym (ap (guarded_object accounts l.category (Container set.empty)) class_has);
+    asked_inner = itself_set container_asked (Listing ∷ here) (segment label []) ∙ sym (ap (guarded_object accounts l.category (Segment [])) class_has);
     asked_old = λ a not_here not_inner. other_set container_asked (Listing ∷ here) a (segment label []) not_inner ∙ other_set old_asked here a (bare_container label) not_here;
     numbered = omega (arith, few);
     same_next = refl;
     gone = gone_added with_container s.next_object boot_thread_number empty_segment (gone_added s D boot_thread_number empty_container l.boot_thread_gone not_boot)
-        (λ e. let low = boot_thread_below session s f l in absurd (omega (arith, low, e)));
+        (λ e. let low = boot_thread_below accounts s f l in absurd (omega (arith, low, e)));
   }
 
   -- what processes have keeps its numbers
   pub directory_numbers : s.next_object + 1 < greatest → SameNumbers l.naming.number directory_naming.number
-  directory_numbers few = same_numbers session s f l d m class Dir absent fits with_directory directory_naming directory_asked (directory_stands few) N at_listing
+  directory_numbers few = same_numbers accounts s f l d m class Dir absent fits with_directory directory_naming directory_asked (directory_agrees few) N at_listing
 
   -- The directory is made, and the parent's segment is written: `mkdir` at any depth.
-  pub laid_directory_created : IsTrue (is_name m) → length (entries_in f d) < most_entries → s.next_object + 1 < greatest
-      → (later : ObjectsMatch session (with_segment_bytes with_directory N (spelling (map.insert (directory_of f.files l.naming.number d) m (targets.Directory s.next_object (s.next_object + 1))))) (with_node f (m ∷ d) class Dir)) × (later.naming ≡ directory_naming) × (later.category ≡ l.category)
-  laid_directory_created name room few = laid_made session s f l d m class Dir absent fits with_directory directory_naming directory_asked (directory_stands few) N at_listing (targets.Directory s.next_object (s.next_object + 1))
+  pub matched_directory_created : IsTrue (is_name m) → length (entries_in f d) < most_entries → s.next_object + 1 < greatest
+      → (later : ObjectsMatch accounts (with_segment_bytes with_directory N (spelling (map.insert (directory_of f.files l.naming.number d) m (targets.Directory s.next_object (s.next_object + 1))))) (with_node f (m ∷ d) class Dir)) × (later.naming ≡ directory_naming) × (later.category ≡ l.category)
+  matched_directory_created name room few = matched_made accounts s f l d m class Dir absent fits with_directory directory_naming directory_asked (directory_agrees few) N at_listing (targets.Directory s.next_object (s.next_object + 1))
       ((λ i. both_numbers (here_then i) (inner_then i)))
       name ((omega (arith, below), omega (arith, few)), (omega (arith, below), omega (arith, few))) parent_is_dir room
     where
       here_then : directory_naming.number here ≡ Some s.next_object
-      here_then = number_old same_step step_tests_equality with_container container_naming container_asked container_stands s.next_object here Listing empty_segment number_here holder_here free_here (λ c. sym (none_linked c)) here (λ e. inner_other (sym e)) ∙ number_here
+      here_then = number_old same_step step_tests_equality with_container container_naming container_asked container_agrees s.next_object here Listing empty_segment number_here holder_here free_here (λ c. sym (none_linked c)) here (λ e. inner_other (sym e)) ∙ number_here
 
       inner_then : directory_naming.number (Listing ∷ here) ≡ Some (s.next_object + 1)
-      inner_then = number_new same_step step_tests_equality with_container container_naming container_asked container_stands s.next_object here Listing empty_segment number_here holder_here free_here (λ c. sym (none_linked c))
+      inner_then = number_new same_step step_tests_equality with_container container_naming container_asked container_agrees s.next_object here Listing empty_segment number_here holder_here free_here (λ c. sym (none_linked c))

@@ -17,7 +17,7 @@ use Rattle.histar_container.proofs.Addresses.{same_tests_equality, same_itself, 
 use Rattle.histar_container.proofs.Trees.{kind_held_links}
 use Rattle.histar_rules.specs.Rules.{greatest}
 use Rattle.histar_login.specs.Boot.{boot_thread_number}
-use Rattle.histar_flat.specs.Sessions.{Session}
+use Rattle.histar_flat.specs.Accounts.{Accounts}
 use Rattle.histar_flat.specs.Classes.{Process, knows}
 use Rattle.histar_flat.specs.FlatState.{Flat, with_process, was_given, is_given}
 use Rattle.histar_layout.specs.declared.status.Child.{Child as Listed}
@@ -29,16 +29,16 @@ use Rattle.histar_refinement.specs.Labels.{process_guard}
 use Rattle.histar_refinement.specs.Addresses.{Step, same_step, address_of, home_address, path_at, process_at, inside_at, boot_number}
 use Rattle.histar_refinement.specs.Addresses.Step.{Left, Slash, Listing, Named, Home, Status, Inside, Runner, Child}
 use Rattle.histar_refinement.specs.Processes.{or_zero, children, listed_by, process_bytes}
-use Rattle.histar_refinement.specs.Stands.{Stands}
+use Rattle.histar_refinement.specs.Agrees.{Agrees}
 use Rattle.histar_refinement.specs.Expected.{listing_object, home_object, status_object, inside_object, thread_object, expected_node, listing_at, expected_home, bytes_for, expected_status, container_inside, thread_at, expected}
 use Rattle.histar_login.specs.Start.{segment}
 use Rattle.histar_refinement.specs.Represents.{IsProcess, AreJobsGiven, ObjectsMatch, Represents}
 use Rattle.histar_refinement.proofs.ProcessBytes.{alike_bytes}
-use Rattle.histar_refinement.proofs.Places.{address_path, address_process, address_inside, same_home, same_directory, AsksAlike, asked_alike, asked_status}
+use Rattle.histar_refinement.proofs.Roots.{address_path, address_process, address_inside, same_home, same_directory, AsksAlike, asked_alike, asked_status}
 use Rattle.histar_refinement.proofs.Steps.{step_tests_equality}
-use Rattle.histar_refinement.proofs.Moving.{bare_held, stands_changed, stands_cut, stands_same, no_address}
+use Rattle.histar_refinement.proofs.Moving.{bare_held, agrees_changed, agrees_cut, agrees_same, no_address}
 
-module _ (session : Session) (s : State) (f : Flat) (l : ObjectsMatch session s f) (me : ProcName) (p : Process) (here : f.processes me ≡ Some p) (n : ℕ) (small : n ≤ greatest_status) (C S o : ℕ)
+module _ (accounts : Accounts) (s : State) (f : Flat) (l : ObjectsMatch accounts s f) (me : ProcName) (p : Process) (here : f.processes me ≡ Some p) (n : ℕ) (small : n ≤ greatest_status) (C S o : ℕ)
     (at_home : l.naming.number (home_address me) ≡ Some C) (at_own : l.naming.number (Status ∷ home_address me) ≡ Some S) (at_inside : l.naming.number (Inside ∷ home_address me) ≡ Some o) where
   -- the process then
   abbrev pub changed : Process
@@ -54,10 +54,10 @@ module _ (session : Session) (s : State) (f : Flat) (l : ObjectsMatch session s 
   naming = without_below same_step l.naming top
 
   abbrev old_asked : Address Step → Found
-  old_asked = expected session l.category f l.naming.number
+  old_asked = expected accounts l.category f l.naming.number
 
   abbrev wish : Address Step → Found
-  wish = expected session l.category after naming.number
+  wish = expected accounts l.category after naming.number
 
   -- what is written: the process has no number for an internal container and a thread any more
   abbrev pub written : List ℕ
@@ -103,8 +103,8 @@ module _ (session : Session) (s : State) (f : Flat) (l : ObjectsMatch session s 
   abbrev asked_first : Address Step → Found
   asked_first = set_at same_step old_asked (Status ∷ home_address me) (option_map (holding written) (old_asked (Status ∷ home_address me)))
 
-  stands_first : Stands same_step state_written l.naming asked_first
-  stands_first = stands_changed same_step step_tests_equality s l.naming old_asked l.stands S (Status ∷ home_address me) (holding written) at_own (λ x. kind_held_links written x.kind) (bare_held written)
+  agrees_first : Agrees same_step state_written l.naming asked_first
+  agrees_first = agrees_changed same_step step_tests_equality s l.naming old_asked l.agrees S (Status ∷ home_address me) (holding written) at_own (λ x. kind_held_links written x.kind) (bare_held written)
 
   -- no path leads below it
   no_path : (a : Address Step) → under same_step top a ≡ true → path_at a ≡ None
@@ -122,15 +122,15 @@ module _ (session : Session) (s : State) (f : Flat) (l : ObjectsMatch session s 
       by (Some q) is = absurd (true≢false (sym e ∙ ap (under same_step top) (address_process a q is) ∙ under_home q))
 
   -- an internal container there is that of this process, which has none any more
-  none_inside : (q : ProcName) → under same_step top (Inside ∷ home_address q) ≡ true → inside_object session l.category q (after.processes q) ≡ None
+  none_inside : (q : ProcName) → under same_step top (Inside ∷ home_address q) ≡ true → inside_object accounts l.category q (after.processes q) ≡ None
   none_inside q e = elim (which q) [
-    | inl is ↦ ap (λ (x : ProcName). inside_object session l.category x (after.processes x)) is ∙ ap (inside_object session l.category me) at_me
+    | inl is ↦ ap (λ (x : ProcName). inside_object accounts l.category x (after.processes x)) is ∙ ap (inside_object accounts l.category me) at_me
     | inr other ↦ absurd (true≢false (sym e ∙ inside_other q other))
   ]
 
-  none_runs : (q : ProcName) → under same_step top (Inside ∷ home_address q) ≡ true → thread_object session l.category q (after.processes q) ≡ None
+  none_runs : (q : ProcName) → under same_step top (Inside ∷ home_address q) ≡ true → thread_object accounts l.category q (after.processes q) ≡ None
   none_runs q e = elim (which q) [
-    | inl is ↦ ap (λ (x : ProcName). thread_object session l.category x (after.processes x)) is ∙ ap (thread_object session l.category me) at_me
+    | inl is ↦ ap (λ (x : ProcName). thread_object accounts l.category x (after.processes x)) is ∙ ap (thread_object accounts l.category me) at_me
     | inr other ↦ absurd (true≢false (sym e ∙ inside_other q other))
   ]
 
@@ -141,22 +141,22 @@ module _ (session : Session) (s : State) (f : Flat) (l : ObjectsMatch session s 
   nothing_below (Left k ∷ x ∷ a) e = refl
   nothing_below (Slash ∷ []) e = absurd (true≢false (sym e))
   nothing_below (Slash ∷ x ∷ a) e = refl
-  nothing_below (Listing ∷ a) e = ap (listing_at session l.category after naming.number) (no_path a e)
-  nothing_below (Named m ∷ a) e = ap (expected_node session l.category after naming.number) (no_path (Named m ∷ a) e)
+  nothing_below (Listing ∷ a) e = ap (listing_at accounts l.category after naming.number) (no_path a e)
+  nothing_below (Named m ∷ a) e = ap (expected_node accounts l.category after naming.number) (no_path (Named m ∷ a) e)
   nothing_below (Home ∷ []) e = absurd (true≢false (sym e))
   nothing_below (Home ∷ x ∷ a) e = refl
-  nothing_below (Status ∷ a) e = ap (expected_status session l.category after naming.number) (no_process a e)
+  nothing_below (Status ∷ a) e = ap (expected_status accounts l.category after naming.number) (no_process a e)
   nothing_below (Inside ∷ a) e = by (process_at a) refl
     where
-      by : (q : Option ProcName) → process_at a ≡ q → container_inside session l.category after naming.number q ≡ None
+      by : (q : Option ProcName) → process_at a ≡ q → container_inside accounts l.category after naming.number q ≡ None
       by None is = refl
       by (Some q) is = none_inside q (ap (λ (b : Address Step). under same_step top (Inside ∷ b)) (sym (address_process a q is)) ∙ e)
   nothing_below (Runner ∷ a) e = by (inside_at a) refl
     where
-      by : (q : Option ProcName) → inside_at a ≡ q → thread_at session l.category after naming.number q ≡ None
+      by : (q : Option ProcName) → inside_at a ≡ q → thread_at accounts l.category after naming.number q ≡ None
       by None is = refl
       by (Some q) is = none_runs q (ap (under same_step top) (sym (address_inside a q is)) ∙ e)
-  nothing_below (Child k ∷ a) e = ap (expected_home session l.category after naming.number) (no_process (Child k ∷ a) e)
+  nothing_below (Child k ∷ a) e = ap (expected_home accounts l.category after naming.number) (no_process (Child k ∷ a) e)
 
   kept_path : (q : Path) → l.naming.number (address_of q) ≡ naming.number (address_of q)
   kept_path q = kept (address_of q) (under_path q)
@@ -164,10 +164,10 @@ module _ (session : Session) (s : State) (f : Flat) (l : ObjectsMatch session s 
   kept_listing : (q : Path) → l.naming.number (Listing ∷ address_of q) ≡ naming.number (Listing ∷ address_of q)
   kept_listing q = kept (Listing ∷ address_of q) (under_path q)
 
-  files_alike : AsksAlike session l.category l.category f after l.naming.number naming.number
+  files_alike : AsksAlike accounts l.category l.category f after l.naming.number naming.number
   files_alike = record {
     at_path = λ q. refl;
-    in_directory = λ d. ap (λ (dir : Entries). listing_object session l.category (spelling dir) (get f.files d)) (same_directory f l.naming.number naming.number kept_path kept_listing d);
+    in_directory = λ d. ap (λ (dir : Entries). listing_object accounts l.category (spelling dir) (get f.files d)) (same_directory f l.naming.number naming.number kept_path kept_listing d);
   }
 
   -- another process keeps its process segment
@@ -178,16 +178,16 @@ module _ (session : Session) (s : State) (f : Flat) (l : ObjectsMatch session s 
   object_alike : (object : ProcName → Option Process → Found) → (q : ProcName) → q ≢ me → object q (f.processes q) ≡ object q (after.processes q)
   object_alike object q other = ap (object q) (sym (at_other q other))
 
-  home_alike : (q : ProcName) → home_object session l.category q (f.processes q) ≡ home_object session l.category q (after.processes q)
+  home_alike : (q : ProcName) → home_object accounts l.category q (f.processes q) ≡ home_object accounts l.category q (after.processes q)
   home_alike q = elim (which q) [
-    | inl e ↦ subst (λ (x : ProcName). home_object session l.category x (f.processes x) ≡ home_object session l.category x (after.processes x)) (sym e) (ap (home_object session l.category me) here ∙ sym (ap (home_object session l.category me) at_me))
-    | inr other ↦ object_alike (home_object session l.category) q other
+    | inl e ↦ subst (λ (x : ProcName). home_object accounts l.category x (f.processes x) ≡ home_object accounts l.category x (after.processes x)) (sym e) (ap (home_object accounts l.category me) here ∙ sym (ap (home_object accounts l.category me) at_me))
+    | inr other ↦ object_alike (home_object accounts l.category) q other
   ]
 
-  status_alike : (q : ProcName) → q ≢ me → expected_status session l.category f l.naming.number (Some q) ≡ expected_status session l.category after naming.number (Some q)
-  status_alike q other = by (f.processes q) ∙ object_alike (λ x r. status_object session l.category (bytes_for session l.category after naming.number x r) x r) q other
+  status_alike : (q : ProcName) → q ≢ me → expected_status accounts l.category f l.naming.number (Some q) ≡ expected_status accounts l.category after naming.number (Some q)
+  status_alike q other = by (f.processes q) ∙ object_alike (λ x r. status_object accounts l.category (bytes_for accounts l.category after naming.number x r) x r) q other
     where
-      by : (x : Option Process) → status_object session l.category (bytes_for session l.category f l.naming.number q x) q x ≡ status_object session l.category (bytes_for session l.category after naming.number q x) q x
+      by : (x : Option Process) → status_object accounts l.category (bytes_for accounts l.category f l.naming.number q x) q x ≡ status_object accounts l.category (bytes_for accounts l.category after naming.number q x) q x
       by None = refl
       by (Some x) = ap (segment (guard_label l.category (process_guard q x))) (same_bytes q x other)
 
@@ -195,17 +195,17 @@ module _ (session : Session) (s : State) (f : Flat) (l : ObjectsMatch session s 
   not_this a q e is same_one = true≢false (sym (ap (λ (t : Bool). t || under same_step top (home_address me)) (same_itself same_step step_tests_equality top)) ∙ ap (λ (x : ProcName). under same_step top (Inside ∷ home_address x)) (sym same_one) ∙ sym is ∙ e)
 
   wish_other : (a : Address Step) → under same_step top a ≡ false → Status ∷ home_address me ≢ a → old_asked a ≡ wish a
-  wish_other a e not_own = asked_alike session l.category l.category f after l.naming.number naming.number files_alike a (record {
+  wish_other a e not_own = asked_alike accounts l.category l.category f after l.naming.number naming.number files_alike a (record {
     home = λ q is. home_alike q;
     status = λ q is. status_alike q (λ k. not_own (ap (λ (x : ProcName). Status ∷ home_address x) (sym k) ∙ sym is));
-    inside = λ q is. object_alike (inside_object session l.category) q (not_this a q e (ap (under same_step top) is));
-    runner = λ q is. object_alike (thread_object session l.category) q (not_this a q e (ap (under same_step top) is));
+    inside = λ q is. object_alike (inside_object accounts l.category) q (not_this a q e (ap (under same_step top) is));
+    runner = λ q is. object_alike (thread_object accounts l.category) q (not_this a q e (ap (under same_step top) is));
   })
 
   wish_own : option_map (holding written) (old_asked (Status ∷ home_address me)) ≡ wish (Status ∷ home_address me)
   wish_own =
-      ap (option_map (holding written)) (asked_status session l.category f l.naming.number me ∙ ap (λ (x : Option Process). status_object session l.category (bytes_for session l.category f l.naming.number me x) me x) here)
-      ∙ sym (asked_status session l.category after naming.number me ∙ ap (λ (x : Option Process). status_object session l.category (bytes_for session l.category after naming.number me x) me x) at_me)
+      ap (option_map (holding written)) (asked_status accounts l.category f l.naming.number me ∙ ap (λ (x : Option Process). status_object accounts l.category (bytes_for accounts l.category f l.naming.number me x) me x) here)
+      ∙ sym (asked_status accounts l.category after naming.number me ∙ ap (λ (x : Option Process). status_object accounts l.category (bytes_for accounts l.category after naming.number me x) me x) at_me)
 
   asks : (a : Address Step) → cut same_step asked_first top a ≡ wish a
   asks a = by (under same_step top a) refl
@@ -247,7 +247,7 @@ module _ (session : Session) (s : State) (f : Flat) (l : ObjectsMatch session s 
     | inr other ↦ (x, px, sym (at_other x other) ∙ at, known)
   ]
 
-  used_then : (c : CategoryName) → IsUsed session after c → IsUsed session f c
+  used_then : (c : CategoryName) → IsUsed accounts after c → IsUsed accounts f c
   used_then OfBoot u = u
   used_then (ReadsUser i) u = u
   used_then (WritesUser i) u = u
@@ -268,11 +268,11 @@ module _ (session : Session) (s : State) (f : Flat) (l : ObjectsMatch session s 
   given_then [] = refl
   given_then (k ∷ y) = λ i. given_alike y k i && given_then y i
 
-  process_then : (x : ProcName) (px : Process) → after.processes x ≡ Some px → IsProcess session l.category px
+  process_then : (x : ProcName) (px : Process) → after.processes x ≡ Some px → IsProcess accounts l.category px
   process_then x px at = elim (which x) [
     | inl e ↦
         let old = l.processes me p here in
-        subst (IsProcess session l.category) (same_Some changed px (sym at_me ∙ ap after.processes (sym e) ∙ at))
+        subst (IsProcess accounts l.category) (same_Some changed px (sym at_me ∙ ap after.processes (sym e) ∙ at))
         (record {
           someone = λ r. absurd (none-some n (sym r));
           free = λ r. absurd (none-some n (sym r));
@@ -286,7 +286,7 @@ module _ (session : Session) (s : State) (f : Flat) (l : ObjectsMatch session s 
   ]
 
   -- boot made nothing for good below an internal container
-  not_boot : (a : Address Step) → under same_step top a ≡ true → boot_number (length session.users) a ≡ None
+  not_boot : (a : Address Step) → under same_step top a ≡ true → boot_number (length accounts.users) a ≡ None
   not_boot [] e = absurd (true≢false (sym e))
   not_boot (Left k ∷ []) e = absurd (true≢false (sym e))
   not_boot (Left k ∷ x ∷ a) e = refl
@@ -294,20 +294,20 @@ module _ (session : Session) (s : State) (f : Flat) (l : ObjectsMatch session s 
   not_boot (Slash ∷ x ∷ a) e = refl
   not_boot (Listing ∷ a) e = elim (same_tests_equality same_step step_tests_equality (Slash ∷ []) a) [
     | inl i ↦ absurd (true≢false (sym e ∙ ap (under same_step top) (sym i.1)))
-    | inr i ↦ ap (λ t. cond t (Some (5 + 2 * length session.users)) None) i.0
+    | inr i ↦ ap (λ t. cond t (Some (5 + 2 * length accounts.users)) None) i.0
   ]
   not_boot (Named m ∷ a) e = refl
   not_boot (Home ∷ []) e = absurd (true≢false (sym e))
   not_boot (Home ∷ x ∷ a) e = refl
   not_boot (Status ∷ a) e = elim (same_tests_equality same_step step_tests_equality (Home ∷ []) a) [
     | inl i ↦ absurd (true≢false (sym e ∙ ap (under same_step top) (sym i.1)))
-    | inr i ↦ ap (λ t. cond t (Some (9 + 2 * length session.users)) None) i.0
+    | inr i ↦ ap (λ t. cond t (Some (9 + 2 * length accounts.users)) None) i.0
   ]
   not_boot (Inside ∷ a) e = refl
   not_boot (Runner ∷ a) e = refl
   not_boot (Child k ∷ a) e = refl
 
-  as_booted_then : (a : Address Step) (q : ℕ) → boot_number (length session.users) a ≡ Some q → naming.number a ≡ Some q
+  as_booted_then : (a : Address Step) (q : ℕ) → boot_number (length accounts.users) a ≡ Some q → naming.number a ≡ Some q
   as_booted_then a q e = by (under same_step top a) refl
     where
       by : (t : Bool) → under same_step top a ≡ t → naming.number a ≡ Some q
@@ -315,13 +315,13 @@ module _ (session : Session) (s : State) (f : Flat) (l : ObjectsMatch session s 
       by false i = sym (kept a i) ∙ l.as_booted a q e
 
   module _ (new : State) (cuts : CutsOff state_written C o new) where
-    stands_then : Stands same_step new naming (cut same_step asked_first top)
-    stands_then = stands_cut same_step step_tests_equality state_written l.naming asked_first stands_first new C o (home_address me) Inside cuts at_inside at_home
+    agrees_then : Agrees same_step new naming (cut same_step asked_first top)
+    agrees_then = agrees_cut same_step step_tests_equality state_written l.naming asked_first agrees_first new C o (home_address me) Inside cuts at_inside at_home
 
     gone_then : new.objects boot_thread_number ≡ None
     gone_then =
-        stands_then.tree.as_expected boot_thread_number
-        ∙ ap (wanted (objects_at new.objects naming)) (ap (λ (x : Option (Address Step)). if is_under same_step top x then None else x) (no_address same_step s l.naming old_asked l.stands boot_thread_number l.boot_thread_gone))
+        agrees_then.tree.as_expected boot_thread_number
+        ∙ ap (wanted (objects_at new.objects naming)) (ap (λ (x : Option (Address Step)). if is_under same_step top x then None else x) (no_address same_step s l.naming old_asked l.agrees boot_thread_number l.boot_thread_gone))
 
     -- the numbers in the names of jobs were given as before
     pub jobs_exited : AreJobsGiven f → AreJobsGiven after
@@ -332,12 +332,12 @@ module _ (session : Session) (s : State) (f : Flat) (l : ObjectsMatch session s 
         by job (inr served) = inr served
 
     -- The kernel has the objects of the flat state in which the process has exited.
-    pub laid_exited : (later : ObjectsMatch session new after) × (later.naming ≡ naming) × (later.category ≡ l.category)
-    laid_exited = (
+    pub matched_exited : (later : ObjectsMatch accounts new after) × (later.naming ≡ naming) × (later.category ≡ l.category)
+    matched_exited = (
       record {
         naming = naming;
         category = l.category;
-        stands = stands_same same_step new new naming _ wish stands_then asks (λ q. refl) refl;
+        agrees = agrees_same same_step new new naming _ wish agrees_then asks (λ q. refl) refl;
         numbered = subst (λ (m : ℕ). m ≤ greatest) (sym cuts.next_object) l.numbered;
         as_booted = as_booted_then;
         different = l.different;
@@ -356,5 +356,5 @@ module _ (session : Session) (s : State) (f : Flat) (l : ObjectsMatch session s 
     )
 
     -- and so the kernel represents the flat state in which the process has exited
-    pub represents_exited : AreJobsGiven f → Represents session new after
-    represents_exited given = record { laid = laid_exited.0; jobs_given = jobs_exited given }
+    pub represents_exited : AreJobsGiven f → Represents accounts new after
+    represents_exited given = record { matched = matched_exited.0; jobs_given = jobs_exited given }

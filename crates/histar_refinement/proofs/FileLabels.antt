@@ -2,7 +2,7 @@
 use Rattle.std.proofs.Common.{◌≡◌, ℕ, true, false, [], ◌∷◌, length, None, Some, refl, sym, ap, ◌∙◌}
 use Rattle.std.specs.FinSet as set
 use Rattle.histar_flat.specs.Words.{Path, ProcName}
-use Rattle.histar_flat.specs.Sessions.{Session}
+use Rattle.histar_flat.specs.Accounts.{Accounts}
 use Rattle.histar_flat.specs.Files.{get}
 use Rattle.histar_flat.specs.Classes.{Process}
 use Rattle.histar_flat.specs.FlatState.{Node, Content, Flat}
@@ -20,12 +20,12 @@ use Rattle.histar_refinement.specs.Guards.{Guard, guard_label, rights_label, rig
 use Rattle.histar_refinement.specs.Labels.{boot_guard, class_guard, thread_rights}
 use Rattle.histar_refinement.specs.Addresses.{address_of, slash_number}
 use Rattle.histar_refinement.specs.Addresses.Step.{Slash}
-use Rattle.histar_refinement.specs.Stands.{bare}
+use Rattle.histar_refinement.specs.Agrees.{bare}
 use Rattle.histar_refinement.specs.Expected.{content_kind}
 use Rattle.histar_refinement.specs.Represents.{ObjectsMatch}
 use Rattle.histar_refinement.specs.Laws.{RunsAs}
 use Rattle.histar_refinement.proofs.RawChecks.{label_check}
-use Rattle.histar_refinement.proofs.Standing.{thread_found, guard_at, path_stands, step_linked, root_is_dir}
+use Rattle.histar_refinement.proofs.Agreeing.{thread_found, guard_at, path_agrees, step_linked, root_is_dir}
 use Rattle.histar_refinement.proofs.LeftObjects.{root_found, root_label}
 use Rattle.histar_refinement.proofs.ClassTests.{sees_unguarded}
 
@@ -50,29 +50,29 @@ content_is_none : (label : Levels) (c : Content) → is_thread (Some (record { l
 content_is_none label Dir = refl
 content_is_none label (File bytes) = refl
 
-module _ (session : Session) (s : State) (f : Flat) (l : ObjectsMatch session s f) where
+module _ (accounts : Accounts) (s : State) (f : Flat) (l : ObjectsMatch accounts s f) where
   module _ (q : Path) (there : Node) (at : get f.files q ≡ Some there) (o : ℕ) (numbered : l.naming.number (address_of q) ≡ Some o) where
     -- what stands at a path has the label of its guard
-    pub label_at : (g : Guard) → class_guard session there.class ≡ Some g → label_there (s.objects o) ≡ Some (guard_label l.category g)
-    label_at g is = sym (label_bare (s.objects o)) ∙ ap label_there (path_stands session s f l q there at g is o numbered)
+    pub label_at : (g : Guard) → class_guard accounts there.class ≡ Some g → label_there (s.objects o) ≡ Some (guard_label l.category g)
+    label_at g is = sym (label_bare (s.objects o)) ∙ ap label_there (path_agrees accounts s f l q there at g is o numbered)
 
     -- and is no thread
     pub no_thread_at : is_thread (s.objects o) ≡ false
     no_thread_at =
-        let g = guard_at session s f l q there at in
-        sym (thread_bare (s.objects o)) ∙ ap is_thread (path_stands session s f l q there at g.0 g.1 o numbered) ∙ content_is_none (guard_label l.category g.0) there.content
+        let g = guard_at accounts s f l q there at in
+        sym (thread_bare (s.objects o)) ∙ ap is_thread (path_agrees accounts s f l q there at g.0 g.1 o numbered) ∙ content_is_none (guard_label l.category g.0) there.content
 
   -- the label of `/` is told to the thread of every process
-  pub slash_label_said : (me : ProcName) (p : Process) (t : ℕ) → RunsAs session s f l me p t → check s t (LabelOf root_number (slash_number (length session.users))) ≡ None
+  pub slash_label_said : (me : ProcName) (p : Process) (t : ℕ) → RunsAs accounts s f l me p t → check s t (LabelOf root_number (slash_number (length accounts.users))) ≡ None
   slash_label_said me p t runs =
-      let slash = slash_number (length session.users) in
-      let own = rights_label l.category (thread_rights session me p) in
-      let root = root_found session s f l in
+      let slash = slash_number (length accounts.users) in
+      let own = rights_label l.category (thread_rights accounts me p) in
+      let root = root_found accounts s f l in
       let numbered = l.as_booted (Slash ∷ []) slash refl in
-      let seen : is_below_raised (guard_label (booted session) boot_guard) own ≡ true =
-      ap (λ (label : Levels). is_below_raised label own) (root_label session s f l) ∙ sees_unguarded session me p l.category l.different boot_guard refl in
+      let seen : is_below_raised (guard_label (booted accounts) boot_guard) own ≡ true =
+      ap (λ (label : Levels). is_below_raised label own) (root_label accounts s f l) ∙ sees_unguarded accounts me p l.category l.different boot_guard refl in
       let linked : set.contains root.0 slash ≡ true =
-      sym (ap (λ (o : Found). set.contains (links_in o) slash) root.1) ∙ step_linked session s f l Slash [] root_number slash (l.as_booted [] root_number refl) numbered in
-      label_check s t own (rights_clearance l.category (thread_rights session me p)) (thread_found session s f l me p runs.0 runs.1 t runs.2)
-      root_number (guard_label (booted session) boot_guard) root.0 root.1 seen slash linked
-      (no_thread_at [] (record { class = (root_is_dir session s f l).0; content = Dir }) (root_is_dir session s f l).1 slash numbered)
+      sym (ap (λ (o : Found). set.contains (links_in o) slash) root.1) ∙ step_linked accounts s f l Slash [] root_number slash (l.as_booted [] root_number refl) numbered in
+      label_check s t own (rights_clearance l.category (thread_rights accounts me p)) (thread_found accounts s f l me p runs.0 runs.1 t runs.2)
+      root_number (guard_label (booted accounts) boot_guard) root.0 root.1 seen slash linked
+      (no_thread_at [] (record { class = (root_is_dir accounts s f l).0; content = Dir }) (root_is_dir accounts s f l).1 slash numbered)

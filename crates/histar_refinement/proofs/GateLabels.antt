@@ -3,7 +3,7 @@ use Rattle.std.proofs.Common.{◌≡◌, ℕ, ◌+◌, ◌*◌, ◌≤◌, ◌||
 use Rattle.std.specs.Prelude.{map, nat_le}
 use Rattle.std.proofs.lemmas.Bool.Decides.{nat_tests}
 use Rattle.std.proofs.lemmas.List.{append-nil, map-append}
-use Rattle.histar_flat.specs.Sessions.{Group, Session, has, numbers_with}
+use Rattle.histar_flat.specs.Accounts.{Group, Accounts, has, numbers_with}
 use Rattle.histar_flat.specs.Words.{Name}
 use Rattle.histar_label.specs.declared.levels.Level.{Level}
 use Rattle.histar_label.specs.declared.levels.Level.TheVariants.{Star, L1, L2, L3}
@@ -46,75 +46,75 @@ both_are owners q = by owners ∙ sym (is_in-append (map read_category owners) (
         ap (λ b. q == read_category i || (q == write_category i || b)) (by some)
         ∙ turned (q == read_category i) (q == write_category i) (is_in (map read_category some) q) (is_in (map write_category some) q)
 
-module _ (session : Session) where
+module _ (accounts : Accounts) where
   -- a number of a user, and one of a group
-  low_test : (i : ℕ) → i ≤ length session.users → nat_le i (length session.users) ≡ true
+  low_test : (i : ℕ) → i ≤ length accounts.users → nat_le i (length accounts.users) ≡ true
   low_test i h = grind (arith, nat_tests, h)
 
-  pub group_test : (k : ℕ) → 1 ≤ k → k ≤ length session.groups → (nat_le 1 k && nat_le k (length session.groups)) ≡ true
+  pub group_test : (k : ℕ) → 1 ≤ k → k ≤ length accounts.groups → (nat_le 1 k && nat_le k (length accounts.groups)) ≡ true
   group_test k low high = grind (arith, nat_tests, low, high)
 
-module _ (session : Session) (category : Categories) (as_made : (c : CategoryName) (q : ℕ) → boot_category session c ≡ Some q → category c ≡ q) where
+module _ (accounts : Accounts) (category : Categories) (as_made : (c : CategoryName) (q : ℕ) → boot_category accounts c ≡ Some q → category c ≡ q) where
   -- a user's two categories have boot's numbers
-  pub user_reads : (i : ℕ) → i ≤ length session.users → category (ReadsUser i) ≡ read_category i
-  user_reads i h = as_made (ReadsUser i) (2 + 2 * i) (ap (λ b. cond b (Some (2 + 2 * i)) None) (low_test session i h))
+  pub user_reads : (i : ℕ) → i ≤ length accounts.users → category (ReadsUser i) ≡ read_category i
+  user_reads i h = as_made (ReadsUser i) (2 + 2 * i) (ap (λ b. cond b (Some (2 + 2 * i)) None) (low_test accounts i h))
 
-  pub user_writes : (i : ℕ) → i ≤ length session.users → category (WritesUser i) ≡ write_category i
-  user_writes i h = as_made (WritesUser i) (3 + 2 * i) (ap (λ b. cond b (Some (3 + 2 * i)) None) (low_test session i h))
+  pub user_writes : (i : ℕ) → i ≤ length accounts.users → category (WritesUser i) ≡ write_category i
+  user_writes i h = as_made (WritesUser i) (3 + 2 * i) (ap (λ b. cond b (Some (3 + 2 * i)) None) (low_test accounts i h))
 
   -- and so have a group's
-  pub group_reads : (k : ℕ) → 1 ≤ k → k ≤ length session.groups → category (ReadsGroup k) ≡ read_category (group_owner (length session.users) k)
+  pub group_reads : (k : ℕ) → 1 ≤ k → k ≤ length accounts.groups → category (ReadsGroup k) ≡ read_category (group_owner (length accounts.users) k)
   group_reads k low high =
-      let number : 2 + 2 * length session.users + 2 * k ≡ 2 + 2 * (length session.users + k) = omega arith in
-      as_made (ReadsGroup k) (2 + 2 * length session.users + 2 * k) (ap (λ b. cond b (Some (2 + 2 * length session.users + 2 * k)) None) (group_test session k low high)) ∙ number
+      let number : 2 + 2 * length accounts.users + 2 * k ≡ 2 + 2 * (length accounts.users + k) = omega arith in
+      as_made (ReadsGroup k) (2 + 2 * length accounts.users + 2 * k) (ap (λ b. cond b (Some (2 + 2 * length accounts.users + 2 * k)) None) (group_test accounts k low high)) ∙ number
 
-  pub group_writes : (k : ℕ) → 1 ≤ k → k ≤ length session.groups → category (WritesGroup k) ≡ write_category (group_owner (length session.users) k)
+  pub group_writes : (k : ℕ) → 1 ≤ k → k ≤ length accounts.groups → category (WritesGroup k) ≡ write_category (group_owner (length accounts.users) k)
   group_writes k low high =
-      let number : 3 + 2 * length session.users + 2 * k ≡ 3 + 2 * (length session.users + k) = omega arith in
-      as_made (WritesGroup k) (3 + 2 * length session.users + 2 * k) (ap (λ b. cond b (Some (3 + 2 * length session.users + 2 * k)) None) (group_test session k low high)) ∙ number
+      let number : 3 + 2 * length accounts.users + 2 * k ≡ 3 + 2 * (length accounts.users + k) = omega arith in
+      as_made (WritesGroup k) (3 + 2 * length accounts.users + 2 * k) (ap (λ b. cond b (Some (3 + 2 * length accounts.users + 2 * k)) None) (group_test accounts k low high)) ∙ number
 
-  module _ (name_of : ℕ → CategoryName) (number : ℕ → ℕ) (same : (k : ℕ) → 1 ≤ k → k ≤ length session.groups → category (name_of k) ≡ number (group_owner (length session.users) k)) where
+  module _ (name_of : ℕ → CategoryName) (number : ℕ → ℕ) (same : (k : ℕ) → 1 ≤ k → k ≤ length accounts.groups → category (name_of k) ≡ number (group_owner (length accounts.users) k)) where
     -- the categories of a user's groups have boot's numbers
-    groups_same : (k : ℕ) (groups : List Group) (name : Name) → 1 ≤ k → k + length groups ≤ length session.groups + 1
-        → map category (map name_of (numbers_with k groups name)) ≡ map number (map (group_owner (length session.users)) (numbers_with k groups name))
+    groups_same : (k : ℕ) (groups : List Group) (name : Name) → 1 ≤ k → k + length groups ≤ length accounts.groups + 1
+        → map category (map name_of (numbers_with k groups name)) ≡ map number (map (group_owner (length accounts.users)) (numbers_with k groups name))
     groups_same k [] name low high = refl
     groups_same k (g ∷ groups) name low high =
-        let high_here : k ≤ length session.groups = omega (arith, high) in
+        let high_here : k ≤ length accounts.groups = omega (arith, high) in
         by (has g.members name) (same k low high_here) (groups_same (k + 1) groups name (omega arith) (omega (arith, high)))
       where
-        by : (b : Bool) → category (name_of k) ≡ number (group_owner (length session.users) k)
-            → map category (map name_of (numbers_with (k + 1) groups name)) ≡ map number (map (group_owner (length session.users)) (numbers_with (k + 1) groups name))
+        by : (b : Bool) → category (name_of k) ≡ number (group_owner (length accounts.users) k)
+            → map category (map name_of (numbers_with (k + 1) groups name)) ≡ map number (map (group_owner (length accounts.users)) (numbers_with (k + 1) groups name))
             → map category (map name_of (if b then k ∷ numbers_with (k + 1) groups name else numbers_with (k + 1) groups name))
-            ≡ map number (map (group_owner (length session.users)) (if b then k ∷ numbers_with (k + 1) groups name else numbers_with (k + 1) groups name))
+            ≡ map number (map (group_owner (length accounts.users)) (if b then k ∷ numbers_with (k + 1) groups name else numbers_with (k + 1) groups name))
         by true here more = λ j. here j ∷ more j
         by false here more = more
 
-  module _ (name : Name) (i : ℕ) (declared : i ≤ length session.users) where
+  module _ (name : Name) (i : ℕ) (declared : i ≤ length accounts.users) where
     -- what a user owns
     abbrev owners : List ℕ
-    owners = owners_of session i name
+    owners = owners_of accounts i name
 
     -- the names of what a user reads by, and of what it writes by, have the numbers of what it owns
-    reading_is : map category (reading session name i) ≡ map read_category owners
-    reading_is = λ j. user_reads i declared j ∷ groups_same ReadsGroup read_category group_reads 1 session.groups name (omega arith) (omega arith) j
+    reading_is : map category (reading accounts name i) ≡ map read_category owners
+    reading_is = λ j. user_reads i declared j ∷ groups_same ReadsGroup read_category group_reads 1 accounts.groups name (omega arith) (omega arith) j
 
-    writing_is : map category (writing session name i) ≡ map write_category owners
-    writing_is = λ j. user_writes i declared j ∷ groups_same WritesGroup write_category group_writes 1 session.groups name (omega arith) (omega arith) j
+    writing_is : map category (writing accounts name i) ≡ map write_category owners
+    writing_is = λ j. user_writes i declared j ∷ groups_same WritesGroup write_category group_writes 1 accounts.groups name (omega arith) (omega arith) j
 
     -- and so have those that a process owns as the user, in a job or in none
-    pub owned_is : (free : Bool) → map category (reading session name i ++ (if free then writing session name i else [])) ≡ categories_of (owners_of session i name) free
-    owned_is true = map-append category (reading session name i) (writing session name i) ∙ (λ j. reading_is j ++ writing_is j)
-    owned_is false = map-append category (reading session name i) [] ∙ (λ j. reading_is j ++ [])
+    pub owned_is : (free : Bool) → map category (reading accounts name i ++ (if free then writing accounts name i else [])) ≡ categories_of (owners_of accounts i name) free
+    owned_is true = map-append category (reading accounts name i) (writing accounts name i) ∙ (λ j. reading_is j ++ writing_is j)
+    owned_is false = map-append category (reading accounts name i) [] ∙ (λ j. reading_is j ++ [])
 
     -- the gate that boot makes has the label that is asked for, and the clearance
-    pub gate_label_is : gate_label session i name ≡ rights_label category (gate_rights session name i)
+    pub gate_label_is : gate_label accounts i name ≡ rights_label category (gate_rights accounts name i)
     gate_label_is =
         ap (λ (l : List (ℕ × Level)). labelled l L1) (at_both_is Star owners ∙ sym (append-nil (each_at Star (both_of owners))))
         ∙ same_owning (both_of owners) [] (map read_category owners ++ map write_category owners) [] (both_are owners) (λ q. refl)
         ∙ ap (λ (l : List ℕ). owner_label l []) (sym (owned_is true))
 
-    pub gate_clearance_is : gate_clearance session i name ≡ rights_clearance category (gate_rights session name i)
+    pub gate_clearance_is : gate_clearance accounts i name ≡ rights_clearance category (gate_rights accounts name i)
     gate_clearance_is =
         ap (λ (l : List (ℕ × Level)). labelled l L2) (at_both_is L3 owners)
         ∙ same_cleared (both_of owners) (map read_category owners ++ map write_category owners) (both_are owners)
-        ∙ ap cleared_at (sym (owned_is true) ∙ ap (map category) (sym (append-nil (reading session name i ++ writing session name i))))
+        ∙ ap cleared_at (sym (owned_is true) ∙ ap (map category) (sym (append-nil (reading accounts name i ++ writing accounts name i))))

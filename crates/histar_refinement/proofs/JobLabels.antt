@@ -6,7 +6,7 @@ use Rattle.std.proofs.lemmas.Bool.{or_left}
 use Rattle.std.proofs.lemmas.Simd.{map-map}
 use mathlib.Core.Bool.{true≢false}
 use Rattle.histar_flat.specs.Words.{ProcName}
-use Rattle.histar_flat.specs.Sessions.{Session}
+use Rattle.histar_flat.specs.Accounts.{Accounts}
 use Rattle.histar_flat.specs.Classes.{Process, is_free}
 use Rattle.histar_label.specs.declared.levels.Level.TheVariants.{Star, L1, L3}
 use Rattle.histar_label.specs.Levels.{Levels, constant, default_of, default_of-constant}
@@ -49,12 +49,12 @@ empty_alike (c ∷ cs) [] same = absurd (true≢false (sym (or_left (c == c) (is
 empty_alike (c ∷ cs) (d ∷ ds) same = refl
 
 -- The own label of the thread of a process tells the jobs that the process is in.
-pub jobs_are : (category : Categories) (session : Session) (me : ProcName) (p : Process) (c : ℕ) → is_in (jobs_in (rights_label category (thread_rights session me p))) c ≡ is_in (map category (map OfJob p.chain)) c
-jobs_are category session me p c = in_jobs (map category (thread_rights session me p).owned) (map category (map OfJob p.chain)) c
+pub jobs_are : (category : Categories) (accounts : Accounts) (me : ProcName) (p : Process) (c : ℕ) → is_in (jobs_in (rights_label category (thread_rights accounts me p))) c ≡ is_in (map category (map OfJob p.chain)) c
+jobs_are category accounts me p c = in_jobs (map category (thread_rights accounts me p).owned) (map category (map OfJob p.chain)) c
 
 -- So it tells whether the process is in any.
-pub none_if_free : (category : Categories) (session : Session) (me : ProcName) (p : Process) → is_empty (jobs_in (rights_label category (thread_rights session me p))) ≡ is_free p
-none_if_free category session me p = empty_alike _ (map category (map OfJob p.chain)) (jobs_are category session me p) ∙ by p.chain
+pub none_if_free : (category : Categories) (accounts : Accounts) (me : ProcName) (p : Process) → is_empty (jobs_in (rights_label category (thread_rights accounts me p))) ≡ is_free p
+none_if_free category accounts me p = empty_alike _ (map category (map OfJob p.chain)) (jobs_are category accounts me p) ∙ by p.chain
   where
     by : (chain : List ProcName) → is_empty (map category (map OfJob chain)) ≡ elim chain as (λ _. Bool) [ [] ↦ true | job ∷ jobs ↦ false ]
     by [] = refl

@@ -4,7 +4,7 @@ use Rattle.std.proofs.lemmas.Bool.{or_left}
 use Rattle.histar_flat.specs.Words.{Path, ProcName}
 use Rattle.histar_flat.specs.Files.{get}
 use Rattle.histar_object.specs.State.{State, with_next_category}
-use Rattle.histar_flat.specs.Sessions.{Session, has}
+use Rattle.histar_flat.specs.Accounts.{Accounts, has}
 use Rattle.histar_flat.specs.Classes.{Process}
 use Rattle.histar_flat.specs.FlatState.{Node, Flat}
 use Rattle.histar_flat.proofs.GivenNames.{longer_has}
@@ -15,14 +15,14 @@ use Rattle.histar_refinement.specs.Labels.{class_guard}
 use Rattle.histar_refinement.specs.Represents.{Represents, ObjectsMatch}
 use Rattle.histar_refinement.proofs.JobLists.{never_given}
 use Rattle.histar_refinement.proofs.Uses.{class_used}
-use Rattle.histar_refinement.proofs.Counting.{number_named, keeps_named, laid_named}
+use Rattle.histar_refinement.proofs.Counting.{number_named, keeps_named, matched_named}
 
-module _ (session : Session) (s : State) (f : Flat) (l : Represents session s f) (me : ProcName) (p : Process) (here : f.processes me ≡ Some p) where
+module _ (accounts : Accounts) (s : State) (f : Flat) (l : Represents accounts s f) (me : ProcName) (p : Process) (here : f.processes me ≡ Some p) where
   abbrev child : ProcName
   child = (p.born + 1) ∷ me
 
   -- the job's name was not used
-  pub unused : ¬ IsUsed session f (OfJob ((p.born + 1) ∷ me))
+  pub unused : ¬ IsUsed accounts f (OfJob ((p.born + 1) ∷ me))
   unused u = never_given f me p here (l.jobs_given child u)
 
   -- the process is not in the job
@@ -34,35 +34,35 @@ module _ (session : Session) (s : State) (f : Flat) (l : Represents session s f)
       by false e = refl
 
   -- no class names the job yet
-  pub not_named : (q : Path) (there : Node) (x : Guard) → get f.files q ≡ Some there → class_guard session there.class ≡ Some x → (among x.secret (OfJob ((p.born + 1) ∷ me)) ≡ false) × (among x.written (OfJob ((p.born + 1) ∷ me)) ≡ false)
+  pub not_named : (q : Path) (there : Node) (x : Guard) → get f.files q ≡ Some there → class_guard accounts there.class ≡ Some x → (among x.secret (OfJob ((p.born + 1) ∷ me)) ≡ false) × (among x.written (OfJob ((p.born + 1) ∷ me)) ≡ false)
   not_named q there x at is =
-      let used = class_used session f q there at there.class refl x is in
+      let used = class_used accounts f q there at there.class refl x is in
       (never (among x.secret (OfJob child)) (used.0 (OfJob child)), never (among x.written (OfJob child)) (used.1 (OfJob child)))
     where
-      never : (b : Bool) → (b ≡ true → IsUsed session f (OfJob child)) → b ≡ false
+      never : (b : Bool) → (b ≡ true → IsUsed accounts f (OfJob child)) → b ≡ false
       never true u = absurd (unused (u refl))
       never false u = refl
 
   -- once the job's category is made
-  pub named : (later : ObjectsMatch session (with_next_category s) f) × (later.naming ≡ l.laid.naming) × (later.category ≡ naming_next l.laid.category s.next_category (OfJob ((p.born + 1) ∷ me)))
-  named = laid_named session s f l.laid (OfJob child) unused (with_next_category s) (λ q. refl) refl (omega arith)
+  pub named : (later : ObjectsMatch accounts (with_next_category s) f) × (later.naming ≡ l.matched.naming) × (later.category ≡ naming_next l.matched.category s.next_category (OfJob ((p.born + 1) ∷ me)))
+  named = matched_named accounts s f l.matched (OfJob child) unused (with_next_category s) (λ q. refl) refl (omega arith)
 
-  abbrev pub m : ObjectsMatch session (with_next_category s) f
+  abbrev pub m : ObjectsMatch accounts (with_next_category s) f
   m = named.0
 
   pub job_number : m.category (OfJob ((p.born + 1) ∷ me)) ≡ s.next_category
-  job_number = ap (λ (c : Categories). c (OfJob child)) named.2 ∙ number_named session s f l.laid (OfJob child) unused
+  job_number = ap (λ (c : Categories). c (OfJob child)) named.2 ∙ number_named accounts s f l.matched (OfJob child) unused
 
   -- names that were used keep their numbers
-  pub keeps : (c : CategoryName) → IsUsed session f c → m.category c ≡ l.laid.category c
-  keeps c used = ap (λ (k : Categories). k c) named.2 ∙ keeps_named session s f l.laid (OfJob child) unused c used
+  pub keeps : (c : CategoryName) → IsUsed accounts f c → m.category c ≡ l.matched.category c
+  keeps c used = ap (λ (k : Categories). k c) named.2 ∙ keeps_named accounts s f l.matched (OfJob child) unused c used
 
   -- the categories of the jobs of the process and of the new one are made
   pub chain_made : (job : ProcName) → has (p.chain ++ ((p.born + 1) ∷ me) ∷ []) job ≡ true → IsMade (s.next_category + 1) (m.category (OfJob job))
   chain_made job e = elim (longer_has p.chain child job e) [
     | inl k ↦ m.made (OfJob job) (inl (me, p, here, or_left (has p.chain job) (has p.held job) k))
     | inr is ↦
-        let first = l.laid.made CategoryName.OfBoot tt in
+        let first = l.matched.made CategoryName.OfBoot tt in
         let new : m.category (OfJob job) ≡ s.next_category = ap (λ (j : ProcName). m.category (OfJob j)) is ∙ job_number in
         (omega (arith, first.0, first.1, new), omega (arith, new))
   ]

@@ -18,7 +18,7 @@ use Rattle.histar_container.proofs.Addresses.{same_tests_equality, same_itself, 
 use Rattle.histar_container.proofs.Trees.{kind_held_links}
 use Rattle.histar_rules.specs.Rules.{greatest}
 use Rattle.histar_login.specs.Boot.{boot_thread_number}
-use Rattle.histar_flat.specs.Sessions.{Session}
+use Rattle.histar_flat.specs.Accounts.{Accounts}
 use Rattle.histar_flat.specs.Classes.{Process}
 use Rattle.histar_flat.specs.PathOrder.{under_process}
 use Rattle.histar_flat.specs.FlatState.{Flat, without_process, was_given, is_given}
@@ -29,17 +29,17 @@ use Rattle.histar_refinement.specs.Labels.{process_guard}
 use Rattle.histar_refinement.specs.Addresses.{Step, same_step, address_of, home_address, path_at, process_at, inside_at, boot_number}
 use Rattle.histar_refinement.specs.Addresses.Step.{Left, Slash, Listing, Named, Home, Status, Inside, Runner, Child}
 use Rattle.histar_refinement.specs.Processes.{process_bytes}
-use Rattle.histar_refinement.specs.Stands.{Stands}
+use Rattle.histar_refinement.specs.Agrees.{Agrees}
 use Rattle.histar_refinement.specs.Expected.{listing_object, home_object, status_object, inside_object, thread_object, expected_node, listing_at, expected_home, bytes_for, expected_status, container_inside, thread_at, expected}
 use Rattle.histar_login.specs.Start.{segment}
 use Rattle.histar_refinement.specs.Represents.{AreJobsGiven, ObjectsMatch, Represents}
 use Rattle.histar_refinement.proofs.ProcessBytes.{alike_bytes}
 use Rattle.histar_layout.proofs.Members.{first_of, second_of}
-use Rattle.histar_refinement.proofs.Places.{address_path, address_process, address_inside, same_home, same_directory, AsksAlike, asked_alike, asked_status}
+use Rattle.histar_refinement.proofs.Roots.{address_path, address_process, address_inside, same_home, same_directory, AsksAlike, asked_alike, asked_status}
 use Rattle.histar_refinement.proofs.Steps.{step_tests_equality}
-use Rattle.histar_refinement.proofs.Moving.{bare_held, stands_changed, stands_cut, stands_same, no_address}
+use Rattle.histar_refinement.proofs.Moving.{bare_held, agrees_changed, agrees_cut, agrees_same, no_address}
 
-module _ (session : Session) (s : State) (f : Flat) (l : ObjectsMatch session s f) (me : ProcName) (p : Process) (here : f.processes me ≡ Some p) (n C S o : ℕ)
+module _ (accounts : Accounts) (s : State) (f : Flat) (l : ObjectsMatch accounts s f) (me : ProcName) (p : Process) (here : f.processes me ≡ Some p) (n C S o : ℕ)
     (at_home : l.naming.number (home_address me) ≡ Some C) (at_own : l.naming.number (Status ∷ home_address me) ≡ Some S) (at_victim : l.naming.number (home_address (n ∷ me)) ≡ Some o)
     (mid : State) (cuts : CutsOff s C o mid) where
   abbrev top : ProcName
@@ -52,7 +52,7 @@ module _ (session : Session) (s : State) (f : Flat) (l : ObjectsMatch session s 
   naming = without_below same_step l.naming (home_address top)
 
   abbrev old_asked : Address Step → Found
-  old_asked = expected session l.category f l.naming.number
+  old_asked = expected accounts l.category f l.naming.number
 
   -- what is below the victim's address is what is below its name
   same_homes : (x y : ProcName) → same_steps same_step (home_address x) (home_address y) ≡ same_name x y
@@ -94,15 +94,15 @@ module _ (session : Session) (s : State) (f : Flat) (l : ObjectsMatch session s 
   abbrev pub state_left : State
   state_left = with_segment_bytes mid S own_written
 
-  stands_mid : Stands same_step mid naming (cut same_step old_asked (home_address top))
-  stands_mid = stands_cut same_step step_tests_equality s l.naming old_asked l.stands mid C o (home_address me) (Child n) cuts at_victim at_home
+  agrees_mid : Agrees same_step mid naming (cut same_step old_asked (home_address top))
+  agrees_mid = agrees_cut same_step step_tests_equality s l.naming old_asked l.agrees mid C o (home_address me) (Child n) cuts at_victim at_home
 
-  stands_left : Stands same_step state_left naming (set_at same_step (cut same_step old_asked (home_address top)) (Status ∷ home_address me) (option_map (holding own_written) (cut same_step old_asked (home_address top) (Status ∷ home_address me))))
-  stands_left = stands_changed same_step step_tests_equality mid naming (cut same_step old_asked (home_address top)) stands_mid S (Status ∷ home_address me) (holding own_written)
+  agrees_left : Agrees same_step state_left naming (set_at same_step (cut same_step old_asked (home_address top)) (Status ∷ home_address me) (option_map (holding own_written) (cut same_step old_asked (home_address top) (Status ∷ home_address me))))
+  agrees_left = agrees_changed same_step step_tests_equality mid naming (cut same_step old_asked (home_address top)) agrees_mid S (Status ∷ home_address me) (holding own_written)
       (sym (kept (Status ∷ home_address me) own_outside) ∙ at_own) (λ x. kind_held_links own_written x.kind) (bare_held own_written)
 
   abbrev wish : Address Step → Found
-  wish = expected session l.category after naming.number
+  wish = expected accounts l.category after naming.number
 
   -- no path leads below the victim
   no_path : (a : Address Step) → under same_step (home_address top) a ≡ true → path_at a ≡ None
@@ -122,35 +122,35 @@ module _ (session : Session) (s : State) (f : Flat) (l : ObjectsMatch session s 
   nothing_below (Left k ∷ x ∷ a) e = refl
   nothing_below (Slash ∷ []) e = absurd (true≢false (sym e))
   nothing_below (Slash ∷ x ∷ a) e = refl
-  nothing_below (Listing ∷ a) e = ap (listing_at session l.category after naming.number) (no_path a e)
-  nothing_below (Named m ∷ a) e = ap (expected_node session l.category after naming.number) (no_path (Named m ∷ a) e)
+  nothing_below (Listing ∷ a) e = ap (listing_at accounts l.category after naming.number) (no_path a e)
+  nothing_below (Named m ∷ a) e = ap (expected_node accounts l.category after naming.number) (no_path (Named m ∷ a) e)
   nothing_below (Home ∷ []) e = absurd (true≢false (sym e))
   nothing_below (Home ∷ x ∷ a) e = refl
   nothing_below (Status ∷ a) e = by (process_at a) refl
     where
-      by : (q : Option ProcName) → process_at a ≡ q → expected_status session l.category after naming.number q ≡ None
+      by : (q : Option ProcName) → process_at a ≡ q → expected_status accounts l.category after naming.number q ≡ None
       by None is = refl
-      by (Some q) is = ap (λ (x : Option Process). status_object session l.category (bytes_for session l.category after naming.number q x) q x) (below a q e (address_process a q is))
+      by (Some q) is = ap (λ (x : Option Process). status_object accounts l.category (bytes_for accounts l.category after naming.number q x) q x) (below a q e (address_process a q is))
   nothing_below (Inside ∷ a) e = by (process_at a) refl
     where
-      by : (q : Option ProcName) → process_at a ≡ q → container_inside session l.category after naming.number q ≡ None
+      by : (q : Option ProcName) → process_at a ≡ q → container_inside accounts l.category after naming.number q ≡ None
       by None is = refl
-      by (Some q) is = ap (inside_object session l.category q) (below a q e (address_process a q is))
+      by (Some q) is = ap (inside_object accounts l.category q) (below a q e (address_process a q is))
   nothing_below (Runner ∷ a) e = by (inside_at a) refl
     where
-      by : (q : Option ProcName) → inside_at a ≡ q → thread_at session l.category after naming.number q ≡ None
+      by : (q : Option ProcName) → inside_at a ≡ q → thread_at accounts l.category after naming.number q ≡ None
       by None is = refl
-      by (Some q) is = ap (thread_object session l.category q) (gone q (sym (under_home q) ∙ ap (under same_step (home_address top)) (sym (address_inside a q is)) ∙ e))
+      by (Some q) is = ap (thread_object accounts l.category q) (gone q (sym (under_home q) ∙ ap (under same_step (home_address top)) (sym (address_inside a q is)) ∙ e))
   nothing_below (Child k ∷ a) e = by (process_at (Child k ∷ a)) refl
     where
-      by : (q : Option ProcName) → process_at (Child k ∷ a) ≡ q → expected_home session l.category after naming.number q ≡ None
+      by : (q : Option ProcName) → process_at (Child k ∷ a) ≡ q → expected_home accounts l.category after naming.number q ≡ None
       by None is = refl
-      by (Some q) is = ap (home_object session l.category q) (below (Child k ∷ a) q e (address_process (Child k ∷ a) q is))
+      by (Some q) is = ap (home_object accounts l.category q) (below (Child k ∷ a) q e (address_process (Child k ∷ a) q is))
 
-  files_alike : AsksAlike session l.category l.category f after l.naming.number naming.number
+  files_alike : AsksAlike accounts l.category l.category f after l.naming.number naming.number
   files_alike = record {
     at_path = λ q. refl;
-    in_directory = λ d. ap (λ (dir : Entries). listing_object session l.category (spelling dir) (get f.files d)) (same_directory f l.naming.number naming.number kept_path kept_listing d);
+    in_directory = λ d. ap (λ (dir : Entries). listing_object accounts l.category (spelling dir) (get f.files d)) (same_directory f l.naming.number naming.number kept_path kept_listing d);
   }
 
   -- another process that is not below the victim keeps its process segment
@@ -174,17 +174,17 @@ module _ (session : Session) (s : State) (f : Flat) (l : ObjectsMatch session s 
   outside_of a q e is = sym (under_home q) ∙ sym is ∙ e
 
   wish_other : (a : Address Step) → under same_step (home_address top) a ≡ false → Status ∷ home_address me ≢ a → old_asked a ≡ wish a
-  wish_other a e not_own = asked_alike session l.category l.category f after l.naming.number naming.number files_alike a (record {
-    home = λ q is. ap (home_object session l.category q) (sym (stays q (outside_of a q e (ap (under same_step (home_address top)) is))));
+  wish_other a e not_own = asked_alike accounts l.category l.category f after l.naming.number naming.number files_alike a (record {
+    home = λ q is. ap (home_object accounts l.category q) (sym (stays q (outside_of a q e (ap (under same_step (home_address top)) is))));
     status = λ q is. status_alike q (outside_of a q e (ap (under same_step (home_address top)) is)) (λ k. not_own (ap (λ (x : ProcName). Status ∷ home_address x) (sym k) ∙ sym is));
-    inside = λ q is. ap (inside_object session l.category q) (sym (stays q (outside_of a q e (ap (under same_step (home_address top)) is))));
-    runner = λ q is. ap (thread_object session l.category q) (sym (stays q (outside_of a q e (ap (under same_step (home_address top)) is))));
+    inside = λ q is. ap (inside_object accounts l.category q) (sym (stays q (outside_of a q e (ap (under same_step (home_address top)) is))));
+    runner = λ q is. ap (thread_object accounts l.category q) (sym (stays q (outside_of a q e (ap (under same_step (home_address top)) is))));
   })
     where
-      status_alike : (q : ProcName) → under_process top q ≡ false → q ≢ me → expected_status session l.category f l.naming.number (Some q) ≡ expected_status session l.category after naming.number (Some q)
-      status_alike q out not_me = by (f.processes q) ∙ sym (ap (λ (x : Option Process). status_object session l.category (bytes_for session l.category after naming.number q x) q x) (stays q out))
+      status_alike : (q : ProcName) → under_process top q ≡ false → q ≢ me → expected_status accounts l.category f l.naming.number (Some q) ≡ expected_status accounts l.category after naming.number (Some q)
+      status_alike q out not_me = by (f.processes q) ∙ sym (ap (λ (x : Option Process). status_object accounts l.category (bytes_for accounts l.category after naming.number q x) q x) (stays q out))
         where
-          by : (x : Option Process) → status_object session l.category (bytes_for session l.category f l.naming.number q x) q x ≡ status_object session l.category (bytes_for session l.category after naming.number q x) q x
+          by : (x : Option Process) → status_object accounts l.category (bytes_for accounts l.category f l.naming.number q x) q x ≡ status_object accounts l.category (bytes_for accounts l.category after naming.number q x) q x
           by None = refl
           by (Some x) = ap (segment (guard_label l.category (process_guard q x))) (same_bytes q x out not_me)
 
@@ -193,8 +193,8 @@ module _ (session : Session) (s : State) (f : Flat) (l : ObjectsMatch session s 
 
   wish_own : option_map (holding own_written) (old_asked (Status ∷ home_address me)) ≡ wish (Status ∷ home_address me)
   wish_own =
-      ap (option_map (holding own_written)) (asked_status session l.category f l.naming.number me ∙ ap (λ (x : Option Process). status_object session l.category (bytes_for session l.category f l.naming.number me x) me x) here)
-      ∙ sym (asked_status session l.category after naming.number me ∙ ap (λ (x : Option Process). status_object session l.category (bytes_for session l.category after naming.number me x) me x) (stays me me_out ∙ here))
+      ap (option_map (holding own_written)) (asked_status accounts l.category f l.naming.number me ∙ ap (λ (x : Option Process). status_object accounts l.category (bytes_for accounts l.category f l.naming.number me x) me x) here)
+      ∙ sym (asked_status accounts l.category after naming.number me ∙ ap (λ (x : Option Process). status_object accounts l.category (bytes_for accounts l.category after naming.number me x) me x) (stays me me_out ∙ here))
 
   left_asks : (a : Address Step) → set_at same_step (cut same_step old_asked (home_address top)) (Status ∷ home_address me) (option_map (holding own_written) (cut same_step old_asked (home_address top) (Status ∷ home_address me))) a ≡ wish a
   left_asks a = elim (same_tests_equality same_step step_tests_equality (Status ∷ home_address me) a) [
@@ -226,7 +226,7 @@ module _ (session : Session) (s : State) (f : Flat) (l : ObjectsMatch session s 
       by true e = absurd (true≢false (sym u ∙ ap is_some (gone x e)))
       by false e = ap is_some (sym (stays x e)) ∙ u
 
-  used_then : (c : CategoryName) → IsUsed session after c → IsUsed session f c
+  used_then : (c : CategoryName) → IsUsed accounts after c → IsUsed accounts f c
   used_then OfBoot u = u
   used_then (ReadsUser i) u = u
   used_then (WritesUser i) u = u
@@ -246,7 +246,7 @@ module _ (session : Session) (s : State) (f : Flat) (l : ObjectsMatch session s 
       by false i given = ap (λ (x : Option Process). was_given x k) (stays y i) ∙ given
 
   -- boot made nothing below the victim's address
-  not_boot : (a : Address Step) → under same_step (home_address top) a ≡ true → boot_number (length session.users) a ≡ None
+  not_boot : (a : Address Step) → under same_step (home_address top) a ≡ true → boot_number (length accounts.users) a ≡ None
   not_boot [] e = absurd (true≢false (sym e))
   not_boot (Left k ∷ []) e = absurd (true≢false (sym e))
   not_boot (Left k ∷ x ∷ a) e = refl
@@ -254,20 +254,20 @@ module _ (session : Session) (s : State) (f : Flat) (l : ObjectsMatch session s 
   not_boot (Slash ∷ x ∷ a) e = refl
   not_boot (Listing ∷ a) e = elim (same_tests_equality same_step step_tests_equality (Slash ∷ []) a) [
     | inl i ↦ absurd (true≢false (sym e ∙ ap (under same_step (home_address top)) (sym i.1)))
-    | inr i ↦ ap (λ t. cond t (Some (5 + 2 * length session.users)) None) i.0
+    | inr i ↦ ap (λ t. cond t (Some (5 + 2 * length accounts.users)) None) i.0
   ]
   not_boot (Named m ∷ a) e = refl
   not_boot (Home ∷ []) e = absurd (true≢false (sym e))
   not_boot (Home ∷ x ∷ a) e = refl
   not_boot (Status ∷ a) e = elim (same_tests_equality same_step step_tests_equality (Home ∷ []) a) [
     | inl i ↦ absurd (true≢false (sym e ∙ ap (under same_step (home_address top)) (sym i.1)))
-    | inr i ↦ ap (λ t. cond t (Some (9 + 2 * length session.users)) None) i.0
+    | inr i ↦ ap (λ t. cond t (Some (9 + 2 * length accounts.users)) None) i.0
   ]
   not_boot (Inside ∷ a) e = refl
   not_boot (Runner ∷ a) e = refl
   not_boot (Child k ∷ a) e = refl
 
-  as_booted_then : (a : Address Step) (q : ℕ) → boot_number (length session.users) a ≡ Some q → naming.number a ≡ Some q
+  as_booted_then : (a : Address Step) (q : ℕ) → boot_number (length accounts.users) a ≡ Some q → naming.number a ≡ Some q
   as_booted_then a q e = by (under same_step (home_address top) a) refl
     where
       by : (t : Bool) → under same_step (home_address top) a ≡ t → naming.number a ≡ Some q
@@ -276,8 +276,8 @@ module _ (session : Session) (s : State) (f : Flat) (l : ObjectsMatch session s 
 
   gone_then : mid.objects boot_thread_number ≡ None
   gone_then =
-      stands_mid.tree.as_expected boot_thread_number
-      ∙ ap (wanted (objects_at mid.objects naming)) (ap (λ (x : Option (Address Step)). if is_under same_step (home_address top) x then None else x) (no_address same_step s l.naming old_asked l.stands boot_thread_number l.boot_thread_gone))
+      agrees_mid.tree.as_expected boot_thread_number
+      ∙ ap (wanted (objects_at mid.objects naming)) (ap (λ (x : Option (Address Step)). if is_under same_step (home_address top) x then None else x) (no_address same_step s l.naming old_asked l.agrees boot_thread_number l.boot_thread_gone))
 
   -- the numbers in the names of jobs were given as before
   pub jobs_left : AreJobsGiven f → AreJobsGiven after
@@ -288,12 +288,12 @@ module _ (session : Session) (s : State) (f : Flat) (l : ObjectsMatch session s 
       by job (inr served) = inr served
 
   -- The kernel has the objects of the flat state without the victim.
-  pub laid_left : (later : ObjectsMatch session state_left after) × (later.naming ≡ naming) × (later.category ≡ l.category)
-  laid_left = (
+  pub matched_left : (later : ObjectsMatch accounts state_left after) × (later.naming ≡ naming) × (later.category ≡ l.category)
+  matched_left = (
     record {
       naming = naming;
       category = l.category;
-      stands = stands_same same_step state_left state_left naming _ wish stands_left left_asks (λ q. refl) refl;
+      agrees = agrees_same same_step state_left state_left naming _ wish agrees_left left_asks (λ q. refl) refl;
       numbered = subst (λ (m : ℕ). m ≤ greatest) (sym cuts.next_object) l.numbered;
       as_booted = as_booted_then;
       different = l.different;
@@ -318,5 +318,5 @@ module _ (session : Session) (s : State) (f : Flat) (l : ObjectsMatch session s 
       ]
 
   -- and so the kernel represents the flat state without the victim
-  pub represents_left : AreJobsGiven f → Represents session state_left after
-  represents_left given = record { laid = laid_left.0; jobs_given = jobs_left given }
+  pub represents_left : AreJobsGiven f → Represents accounts state_left after
+  represents_left given = record { matched = matched_left.0; jobs_given = jobs_left given }

@@ -10,7 +10,7 @@ use mathlib.Core.Bool.{true≢false}
 use Rattle.histar_flat.specs.declared.calls.User.{User}
 use Rattle.histar_flat.specs.Words.{Name}
 use Rattle.histar_flat.specs.PathOrder.{same}
-use Rattle.histar_flat.specs.Sessions.{Session, user_named, user_number, groups_of}
+use Rattle.histar_flat.specs.Accounts.{Accounts, user_named, user_number, groups_of}
 use Rattle.histar_flat.specs.FlatState.{Flat}
 use Rattle.histar_label.specs.Levels.{Levels}
 use Rattle.histar_object.specs.declared.objects.Entry.TheVariants.{Login}
@@ -28,7 +28,7 @@ use Rattle.histar_refinement.specs.Labels.{boot_guard, private_guard, gate_right
 use Rattle.histar_refinement.specs.LeftByBoot.{left_for_user, left_by_boot}
 use Rattle.histar_refinement.specs.Addresses.{same_step, first_left, table_number}
 use Rattle.histar_refinement.specs.Addresses.Step.{Left}
-use Rattle.histar_refinement.specs.Stands.{bare}
+use Rattle.histar_refinement.specs.Agrees.{bare}
 use Rattle.histar_refinement.specs.Expected.{expected}
 use Rattle.histar_refinement.specs.Represents.{ObjectsMatch}
 use Rattle.histar_refinement.proofs.AmongNames.{each_head, each_append}
@@ -38,7 +38,7 @@ use Rattle.histar_refinement.proofs.Growing.{GuardHas, RightsHave, KeepsNumber, 
 use Rattle.histar_refinement.proofs.Uses.{group_among, groups_within}
 use Rattle.histar_refinement.proofs.Steps.{step_tests_equality}
 use Rattle.histar_refinement.proofs.Moving.{bare_is, at_number}
-use Rattle.histar_refinement.proofs.Standing.{bare_container_is, step_linked}
+use Rattle.histar_refinement.proofs.Agreeing.{bare_container_is, step_linked}
 
 no_truth : false ≡ true → ⊥
 no_truth e = true≢false (sym e)
@@ -53,16 +53,16 @@ named_is_found (u ∷ users) name = ap (cond (same u.name name) (Some u)) (named
 named_at : (users : List User) (name : Name) → user_named users name ≡ slice_get users (position_or_len (λ (u : User). same u.name name) users)
 named_at users name = named_is_found users name ∙ find_at (λ (u : User). same u.name name) users
 
-place_told : (b : Bool) (k m : ℕ) → cond b (Some k) None ≡ Some m → k ≡ m
-place_told true k m e = same_Some k m e
-place_told false k m e = absurd (none-some m e)
+place_revealed : (b : Bool) (k m : ℕ) → cond b (Some k) None ≡ Some m → k ≡ m
+place_revealed true k m e = same_Some k m e
+place_revealed false k m e = absurd (none-some m e)
 
 -- a user who has a number is the one of this name, and stands at its place
-pub numbered_user : (session : Session) (name : Name) (i : ℕ) → user_number session name ≡ Some i → (k : ℕ) × (u : User) × (k + 1 ≡ i) × (slice_get session.users k ≡ Some u) × (user_named session.users name ≡ Some u) × (u.name ≡ name)
-numbered_user session name i e =
-    let k = mapped_from (λ k. k + 1) (position (λ (u : User). same u.name name) session.users) i e in
-    let at = placed (λ (u : User). same u.name name) session.users k.0 k.1 in
-    (k.0, at.0, k.2, at.1, named_at session.users name ∙ ap (slice_get session.users) (place_told _ (position_or_len (λ (u : User). same u.name name) session.users) k.0 k.1) ∙ at.1, equal_names at.0.name name at.2)
+pub numbered_user : (accounts : Accounts) (name : Name) (i : ℕ) → user_number accounts name ≡ Some i → (k : ℕ) × (u : User) × (k + 1 ≡ i) × (slice_get accounts.users k ≡ Some u) × (user_named accounts.users name ≡ Some u) × (u.name ≡ name)
+numbered_user accounts name i e =
+    let k = mapped_from (λ k. k + 1) (position (λ (u : User). same u.name name) accounts.users) i e in
+    let at = placed (λ (u : User). same u.name name) accounts.users k.0 k.1 in
+    (k.0, at.0, k.2, at.1, named_at accounts.users name ∙ ap (slice_get accounts.users) (place_revealed _ (position_or_len (λ (u : User). same u.name name) accounts.users) k.0 k.1) ∙ at.1, equal_names at.0.name name at.2)
 
 -- at no place from the length on stands a user
 no_user_at : (users : List User) (k : ℕ) → length users ≤ k → slice_get users k ≡ None
@@ -76,21 +76,21 @@ unplaced true users k is e = absurd (none-some (k + 1) (sym e))
 unplaced false users k is e = no_user_at users k (grind (arith, nat_tests, is))
 
 -- and a name that has no number is no user's
-pub unnumbered_user : (session : Session) (name : Name) → user_number session name ≡ None → user_named session.users name ≡ None
-unnumbered_user session name e =
-    let k = position_or_len (λ (u : User). same u.name name) session.users in
-    named_at session.users name ∙ unplaced (nat_lt k (length session.users)) session.users k refl e
+pub unnumbered_user : (accounts : Accounts) (name : Name) → user_number accounts name ≡ None → user_named accounts.users name ≡ None
+unnumbered_user accounts name e =
+    let k = position_or_len (λ (u : User). same u.name name) accounts.users in
+    named_at accounts.users name ∙ unplaced (nat_lt k (length accounts.users)) accounts.users k refl e
 
 -- ---- the table of what boot left
 
-module _ (session : Session) where
+module _ (accounts : Accounts) where
   abbrev password_left : ℕ → User → Object Levels
-  password_left i u = record { label = guard_label (booted session) (private_guard i); kind = Segment u.password }
+  password_left i u = record { label = guard_label (booted accounts) (private_guard i); kind = Segment u.password }
 
   abbrev gate_left : ℕ → User → Object Levels
-  gate_left i u = record { label = rights_label (booted session) (gate_rights session u.name i); kind = Gate (rights_clearance (booted session) (gate_rights session u.name i)) (Login i) }
+  gate_left i u = record { label = rights_label (booted accounts) (gate_rights accounts u.name i); kind = Gate (rights_clearance (booted accounts) (gate_rights accounts u.name i)) (Login i) }
 
-  password_among : (users : List User) (j k : ℕ) (u : User) (more : List Found) → slice_get users k ≡ Some u → get_or (numbered (left_for_user session) j users ++ more) (2 * k) None ≡ Some (password_left (j + k) u)
+  password_among : (users : List User) (j k : ℕ) (u : User) (more : List Found) → slice_get users k ≡ Some u → get_or (numbered (left_for_user accounts) j users ++ more) (2 * k) None ≡ Some (password_left (j + k) u)
   password_among [] j k u more e = absurd (none-some u e)
   password_among (v ∷ users) j zero u more e =
       let is : v ≡ u = same_Some v u e in
@@ -99,9 +99,9 @@ module _ (session : Session) where
   password_among (v ∷ users) j (suc k) u more e =
       let place : 2 * suc k ≡ suc (suc (2 * k)) = omega arith in
       let number : j + 1 + k ≡ j + suc k = omega arith in
-      ap (λ (m : ℕ). get_or (numbered (left_for_user session) j (v ∷ users) ++ more) m None) place ∙ password_among users (j + 1) k u more e ∙ ap (λ (i : ℕ). Some (password_left i u)) number
+      ap (λ (m : ℕ). get_or (numbered (left_for_user accounts) j (v ∷ users) ++ more) m None) place ∙ password_among users (j + 1) k u more e ∙ ap (λ (i : ℕ). Some (password_left i u)) number
 
-  gate_among : (users : List User) (j k : ℕ) (u : User) (more : List Found) → slice_get users k ≡ Some u → get_or (numbered (left_for_user session) j users ++ more) (suc (2 * k)) None ≡ Some (gate_left (j + k) u)
+  gate_among : (users : List User) (j k : ℕ) (u : User) (more : List Found) → slice_get users k ≡ Some u → get_or (numbered (left_for_user accounts) j users ++ more) (suc (2 * k)) None ≡ Some (gate_left (j + k) u)
   gate_among [] j k u more e = absurd (none-some u e)
   gate_among (v ∷ users) j zero u more e =
       let is : v ≡ u = same_Some v u e in
@@ -110,125 +110,125 @@ module _ (session : Session) where
   gate_among (v ∷ users) j (suc k) u more e =
       let place : suc (2 * suc k) ≡ suc (suc (suc (2 * k))) = omega arith in
       let number : j + 1 + k ≡ j + suc k = omega arith in
-      ap (λ (m : ℕ). get_or (numbered (left_for_user session) j (v ∷ users) ++ more) m None) place ∙ gate_among users (j + 1) k u more e ∙ ap (λ (i : ℕ). Some (gate_left i u)) number
+      ap (λ (m : ℕ). get_or (numbered (left_for_user accounts) j (v ∷ users) ++ more) m None) place ∙ gate_among users (j + 1) k u more e ∙ ap (λ (i : ℕ). Some (gate_left i u)) number
 
-  left_password : (k : ℕ) (u : User) → slice_get session.users k ≡ Some u → left_by_boot session (password_of (k + 1)) ≡ Some (password_left (k + 1) u)
+  left_password : (k : ℕ) (u : User) → slice_get accounts.users k ≡ Some u → left_by_boot accounts (password_of (k + 1)) ≡ Some (password_left (k + 1) u)
   left_password k u e =
       let place : password_of (k + 1) ≡ suc (suc (suc (2 * k))) = omega arith in
       let number : 1 + k ≡ k + 1 = omega arith in
-      ap (left_by_boot session) place ∙ password_among session.users 1 k u _ e ∙ ap (λ (i : ℕ). Some (password_left i u)) number
+      ap (left_by_boot accounts) place ∙ password_among accounts.users 1 k u _ e ∙ ap (λ (i : ℕ). Some (password_left i u)) number
 
-  left_gate : (k : ℕ) (u : User) → slice_get session.users k ≡ Some u → left_by_boot session (gate_of (k + 1)) ≡ Some (gate_left (k + 1) u)
+  left_gate : (k : ℕ) (u : User) → slice_get accounts.users k ≡ Some u → left_by_boot accounts (gate_of (k + 1)) ≡ Some (gate_left (k + 1) u)
   left_gate k u e =
       let place : gate_of (k + 1) ≡ suc (suc (suc (suc (2 * k)))) = omega arith in
       let number : 1 + k ≡ k + 1 = omega arith in
-      ap (left_by_boot session) place ∙ gate_among session.users 1 k u _ e ∙ ap (λ (i : ℕ). Some (gate_left i u)) number
+      ap (left_by_boot accounts) place ∙ gate_among accounts.users 1 k u _ e ∙ ap (λ (i : ℕ). Some (gate_left i u)) number
 
 -- ---- in a state that is represented
 
-module _ (session : Session) (s : State) (f : Flat) (l : ObjectsMatch session s f) where
+module _ (accounts : Accounts) (s : State) (f : Flat) (l : ObjectsMatch accounts s f) where
   -- the root container
-  pub root_found : (links : Links) × (s.objects root_number ≡ Some (record { label = guard_label (booted session) boot_guard; kind = Container links }))
-  root_found = bare_container_is (s.objects root_number) (guard_label (booted session) boot_guard)
-      (at_number same_step step_tests_equality s l.naming (expected session l.category f l.naming.number) l.stands [] root_number (l.as_booted [] root_number refl))
+  pub root_found : (links : Links) × (s.objects root_number ≡ Some (record { label = guard_label (booted accounts) boot_guard; kind = Container links }))
+  root_found = bare_container_is (s.objects root_number) (guard_label (booted accounts) boot_guard)
+      (at_number same_step step_tests_equality s l.naming (expected accounts l.category f l.naming.number) l.agrees [] root_number (l.as_booted [] root_number refl))
 
   -- what boot left has the numbers that boot gave
-  left_number : (q : ℕ) → first_left ≤ q → q ≤ table_number (length session.users) → l.naming.number (Left q ∷ []) ≡ Some q
+  left_number : (q : ℕ) → first_left ≤ q → q ≤ table_number (length accounts.users) → l.naming.number (Left q ∷ []) ≡ Some q
   left_number q low high =
       let a : nat_le first_left q ≡ true = grind (arith, nat_tests, low) in
-      let b : nat_le q (table_number (length session.users)) ≡ true = grind (arith, nat_tests, high) in
+      let b : nat_le q (table_number (length accounts.users)) ≡ true = grind (arith, nat_tests, high) in
       l.as_booted (Left q ∷ []) q (rw (a, b) refl)
 
-  left_bare : (q : ℕ) → first_left ≤ q → q ≤ table_number (length session.users) → bare (s.objects q) ≡ left_by_boot session q
-  left_bare q low high = at_number same_step step_tests_equality s l.naming (expected session l.category f l.naming.number) l.stands (Left q ∷ []) q (left_number q low high)
+  left_bare : (q : ℕ) → first_left ≤ q → q ≤ table_number (length accounts.users) → bare (s.objects q) ≡ left_by_boot accounts q
+  left_bare q low high = at_number same_step step_tests_equality s l.naming (expected accounts l.category f l.naming.number) l.agrees (Left q ∷ []) q (left_number q low high)
 
-  left_linked : (q : ℕ) → first_left ≤ q → q ≤ table_number (length session.users) → set.contains (links_in (s.objects root_number)) q ≡ true
-  left_linked q low high = step_linked session s f l (Left q) [] root_number q (l.as_booted [] root_number refl) (left_number q low high)
+  left_linked : (q : ℕ) → first_left ≤ q → q ≤ table_number (length accounts.users) → set.contains (links_in (s.objects root_number)) q ≡ true
+  left_linked q low high = step_linked accounts s f l (Left q) [] root_number q (l.as_booted [] root_number refl) (left_number q low high)
 
   -- a category that boot made has the number in the state that boot gave
-  tied : (c : CategoryName) (q : ℕ) → boot_category session c ≡ Some q → KeepsNumber (booted session) l.category c
+  tied : (c : CategoryName) (q : ℕ) → boot_category accounts c ≡ Some q → KeepsNumber (booted accounts) l.category c
   tied c q e = l.as_made c q e ∙ sym (ap (λ (o : Option ℕ). unwrap_or o 0) e)
 
   low_test : (i n : ℕ) → i ≤ n → nat_le i n ≡ true
   low_test i n h = grind (arith, nat_tests, h)
 
-  tied_reads : (i : ℕ) → i ≤ length session.users → KeepsNumber (booted session) l.category (ReadsUser i)
-  tied_reads i low = tied (ReadsUser i) (2 + 2 * i) (ap (λ b. cond b (Some (2 + 2 * i)) None) (low_test i (length session.users) low))
+  tied_reads : (i : ℕ) → i ≤ length accounts.users → KeepsNumber (booted accounts) l.category (ReadsUser i)
+  tied_reads i low = tied (ReadsUser i) (2 + 2 * i) (ap (λ b. cond b (Some (2 + 2 * i)) None) (low_test i (length accounts.users) low))
 
-  tied_writes : (i : ℕ) → i ≤ length session.users → KeepsNumber (booted session) l.category (WritesUser i)
-  tied_writes i low = tied (WritesUser i) (3 + 2 * i) (ap (λ b. cond b (Some (3 + 2 * i)) None) (low_test i (length session.users) low))
+  tied_writes : (i : ℕ) → i ≤ length accounts.users → KeepsNumber (booted accounts) l.category (WritesUser i)
+  tied_writes i low = tied (WritesUser i) (3 + 2 * i) (ap (λ b. cond b (Some (3 + 2 * i)) None) (low_test i (length accounts.users) low))
 
-  tied_reads_group : (k : ℕ) → 1 ≤ k → k ≤ length session.groups → KeepsNumber (booted session) l.category (ReadsGroup k)
-  tied_reads_group k low high = tied (ReadsGroup k) (2 + 2 * length session.users + 2 * k) (rw (low_test 1 k low, low_test k (length session.groups) high) refl)
+  tied_reads_group : (k : ℕ) → 1 ≤ k → k ≤ length accounts.groups → KeepsNumber (booted accounts) l.category (ReadsGroup k)
+  tied_reads_group k low high = tied (ReadsGroup k) (2 + 2 * length accounts.users + 2 * k) (rw (low_test 1 k low, low_test k (length accounts.groups) high) refl)
 
-  tied_writes_group : (k : ℕ) → 1 ≤ k → k ≤ length session.groups → KeepsNumber (booted session) l.category (WritesGroup k)
-  tied_writes_group k low high = tied (WritesGroup k) (3 + 2 * length session.users + 2 * k) (rw (low_test 1 k low, low_test k (length session.groups) high) refl)
+  tied_writes_group : (k : ℕ) → 1 ≤ k → k ≤ length accounts.groups → KeepsNumber (booted accounts) l.category (WritesGroup k)
+  tied_writes_group k low high = tied (WritesGroup k) (3 + 2 * length accounts.users + 2 * k) (rw (low_test 1 k low, low_test k (length accounts.groups) high) refl)
 
   -- the root container as all others, by the state's numbers
-  pub root_label : guard_label (booted session) boot_guard ≡ guard_label l.category boot_guard
-  root_label = sym (same_guard_label (booted session) l.category boot_guard (λ c e. absurd (no_truth e), each_head (KeepsNumber (booted session) l.category) OfBoot [] (tied OfBoot 1 refl) (λ c e. absurd (no_truth e))))
+  pub root_label : guard_label (booted accounts) boot_guard ≡ guard_label l.category boot_guard
+  root_label = sym (same_guard_label (booted accounts) l.category boot_guard (λ c e. absurd (no_truth e), each_head (KeepsNumber (booted accounts) l.category) OfBoot [] (tied OfBoot 1 refl) (λ c e. absurd (no_truth e))))
 
-  module _ (name : Name) (i : ℕ) (numbered_so : user_number session name ≡ Some i) where
-    user : (k : ℕ) × (u : User) × (k + 1 ≡ i) × (slice_get session.users k ≡ Some u) × (user_named session.users name ≡ Some u) × (u.name ≡ name)
-    user = numbered_user session name i numbered_so
+  module _ (name : Name) (i : ℕ) (numbered_so : user_number accounts name ≡ Some i) where
+    user : (k : ℕ) × (u : User) × (k + 1 ≡ i) × (slice_get accounts.users k ≡ Some u) × (user_named accounts.users name ≡ Some u) × (u.name ≡ name)
+    user = numbered_user accounts name i numbered_so
 
     low : 1 ≤ i
-    low = (user_range session name i numbered_so).0
+    low = (user_range accounts name i numbered_so).0
 
-    high : i ≤ length session.users
-    high = (user_range session name i numbered_so).1
+    high : i ≤ length accounts.users
+    high = (user_range accounts name i numbered_so).1
 
-    user_tied : GuardHas (KeepsNumber (booted session) l.category) (private_guard i)
+    user_tied : GuardHas (KeepsNumber (booted accounts) l.category) (private_guard i)
     user_tied = (
-      each_head (KeepsNumber (booted session) l.category) (ReadsUser i) [] (tied_reads i high) (λ c e. absurd (no_truth e)),
-      each_head (KeepsNumber (booted session) l.category) (WritesUser i) [] (tied_writes i high) (λ c e. absurd (no_truth e)),
+      each_head (KeepsNumber (booted accounts) l.category) (ReadsUser i) [] (tied_reads i high) (λ c e. absurd (no_truth e)),
+      each_head (KeepsNumber (booted accounts) l.category) (WritesUser i) [] (tied_writes i high) (λ c e. absurd (no_truth e)),
     )
 
-    groups_tied : (make : ℕ → CategoryName) → ((k : ℕ) → 1 ≤ k → k ≤ length session.groups → KeepsNumber (booted session) l.category (make k))
-        → (c : CategoryName) → among (map make (groups_of session name)) c ≡ true → KeepsNumber (booted session) l.category c
+    groups_tied : (make : ℕ → CategoryName) → ((k : ℕ) → 1 ≤ k → k ≤ length accounts.groups → KeepsNumber (booted accounts) l.category (make k))
+        → (c : CategoryName) → among (map make (groups_of accounts name)) c ≡ true → KeepsNumber (booted accounts) l.category c
     groups_tied make each c e =
-        let found = group_among make (groups_of session name) c e in
-        let within = groups_within session name found.0 found.2 in
-        subst (KeepsNumber (booted session) l.category) (sym found.1) (each found.0 within.0 within.1)
+        let found = group_among make (groups_of accounts name) c e in
+        let within = groups_within accounts name found.0 found.2 in
+        subst (KeepsNumber (booted accounts) l.category) (sym found.1) (each found.0 within.0 within.1)
 
-    gate_tied : RightsHave (KeepsNumber (booted session) l.category) (gate_rights session name i)
+    gate_tied : RightsHave (KeepsNumber (booted accounts) l.category) (gate_rights accounts name i)
     gate_tied = (
-      each_append (KeepsNumber (booted session) l.category) (reading session name i) (writing session name i)
-          (each_head (KeepsNumber (booted session) l.category) (ReadsUser i) (map ReadsGroup (groups_of session name)) (tied_reads i high) (groups_tied ReadsGroup tied_reads_group))
-          (each_head (KeepsNumber (booted session) l.category) (WritesUser i) (map WritesGroup (groups_of session name)) (tied_writes i high) (groups_tied WritesGroup tied_writes_group)),
+      each_append (KeepsNumber (booted accounts) l.category) (reading accounts name i) (writing accounts name i)
+          (each_head (KeepsNumber (booted accounts) l.category) (ReadsUser i) (map ReadsGroup (groups_of accounts name)) (tied_reads i high) (groups_tied ReadsGroup tied_reads_group))
+          (each_head (KeepsNumber (booted accounts) l.category) (WritesUser i) (map WritesGroup (groups_of accounts name)) (tied_writes i high) (groups_tied WritesGroup tied_writes_group)),
       λ c e. absurd (no_truth e),
     )
 
     password_low : first_left ≤ password_of i
     password_low = let a = low in omega (arith, a)
 
-    password_high : password_of i ≤ table_number (length session.users)
+    password_high : password_of i ≤ table_number (length accounts.users)
     password_high = let a = high in omega (arith, a)
 
     gate_low : first_left ≤ gate_of i
     gate_low = let a = low in omega (arith, a)
 
-    gate_high : gate_of i ≤ table_number (length session.users)
+    gate_high : gate_of i ≤ table_number (length accounts.users)
     gate_high = let a = high in omega (arith, a)
 
     -- the segment of the user's password is private to the user
-    pub password_found : (u : User) × (user_named session.users name ≡ Some u) × (s.objects (password_of i) ≡ Some (record { label = guard_label l.category (private_guard i); kind = Segment u.password }))
+    pub password_found : (u : User) × (user_named accounts.users name ≡ Some u) × (s.objects (password_of i) ≡ Some (record { label = guard_label l.category (private_guard i); kind = Segment u.password }))
     password_found = (
       user.1,
       user.4,
       bare_is (s.objects (password_of i)) (record { label = guard_label l.category (private_guard i); kind = Segment user.1.password }) refl
-          (left_bare (password_of i) password_low password_high ∙ ap (λ (k : ℕ). left_by_boot session (password_of k)) (sym user.2) ∙ left_password session user.0 user.1 user.3
-          ∙ ap (λ (k : ℕ). Some (password_left session k user.1)) user.2
-          ∙ ap (λ (label : Levels). Some (record { label = label; kind = Segment user.1.password })) (sym (same_guard_label (booted session) l.category (private_guard i) user_tied))),
+          (left_bare (password_of i) password_low password_high ∙ ap (λ (k : ℕ). left_by_boot accounts (password_of k)) (sym user.2) ∙ left_password accounts user.0 user.1 user.3
+          ∙ ap (λ (k : ℕ). Some (password_left accounts k user.1)) user.2
+          ∙ ap (λ (label : Levels). Some (record { label = label; kind = Segment user.1.password })) (sym (same_guard_label (booted accounts) l.category (private_guard i) user_tied))),
     )
 
     -- the user's gate gives what the user owns
-    pub gate_found : s.objects (gate_of i) ≡ Some (record { label = rights_label l.category (gate_rights session name i); kind = Gate (rights_clearance l.category (gate_rights session name i)) (Login i) })
-    gate_found = bare_is (s.objects (gate_of i)) (record { label = rights_label l.category (gate_rights session name i); kind = Gate (rights_clearance l.category (gate_rights session name i)) (Login i) }) refl
-        (left_bare (gate_of i) gate_low gate_high ∙ ap (λ (k : ℕ). left_by_boot session (gate_of k)) (sym user.2) ∙ left_gate session user.0 user.1 user.3
-        ∙ ap (λ (k : ℕ). Some (gate_left session k user.1)) user.2
-        ∙ ap (λ (n : Name). Some (record { label = rights_label (booted session) (gate_rights session n i); kind = Gate (rights_clearance (booted session) (gate_rights session n i)) (Login i) })) user.5
-        ∙ (λ j. Some (record { label = sym (same_rights_label (booted session) l.category (gate_rights session name i) gate_tied) j; kind = Gate (sym (same_rights_clearance (booted session) l.category (gate_rights session name i) gate_tied) j) (Login i) })))
+    pub gate_found : s.objects (gate_of i) ≡ Some (record { label = rights_label l.category (gate_rights accounts name i); kind = Gate (rights_clearance l.category (gate_rights accounts name i)) (Login i) })
+    gate_found = bare_is (s.objects (gate_of i)) (record { label = rights_label l.category (gate_rights accounts name i); kind = Gate (rights_clearance l.category (gate_rights accounts name i)) (Login i) }) refl
+        (left_bare (gate_of i) gate_low gate_high ∙ ap (λ (k : ℕ). left_by_boot accounts (gate_of k)) (sym user.2) ∙ left_gate accounts user.0 user.1 user.3
+        ∙ ap (λ (k : ℕ). Some (gate_left accounts k user.1)) user.2
+        ∙ ap (λ (n : Name). Some (record { label = rights_label (booted accounts) (gate_rights accounts n i); kind = Gate (rights_clearance (booted accounts) (gate_rights accounts n i)) (Login i) })) user.5
+        ∙ (λ j. Some (record { label = sym (same_rights_label (booted accounts) l.category (gate_rights accounts name i) gate_tied) j; kind = Gate (sym (same_rights_clearance (booted accounts) l.category (gate_rights accounts name i) gate_tied) j) (Login i) })))
 
     -- and the root container links both
     pub password_linked : set.contains (links_in (s.objects root_number)) (password_of i) ≡ true

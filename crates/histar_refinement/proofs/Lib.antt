@@ -10,7 +10,7 @@ pub mod Ranges
 pub mod Uses
 pub mod Moving
 pub mod Steps
-pub mod Places
+pub mod Roots
 pub mod StartNumbers
 pub mod StartNames
 pub mod StartTable
@@ -23,8 +23,8 @@ pub mod Becoming
 pub mod LoggingIn
 pub mod DirectoryLaws
 pub mod ProcessBytes
-pub mod FileRows
-pub mod Standing
+pub mod ListedFiles
+pub mod Agreeing
 pub mod ClassLaws
 pub mod ReachedObjects
 pub mod Making
@@ -38,8 +38,8 @@ pub mod OneChain
 pub mod OneProcess
 pub mod OneClass
 pub mod SameLines
-pub mod LinesLaid
-pub mod StatusLaid
+pub mod LinesMatched
+pub mod StatusMatched
 pub mod StatusFound
 pub mod OneFlatState
 pub mod RawChecks

@@ -20,7 +20,7 @@ use Rattle.histar_container.specs.Tree.{Address, Naming}
 use Rattle.histar_container.proofs.Addresses.{same_tests_equality}
 use Rattle.histar_rules.specs.Rules.{greatest}
 use Rattle.histar_login.specs.Boot.{boot_thread_number}
-use Rattle.histar_flat.specs.Sessions.{Session}
+use Rattle.histar_flat.specs.Accounts.{Accounts}
 use Rattle.histar_flat.specs.Classes.{Class}
 use Rattle.histar_flat.specs.FlatState.{Node, Content, Flat, is_dir, is_dir_at, is_some_and, entries_in, with_node}
 use Rattle.histar_flat.specs.FlatCalls.{most_entries}
@@ -28,14 +28,14 @@ use Rattle.histar_flat.specs.FlatState.Content.{Dir, File}
 use Rattle.histar_refinement.specs.Addresses.{Step, same_step, address_of, home_address, process_at, boot_number}
 use Rattle.histar_refinement.specs.Addresses.Step.{Slash, Listing, Status, Inside, Runner}
 use Rattle.histar_refinement.specs.Directories.{both_numbers, target_for, directory_of}
-use Rattle.histar_refinement.specs.Stands.{Stands}
+use Rattle.histar_refinement.specs.Agrees.{Agrees}
 use Rattle.histar_refinement.specs.Expected.{node_object, listing_object, listing_at, expected}
 use Rattle.histar_refinement.specs.Represents.{AreJobsGiven, ObjectsMatch}
-use Rattle.histar_refinement.proofs.Places.{process_address, asked_path, asked_listing}
+use Rattle.histar_refinement.proofs.Roots.{process_address, asked_path, asked_listing}
 use Rattle.histar_refinement.proofs.Steps.{step_tests_equality}
 use Rattle.histar_refinement.proofs.Moving.{number_below}
 use Rattle.histar_refinement.proofs.DirectoryLaws.{get_directory, len_directory}
-use Rattle.histar_refinement.proofs.FileRows.{SameNumbers, not_home, not_begun, same_address_path, asked_same, leads_at, directories_alike, same_leads, numbered_path, numbered_listing, nothing_in, ClassFits, AreKnown, old_known, old_fits, jobs_kept, laid_listed}
+use Rattle.histar_refinement.proofs.ListedFiles.{SameNumbers, not_home, not_begun, same_address_path, asked_same, leads_at, directories_alike, same_leads, numbered_path, numbered_listing, nothing_in, ClassFits, AreKnown, old_known, old_fits, jobs_kept, matched_listed}
 
 -- a directory segment's address is no process's
 pub listing_not_home : (a : Address Step) (q : ProcName) → Listing ∷ a ≢ home_address q
@@ -55,15 +55,15 @@ leads_to_directory None listing some other e = true≢false (sym some)
 leads_to_directory (Some container) None some other e = true≢false (sym other)
 leads_to_directory (Some container) (Some listing) some other e = true≢false (ap is_some e)
 
-module _ (session : Session) (s : State) (f : Flat) (l : ObjectsMatch session s f) where
+module _ (accounts : Accounts) (s : State) (f : Flat) (l : ObjectsMatch accounts s f) where
   -- each entry leads somewhere
   pub entry_leads : (q : Path) (there : Node) → get f.files q ≡ Some there → target_for l.naming.number (q, there) ≢ None
   entry_leads q there at = by there.content refl
     where
       by : (c : Content) → there.content ≡ c → target_for l.naming.number (q, there) ≢ None
-      by Dir is e = leads_to_directory _ _ (numbered_path session s f l q there at) (numbered_listing session s f l q there.class (at ∙ ap (λ (c : Content). Some (record { class = there.class; content = c })) is))
+      by Dir is e = leads_to_directory _ _ (numbered_path accounts s f l q there at) (numbered_listing accounts s f l q there.class (at ∙ ap (λ (c : Content). Some (record { class = there.class; content = c })) is))
           (sym (ap (λ (c : Content). target_for l.naming.number (q, record { class = there.class; content = c })) is) ∙ e)
-      by (File bytes) is e = leads_to_file _ (numbered_path session s f l q there at) (sym (ap (λ (c : Content). target_for l.naming.number (q, record { class = there.class; content = c })) is) ∙ e)
+      by (File bytes) is e = leads_to_file _ (numbered_path accounts s f l q there at) (sym (ap (λ (c : Content). target_for l.naming.number (q, record { class = there.class; content = c })) is) ∙ e)
 
   -- a directory segment has as many entries as the flat directory
   pub count_entries : (d : Path) → map.len (directory_of f.files l.naming.number d) ≡ length (entries_in f d)
@@ -72,10 +72,10 @@ module _ (session : Session) (s : State) (f : Flat) (l : ObjectsMatch session s 
   -- the boot thread's number is below the next one
   pub boot_thread_below : boot_thread_number < s.next_object
   boot_thread_below =
-      let below = number_below same_step step_tests_equality s l.naming (expected session l.category f l.naming.number) l.stands (Slash ∷ []) (4 + 2 * length session.users) (l.as_booted (Slash ∷ []) (4 + 2 * length session.users) refl) in
+      let below = number_below same_step step_tests_equality s l.naming (expected accounts l.category f l.naming.number) l.agrees (Slash ∷ []) (4 + 2 * length accounts.users) (l.as_booted (Slash ∷ []) (4 + 2 * length accounts.users) refl) in
       omega (arith, below)
 
-  module _ (d : Path) (m : Name) (class : Class) (content : Content) (absent : get f.files (m ∷ d) ≡ None) (fits : ClassFits session s f l class) where
+  module _ (d : Path) (m : Name) (class : Class) (content : Content) (absent : get f.files (m ∷ d) ≡ None) (fits : ClassFits accounts s f l class) where
     abbrev pub made : Node
     made = record { class = class; content = content }
 
@@ -95,38 +95,38 @@ module _ (session : Session) (s : State) (f : Flat) (l : ObjectsMatch session s 
     got_else : (q : Path) → q ≢ m ∷ d → get after.files q ≡ get f.files q
     got_else q other = get_other f.files (m ∷ d) made q other
 
-    all_fit : (q : Path) (there : Node) → get after.files q ≡ Some there → ClassFits session s f l there.class
+    all_fit : (q : Path) (there : Node) → get after.files q ≡ Some there → ClassFits accounts s f l there.class
     all_fit q there at = elim (same_path_found q (m ∷ d)) [
       | inl e ↦
           let same : made ≡ there = same_Some made there (sym got_new ∙ ap (get after.files) (sym e.1) ∙ at) in
-          subst (λ (x : Node). ClassFits session s f l x.class) same fits
-      | inr e ↦ old_fits session s f l q there (sym (got_else q e.1) ∙ at)
+          subst (λ (x : Node). ClassFits accounts s f l x.class) same fits
+      | inr e ↦ old_fits accounts s f l q there (sym (got_else q e.1) ∙ at)
     ]
 
     -- the numbers in the names of jobs were given as before, where each job of the class is known
-    pub jobs_made : AreKnown session s f l class → AreJobsGiven f → AreJobsGiven after
-    jobs_made known = jobs_kept session s f l after.files all_known
+    pub jobs_made : AreKnown accounts s f l class → AreJobsGiven f → AreJobsGiven after
+    jobs_made known = jobs_kept accounts s f l after.files all_known
       where
-        all_known : (q : Path) (there : Node) → get after.files q ≡ Some there → AreKnown session s f l there.class
+        all_known : (q : Path) (there : Node) → get after.files q ≡ Some there → AreKnown accounts s f l there.class
         all_known q there at = elim (same_path_found q (m ∷ d)) [
           | inl e ↦
               let same : made ≡ there = same_Some made there (sym got_new ∙ ap (get after.files) (sym e.1) ∙ at) in
-              subst (λ (x : Node). AreKnown session s f l x.class) same known
-          | inr e ↦ old_known session s f l q there (sym (got_else q e.1) ∙ at)
+              subst (λ (x : Node). AreKnown accounts s f l x.class) same known
+          | inr e ↦ old_known accounts s f l q there (sym (got_else q e.1) ∙ at)
         ]
 
     -- What stands once the objects are there: as before but for the new one and, for a directory, its segment.
-    pub record Standing (mid : State) (naming : Naming Step) (asked : Address Step → Found) : Type 0 where
-      pub stands : Stands same_step mid naming asked
+    pub record Agreeing (mid : State) (naming : Naming Step) (asked : Address Step → Found) : Type 0 where
+      pub agrees : Agrees same_step mid naming asked
       pub elsewhere : (a : Address Step) → new_address ≢ a → Listing ∷ new_address ≢ a → naming.number a ≡ l.naming.number a
-      pub asked_new : asked new_address ≡ node_object session l.category (Some made)
-      pub asked_inner : asked (Listing ∷ new_address) ≡ listing_object session l.category [] (Some made)
-      pub asked_old : (a : Address Step) → new_address ≢ a → Listing ∷ new_address ≢ a → asked a ≡ expected session l.category f l.naming.number a
+      pub asked_new : asked new_address ≡ node_object accounts l.category (Some made)
+      pub asked_inner : asked (Listing ∷ new_address) ≡ listing_object accounts l.category [] (Some made)
+      pub asked_old : (a : Address Step) → new_address ≢ a → Listing ∷ new_address ≢ a → asked a ≡ expected accounts l.category f l.naming.number a
       pub numbered : mid.next_object ≤ greatest
       pub same_next : mid.next_category ≡ s.next_category
       pub gone : mid.objects boot_thread_number ≡ None
 
-    module _ (mid : State) (naming : Naming Step) (asked : Address Step → Found) (st : Standing mid naming asked) (N : ℕ) (at_listing : l.naming.number (Listing ∷ address_of d) ≡ Some N) where
+    module _ (mid : State) (naming : Naming Step) (asked : Address Step → Found) (st : Agreeing mid naming asked) (N : ℕ) (at_listing : l.naming.number (Listing ∷ address_of d) ≡ Some N) where
       pub same_numbers : SameNumbers l.naming.number naming.number
       same_numbers = record {
         home = λ q. sym (st.elsewhere (home_address q) (not_home (m ∷ d) q) (listing_not_home new_address q));
@@ -150,33 +150,33 @@ module _ (session : Session) (s : State) (f : Flat) (l : ObjectsMatch session s 
       -- the new directory is empty
       directory_new : directory_of after.files naming.number (m ∷ d) ≡ map.empty
       directory_new = sym (directory_else (m ∷ d) (λ e. not_in_itself (sym e))) ∙ map.same_map nat_list_cmp_total antisymmetric _ _ (λ n.
-          get_directory f.files l.naming.number (m ∷ d) n ∙ ap (option_and_then (λ (there : Node). target_for l.naming.number (n ∷ m ∷ d, there))) (nothing_in session s f l n (m ∷ d) absent) ∙ sym (map.get-empty by_bytes n))
+          get_directory f.files l.naming.number (m ∷ d) n ∙ ap (option_and_then (λ (there : Node). target_for l.naming.number (n ∷ m ∷ d, there))) (nothing_in accounts s f l n (m ∷ d) absent) ∙ sym (map.get-empty by_bytes n))
 
-      asked_else : (a : Address Step) → Listing ∷ address_of d ≢ a → asked a ≡ expected session l.category after naming.number a
+      asked_else : (a : Address Step) → Listing ∷ address_of d ≢ a → asked a ≡ expected accounts l.category after naming.number a
       asked_else a other = elim (same_tests_equality same_step step_tests_equality new_address a) [
-        | inl e ↦ ap asked (sym e.1) ∙ st.asked_new ∙ sym (ap (expected session l.category after naming.number) (sym e.1) ∙ asked_path session l.category after naming.number (m ∷ d) ∙ ap (node_object session l.category) got_new)
+        | inl e ↦ ap asked (sym e.1) ∙ st.asked_new ∙ sym (ap (expected accounts l.category after naming.number) (sym e.1) ∙ asked_path accounts l.category after naming.number (m ∷ d) ∙ ap (node_object accounts l.category) got_new)
         | inr e ↦ elim (same_tests_equality same_step step_tests_equality (Listing ∷ new_address) a) [
           | inl t ↦
               ap asked (sym t.1) ∙ st.asked_inner
-              ∙ sym (ap (expected session l.category after naming.number) (sym t.1) ∙ asked_listing session l.category after naming.number (m ∷ d)
-              ∙ (λ i. listing_object session l.category ((ap spelling directory_new ∙ spelled_empty) i) (got_new i)))
-          | inr t ↦ st.asked_old a e.1 t.1 ∙ asked_same session l.category f after.files l.naming.number naming.number same_numbers a (record {
-            at_path = λ q is. ap (node_object session l.category) (sym (got_else q (λ k. e.1 (ap address_of (sym k) ∙ sym is))));
+              ∙ sym (ap (expected accounts l.category after naming.number) (sym t.1) ∙ asked_listing accounts l.category after naming.number (m ∷ d)
+              ∙ (λ i. listing_object accounts l.category ((ap spelling directory_new ∙ spelled_empty) i) (got_new i)))
+          | inr t ↦ st.asked_old a e.1 t.1 ∙ asked_same accounts l.category f after.files l.naming.number naming.number same_numbers a (record {
+            at_path = λ q is. ap (node_object accounts l.category) (sym (got_else q (λ k. e.1 (ap address_of (sym k) ∙ sym is))));
             in_directory = λ q is. listing_else q (λ k. other (ap (λ (x : Path). Listing ∷ address_of x) k ∙ sym is)) (λ k. t.1 (ap (λ (x : Path). Listing ∷ address_of x) (sym k) ∙ sym is));
           })
         ]
       ]
         where
-          listing_else : (q : Path) → d ≢ q → q ≢ m ∷ d → listing_at session l.category f l.naming.number (Some q) ≡ listing_at session l.category after naming.number (Some q)
-          listing_else q not_d not_new = λ i. listing_object session l.category (spelling (directory_else q not_d i)) (sym (got_else q not_new) i)
+          listing_else : (q : Path) → d ≢ q → q ≢ m ∷ d → listing_at accounts l.category f l.naming.number (Some q) ≡ listing_at accounts l.category after naming.number (Some q)
+          listing_else q not_d not_new = λ i. listing_object accounts l.category (spelling (directory_else q not_d i)) (sym (got_else q not_new) i)
 
-      asked_here : asked (Listing ∷ address_of d) ≡ listing_object session l.category (spelling (directory_of f.files l.naming.number d)) (get after.files d)
+      asked_here : asked (Listing ∷ address_of d) ≡ listing_object accounts l.category (spelling (directory_of f.files l.naming.number d)) (get after.files d)
       asked_here =
           st.asked_old (Listing ∷ address_of d) (not_begun (m ∷ d) (address_of d) Listing refl) (λ e. let tails : new_address ≡ address_of d = cc in not_in_itself (same_address_path (m ∷ d) d tails))
-          ∙ asked_listing session l.category f l.naming.number d ∙ ap (listing_object session l.category (spelling (directory_of f.files l.naming.number d))) (sym (got_else d (λ e. not_in_itself (sym e))))
+          ∙ asked_listing accounts l.category f l.naming.number d ∙ ap (listing_object accounts l.category (spelling (directory_of f.files l.naming.number d))) (sym (got_else d (λ e. not_in_itself (sym e))))
 
-      booted : (a : Address Step) (q : ℕ) → boot_number (length session.users) a ≡ Some q → naming.number a ≡ Some q
-      booted a q is = st.elsewhere a (λ e. none-some q (ap (boot_number (length session.users)) e ∙ is)) (λ e. none-some q (ap (boot_number (length session.users)) e ∙ is)) ∙ l.as_booted a q is
+      booted : (a : Address Step) (q : ℕ) → boot_number (length accounts.users) a ≡ Some q → naming.number a ≡ Some q
+      booted a q is = st.elsewhere a (λ e. none-some q (ap (boot_number (length accounts.users)) e ∙ is)) (λ e. none-some q (ap (boot_number (length accounts.users)) e ∙ is)) ∙ l.as_booted a q is
 
       module _ (target : Target) (leads : target_for naming.number (m ∷ d, made) ≡ Some target) where
         -- the parent directory with one entry more
@@ -200,10 +200,10 @@ module _ (session : Session) (s : State) (f : Flat) (l : ObjectsMatch session s 
             ]
 
         -- The kernel has the objects of the flat state with what was made.
-        pub laid_made : IsTrue (is_name m) → IsTarget target → is_dir_at f d ≡ true → length (entries_in f d) < most_entries
-            → (later : ObjectsMatch session (with_segment_bytes mid N (spelling grown)) after) × (later.naming ≡ naming) × (later.category ≡ l.category)
-        laid_made name goal dir room = subst (λ (x : Entries). (later : ObjectsMatch session (with_segment_bytes mid N (spelling x)) after) × (later.naming ≡ naming) × (later.category ≡ l.category)) directory_grown
-            (laid_listed session s f l after.files all_fit mid naming asked st.stands st.numbered d N (number_listing d (λ e. not_in_itself (sym e)) ∙ at_listing)
+        pub matched_made : IsTrue (is_name m) → IsTarget target → is_dir_at f d ≡ true → length (entries_in f d) < most_entries
+            → (later : ObjectsMatch accounts (with_segment_bytes mid N (spelling grown)) after) × (later.naming ≡ naming) × (later.category ≡ l.category)
+        matched_made name goal dir room = subst (λ (x : Entries). (later : ObjectsMatch accounts (with_segment_bytes mid N (spelling x)) after) × (later.naming ≡ naming) × (later.category ≡ l.category)) directory_grown
+            (matched_listed accounts s f l after.files all_fit mid naming asked st.agrees st.numbered d N (number_listing d (λ e. not_in_itself (sym e)) ∙ at_listing)
             (spelling (directory_of f.files l.naming.number d)) asked_here asked_else booted listable st.same_next st.gone)
           where
             fuller : IsListable grown

@@ -11,11 +11,11 @@ use Rattle.histar_flat.specs.declared.calls.Mode.{Mode}
 use Rattle.histar_flat.specs.declared.calls.Mode.TheVariants as modes
 use Rattle.histar_flat.specs.Words.{Name, ProcName}
 use Rattle.histar_flat.specs.PathOrder.{same}
-use Rattle.histar_flat.specs.Sessions.{Session, has, is_member, user_number, group_number, groups_of}
+use Rattle.histar_flat.specs.Accounts.{Accounts, has, is_member, user_number, group_number, groups_of}
 use Rattle.histar_flat.specs.Classes.{Class, Process, nobody, is_free, knows, free_class, class_made}
 use Rattle.histar_flat.specs.Classes.Class.{Private, Readable, Open, Scratch, Grouped}
 use Rattle.histar_label.specs.Levels.{is_below}
-use Rattle.histar_refinement.specs.Sessions.{IsSession}
+use Rattle.histar_refinement.specs.Accounts.{AreAccounts}
 use Rattle.histar_refinement.specs.Categories.{CategoryName, Categories, AreDifferent, among}
 use Rattle.histar_refinement.specs.Categories.CategoryName.{ReadsUser, ReadsGroup, OfJob}
 use Rattle.histar_refinement.specs.Guards.{Guard, Rights, guard_label, rights_label, rights_clearance}
@@ -42,9 +42,9 @@ all_known p = each p.chain (λ job e. or_left (has p.chain job) (has p.held job)
     each [] within = refl
     each (j ∷ some) within = and_from _ _ (within j (or_left (same j j) (has some j) (equal_tested j j refl))) (each some (λ job e. within job (or_right (same job j) (has some job) e)))
 
-module _ (session : Session) (category : Categories) (different : AreDifferent category) (me : ProcName) (p : Process) where
+module _ (accounts : Accounts) (category : Categories) (different : AreDifferent category) (me : ProcName) (p : Process) where
   abbrev own : Rights
-  own = thread_rights session me p
+  own = thread_rights accounts me p
 
   -- the label lies between the thread's own label and its clearance
   abbrev pub is_made_within : Guard → Bool
@@ -60,11 +60,11 @@ module _ (session : Session) (category : Categories) (different : AreDifferent c
   all_passed [] = refl
   all_passed (c ∷ names) = λ i. passed c i && all_passed names i
 
-  reads_user : (i : ℕ) → among both (ReadsUser i) ≡ is_number (user_number session p.user) i
-  reads_user i = passed (ReadsUser i) ∙ passes_other session me p (ReadsUser i) (λ job. refl) ∙ owns_read_of session me p i
+  reads_user : (i : ℕ) → among both (ReadsUser i) ≡ is_number (user_number accounts p.user) i
+  reads_user i = passed (ReadsUser i) ∙ passes_other accounts me p (ReadsUser i) (λ job. refl) ∙ owns_read_of accounts me p i
 
-  reads_group : (k : ℕ) → among both (ReadsGroup k) ≡ (is_some (user_number session p.user) && has_number (groups_of session p.user) k)
-  reads_group k = passed (ReadsGroup k) ∙ passes_other session me p (ReadsGroup k) (λ job. refl) ∙ owns_read_of_group session me p k
+  reads_group : (k : ℕ) → among both (ReadsGroup k) ≡ (is_some (user_number accounts p.user) && has_number (groups_of accounts p.user) k)
+  reads_group k = passed (ReadsGroup k) ∙ passes_other accounts me p (ReadsGroup k) (λ job. refl) ∙ owns_read_of_group accounts me p k
 
   alike : (free mine : Bool) → ((free && (mine && free)) && mine) ≡ (free && mine)
   alike true true = refl
@@ -73,15 +73,15 @@ module _ (session : Session) (category : Categories) (different : AreDifferent c
   alike false false = refl
 
   -- What is private or readable to user i is made by that user, in no job.
-  pub private_range : (i : ℕ) → is_made_within (private_guard i) ≡ (is_free p && is_number (user_number session p.user) i)
+  pub private_range : (i : ℕ) → is_made_within (private_guard i) ≡ (is_free p && is_number (user_number accounts p.user) i)
   private_range i =
-      (λ k. below_private session me p category different i k && (cleared_exactly_by_names category different (private_guard i) both (user_apart i) ∙ and-true (among both (ReadsUser i)) ∙ reads_user i) k)
-      ∙ alike (is_free p) (is_number (user_number session p.user) i)
+      (λ k. below_private accounts me p category different i k && (cleared_exactly_by_names category different (private_guard i) both (user_apart i) ∙ and-true (among both (ReadsUser i)) ∙ reads_user i) k)
+      ∙ alike (is_free p) (is_number (user_number accounts p.user) i)
 
-  pub readable_range : (i : ℕ) → is_made_within (readable_guard i) ≡ (is_free p && is_number (user_number session p.user) i)
+  pub readable_range : (i : ℕ) → is_made_within (readable_guard i) ≡ (is_free p && is_number (user_number accounts p.user) i)
   readable_range i =
-      (λ k. below_readable session me p category different i k && cleared_exactly_by_names category different (readable_guard i) both (λ c e. absurd (true≢false (sym e))) k)
-      ∙ by (is_free p) (is_number (user_number session p.user) i)
+      (λ k. below_readable accounts me p category different i k && cleared_exactly_by_names category different (readable_guard i) both (λ c e. absurd (true≢false (sym e))) k)
+      ∙ by (is_free p) (is_number (user_number accounts p.user) i)
     where
       by : (free mine : Bool) → ((free && (mine && free)) && true) ≡ (free && mine)
       by true true = refl
@@ -91,22 +91,22 @@ module _ (session : Session) (category : Categories) (different : AreDifferent c
 
   -- what is open is made by everyone, in no job
   pub open_range : is_made_within open_guard ≡ is_free p
-  open_range = (λ k. below_open session me p category different k && cleared_exactly_by_names category different open_guard both (λ c e. refl) k) ∙ and-true (is_free p)
+  open_range = (λ k. below_open accounts me p category different k && cleared_exactly_by_names category different open_guard both (λ c e. refl) k) ∙ and-true (is_free p)
 
   -- what is a group's is made by its members, in no job
-  pub group_range : (k : ℕ) → is_made_within (group_guard k) ≡ (is_free p && (is_some (user_number session p.user) && has_number (groups_of session p.user) k))
+  pub group_range : (k : ℕ) → is_made_within (group_guard k) ≡ (is_free p && (is_some (user_number accounts p.user) && has_number (groups_of accounts p.user) k))
   group_range k =
-      (λ i. below_group session me p category different k i && (cleared_exactly_by_names category different (group_guard k) both (group_apart k) ∙ and-true (among both (ReadsGroup k)) ∙ reads_group k) i)
-      ∙ alike (is_free p) (is_some (user_number session p.user) && has_number (groups_of session p.user) k)
+      (λ i. below_group accounts me p category different k i && (cleared_exactly_by_names category different (group_guard k) both (group_apart k) ∙ and-true (among both (ReadsGroup k)) ∙ reads_group k) i)
+      ∙ alike (is_free p) (is_some (user_number accounts p.user) && has_number (groups_of accounts p.user) k)
 
   -- and what is scratch by a user who knows its jobs, and is in no other
-  pub scratch_range : (jobs : List ProcName) (i : ℕ) → is_made_within (scratch_guard jobs i) ≡ (list_all (has jobs) p.chain && (is_number (user_number session p.user) i && list_all (knows p) jobs))
-  scratch_range jobs i = λ k. below_scratch session me p category different jobs i k && (cleared_exactly_by_names category different (scratch_guard jobs i) both (λ c e. refl) ∙ named) k
+  pub scratch_range : (jobs : List ProcName) (i : ℕ) → is_made_within (scratch_guard jobs i) ≡ (list_all (has jobs) p.chain && (is_number (user_number accounts p.user) i && list_all (knows p) jobs))
+  scratch_range jobs i = λ k. below_scratch accounts me p category different jobs i k && (cleared_exactly_by_names category different (scratch_guard jobs i) both (λ c e. refl) ∙ named) k
     where
-      named : list_all (among both) (ReadsUser i ∷ map OfJob jobs) ≡ (is_number (user_number session p.user) i && list_all (knows p) jobs)
-      named = λ k. reads_user i k && (all_passed (map OfJob jobs) ∙ passes_jobs session me p jobs) k
+      named : list_all (among both) (ReadsUser i ∷ map OfJob jobs) ≡ (is_number (user_number accounts p.user) i && list_all (knows p) jobs)
+      named = λ k. reads_user i k && (all_passed (map OfJob jobs) ∙ passes_jobs accounts me p jobs) k
 
-  module _ (ok : IsSession session) where
+  module _ (ok : AreAccounts accounts) where
     number_itself : (o : Option ℕ) (i : ℕ) → o ≡ Some i → is_number o i ≡ true
     number_itself o i e = ap (λ (x : Option ℕ). is_number x i) e ∙ itself
       where
@@ -114,31 +114,31 @@ module _ (session : Session) (category : Categories) (different : AreDifferent c
         itself = grind (arith, nat_tests)
 
     -- The label of what a process makes, whatever mode it names, lies in its thread's range.
-    pub made_in_range : (mode : Mode) (class : Class) (g : Guard) → class_made session p mode ≡ Some class → class_guard session class ≡ Some g → is_made_within g ≡ true
+    pub made_in_range : (mode : Mode) (class : Class) (g : Guard) → class_made accounts p mode ≡ Some class → class_guard accounts class ≡ Some g → is_made_within g ≡ true
     made_in_range mode class g made guard = by (is_free p) refl made
       where
         of_private : is_free p ≡ true → class ≡ Private p.user → is_made_within g ≡ true
         of_private free is =
-            let at = mapped_from private_guard (user_number session p.user) g (ap (class_guard session) (sym is) ∙ guard) in
-            ap is_made_within (sym at.2) ∙ private_range at.0 ∙ and_from _ _ free (number_itself (user_number session p.user) at.0 at.1)
+            let at = mapped_from private_guard (user_number accounts p.user) g (ap (class_guard accounts) (sym is) ∙ guard) in
+            ap is_made_within (sym at.2) ∙ private_range at.0 ∙ and_from _ _ free (number_itself (user_number accounts p.user) at.0 at.1)
 
         of_readable : is_free p ≡ true → class ≡ Readable p.user → is_made_within g ≡ true
         of_readable free is =
-            let at = mapped_from readable_guard (user_number session p.user) g (ap (class_guard session) (sym is) ∙ guard) in
-            ap is_made_within (sym at.2) ∙ readable_range at.0 ∙ and_from _ _ free (number_itself (user_number session p.user) at.0 at.1)
+            let at = mapped_from readable_guard (user_number accounts p.user) g (ap (class_guard accounts) (sym is) ∙ guard) in
+            ap is_made_within (sym at.2) ∙ readable_range at.0 ∙ and_from _ _ free (number_itself (user_number accounts p.user) at.0 at.1)
 
         of_open : is_free p ≡ true → class ≡ Open → is_made_within g ≡ true
-        of_open free is = ap is_made_within (sym (same_Some open_guard g (ap (class_guard session) (sym is) ∙ guard))) ∙ open_range ∙ free
+        of_open free is = ap is_made_within (sym (same_Some open_guard g (ap (class_guard accounts) (sym is) ∙ guard))) ∙ open_range ∙ free
 
-        of_group : (group : Name) → is_free p ≡ true → is_member session p.user group ≡ true → class ≡ Grouped group → is_made_within g ≡ true
+        of_group : (group : Name) → is_free p ≡ true → is_member accounts p.user group ≡ true → class ≡ Grouped group → is_made_within g ≡ true
         of_group group free in_it is =
-            let at = mapped_from group_guard (group_number session group) g (ap (class_guard session) (sym is) ∙ guard) in
-            ap is_made_within (sym at.2) ∙ group_range at.0 ∙ and_from _ _ free (member session me p category different ok group at.0 at.1 ∙ in_it)
+            let at = mapped_from group_guard (group_number accounts group) g (ap (class_guard accounts) (sym is) ∙ guard) in
+            ap is_made_within (sym at.2) ∙ group_range at.0 ∙ and_from _ _ free (member accounts me p category different ok group at.0 at.1 ∙ in_it)
 
         of_scratch : class ≡ Scratch p.user p.chain → is_made_within g ≡ true
         of_scratch is =
-            let at = mapped_from (scratch_guard p.chain) (user_number session p.user) g (ap (class_guard session) (sym is) ∙ guard) in
-            ap is_made_within (sym at.2) ∙ scratch_range p.chain at.0 ∙ and_from _ _ (all_had p.chain) (and_from _ _ (number_itself (user_number session p.user) at.0 at.1) (all_known p))
+            let at = mapped_from (scratch_guard p.chain) (user_number accounts p.user) g (ap (class_guard accounts) (sym is) ∙ guard) in
+            ap is_made_within (sym at.2) ∙ scratch_range p.chain at.0 ∙ and_from _ _ (all_had p.chain) (and_from _ _ (number_itself (user_number accounts p.user) at.0 at.1) (all_known p))
 
         not_nobody : (b : Bool) (c : Class) → (if b then None else Some c) ≡ Some class → class ≡ c
         not_nobody true c e = absurd (none-some class e)
@@ -148,12 +148,12 @@ module _ (session : Session) (category : Categories) (different : AreDifferent c
         if_member true c e = (refl, sym (same_Some c class e))
         if_member false c e = absurd (none-some class e)
 
-        freely : (m : Mode) → is_free p ≡ true → free_class session p m ≡ Some class → is_made_within g ≡ true
+        freely : (m : Mode) → is_free p ≡ true → free_class accounts p m ≡ Some class → is_made_within g ≡ true
         freely modes.Private free e = of_private free (not_nobody (same p.user nobody) (Private p.user) e)
         freely modes.Readable free e = of_readable free (not_nobody (same p.user nobody) (Readable p.user) e)
         freely modes.Open free e = of_open free (sym (same_Some Open class e))
-        freely (modes.Group group) free e = let both = if_member (is_member session p.user group) (Grouped group) e in of_group group free both.0 both.1
+        freely (modes.Group group) free e = let both = if_member (is_member accounts p.user group) (Grouped group) e in of_group group free both.0 both.1
 
-        by : (b : Bool) → is_free p ≡ b → (if b then free_class session p mode else Some (Scratch p.user p.chain)) ≡ Some class → is_made_within g ≡ true
+        by : (b : Bool) → is_free p ≡ b → (if b then free_class accounts p mode else Some (Scratch p.user p.chain)) ≡ Some class → is_made_within g ≡ true
         by true free e = freely mode free e
         by false free e = of_scratch (sym (same_Some (Scratch p.user p.chain) class e))

@@ -13,12 +13,12 @@ use Rattle.histar_object.specs.declared.objects.Object.{Object}
 use Rattle.histar_object.specs.Objects.{Objects, changed_at, linking, kind_linking, unlinking, kind_unlinking, holding, kind_holding, kind_links, is_present, is_container, kind_is_container}
 use Rattle.histar_object.specs.State.{State, Found, with_object}
 use Rattle.histar_container.specs.ObjectsModel.{CutsOff}
-use Rattle.histar_container.specs.Tree.{Address, Naming, with_number, without_below, under, is_under, set_at, cut, same_steps, IsLaid, objects_at}
+use Rattle.histar_container.specs.Tree.{Address, Naming, with_number, without_below, under, is_under, set_at, cut, same_steps, MatchesNaming, objects_at}
 use Rattle.histar_container.proofs.Addresses.{TestsEquality, same_tests_equality, same_itself, same_other}
 use Rattle.histar_container.proofs.Reaching.{not_reached}
-use Rattle.histar_container.proofs.TableMoves.{changed_here, changed_other, new_there, new_holder, new_other, laid_new, laid_changed, laid_without}
-use Rattle.histar_container.proofs.Trees.{laid_itself}
-use Rattle.histar_refinement.specs.Stands.{kind_bare, bare, Stands}
+use Rattle.histar_container.proofs.TableMoves.{changed_here, changed_other, new_there, new_holder, new_other, matched_new, matched_changed, matched_without}
+use Rattle.histar_container.proofs.Trees.{matched_itself}
+use Rattle.histar_refinement.specs.Agrees.{kind_bare, bare, Agrees}
 
 -- a container that links one number more or less is the same, but for its links
 pub bare_linked : (n : ℕ) (o : Found) → bare (option_map (linking n) o) ≡ bare o
@@ -85,29 +85,29 @@ pub not_some : (x : Option ℕ) → is_some x ≡ false → x ≡ None
 not_some None e = refl
 not_some (Some x) e = absurd (true≢false e)
 
-module _ {X : Type 0} (same_step : X → X → Bool) (tells : TestsEquality same_step) (s : State) (naming : Naming X) (asked : Address X → Found) (stands : Stands same_step s naming asked) where
+module _ {X : Type 0} (same_step : X → X → Bool) (decides : TestsEquality same_step) (s : State) (naming : Naming X) (asked : Address X → Found) (agrees : Agrees same_step s naming asked) where
   -- a number that an address has is below the next one
   pub number_below : (a : Address X) (q : ℕ) → naming.number a ≡ Some q → q < s.next_object
   number_below a q is = elim (cases_lt q s.next_object) [
     | inl h ↦ h
-    | inr h ↦ absurd (none-some a (sym (stands.tree.unused q h) ∙ stands.tree.addressed a q is))
+    | inr h ↦ absurd (none-some a (sym (agrees.tree.unused q h) ∙ agrees.tree.addressed a q is))
   ]
 
   -- two addresses with one number are one
   pub one_address : (a b : Address X) (q : ℕ) → naming.number a ≡ Some q → naming.number b ≡ Some q → a ≡ b
-  one_address a b q at_a at_b = same_Some a b (sym (stands.tree.addressed a q at_a) ∙ stands.tree.addressed b q at_b)
+  one_address a b q at_a at_b = same_Some a b (sym (agrees.tree.addressed a q at_a) ∙ agrees.tree.addressed b q at_b)
 
   -- what has the number of an address is what is asked for there
   pub at_number : (a : Address X) (q : ℕ) → naming.number a ≡ Some q → bare (s.objects q) ≡ asked a
-  at_number a q e = ap (λ (o : Option ℕ). bare (option_and_then s.objects o)) (sym e) ∙ stands.objects a
+  at_number a q e = ap (λ (o : Option ℕ). bare (option_and_then s.objects o)) (sym e) ∙ agrees.objects a
 
   -- where nothing is asked for no number is
   pub no_number : (a : Address X) → is_present (asked a) ≡ false → naming.number a ≡ None
-  no_number a e = not_some (naming.number a) (stands.named a ∙ e)
+  no_number a e = not_some (naming.number a) (agrees.named a ∙ e)
 
   -- what stands at an address is as before, where the object of its number is
   same_found : (new : Objects Levels) (b : Address X) → ((k : ℕ) → naming.number b ≡ Some k → bare (new k) ≡ bare (s.objects k)) → bare (option_and_then new (naming.number b)) ≡ asked b
-  same_found new b same_at = by (naming.number b) refl ∙ stands.objects b
+  same_found new b same_at = by (naming.number b) refl ∙ agrees.objects b
     where
       by : (k : Option ℕ) → naming.number b ≡ k → bare (option_and_then new k) ≡ bare (option_and_then s.objects k)
       by None is = refl
@@ -126,7 +126,7 @@ module _ {X : Type 0} (same_step : X → X → Bool) (tells : TestsEquality same
     apart e = let below = number_below a d at_d in absurd (omega (arith, below, e))
 
     added_objects : (b : Address X) → bare (objects_at (with_object s d o).objects grown_naming b) ≡ set_at same_step asked (x ∷ a) (bare (Some o)) b
-    added_objects b = elim (same_tests_equality same_step tells (x ∷ a) b) [
+    added_objects b = elim (same_tests_equality same_step decides (x ∷ a) b) [
       | inl e ↦
           ap (λ (t : Bool). bare (option_and_then (with_object s d o).objects (if t then Some s.next_object else naming.number b))) e.0
           ∙ ap bare (new_there s.objects s.next_object d o)
@@ -145,22 +145,22 @@ module _ {X : Type 0} (same_step : X → X → Bool) (tells : TestsEquality same
       where
         by : (t : Bool) → is_some (if t then Some s.next_object else naming.number b) ≡ is_present (if t then bare (Some o) else asked b)
         by true = refl
-        by false = stands.named b
+        by false = agrees.named b
 
-    pub stands_added : Stands same_step (with_object s d o) grown_naming (set_at same_step asked (x ∷ a) (bare (Some o)))
-    stands_added = record {
-      tree = laid_itself same_step (with_object s d o).objects (s.next_object + 1) _ grown_naming
-          (laid_new same_step tells s.objects s.next_object (objects_at s.objects naming) naming stands.tree d a x o (stands.tree.addressed a d at_d) (no_number (x ∷ a) free) is_holder leaf);
+    pub agrees_added : Agrees same_step (with_object s d o) grown_naming (set_at same_step asked (x ∷ a) (bare (Some o)))
+    agrees_added = record {
+      tree = matched_itself same_step (with_object s d o).objects (s.next_object + 1) _ grown_naming
+          (matched_new same_step decides s.objects s.next_object (objects_at s.objects naming) naming agrees.tree d a x o (agrees.tree.addressed a d at_d) (no_number (x ∷ a) free) is_holder leaf);
       objects = added_objects;
       named = added_named;
     }
 
     -- the number of the new address, and of each other one
     pub number_new : grown_naming.number (x ∷ a) ≡ Some s.next_object
-    number_new = ap (λ (t : Bool). if t then Some s.next_object else naming.number (x ∷ a)) (same_itself same_step tells (x ∷ a))
+    number_new = ap (λ (t : Bool). if t then Some s.next_object else naming.number (x ∷ a)) (same_itself same_step decides (x ∷ a))
 
     pub number_old : (b : Address X) → x ∷ a ≢ b → grown_naming.number b ≡ naming.number b
-    number_old b other = ap (λ (t : Bool). if t then Some s.next_object else naming.number b) (same_other same_step tells (x ∷ a) b other)
+    number_old b other = ap (λ (t : Bool). if t then Some s.next_object else naming.number b) (same_other same_step decides (x ∷ a) b other)
 
   -- An object is changed, but for its links.
   module _ (q : ℕ) (a : Address X) (change : Object Levels → Object Levels) (at_q : naming.number a ≡ Some q)
@@ -169,7 +169,7 @@ module _ {X : Type 0} (same_step : X → X → Bool) (tells : TestsEquality same
     changed_state = record { objects = changed_at s.objects q change; next_object = s.next_object; next_category = s.next_category }
 
     changed_objects : (b : Address X) → bare (objects_at changed_state.objects naming b) ≡ set_at same_step asked a (option_map change (asked a)) b
-    changed_objects b = elim (same_tests_equality same_step tells a b) [
+    changed_objects b = elim (same_tests_equality same_step decides a b) [
       | inl e ↦
           ap (λ (k : Option ℕ). bare (option_and_then changed_state.objects k)) (ap naming.number (sym e.1) ∙ at_q)
           ∙ ap bare (changed_here s.objects q change) ∙ bared (s.objects q) ∙ ap (option_map change) (at_number a q at_q)
@@ -180,15 +180,15 @@ module _ {X : Type 0} (same_step : X → X → Bool) (tells : TestsEquality same
     ]
 
     changed_named : (b : Address X) → is_some (naming.number b) ≡ is_present (set_at same_step asked a (option_map change (asked a)) b)
-    changed_named b = elim (same_tests_equality same_step tells a b) [
-      | inl e ↦ ap (λ (y : Address X). is_some (naming.number y)) (sym e.1) ∙ stands.named a ∙ sym (there_mapped change (asked a)) ∙ sym (ap (λ (t : Bool). is_present (if t then option_map change (asked a) else asked b)) e.0)
-      | inr e ↦ stands.named b ∙ sym (ap (λ (t : Bool). is_present (if t then option_map change (asked a) else asked b)) e.0)
+    changed_named b = elim (same_tests_equality same_step decides a b) [
+      | inl e ↦ ap (λ (y : Address X). is_some (naming.number y)) (sym e.1) ∙ agrees.named a ∙ sym (there_mapped change (asked a)) ∙ sym (ap (λ (t : Bool). is_present (if t then option_map change (asked a) else asked b)) e.0)
+      | inr e ↦ agrees.named b ∙ sym (ap (λ (t : Bool). is_present (if t then option_map change (asked a) else asked b)) e.0)
     ]
 
-    pub stands_changed : Stands same_step changed_state naming (set_at same_step asked a (option_map change (asked a)))
-    stands_changed = record {
-      tree = laid_itself same_step changed_state.objects s.next_object _ naming
-          (laid_changed same_step tells s.objects s.next_object (objects_at s.objects naming) naming stands.tree q a change (stands.tree.addressed a q at_q) same_links);
+    pub agrees_changed : Agrees same_step changed_state naming (set_at same_step asked a (option_map change (asked a)))
+    agrees_changed = record {
+      tree = matched_itself same_step changed_state.objects s.next_object _ naming
+          (matched_changed same_step decides s.objects s.next_object (objects_at s.objects naming) naming agrees.tree q a change (agrees.tree.addressed a q at_q) same_links);
       objects = changed_objects;
       named = changed_named;
     }
@@ -199,13 +199,13 @@ module _ {X : Type 0} (same_step : X → X → Bool) (tells : TestsEquality same
     left_naming = without_below same_step naming (x ∷ a)
 
     address_o : naming.address o ≡ Some (x ∷ a)
-    address_o = stands.tree.addressed (x ∷ a) o at_o
+    address_o = agrees.tree.addressed (x ∷ a) o at_o
 
     left_object : (b : Address X) (k : ℕ) → under same_step (x ∷ a) b ≡ false → naming.number b ≡ Some k → bare (new.objects k) ≡ bare (s.objects k)
     left_object b k outside is = elim (eqb_tells k d) [
       | inl e ↦ ap (λ (q : ℕ). bare (new.objects q)) e.1 ∙ ap bare cuts.is_cut.unlinked ∙ bare_unlinked o (s.objects d) ∙ ap (λ (q : ℕ). bare (s.objects q)) (sym e.1)
-      | inr e ↦ ap bare (cuts.is_cut.stays k (not_reached same_step tells s.objects s.next_object (objects_at s.objects naming) naming stands.tree o (x ∷ a) address_o k
-          (ap (is_under same_step (x ∷ a)) (stands.tree.addressed b k is) ∙ outside)) e.1)
+      | inr e ↦ ap bare (cuts.is_cut.stays k (not_reached same_step decides s.objects s.next_object (objects_at s.objects naming) naming agrees.tree o (x ∷ a) address_o k
+          (ap (is_under same_step (x ∷ a)) (agrees.tree.addressed b k is) ∙ outside)) e.1)
     ]
 
     left_objects : (b : Address X) → bare (objects_at new.objects left_naming b) ≡ cut same_step asked (x ∷ a) b
@@ -220,36 +220,36 @@ module _ {X : Type 0} (same_step : X → X → Bool) (tells : TestsEquality same
       where
         by : (t : Bool) → is_some (if t then None else naming.number b) ≡ is_present (if t then None else asked b)
         by true = refl
-        by false = stands.named b
+        by false = agrees.named b
 
-    pub stands_cut : Stands same_step new left_naming (cut same_step asked (x ∷ a))
-    stands_cut = record {
-      tree = subst (λ (next : ℕ). IsLaid same_step new.objects next (objects_at new.objects left_naming) left_naming) (sym cuts.next_object)
-          (laid_itself same_step new.objects s.next_object _ left_naming
-          (laid_without same_step tells s.objects s.next_object (objects_at s.objects naming) naming stands.tree new.objects d o a x cuts.is_cut address_o (stands.tree.addressed a d at_d)));
+    pub agrees_cut : Agrees same_step new left_naming (cut same_step asked (x ∷ a))
+    agrees_cut = record {
+      tree = subst (λ (next : ℕ). MatchesNaming same_step new.objects next (objects_at new.objects left_naming) left_naming) (sym cuts.next_object)
+          (matched_itself same_step new.objects s.next_object _ left_naming
+          (matched_without same_step decides s.objects s.next_object (objects_at s.objects naming) naming agrees.tree new.objects d o a x cuts.is_cut address_o (agrees.tree.addressed a d at_d)));
       objects = left_objects;
       named = left_named;
     }
 
 -- the same is asked for everywhere, and the state has the same objects and the same next number
-pub stands_same : {X : Type 0} (same_step : X → X → Bool) (s new : State) (naming : Naming X) (asked other : Address X → Found) → Stands same_step s naming asked
-    → ((a : Address X) → asked a ≡ other a) → ((q : ℕ) → new.objects q ≡ s.objects q) → new.next_object ≡ s.next_object → Stands same_step new naming other
-stands_same same_step s new naming asked other stands alike same_objects same_next =
+pub agrees_same : {X : Type 0} (same_step : X → X → Bool) (s new : State) (naming : Naming X) (asked other : Address X → Found) → Agrees same_step s naming asked
+    → ((a : Address X) → asked a ≡ other a) → ((q : ℕ) → new.objects q ≡ s.objects q) → new.next_object ≡ s.next_object → Agrees same_step new naming other
+agrees_same same_step s new naming asked other agrees alike same_objects same_next =
     let objects : s.objects ≡ new.objects = λ i q. sym (same_objects q) i in
     record {
-      tree = subst (λ (next : ℕ). IsLaid same_step new.objects next (objects_at new.objects naming) naming) (sym same_next)
-          (subst (λ (o : Objects Levels). IsLaid same_step o s.next_object (objects_at o naming) naming) objects stands.tree);
-      objects = λ a. ap (λ (o : Objects Levels). bare (objects_at o naming a)) (sym objects) ∙ stands.objects a ∙ alike a;
-      named = λ a. stands.named a ∙ ap is_present (alike a);
+      tree = subst (λ (next : ℕ). MatchesNaming same_step new.objects next (objects_at new.objects naming) naming) (sym same_next)
+          (subst (λ (o : Objects Levels). MatchesNaming same_step o s.next_object (objects_at o naming) naming) objects agrees.tree);
+      objects = λ a. ap (λ (o : Objects Levels). bare (objects_at o naming a)) (sym objects) ∙ agrees.objects a ∙ alike a;
+      named = λ a. agrees.named a ∙ ap is_present (alike a);
     }
 
 -- where nothing stands under a number, the number has no address
-pub no_address : {X : Type 0} (same_step : X → X → Bool) (s : State) (naming : Naming X) (asked : Address X → Found) → Stands same_step s naming asked → (q : ℕ) → s.objects q ≡ None → naming.address q ≡ None
-no_address {X} same_step s naming asked stands q e = by (naming.address q) refl
+pub no_address : {X : Type 0} (same_step : X → X → Bool) (s : State) (naming : Naming X) (asked : Address X → Found) → Agrees same_step s naming asked → (q : ℕ) → s.objects q ≡ None → naming.address q ≡ None
+no_address {X} same_step s naming asked agrees q e = by (naming.address q) refl
   where
     by : (o : Option (Address X)) → naming.address q ≡ o → o ≡ None
     by None is = refl
     by (Some a) is =
-        let number = stands.tree.numbered q a is in
-        let nothing : asked a ≡ None = sym (stands.objects a) ∙ ap (λ (k : Option ℕ). bare (option_and_then s.objects k)) number ∙ ap bare e in
-        absurd (true≢false (sym (ap is_some number) ∙ stands.named a ∙ ap is_present nothing))
+        let number = agrees.tree.numbered q a is in
+        let nothing : asked a ≡ None = sym (agrees.objects a) ∙ ap (λ (k : Option ℕ). bare (option_and_then s.objects k)) number ∙ ap bare e in
+        absurd (true≢false (sym (ap is_some number) ∙ agrees.named a ∙ ap is_present nothing))

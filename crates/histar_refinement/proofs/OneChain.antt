@@ -8,7 +8,7 @@ use Rattle.histar_flat.specs.Words.{ProcName}
 use Rattle.histar_label.specs.Level.{rank}
 use Rattle.histar_label.specs.declared.levels.Level.TheVariants.{L1, L3}
 use Rattle.histar_label.specs.Levels.{Levels, level_of}
-use Rattle.histar_flat.specs.Sessions.{has}
+use Rattle.histar_flat.specs.Accounts.{has}
 use Rattle.histar_flat.specs.Classes.{Process}
 use Rattle.histar_refinement.specs.Categories.{CategoryName, Categories, AreDifferent, split_category}
 use Rattle.histar_refinement.specs.Categories.CategoryName.{WritesProcess, OfJob}
@@ -61,11 +61,11 @@ module _ (category : Categories) (different : AreDifferent category) where
     | inr e ↦ ap (λ b. b || is_in (map category (map OfJob jobs)) (category (WritesProcess me))) e.0 ∙ not_own me jobs
   ]
 
-  pub told_secret : (s t : Bool) → guarded_level s false ≡ guarded_level t false → s ≡ t
-  told_secret true true e = refl
-  told_secret true false e = let k : rank L3 ≡ rank L1 = ap rank e in absurd (omega (arith, k))
-  told_secret false true e = let k : rank L1 ≡ rank L3 = ap rank e in absurd (omega (arith, k))
-  told_secret false false e = refl
+  pub revealed_secret : (s t : Bool) → guarded_level s false ≡ guarded_level t false → s ≡ t
+  revealed_secret true true e = refl
+  revealed_secret true false e = let k : rank L3 ≡ rank L1 = ap rank e in absurd (omega (arith, k))
+  revealed_secret false true e = let k : rank L1 ≡ rank L3 = ap rank e in absurd (omega (arith, k))
+  revealed_secret false false e = refl
 
   -- The label of the container of a process tells the jobs that it is in.
   pub one_chain : (me : ProcName) (p q : Process) → AreInOrder category p.chain → AreInOrder category q.chain → guard_label category (process_guard me p) ≡ guard_label category (process_guard me q) → p.chain ≡ q.chain
@@ -77,5 +77,5 @@ module _ (category : Categories) (different : AreDifferent category) where
       by : (k : ℕ) → (((k == category (WritesProcess me)) ≡ true) × (k ≡ category (WritesProcess me))) ⊎ (((k == category (WritesProcess me)) ≡ false) × (k ≢ category (WritesProcess me)))
           → is_in (map category (map OfJob p.chain)) k ≡ is_in (map category (map OfJob q.chain)) k
       by k (inl is) = ap (is_in (map category (map OfJob p.chain))) is.1 ∙ not_own me p.chain ∙ sym (ap (is_in (map category (map OfJob q.chain))) is.1 ∙ not_own me q.chain)
-      by k (inr is) = told_secret (is_in (map category (map OfJob p.chain)) k) (is_in (map category (map OfJob q.chain)) k)
+      by k (inr is) = revealed_secret (is_in (map category (map OfJob p.chain)) k) (is_in (map category (map OfJob q.chain)) k)
           (subst (λ b. guarded_level (is_in (map category (map OfJob p.chain)) k) (b || false) ≡ guarded_level (is_in (map category (map OfJob q.chain)) k) (b || false)) is.0 (levels k))

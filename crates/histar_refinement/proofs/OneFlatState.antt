@@ -4,7 +4,7 @@ use Rattle.std.specs.Prelude.{is_some, option_map, option_and_then}
 use Rattle.std.specs.FinMap as map
 use Rattle.std.proofs.lemmas.Option.{none-some, same_Some}
 use Rattle.histar_flat.specs.Words.{Name, Path, ProcName}
-use Rattle.histar_flat.specs.Sessions.{Session}
+use Rattle.histar_flat.specs.Accounts.{Accounts}
 use Rattle.histar_flat.specs.Files.{get}
 use Rattle.histar_flat.specs.Classes.{Class, Process}
 use Rattle.histar_flat.specs.FlatState.{Node, Content, Flat, is_some_and, is_dir, is_dir_at}
@@ -25,21 +25,21 @@ use Rattle.histar_refinement.specs.Labels.{process_guard, thread_rights}
 use Rattle.histar_refinement.specs.Addresses.{AddressNumbers, same_step, address_of, home_address}
 use Rattle.histar_refinement.specs.Addresses.Step.{Slash, Listing, Status, Inside, Runner}
 use Rattle.histar_refinement.specs.Directories.{both_numbers, target_for, directory_of}
-use Rattle.histar_refinement.specs.Stands.{bare}
+use Rattle.histar_refinement.specs.Agrees.{bare}
 use Rattle.histar_refinement.specs.Expected.{content_kind, home_object, expected}
 use Rattle.histar_refinement.specs.Represents.{IsInOrder, IsProcess, ObjectsMatch}
 use Rattle.histar_refinement.specs.Laws.{AreAlike}
 use Rattle.histar_refinement.specs.Processes.{or_zero, status_by}
 use Rattle.histar_refinement.proofs.Steps.{step_tests_equality}
 use Rattle.histar_refinement.proofs.Moving.{at_number}
-use Rattle.histar_refinement.proofs.Places.{asked_home}
+use Rattle.histar_refinement.proofs.Roots.{asked_home}
 use Rattle.histar_refinement.proofs.DirectoryLaws.{get_directory}
-use Rattle.histar_refinement.proofs.FileRows.{leads_at}
+use Rattle.histar_refinement.proofs.ListedFiles.{leads_at}
 use Rattle.histar_refinement.proofs.Making.{entry_leads}
-use Rattle.histar_refinement.proofs.Standing.{some_of, thread_found, guard_at, path_stands, root_is_dir, parent_is_dir, some_unless_none}
-use Rattle.histar_refinement.proofs.LinesLaid.{leads_to, node_there, holds_directory}
+use Rattle.histar_refinement.proofs.Agreeing.{some_of, thread_found, guard_at, path_agrees, root_is_dir, parent_is_dir, some_unless_none}
+use Rattle.histar_refinement.proofs.LinesMatched.{leads_to, node_there, holds_directory}
 use Rattle.histar_refinement.proofs.SameLines.{listing_in, same_status}
-use Rattle.histar_refinement.proofs.StatusLaid.{holds_status}
+use Rattle.histar_refinement.proofs.StatusMatched.{holds_status}
 use Rattle.histar_refinement.proofs.StatusFound.{zero_there, numbered_home, numbered_status, numbered_runner, status_found, status_back}
 use Rattle.histar_refinement.proofs.OneChain.{one_chain}
 use Rattle.histar_refinement.proofs.OneProcess.{one_user, one_held}
@@ -91,19 +91,19 @@ module _ (number : AddressNumbers) (q : Path) where
 
 -- ---- one state and two flat states that it represents
 
-module _ (session : Session) (s : State) (f g : Flat) (l : ObjectsMatch session s f) (m : ObjectsMatch session s g) (one_naming : (c : CategoryName) → l.category c ≡ m.category c) where
+module _ (accounts : Accounts) (s : State) (f g : Flat) (l : ObjectsMatch accounts s f) (m : ObjectsMatch accounts s g) (one_naming : (c : CategoryName) → l.category c ≡ m.category c) where
   same_categories : l.category ≡ m.category
   same_categories = λ i c. one_naming c i
 
   -- one object is that of one file or directory
   one_entry : (q r : Path) (x y : Node) (o : ℕ) → get f.files q ≡ Some x → get g.files r ≡ Some y → l.naming.number (address_of q) ≡ Some o → m.naming.number (address_of r) ≡ Some o → x ≡ y
   one_entry q r x y o at_x at_y here there =
-      let a = guard_at session s f l q x at_x in
-      let b = guard_at session s g m r y at_y in
-      let objects = sym (path_stands session s f l q x at_x a.0 a.1 o here) ∙ path_stands session s g m r y at_y b.0 b.1 o there in
+      let a = guard_at accounts s f l q x at_x in
+      let b = guard_at accounts s g m r y at_y in
+      let objects = sym (path_agrees accounts s f l q x at_x a.0 a.1 o here) ∙ path_agrees accounts s g m r y at_y b.0 b.1 o there in
       let label : guard_label l.category a.0 ≡ guard_label m.category b.0 = same_Some (guard_label l.category a.0) (guard_label m.category b.0) (ap label_there objects) in
       let labels : guard_label l.category a.0 ≡ guard_label l.category b.0 = label ∙ ap (λ (category : Categories). guard_label category b.0) (sym same_categories) in
-      let class : x.class ≡ y.class = one_class session l.category l.different x.class y.class a.0 b.0 a.1 b.1 labels (l.in_order q x at_x) (subst (λ (category : Categories). IsInOrder category y.class) (sym same_categories) (m.in_order r y at_y)) in
+      let class : x.class ≡ y.class = one_class accounts l.category l.different x.class y.class a.0 b.0 a.1 b.1 labels (l.in_order q x at_x) (subst (λ (category : Categories). IsInOrder category y.class) (sym same_categories) (m.in_order r y at_y)) in
       let content : x.content ≡ y.content = sym (content_back x.content) ∙ ap (λ (found : Found). content_of (kind_there found)) objects ∙ content_back y.content in
       λ i. record { class = class i; content = content i }
 
@@ -118,10 +118,10 @@ module _ (session : Session) (s : State) (f g : Flat) (l : ObjectsMatch session 
       by : (x y : Option Node) → get f.files q ≡ x → get g.files q ≡ y
           → option_and_then (λ (z : Node). target_for l.naming.number (q, z)) x ≡ option_and_then (λ (z : Node). target_for m.naming.number (q, z)) y → x ≡ y
       by None None i j e = refl
-      by None (Some y) i j e = absurd (entry_leads session s g m q y j (sym e))
-      by (Some x) None i j e = absurd (entry_leads session s f l q x i e)
+      by None (Some y) i j e = absurd (entry_leads accounts s g m q y j (sym e))
+      by (Some x) None i j e = absurd (entry_leads accounts s f l q x i e)
       by (Some x) (Some y) i j e =
-          let t = some_unless_none (target_for l.naming.number (q, x)) (entry_leads session s f l q x i) in
+          let t = some_unless_none (target_for l.naming.number (q, x)) (entry_leads accounts s f l q x i) in
           ap Some (one_entry q q x y (first_number t.0) i j (led_to l.naming.number q x.class x.content t.0 t.1) (led_to m.naming.number q y.class y.content t.0 (sym e ∙ t.1)))
 
   -- a directory that a path leads to in both has the same entries in both
@@ -129,24 +129,24 @@ module _ (session : Session) (s : State) (f g : Flat) (l : ObjectsMatch session 
   same_entries d alike dir =
       let dir_too : is_dir_at g d ≡ true = ap (λ (o : Option Node). is_some_and o is_dir) (sym (same_at d alike)) ∙ dir in
       let x = node_there (get f.files d) dir in
-      let t = some_unless_none (target_for l.naming.number (d, x.0)) (entry_leads session s f l d x.0 x.1) in
+      let t = some_unless_none (target_for l.naming.number (d, x.0)) (entry_leads accounts s f l d x.0 x.1) in
       let left : both_numbers (l.naming.number (address_of d)) (l.naming.number (Listing ∷ address_of d)) ≡ Some t.0 =
       sym (leads_to l.naming.number d (get f.files d) dir) ∙ ap (option_and_then (λ (z : Node). target_for l.naming.number (d, z))) x.1 ∙ t.1 in
       let right : both_numbers (m.naming.number (address_of d)) (m.naming.number (Listing ∷ address_of d)) ≡ Some t.0 =
       sym (leads_to m.naming.number d (get g.files d) dir_too) ∙ sym alike ∙ leads_to l.naming.number d (get f.files d) dir ∙ left in
       same_directory (bytes_in (s.objects (listing_in t.0))) (directory_of f.files l.naming.number d) (directory_of g.files m.naming.number d)
-      (holds_directory session s f l d (listing_in t.0) dir (second_of_both l.naming.number d (l.naming.number (address_of d)) (l.naming.number (Listing ∷ address_of d)) t.0 left))
-      (holds_directory session s g m d (listing_in t.0) dir_too (second_of_both m.naming.number d (m.naming.number (address_of d)) (m.naming.number (Listing ∷ address_of d)) t.0 right))
+      (holds_directory accounts s f l d (listing_in t.0) dir (second_of_both l.naming.number d (l.naming.number (address_of d)) (l.naming.number (Listing ∷ address_of d)) t.0 left))
+      (holds_directory accounts s g m d (listing_in t.0) dir_too (second_of_both m.naming.number d (m.naming.number (address_of d)) (m.naming.number (Listing ∷ address_of d)) t.0 right))
 
   -- so its entries lead to the same
   below : (d : Path) → LeadsAlike d → is_dir_at f d ≡ true → (n : Name) → LeadsAlike (n ∷ d)
   below d alike dir n = sym (get_directory f.files l.naming.number d n) ∙ ap (λ (entries : Entries). map.get entries n) (same_entries d alike dir) ∙ get_directory g.files m.naming.number d n
 
   -- where `/` leads
-  led_root : (h : Flat) (k : ObjectsMatch session s h) → leads_at h.files k.naming.number [] ≡ Some (targets.Directory (4 + 2 * length session.users) (5 + 2 * length session.users))
+  led_root : (h : Flat) (k : ObjectsMatch accounts s h) → leads_at h.files k.naming.number [] ≡ Some (targets.Directory (4 + 2 * length accounts.users) (5 + 2 * length accounts.users))
   led_root h k =
-      ap (option_and_then (λ (z : Node). target_for k.naming.number ([], z))) (root_is_dir session s h k).1
-      ∙ (λ i. both_numbers (k.as_booted (Slash ∷ []) (4 + 2 * length session.users) refl i) (k.as_booted (Listing ∷ Slash ∷ []) (5 + 2 * length session.users) refl i))
+      ap (option_and_then (λ (z : Node). target_for k.naming.number ([], z))) (root_is_dir accounts s h k).1
+      ∙ (λ i. both_numbers (k.as_booted (Slash ∷ []) (4 + 2 * length accounts.users) refl i) (k.as_booted (Listing ∷ Slash ∷ []) (5 + 2 * length accounts.users) refl i))
 
   -- each path leads to the same in both
   all_alike : (q : Path) → LeadsAlike q
@@ -156,8 +156,8 @@ module _ (session : Session) (s : State) (f g : Flat) (l : ObjectsMatch session 
       by : (x y : Option Node) → get f.files (n ∷ d) ≡ x → get g.files (n ∷ d) ≡ y → LeadsAlike d → LeadsAlike (n ∷ d)
       by None None i j alike =
           ap (option_and_then (λ (z : Node). target_for l.naming.number (n ∷ d, z))) i ∙ sym (ap (option_and_then (λ (z : Node). target_for m.naming.number (n ∷ d, z))) j)
-      by (Some x) y i j alike = below d alike (parent_is_dir session s f l n d x i) n
-      by None (Some y) i j alike = below d alike (ap (λ (o : Option Node). is_some_and o is_dir) (same_at d alike) ∙ parent_is_dir session s g m n d y j) n
+      by (Some x) y i j alike = below d alike (parent_is_dir accounts s f l n d x i) n
+      by None (Some y) i j alike = below d alike (ap (λ (o : Option Node). is_some_and o is_dir) (same_at d alike) ∙ parent_is_dir accounts s g m n d y j) n
 
   -- the same stands at each path
   pub same_files : (q : Path) → get f.files q ≡ get g.files q
@@ -167,14 +167,14 @@ module _ (session : Session) (s : State) (f g : Flat) (l : ObjectsMatch session 
   module _ (me : ProcName) (p q : Process) (at_p : f.processes me ≡ Some p) (at_q : g.processes me ≡ Some q) (c k : ℕ)
       (home_l : l.naming.number (home_address me) ≡ Some c) (home_m : m.naming.number (home_address me) ≡ Some c) (status_l : l.naming.number (Status ∷ home_address me) ≡ Some k) (status_m : m.naming.number (Status ∷ home_address me) ≡ Some k) where
     statuses : status_by f.processes l.naming.number me p ≡ status_by g.processes m.naming.number me q
-    statuses = same_status (bytes_in (s.objects k)) (status_by f.processes l.naming.number me p) (status_by g.processes m.naming.number me q) (holds_status session s f l me p k at_p status_l) (holds_status session s g m me q k at_q status_m)
+    statuses = same_status (bytes_in (s.objects k)) (status_by f.processes l.naming.number me p) (status_by g.processes m.naming.number me q) (holds_status accounts s f l me p k at_p status_l) (holds_status accounts s g m me q k at_q status_m)
 
-    of_q : IsProcess session l.category q
-    of_q = subst (λ (category : Categories). IsProcess session category q) (sym same_categories) (m.processes me q at_q)
+    of_q : IsProcess accounts l.category q
+    of_q = subst (λ (category : Categories). IsProcess accounts category q) (sym same_categories) (m.processes me q at_q)
 
-    homes : (h : Flat) (j : ObjectsMatch session s h) (x : Process) → h.processes me ≡ Some x → j.naming.number (home_address me) ≡ Some c → label_there (bare (s.objects c)) ≡ Some (guard_label j.category (process_guard me x))
-    homes h j x at home = ap label_there (at_number same_step step_tests_equality s j.naming (expected session j.category h j.naming.number) j.stands (home_address me) c home
-        ∙ asked_home session j.category h j.naming.number me ∙ ap (home_object session j.category me) at)
+    homes : (h : Flat) (j : ObjectsMatch accounts s h) (x : Process) → h.processes me ≡ Some x → j.naming.number (home_address me) ≡ Some c → label_there (bare (s.objects c)) ≡ Some (guard_label j.category (process_guard me x))
+    homes h j x at home = ap label_there (at_number same_step step_tests_equality s j.naming (expected accounts j.category h j.naming.number) j.agrees (home_address me) c home
+        ∙ asked_home accounts j.category h j.naming.number me ∙ ap (home_object accounts j.category me) at)
 
     guards : guard_label l.category (process_guard me p) ≡ guard_label l.category (process_guard me q)
     guards = same_Some (guard_label l.category (process_guard me p)) (guard_label m.category (process_guard me q)) (sym (homes f l p at_p home_l) ∙ homes g m q at_q home_m)
@@ -183,15 +183,15 @@ module _ (session : Session) (s : State) (f g : Flat) (l : ObjectsMatch session 
     same_exited : p.exited ≡ q.exited
     same_exited = ap (λ (t : ProcessStatus). t.exited) statuses
 
-    rights : p.exited ≡ None → rights_label l.category (thread_rights session me p) ≡ rights_label l.category (thread_rights session me q)
+    rights : p.exited ≡ None → rights_label l.category (thread_rights accounts me p) ≡ rights_label l.category (thread_rights accounts me q)
     rights running =
         let q_runs : q.exited ≡ None = sym same_exited ∙ running in
-        let t = some_of (l.naming.number (Runner ∷ Inside ∷ home_address me)) (numbered_runner session s f l me p at_p running) in
-        let other : m.naming.number (Runner ∷ Inside ∷ home_address me) ≡ Some t.0 = zero_there (m.naming.number (Runner ∷ Inside ∷ home_address me)) t.0 (numbered_runner session s g m me q at_q q_runs)
+        let t = some_of (l.naming.number (Runner ∷ Inside ∷ home_address me)) (numbered_runner accounts s f l me p at_p running) in
+        let other : m.naming.number (Runner ∷ Inside ∷ home_address me) ≡ Some t.0 = zero_there (m.naming.number (Runner ∷ Inside ∷ home_address me)) t.0 (numbered_runner accounts s g m me q at_q q_runs)
         (sym (ap (λ (x : ProcessStatus). x.thread) statuses) ∙ ap or_zero t.1) in
-        same_Some (rights_label l.category (thread_rights session me p)) (rights_label m.category (thread_rights session me q))
-        (ap label_there (sym (thread_found session s f l me p at_p running t.0 t.1) ∙ thread_found session s g m me q at_q q_runs t.0 other))
-        ∙ ap (λ (category : Categories). rights_label category (thread_rights session me q)) (sym same_categories)
+        same_Some (rights_label l.category (thread_rights accounts me p)) (rights_label m.category (thread_rights accounts me q))
+        (ap label_there (sym (thread_found accounts s f l me p at_p running t.0 t.1) ∙ thread_found accounts s g m me q at_q q_runs t.0 other))
+        ∙ ap (λ (category : Categories). rights_label category (thread_rights accounts me q)) (sym same_categories)
 
     one_process : AreAlike (Some p) (Some q)
     one_process = (
@@ -200,30 +200,30 @@ module _ (session : Session) (s : State) (f g : Flat) (l : ObjectsMatch session 
       one_chain l.category l.different me p q (l.processes me p at_p).chain of_q.chain guards,
       λ running.
           let q_runs : q.exited ≡ None = sym same_exited ∙ running in (
-            one_user session l.category l.different me p q running q_runs (l.processes me p at_p) of_q guards (rights running),
-            one_held session l.category l.different me p q running q_runs (l.processes me p at_p) of_q guards (rights running),
+            one_user accounts l.category l.different me p q running q_runs (l.processes me p at_p) of_q guards (rights running),
+            one_held accounts l.category l.different me p q running q_runs (l.processes me p at_p) of_q guards (rights running),
           ),
     )
 
 -- a process that is there in one is there in the other, with the same numbers
-found_there : (session : Session) (s : State) (f g : Flat) (l : ObjectsMatch session s f) (m : ObjectsMatch session s g) (me : ProcName) (p : Process) → f.processes me ≡ Some p
+found_there : (accounts : Accounts) (s : State) (f g : Flat) (l : ObjectsMatch accounts s f) (m : ObjectsMatch accounts s g) (me : ProcName) (p : Process) → f.processes me ≡ Some p
     → (c : ℕ) × (k : ℕ) × (q : Process) × (g.processes me ≡ Some q)
     × (l.naming.number (home_address me) ≡ Some c) × (m.naming.number (home_address me) ≡ Some c) × (l.naming.number (Status ∷ home_address me) ≡ Some k) × (m.naming.number (Status ∷ home_address me) ≡ Some k)
-found_there session s f g l m me p at =
-    let c = some_of (l.naming.number (home_address me)) (numbered_home session s f l me ∙ ap is_some at) in
-    let k = some_of (l.naming.number (Status ∷ home_address me)) (numbered_status session s f l me ∙ ap is_some at) in
-    let other = status_back session s g m me c.0 k.0 (status_found session s f l me p c.0 k.0 at c.1 k.1) in
+found_there accounts s f g l m me p at =
+    let c = some_of (l.naming.number (home_address me)) (numbered_home accounts s f l me ∙ ap is_some at) in
+    let k = some_of (l.naming.number (Status ∷ home_address me)) (numbered_status accounts s f l me ∙ ap is_some at) in
+    let other = status_back accounts s g m me c.0 k.0 (status_found accounts s f l me p c.0 k.0 at c.1 k.1) in
     (c.0, k.0, other.0, other.1, c.1, other.2, k.1, other.3)
 
 -- each process is the same, but for what is not asked of one that has exited
-pub same_processes : (session : Session) (s : State) (f g : Flat) (l : ObjectsMatch session s f) (m : ObjectsMatch session s g) → ((c : CategoryName) → l.category c ≡ m.category c) → (me : ProcName) → AreAlike (f.processes me) (g.processes me)
-same_processes session s f g l m one_naming me = by (f.processes me) (g.processes me) refl refl
+pub same_processes : (accounts : Accounts) (s : State) (f g : Flat) (l : ObjectsMatch accounts s f) (m : ObjectsMatch accounts s g) → ((c : CategoryName) → l.category c ≡ m.category c) → (me : ProcName) → AreAlike (f.processes me) (g.processes me)
+same_processes accounts s f g l m one_naming me = by (f.processes me) (g.processes me) refl refl
   where
     by : (x y : Option Process) → f.processes me ≡ x → g.processes me ≡ y → AreAlike x y
     by None None i j = tt
     by (Some p) y i j =
-        let there = found_there session s f g l m me p i in
-        subst (AreAlike (Some p)) (sym there.3 ∙ j) (one_process session s f g l m one_naming me p there.2 i there.3 there.0 there.1 there.4 there.5 there.6 there.7)
+        let there = found_there accounts s f g l m me p i in
+        subst (AreAlike (Some p)) (sym there.3 ∙ j) (one_process accounts s f g l m one_naming me p there.2 i there.3 there.0 there.1 there.4 there.5 there.6 there.7)
     by None (Some q) i j =
-        let there = found_there session s g f m l me q j in
+        let there = found_there accounts s g f m l me q j in
         absurd (none-some there.2 (sym i ∙ there.3))

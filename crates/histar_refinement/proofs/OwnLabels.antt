@@ -5,7 +5,7 @@ use Rattle.std.proofs.lemmas.Option.{none-some, same_Some}
 use mathlib.Core.Bool.{true≢false}
 use Rattle.histar_flat.specs.declared.calls.User.{User}
 use Rattle.histar_flat.specs.Words.{Name, ProcName}
-use Rattle.histar_flat.specs.Sessions.{Session, user_number}
+use Rattle.histar_flat.specs.Accounts.{Accounts, user_number}
 use Rattle.histar_flat.specs.Classes.{Process, is_free, nobody}
 use Rattle.histar_flat.specs.FlatState.{Flat}
 use Rattle.histar_object.specs.State.{State}
@@ -31,35 +31,35 @@ name_at (v ∷ users) zero u e = ap (λ (x : User). x.name) (same_Some v u e)
 name_at (v ∷ users) (suc k) u e = name_at users k u e
 
 -- A declared user, or nobody, has the name that its number tells.
-pub name_of_number : (session : Session) (name : Name) → (name ≡ nobody) ⊎ (is_some (user_number session name) ≡ true) → user_name session.users (or_zero (user_number session name)) ≡ name
-name_of_number session name known = by (user_number session name) refl known
+pub name_of_number : (accounts : Accounts) (name : Name) → (name ≡ nobody) ⊎ (is_some (user_number accounts name) ≡ true) → user_name accounts.users (or_zero (user_number accounts name)) ≡ name
+name_of_number accounts name known = by (user_number accounts name) refl known
   where
-    by : (o : Option ℕ) → user_number session name ≡ o → (name ≡ nobody) ⊎ (is_some o ≡ true) → user_name session.users (or_zero o) ≡ name
-    by None is (inl no_one) = name_none session.users ∙ sym no_one
+    by : (o : Option ℕ) → user_number accounts name ≡ o → (name ≡ nobody) ⊎ (is_some o ≡ true) → user_name accounts.users (or_zero o) ≡ name
+    by None is (inl no_one) = name_none accounts.users ∙ sym no_one
     by None is (inr declared) = absurd (true≢false (sym declared))
     by (Some i) is known =
-        let user = numbered_user session name i is in
+        let user = numbered_user accounts name i is in
         let next : i ≡ suc user.0 = omega (arith, user.2) in
-        ap (user_name session.users) next ∙ name_at session.users user.0 user.1 user.3 ∙ user.5
+        ap (user_name accounts.users) next ∙ name_at accounts.users user.0 user.1 user.3 ∙ user.5
 
-module _ (session : Session) (category : Categories) (as_made : (c : CategoryName) (q : ℕ) → boot_category session c ≡ Some q → category c ≡ q)
-    (p : Process) (named : user_name session.users (or_zero (user_number session p.user)) ≡ p.user) where
-  owned_by_number : (o : Option ℕ) → user_number session p.user ≡ o → map category (owned_as session p o) ≡ owned_by session (or_zero o) (is_free p)
+module _ (accounts : Accounts) (category : Categories) (as_made : (c : CategoryName) (q : ℕ) → boot_category accounts c ≡ Some q → category c ≡ q)
+    (p : Process) (named : user_name accounts.users (or_zero (user_number accounts p.user)) ≡ p.user) where
+  owned_by_number : (o : Option ℕ) → user_number accounts p.user ≡ o → map category (owned_as accounts p o) ≡ owned_by accounts (or_zero o) (is_free p)
   owned_by_number None is = refl
-  owned_by_number (Some zero) is = absurd (omega (arith, (user_range session p.user 0 is).0))
+  owned_by_number (Some zero) is = absurd (omega (arith, (user_range accounts p.user 0 is).0))
   owned_by_number (Some (suc i)) is =
-      owned_is session category as_made p.user (suc i) (user_range session p.user (suc i) is).1 (is_free p)
-      ∙ ap (λ (name : Name). categories_of (owners_of session (suc i) name) (is_free p)) (sym named ∙ ap (λ (o : Option ℕ). user_name session.users (or_zero o)) is)
+      owned_is accounts category as_made p.user (suc i) (user_range accounts p.user (suc i) is).1 (is_free p)
+      ∙ ap (λ (name : Name). categories_of (owners_of accounts (suc i) name) (is_free p)) (sym named ∙ ap (λ (o : Option ℕ). user_name accounts.users (or_zero o)) is)
 
   -- What a process owns as its user has the numbers of what a process of this user owns.
-  pub owned_numbers : map category (owned_as session p (user_number session p.user)) ≡ owned_by session (or_zero (user_number session p.user)) (is_free p)
-  owned_numbers = owned_by_number (user_number session p.user) refl
+  pub owned_numbers : map category (owned_as accounts p (user_number accounts p.user)) ≡ owned_by accounts (or_zero (user_number accounts p.user)) (is_free p)
+  owned_numbers = owned_by_number (user_number accounts p.user) refl
 
-module _ (session : Session) (s : State) (f : Flat) (l : ObjectsMatch session s f) (me : ProcName) (p : Process) where
+module _ (accounts : Accounts) (s : State) (f : Flat) (l : ObjectsMatch accounts s f) (me : ProcName) (p : Process) where
   -- The own label of the thread of a process tells the number of its user.
-  pub own_user_is : user_of (rights_label l.category (thread_rights session me p)) (length session.users) ≡ or_zero (user_number session p.user)
-  own_user_is = user_is (rights_label l.category (thread_rights session me p)) (length session.users) (or_zero (user_number session p.user)) (user_of_thread session s f l me p)
+  pub own_user_is : user_of (rights_label l.category (thread_rights accounts me p)) (length accounts.users) ≡ or_zero (user_number accounts p.user)
+  own_user_is = user_is (rights_label l.category (thread_rights accounts me p)) (length accounts.users) (or_zero (user_number accounts p.user)) (user_of_thread accounts s f l me p)
 
   -- And it tells what the process owns as that user.
-  pub own_kin_is : user_name session.users (or_zero (user_number session p.user)) ≡ p.user → (kin_of session (rights_label l.category (thread_rights session me p))).owned ≡ map l.category (owned_as session p (user_number session p.user))
-  own_kin_is named = (λ i. owned_by session (own_user_is i) (none_if_free l.category session me p i)) ∙ sym (owned_numbers session l.category l.as_made p named)
+  pub own_kin_is : user_name accounts.users (or_zero (user_number accounts p.user)) ≡ p.user → (kin_of accounts (rights_label l.category (thread_rights accounts me p))).owned ≡ map l.category (owned_as accounts p (user_number accounts p.user))
+  own_kin_is named = (λ i. owned_by accounts (own_user_is i) (none_if_free l.category accounts me p i)) ∙ sym (owned_numbers accounts l.category l.as_made p named)

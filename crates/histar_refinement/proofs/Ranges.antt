@@ -11,7 +11,7 @@ use Rattle.histar_label.specs.Levels.{same_levels, is_below, is_below_raised, is
 use Rattle.histar_label.specs.Floors.{floor_of, join_of}
 use Rattle.histar_label.proofs.Floors.{level_of-combined_of}
 use Rattle.histar_label.proofs.Orders.{is_below-law, is_below_join_raised-law}
-use Rattle.histar_flat.specs.Sessions.{Session, user_number, groups_of}
+use Rattle.histar_flat.specs.Accounts.{Accounts, user_number, groups_of}
 use Rattle.histar_flat.specs.Classes.{Process, is_free}
 use Rattle.histar_layout.specs.Labelling.{owner_label, cleared_at}
 use Rattle.histar_refinement.specs.Categories.{CategoryName, Categories, AreDifferent, among}
@@ -30,10 +30,10 @@ pub passed_by_all : (test : CategoryName → Bool) (names : List CategoryName) �
 passed_by_all test [] each = refl
 passed_by_all test (x ∷ names) each = and_from _ _ (each x (at_head x names)) (passed_by_all test names (λ c e. each c (later x names c e)))
 
-module _ (session : Session) (category : Categories) (different : AreDifferent category) (me : ProcName) (p : Process) (child : ProcName) where
+module _ (accounts : Accounts) (category : Categories) (different : AreDifferent category) (me : ProcName) (p : Process) (child : ProcName) where
   -- the rights of the thread once it has made the child's two categories
   abbrev pub own : Rights
-  own = thread_rights session me p
+  own = thread_rights accounts me p
 
   abbrev pub grown : Rights
   grown = record { owned = WritesProcess child ∷ ReadsProcess child ∷ own.owned; tainted = own.tainted }
@@ -54,27 +54,27 @@ module _ (session : Session) (category : Categories) (different : AreDifferent c
   -- its own container and process segment it modifies
   pub own_modified : (is_below (rights_label category grown) (guard_label category (process_guard me p)) ≡ true) × (is_below_raised (guard_label category (process_guard me p)) (rights_label category grown) ≡ true)
   own_modified = (
-    below_by_names category different (process_guard me p) grown (jobs_apart session me p p.chain (WritesProcess me ∷ []) (λ job. refl))
+    below_by_names category different (process_guard me p) grown (jobs_apart accounts me p p.chain (WritesProcess me ∷ []) (λ job. refl))
         ∙ and_from _ _ (covers (map OfJob p.chain) (map OfJob p.chain) (λ c e. e)) (and_from _ _ (later (WritesProcess child) (ReadsProcess child ∷ own.owned) (WritesProcess me) (later (ReadsProcess child) own.owned (WritesProcess me)
-        (later (ReadsProcess me) (WritesProcess me ∷ owned_as session p (user_number session p.user) ++ map OfJob p.held) (WritesProcess me) (at_head (WritesProcess me) (owned_as session p (user_number session p.user) ++ map OfJob p.held))))) refl),
-    observes_by_names category different (process_guard me p) grown (jobs_apart session me p p.chain (WritesProcess me ∷ []) (λ job. refl)) ∙ jobs_seen,
+        (later (ReadsProcess me) (WritesProcess me ∷ owned_as accounts p (user_number accounts p.user) ++ map OfJob p.held) (WritesProcess me) (at_head (WritesProcess me) (owned_as accounts p (user_number accounts p.user) ++ map OfJob p.held))))) refl),
+    observes_by_names category different (process_guard me p) grown (jobs_apart accounts me p p.chain (WritesProcess me ∷ []) (λ job. refl)) ∙ jobs_seen,
   )
 
   -- the child's container and process segment, and its internal container
   pub outer_above : is_below (rights_label category grown) (guard_label category (process_guard child newborn)) ≡ true
   outer_above =
-      below_by_names category different (process_guard child newborn) grown (jobs_apart session me p p.chain (WritesProcess child ∷ []) (λ job. refl))
+      below_by_names category different (process_guard child newborn) grown (jobs_apart accounts me p p.chain (WritesProcess child ∷ []) (λ job. refl))
       ∙ and_from _ _ (covers (map OfJob p.chain) (map OfJob p.chain) (λ c e. e)) (and_from _ _ (at_head (WritesProcess child) (ReadsProcess child ∷ own.owned)) refl)
 
   pub outer_below : is_below (guard_label category (process_guard child newborn)) (rights_clearance category grown) ≡ true
   outer_below = cleared_by_names category different (process_guard child newborn) grown jobs_covered
 
   pub outer_seen : is_below_raised (guard_label category (process_guard child newborn)) (rights_label category grown) ≡ true
-  outer_seen = observes_by_names category different (process_guard child newborn) grown (jobs_apart session me p p.chain (WritesProcess child ∷ []) (λ job. refl)) ∙ jobs_seen
+  outer_seen = observes_by_names category different (process_guard child newborn) grown (jobs_apart accounts me p p.chain (WritesProcess child ∷ []) (λ job. refl)) ∙ jobs_seen
 
   pub inner_above : is_below (rights_label category grown) (guard_label category (inside_guard child newborn)) ≡ true
   inner_above =
-      below_by_names category different (inside_guard child newborn) grown (jobs_apart session me p p.chain (WritesProcess child ∷ []) (λ job. refl))
+      below_by_names category different (inside_guard child newborn) grown (jobs_apart accounts me p p.chain (WritesProcess child ∷ []) (λ job. refl))
       ∙ and_from _ _ (covers (ReadsProcess child ∷ map OfJob p.chain) (map OfJob p.chain) (λ c e. later (ReadsProcess child) (map OfJob p.chain) c e)) (and_from _ _ (at_head (WritesProcess child) (ReadsProcess child ∷ own.owned)) refl)
 
   pub inner_below : is_below (guard_label category (inside_guard child newborn)) (rights_clearance category grown) ≡ true
@@ -83,18 +83,18 @@ module _ (session : Session) (category : Categories) (different : AreDifferent c
 
   pub inner_seen : is_below_raised (guard_label category (inside_guard child newborn)) (rights_label category grown) ≡ true
   inner_seen = observes_by_names category different (inside_guard child newborn) grown
-      (each_head (λ c. among (WritesProcess child ∷ []) c ≡ false) (ReadsProcess child) (map OfJob p.chain) refl (jobs_apart session me p p.chain (WritesProcess child ∷ []) (λ job. refl)))
+      (each_head (λ c. among (WritesProcess child ∷ []) c ≡ false) (ReadsProcess child) (map OfJob p.chain) refl (jobs_apart accounts me p p.chain (WritesProcess child ∷ []) (λ job. refl)))
       ∙ and_from _ _ (or_left (among grown.owned (ReadsProcess child)) (among grown.tainted (ReadsProcess child)) (later (WritesProcess child) (ReadsProcess child ∷ own.owned) (ReadsProcess child) (at_head (ReadsProcess child) own.owned))) jobs_seen
 
   -- the child's thread owns no more than its parent
   abbrev pub childs : Rights
-  childs = thread_rights session child newborn
+  childs = thread_rights accounts child newborn
 
   owned_by_parent : (c : CategoryName) → among childs.owned c ≡ true → among grown.owned c ≡ true
-  owned_by_parent = each_head (λ c. among grown.owned c ≡ true) (ReadsProcess child) (WritesProcess child ∷ owned_as session p (user_number session p.user) ++ []) (later (WritesProcess child) (ReadsProcess child ∷ own.owned) (ReadsProcess child) (at_head (ReadsProcess child) own.owned))
-      (each_head (λ c. among grown.owned c ≡ true) (WritesProcess child) (owned_as session p (user_number session p.user) ++ []) (at_head (WritesProcess child) (ReadsProcess child ∷ own.owned))
-      (each_append (λ c. among grown.owned c ≡ true) (owned_as session p (user_number session p.user)) []
-      (λ c e. later (WritesProcess child) (ReadsProcess child ∷ own.owned) c (later (ReadsProcess child) own.owned c (later (ReadsProcess me) (WritesProcess me ∷ owned_as session p (user_number session p.user) ++ map OfJob p.held) c (later (WritesProcess me) (owned_as session p (user_number session p.user) ++ map OfJob p.held) c (in_first (owned_as session p (user_number session p.user)) (map OfJob p.held) c e)))))
+  owned_by_parent = each_head (λ c. among grown.owned c ≡ true) (ReadsProcess child) (WritesProcess child ∷ owned_as accounts p (user_number accounts p.user) ++ []) (later (WritesProcess child) (ReadsProcess child ∷ own.owned) (ReadsProcess child) (at_head (ReadsProcess child) own.owned))
+      (each_head (λ c. among grown.owned c ≡ true) (WritesProcess child) (owned_as accounts p (user_number accounts p.user) ++ []) (at_head (WritesProcess child) (ReadsProcess child ∷ own.owned))
+      (each_append (λ c. among grown.owned c ≡ true) (owned_as accounts p (user_number accounts p.user)) []
+      (λ c e. later (WritesProcess child) (ReadsProcess child ∷ own.owned) c (later (ReadsProcess child) own.owned c (later (ReadsProcess me) (WritesProcess me ∷ owned_as accounts p (user_number accounts p.user) ++ map OfJob p.held) c (later (WritesProcess me) (owned_as accounts p (user_number accounts p.user) ++ map OfJob p.held) c (in_first (owned_as accounts p (user_number accounts p.user)) (map OfJob p.held) c e)))))
       (λ c e. absurd (true≢false (sym e)))))
 
   pub thread_above : is_below (rights_label category grown) (rights_label category childs) ≡ true
@@ -164,24 +164,24 @@ map_append : (category : Categories) (xs ys : List CategoryName) → map categor
 map_append category [] ys = refl
 map_append category (x ∷ xs) ys = ap (λ (cs : List ℕ). category x ∷ cs) (map_append category xs ys)
 
-module _ (session : Session) (category : Categories) (different : AreDifferent category) (me : ProcName) (p : Process) (name : Name) (i : ℕ) where
+module _ (accounts : Accounts) (category : Categories) (different : AreDifferent category) (me : ProcName) (p : Process) (name : Name) (i : ℕ) where
   abbrev mine : Rights
-  mine = thread_rights session me p
+  mine = thread_rights accounts me p
 
   abbrev gate : Rights
-  gate = gate_rights session name i
+  gate = gate_rights accounts name i
 
   no_job_given : (job : ProcName) → among gate.owned (OfJob job) ≡ false
   no_job_given job =
-      among-append (reading session name i) (writing session name i) (OfJob job)
-      ∙ (λ k. among_none ReadsGroup (OfJob job) (λ g. refl) (groups_of session name) k || among_none WritesGroup (OfJob job) (λ g. refl) (groups_of session name) k)
+      among-append (reading accounts name i) (writing accounts name i) (OfJob job)
+      ∙ (λ k. among_none ReadsGroup (OfJob job) (λ g. refl) (groups_of accounts name) k || among_none WritesGroup (OfJob job) (λ g. refl) (groups_of accounts name) k)
 
   no_job_both : (job : ProcName) → among (gate.owned ++ []) (OfJob job) ≡ false
   no_job_both job = among-append gate.owned [] (OfJob job) ∙ ap (λ b. b || false) (no_job_given job)
 
   -- a gate lets in who is in no job, and no one else
   pub let_in : is_below (rights_label category mine) (rights_clearance category gate) ≡ is_free p
-  let_in = capped_by_names category different mine (gate.owned ++ []) ∙ tainted_in_none session me p (gate.owned ++ []) no_job_both p.chain
+  let_in = capped_by_names category different mine (gate.owned ++ []) ∙ tainted_in_none accounts me p (gate.owned ++ []) no_job_both p.chain
 
   -- behind it the thread may have what it owns and what the gate gives
   abbrev pub behind : Rights
@@ -191,7 +191,7 @@ module _ (session : Session) (category : Categories) (different : AreDifferent c
   floor_behind =
       floor_owning (map category mine.owned) (map category mine.tainted) (map category gate.owned) (λ q e.
       let there = named_in category mine.tainted q e in
-      ap (is_in (map category gate.owned)) there.1 ∙ is_in_names category different gate.owned there.0 ∙ jobs_apart session me p p.chain gate.owned no_job_given there.0 there.2)
+      ap (is_in (map category gate.owned)) there.1 ∙ is_in_names category different gate.owned there.0 ∙ jobs_apart accounts me p p.chain gate.owned no_job_given there.0 there.2)
       ∙ ap (λ (cs : List ℕ). owner_label cs (map category mine.tainted)) (sym (map_append category mine.owned gate.owned))
 
   pub join_behind : join_of (rights_clearance category mine) (rights_clearance category gate) ≡ cleared_at (map category ((mine.owned ++ mine.tainted) ++ (gate.owned ++ [])))

@@ -1,7 +1,7 @@
 -- Each object of a state that is represented is reached from the root container by links.
 use Rattle.std.proofs.Common.{◌≡◌, ℕ, true, [], ◌∷◌, Option, None, Some, refl, sym, ap, ◌∙◌}
 use mathlib.Core.Bool.{false≢true}
-use Rattle.histar_flat.specs.Sessions.{Session}
+use Rattle.histar_flat.specs.Accounts.{Accounts}
 use Rattle.histar_flat.specs.FlatState.{Flat}
 use Rattle.histar_object.specs.Objects.{is_present}
 use Rattle.histar_object.specs.State.{State}
@@ -18,11 +18,11 @@ below_root [] = refl
 below_root (x ∷ a) = below_root a
 
 -- each object that there is is reached from the root container
-pub objects_reached : (session : Session) (s : State) (f : Flat) → ObjectsMatch session s f → (q : ℕ) → is_present (s.objects q) ≡ true → Reached s.objects root_number q
-objects_reached session s f l q is = by (l.naming.address q) refl
+pub objects_reached : (accounts : Accounts) (s : State) (f : Flat) → ObjectsMatch accounts s f → (q : ℕ) → is_present (s.objects q) ≡ true → Reached s.objects root_number q
+objects_reached accounts s f l q is = by (l.naming.address q) refl
   where
     by : (a : Option (Address Step)) → l.naming.address q ≡ a → Reached s.objects root_number q
-    by None e = absurd (false≢true (sym (ap is_present (l.stands.tree.as_expected q ∙ ap (wanted (objects_at s.objects l.naming)) e)) ∙ is))
+    by None e = absurd (false≢true (sym (ap is_present (l.agrees.tree.as_expected q ∙ ap (wanted (objects_at s.objects l.naming)) e)) ∙ is))
     by (Some a) e =
-        under_reached same_step step_tests_equality s.objects s.next_object (objects_at s.objects l.naming) l.naming l.stands.tree
-        root_number [] (l.stands.tree.addressed [] root_number (l.as_booted [] root_number refl)) a q e (below_root a)
+        under_reached same_step step_tests_equality s.objects s.next_object (objects_at s.objects l.naming) l.naming l.agrees.tree
+        root_number [] (l.agrees.tree.addressed [] root_number (l.as_booted [] root_number refl)) a q e (below_root a)

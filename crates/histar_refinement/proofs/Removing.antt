@@ -21,20 +21,20 @@ use Rattle.histar_container.specs.Tree.{Address, Naming, wanted, without_below, 
 use Rattle.histar_container.proofs.Addresses.{same_tests_equality, same_itself, same_other, above}
 use Rattle.histar_rules.specs.Rules.{greatest}
 use Rattle.histar_login.specs.Boot.{boot_thread_number}
-use Rattle.histar_flat.specs.Sessions.{Session}
+use Rattle.histar_flat.specs.Accounts.{Accounts}
 use Rattle.histar_flat.specs.FlatState.{Node, Flat, is_dir, is_dir_at, is_some_and, without_below as without_below_path}
 use Rattle.histar_flat.specs.PathOrder.{under_path}
 use Rattle.histar_refinement.specs.Addresses.{Step, same_step, address_of, home_address, path_at, process_at, inside_at, boot_number}
 use Rattle.histar_refinement.specs.Addresses.Step.{Left, Slash, Listing, Named, Home, Status, Inside, Runner, Child}
 use Rattle.histar_refinement.specs.Directories.{directory_of}
-use Rattle.histar_refinement.specs.Stands.{Stands}
+use Rattle.histar_refinement.specs.Agrees.{Agrees}
 use Rattle.histar_refinement.specs.Expected.{node_object, listing_object, expected_node, listing_at, expected_home, expected_status, container_inside, thread_at, expected}
 use Rattle.histar_refinement.specs.Represents.{AreJobsGiven, ObjectsMatch, Represents}
-use Rattle.histar_refinement.proofs.Places.{address_path, address_process, address_inside, asked_listing}
+use Rattle.histar_refinement.proofs.Roots.{address_path, address_process, address_inside, asked_listing}
 use Rattle.histar_refinement.proofs.Steps.{step_tests_equality}
-use Rattle.histar_refinement.proofs.Moving.{stands_cut, no_address}
+use Rattle.histar_refinement.proofs.Moving.{agrees_cut, no_address}
 use Rattle.histar_refinement.proofs.DirectoryLaws.{get_directory}
-use Rattle.histar_refinement.proofs.FileRows.{SameNumbers, not_begun, same_address_path, asked_same, leads_at, directories_alike, same_leads, old_known, old_fits, ClassFits, laid_listed, jobs_kept}
+use Rattle.histar_refinement.proofs.ListedFiles.{SameNumbers, not_begun, same_address_path, asked_same, leads_at, directories_alike, same_leads, old_known, old_fits, ClassFits, matched_listed, jobs_kept}
 
 -- ---- what lies below a path, as an address
 
@@ -67,7 +67,7 @@ module _ (q : Path) where
   under_home [] = under_step Home [] refl ∙ not_root
   under_home (n ∷ p) = under_step (Child n) (home_address p) refl ∙ under_home p
 
-module _ (session : Session) (s : State) (f : Flat) (l : ObjectsMatch session s f) (m : Name) (d : Path) (D N o : ℕ)
+module _ (accounts : Accounts) (s : State) (f : Flat) (l : ObjectsMatch accounts s f) (m : Name) (d : Path) (D N o : ℕ)
     (at_directory : l.naming.number (address_of d) ≡ Some D) (at_listing : l.naming.number (Listing ∷ address_of d) ≡ Some N) (at_entry : l.naming.number (address_of (m ∷ d)) ≡ Some o)
     (mid : State) (cuts : CutsOff s D o mid) where
   abbrev top : Address Step
@@ -80,10 +80,10 @@ module _ (session : Session) (s : State) (f : Flat) (l : ObjectsMatch session s 
   naming = without_below same_step l.naming (Named m ∷ address_of d)
 
   abbrev old_asked : Address Step → Found
-  old_asked = expected session l.category f l.naming.number
+  old_asked = expected accounts l.category f l.naming.number
 
   abbrev wish : Address Step → Found
-  wish = expected session l.category after naming.number
+  wish = expected accounts l.category after naming.number
 
   got : (r : Path) → get after.files r ≡ cond (not (under_path (m ∷ d) r)) (get f.files r) None
   got r = find-where_key path_cmp (λ t. not (under_path (m ∷ d) t)) r (λ x e. ap (λ t. not (under_path (m ∷ d) t)) (sym (path_cmp_exact r x e))) f.files.entries
@@ -108,8 +108,8 @@ module _ (session : Session) (s : State) (f : Flat) (l : ObjectsMatch session s 
   directory_outside : under_path (m ∷ d) d ≡ false
   directory_outside = sym (under_address (m ∷ d) d) ∙ above same_step step_tests_equality (address_of d) (Named m)
 
-  stands_mid : Stands same_step mid naming (cut same_step old_asked top)
-  stands_mid = stands_cut same_step step_tests_equality s l.naming old_asked l.stands mid D o (address_of d) (Named m) cuts at_entry at_directory
+  agrees_mid : Agrees same_step mid naming (cut same_step old_asked top)
+  agrees_mid = agrees_cut same_step step_tests_equality s l.naming old_asked l.agrees mid D o (address_of d) (Named m) cuts at_entry at_directory
 
   leads_kept : (p : Path) → under_path (m ∷ d) p ≡ false → leads_at f.files l.naming.number p ≡ leads_at after.files naming.number p
   leads_kept p out = same_leads f.files after.files l.naming.number naming.number p p (sym (got_kept p out)) (kept (address_of p) (under_address (m ∷ d) p ∙ out)) (kept (Listing ∷ address_of p) (under_listing (m ∷ d) p ∙ out))
@@ -127,11 +127,11 @@ module _ (session : Session) (s : State) (f : Flat) (l : ObjectsMatch session s 
   no_process : (x : Step) (p : ProcName) → path_at (x ∷ home_address p) ≡ None → under same_step top (x ∷ home_address p) ≡ false
   no_process x p nothing = under_step (m ∷ d) x (home_address p) nothing ∙ under_home (m ∷ d) p
 
-  nothing_path : (a : Address Step) (o : Option Path) → under same_step top a ≡ true → path_at a ≡ o → expected_node session l.category after naming.number o ≡ None
+  nothing_path : (a : Address Step) (o : Option Path) → under same_step top a ≡ true → path_at a ≡ o → expected_node accounts l.category after naming.number o ≡ None
   nothing_path a None e is = refl
-  nothing_path a (Some r) e is = ap (node_object session l.category) (got_gone r (sym (under_address (m ∷ d) r) ∙ ap (under same_step top) (sym (address_path a r is)) ∙ e))
+  nothing_path a (Some r) e is = ap (node_object accounts l.category) (got_gone r (sym (under_address (m ∷ d) r) ∙ ap (under same_step top) (sym (address_path a r is)) ∙ e))
 
-  nothing_home : (a : Address Step) (o : Option ProcName) → under same_step top a ≡ true → process_at a ≡ o → expected_home session l.category after naming.number o ≡ None
+  nothing_home : (a : Address Step) (o : Option ProcName) → under same_step top a ≡ true → process_at a ≡ o → expected_home accounts l.category after naming.number o ≡ None
   nothing_home a None e is = refl
   nothing_home a (Some p) e is = absurd (true≢false (sym e ∙ ap (under same_step top) (address_process a p is) ∙ under_home (m ∷ d) p))
 
@@ -142,37 +142,37 @@ module _ (session : Session) (s : State) (f : Flat) (l : ObjectsMatch session s 
   nothing_below (Slash ∷ a) e = nothing_path (Slash ∷ a) (path_at (Slash ∷ a)) e refl
   nothing_below (Listing ∷ a) e = by (path_at a) refl
     where
-      by : (o : Option Path) → path_at a ≡ o → listing_at session l.category after naming.number o ≡ None
+      by : (o : Option Path) → path_at a ≡ o → listing_at accounts l.category after naming.number o ≡ None
       by None is = refl
-      by (Some r) is = ap (listing_object session l.category (spelling (directory_of after.files naming.number r)))
+      by (Some r) is = ap (listing_object accounts l.category (spelling (directory_of after.files naming.number r)))
           (got_gone r (sym (under_listing (m ∷ d) r) ∙ ap (λ (b : Address Step). under same_step top (Listing ∷ b)) (sym (address_path a r is)) ∙ e))
   nothing_below (Named n ∷ a) e = nothing_path (Named n ∷ a) (path_at (Named n ∷ a)) e refl
   nothing_below (Home ∷ a) e = nothing_home (Home ∷ a) (process_at (Home ∷ a)) e refl
   nothing_below (Status ∷ a) e = by (process_at a) refl
     where
-      by : (q : Option ProcName) → process_at a ≡ q → expected_status session l.category after naming.number q ≡ None
+      by : (q : Option ProcName) → process_at a ≡ q → expected_status accounts l.category after naming.number q ≡ None
       by None is = refl
       by (Some q) is = absurd (true≢false (sym e ∙ ap (λ (b : Address Step). under same_step top (Status ∷ b)) (address_process a q is) ∙ no_process Status q refl))
   nothing_below (Inside ∷ a) e = by (process_at a) refl
     where
-      by : (q : Option ProcName) → process_at a ≡ q → container_inside session l.category after naming.number q ≡ None
+      by : (q : Option ProcName) → process_at a ≡ q → container_inside accounts l.category after naming.number q ≡ None
       by None is = refl
       by (Some q) is = absurd (true≢false (sym e ∙ ap (λ (b : Address Step). under same_step top (Inside ∷ b)) (address_process a q is) ∙ no_process Inside q refl))
   nothing_below (Runner ∷ a) e = by (inside_at a) refl
     where
-      by : (q : Option ProcName) → inside_at a ≡ q → thread_at session l.category after naming.number q ≡ None
+      by : (q : Option ProcName) → inside_at a ≡ q → thread_at accounts l.category after naming.number q ≡ None
       by None is = refl
       by (Some q) is = absurd (true≢false (sym e ∙ ap (λ (b : Address Step). under same_step top (Runner ∷ b)) (address_inside a q is) ∙ under_step (m ∷ d) Runner (Inside ∷ home_address q) refl ∙ no_process Inside q refl))
   nothing_below (Child k ∷ a) e = nothing_home (Child k ∷ a) (process_at (Child k ∷ a)) e refl
 
   wish_kept : (a : Address Step) → under same_step top a ≡ false → Listing ∷ address_of d ≢ a → old_asked a ≡ wish a
-  wish_kept a out other = asked_same session l.category f after.files l.naming.number naming.number same_numbers a (record {
-    at_path = λ r is. ap (node_object session l.category) (sym (got_kept r (sym (under_address (m ∷ d) r) ∙ ap (under same_step top) (sym is) ∙ out)));
+  wish_kept a out other = asked_same accounts l.category f after.files l.naming.number naming.number same_numbers a (record {
+    at_path = λ r is. ap (node_object accounts l.category) (sym (got_kept r (sym (under_address (m ∷ d) r) ∙ ap (under same_step top) (sym is) ∙ out)));
     in_directory = λ r is. listing_kept r (sym (under_listing (m ∷ d) r) ∙ ap (under same_step top) (sym is) ∙ out) (λ k. other (ap (λ (x : Path). Listing ∷ address_of x) k ∙ sym is));
   })
     where
-      listing_kept : (r : Path) → under_path (m ∷ d) r ≡ false → d ≢ r → listing_at session l.category f l.naming.number (Some r) ≡ listing_at session l.category after naming.number (Some r)
-      listing_kept r out_r not_d = λ i. listing_object session l.category (spelling (directory_kept r out_r not_d i)) (sym (got_kept r out_r) i)
+      listing_kept : (r : Path) → under_path (m ∷ d) r ≡ false → d ≢ r → listing_at accounts l.category f l.naming.number (Some r) ≡ listing_at accounts l.category after naming.number (Some r)
+      listing_kept r out_r not_d = λ i. listing_object accounts l.category (spelling (directory_kept r out_r not_d i)) (sym (got_kept r out_r) i)
 
   asked_else : (a : Address Step) → Listing ∷ address_of d ≢ a → cut same_step old_asked top a ≡ wish a
   asked_else a other = by (under same_step top a) refl
@@ -184,13 +184,13 @@ module _ (session : Session) (s : State) (f : Flat) (l : ObjectsMatch session s 
   listing_outside : under same_step top (Listing ∷ address_of d) ≡ false
   listing_outside = under_listing (m ∷ d) d ∙ directory_outside
 
-  asked_here : cut same_step old_asked top (Listing ∷ address_of d) ≡ listing_object session l.category (spelling (directory_of f.files l.naming.number d)) (get after.files d)
+  asked_here : cut same_step old_asked top (Listing ∷ address_of d) ≡ listing_object accounts l.category (spelling (directory_of f.files l.naming.number d)) (get after.files d)
   asked_here =
-      ap (λ (t : Bool). if t then None else old_asked (Listing ∷ address_of d)) listing_outside ∙ asked_listing session l.category f l.naming.number d
-      ∙ ap (listing_object session l.category (spelling (directory_of f.files l.naming.number d))) (sym (got_kept d directory_outside))
+      ap (λ (t : Bool). if t then None else old_asked (Listing ∷ address_of d)) listing_outside ∙ asked_listing accounts l.category f l.naming.number d
+      ∙ ap (listing_object accounts l.category (spelling (directory_of f.files l.naming.number d))) (sym (got_kept d directory_outside))
 
   -- boot made nothing below a path
-  not_boot : (a : Address Step) → under same_step top a ≡ true → boot_number (length session.users) a ≡ None
+  not_boot : (a : Address Step) → under same_step top a ≡ true → boot_number (length accounts.users) a ≡ None
   not_boot [] e = absurd (true≢false (sym e))
   not_boot (Left k ∷ []) e = absurd (true≢false (sym e))
   not_boot (Left k ∷ x ∷ a) e = refl
@@ -198,20 +198,20 @@ module _ (session : Session) (s : State) (f : Flat) (l : ObjectsMatch session s 
   not_boot (Slash ∷ x ∷ a) e = refl
   not_boot (Listing ∷ a) e = elim (same_tests_equality same_step step_tests_equality (Slash ∷ []) a) [
     | inl i ↦ absurd (true≢false (sym e ∙ ap (λ (b : Address Step). under same_step top (Listing ∷ b)) (sym i.1)))
-    | inr i ↦ ap (λ t. cond t (Some (5 + 2 * length session.users)) None) i.0
+    | inr i ↦ ap (λ t. cond t (Some (5 + 2 * length accounts.users)) None) i.0
   ]
   not_boot (Named n ∷ a) e = refl
   not_boot (Home ∷ []) e = absurd (true≢false (sym e))
   not_boot (Home ∷ x ∷ a) e = refl
   not_boot (Status ∷ a) e = elim (same_tests_equality same_step step_tests_equality (Home ∷ []) a) [
     | inl i ↦ absurd (true≢false (sym e ∙ ap (λ (b : Address Step). under same_step top (Status ∷ b)) (sym i.1)))
-    | inr i ↦ ap (λ t. cond t (Some (9 + 2 * length session.users)) None) i.0
+    | inr i ↦ ap (λ t. cond t (Some (9 + 2 * length accounts.users)) None) i.0
   ]
   not_boot (Inside ∷ a) e = refl
   not_boot (Runner ∷ a) e = refl
   not_boot (Child k ∷ a) e = refl
 
-  booted : (a : Address Step) (q : ℕ) → boot_number (length session.users) a ≡ Some q → naming.number a ≡ Some q
+  booted : (a : Address Step) (q : ℕ) → boot_number (length accounts.users) a ≡ Some q → naming.number a ≡ Some q
   booted a q e = by (under same_step top a) refl
     where
       by : (t : Bool) → under same_step top a ≡ t → naming.number a ≡ Some q
@@ -220,8 +220,8 @@ module _ (session : Session) (s : State) (f : Flat) (l : ObjectsMatch session s 
 
   gone_then : mid.objects boot_thread_number ≡ None
   gone_then =
-      stands_mid.tree.as_expected boot_thread_number
-      ∙ ap (wanted (objects_at mid.objects naming)) (ap (λ (x : Option (Address Step)). if is_under same_step top x then None else x) (no_address same_step s l.naming old_asked l.stands boot_thread_number l.boot_thread_gone))
+      agrees_mid.tree.as_expected boot_thread_number
+      ∙ ap (wanted (objects_at mid.objects naming)) (ap (λ (x : Option (Address Step)). if is_under same_step top x then None else x) (no_address same_step s l.naming old_asked l.agrees boot_thread_number l.boot_thread_gone))
 
   -- the parent directory with one entry less
   abbrev pub smaller : Entries
@@ -253,17 +253,17 @@ module _ (session : Session) (s : State) (f : Flat) (l : ObjectsMatch session s 
       by true e = absurd (none-some there (sym (got_gone r e) ∙ at))
       by false e = sym (got_kept r e) ∙ at
 
-  fits_all : (r : Path) (there : Node) → get after.files r ≡ Some there → ClassFits session s f l there.class
-  fits_all r there at = old_fits session s f l r there (was_there r there at)
+  fits_all : (r : Path) (there : Node) → get after.files r ≡ Some there → ClassFits accounts s f l there.class
+  fits_all r there at = old_fits accounts s f l r there (was_there r there at)
 
   -- the numbers in the names of jobs were given as before
   pub jobs_removed : AreJobsGiven f → AreJobsGiven after
-  jobs_removed = jobs_kept session s f l after.files (λ r there at. old_known session s f l r there (was_there r there at))
+  jobs_removed = jobs_kept accounts s f l after.files (λ r there at. old_known accounts s f l r there (was_there r there at))
 
   -- The kernel has the objects of the flat state without the path and all below it: `unlink`, `rmdir` and `rmtree` at any depth.
-  pub laid_removed : is_dir_at f d ≡ true → (later : ObjectsMatch session (with_segment_bytes mid N (spelling smaller)) after) × (later.naming ≡ naming) × (later.category ≡ l.category)
-  laid_removed dir = subst (λ (x : Entries). (later : ObjectsMatch session (with_segment_bytes mid N (spelling x)) after) × (later.naming ≡ naming) × (later.category ≡ l.category)) directory_smaller
-      (laid_listed session s f l after.files fits_all mid naming (cut same_step old_asked top) stands_mid (subst (λ (x : ℕ). x ≤ greatest) (sym cuts.next_object) l.numbered) d N
+  pub matched_removed : is_dir_at f d ≡ true → (later : ObjectsMatch accounts (with_segment_bytes mid N (spelling smaller)) after) × (later.naming ≡ naming) × (later.category ≡ l.category)
+  matched_removed dir = subst (λ (x : Entries). (later : ObjectsMatch accounts (with_segment_bytes mid N (spelling x)) after) × (later.naming ≡ naming) × (later.category ≡ l.category)) directory_smaller
+      (matched_listed accounts s f l after.files fits_all mid naming (cut same_step old_asked top) agrees_mid (subst (λ (x : ℕ). x ≤ greatest) (sym cuts.next_object) l.numbered) d N
       (sym (kept (Listing ∷ address_of d) listing_outside) ∙ at_listing) (spelling (directory_of f.files l.naming.number d)) asked_here asked_else booted listable cuts.next_category gone_then)
     where
       dir_kept : (e : Path) → d ≢ e → (t : Bool) → under_path (m ∷ d) e ≡ t → is_dir_at after e ≡ true → IsListable (directory_of after.files naming.number e)
@@ -277,5 +277,5 @@ module _ (session : Session) (s : State) (f : Flat) (l : ObjectsMatch session s 
       ]
 
   -- and so the kernel represents the flat state without the entry
-  pub represents_removed : AreJobsGiven f → is_dir_at f d ≡ true → Represents session (with_segment_bytes mid N (spelling smaller)) after
-  represents_removed given dir = record { laid = (laid_removed dir).0; jobs_given = jobs_removed given }
+  pub represents_removed : AreJobsGiven f → is_dir_at f d ≡ true → Represents accounts (with_segment_bytes mid N (spelling smaller)) after
+  represents_removed given dir = record { matched = (matched_removed dir).0; jobs_given = jobs_removed given }

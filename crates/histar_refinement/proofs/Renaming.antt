@@ -15,24 +15,24 @@ use Rattle.histar_layout.specs.declared.entry.Target.{Target}
 use Rattle.histar_layout.proofs.MapLemmas.{by_bytes, antisymmetric, entry_found, room_without, listable_insert, listable_remove}
 use Rattle.histar_object.specs.State.{State, Found, with_segment_bytes}
 use Rattle.histar_container.specs.Tree.{Address, Naming}
-use Rattle.histar_flat.specs.Sessions.{Session}
+use Rattle.histar_flat.specs.Accounts.{Accounts}
 use Rattle.histar_flat.specs.FlatState.{Node, Flat, is_dir, is_dir_at, is_some_and, with_renamed}
 use Rattle.histar_flat.specs.PathOrder.{under_path}
 use Rattle.histar_refinement.specs.Addresses.{Step, same_step, same_address, address_of, path_at, process_at, inside_at, boot_number}
 use Rattle.histar_refinement.specs.Addresses.Step.{Left, Slash, Listing, Named, Home, Status, Inside, Runner, Child}
 use Rattle.histar_refinement.specs.LeftByBoot.{left_by_boot}
 use Rattle.histar_refinement.specs.Directories.{directory_of}
-use Rattle.histar_refinement.specs.Stands.{Stands}
+use Rattle.histar_refinement.specs.Agrees.{Agrees}
 use Rattle.histar_refinement.specs.Expected.{node_object, listing_object, expected_node, listing_at, expected_home, expected_status, container_inside, thread_at, expected}
 use Rattle.histar_refinement.specs.Represents.{AreJobsGiven, ObjectsMatch, Represents}
-use Rattle.histar_refinement.proofs.Places.{address_path, asked_listing}
+use Rattle.histar_refinement.proofs.Roots.{address_path, asked_listing}
 use Rattle.histar_refinement.proofs.Steps.{step_tests_equality}
 use Rattle.histar_refinement.proofs.DirectoryLaws.{get_directory}
-use Rattle.histar_refinement.proofs.Renamings.{renamed_naming, stands_renamed}
-use Rattle.histar_refinement.proofs.FileRows.{SameNumbers, same_status, leads_at, directories_alike, same_leads, nothing_in, old_known, old_fits, ClassFits, laid_listed, jobs_kept}
+use Rattle.histar_refinement.proofs.Renamings.{renamed_naming, agrees_renamed}
+use Rattle.histar_refinement.proofs.ListedFiles.{SameNumbers, same_status, leads_at, directories_alike, same_leads, nothing_in, old_known, old_fits, ClassFits, matched_listed, jobs_kept}
 use Rattle.histar_refinement.proofs.Turning.{turned_name, turned_step, turned_n, turned_k, turned_else, turned, turned_address, address_back, directory_stays, address_stays, same_tests, turned_path_address, turned_home, process_turned, inside_turned, path_turned, get_renamed}
 
-module _ (session : Session) (s : State) (f : Flat) (l : ObjectsMatch session s f) where
+module _ (accounts : Accounts) (s : State) (f : Flat) (l : ObjectsMatch accounts s f) where
   -- where nothing stands, nothing stands below
   pub nothing_under : (top : Path) → get f.files top ≡ None → (q : Path) → under_path top q ≡ true → get f.files q ≡ None
   nothing_under top absent [] u = elim (same_path_found top []) [
@@ -41,7 +41,7 @@ module _ (session : Session) (s : State) (f : Flat) (l : ObjectsMatch session s 
   ]
   nothing_under top absent (m ∷ e) u = elim (same_path_found top (m ∷ e)) [
     | inl t ↦ ap (get f.files) (sym t.1) ∙ absent
-    | inr t ↦ nothing_in session s f l m e (nothing_under top absent e (sym (ap (λ b. b || under_path top e) t.0) ∙ u))
+    | inr t ↦ nothing_in accounts s f l m e (nothing_under top absent e (sym (ap (λ b. b || under_path top e) t.0) ∙ u))
   ]
 
   -- so what stands is not below
@@ -63,10 +63,10 @@ module _ (session : Session) (s : State) (f : Flat) (l : ObjectsMatch session s 
     naming = renamed_naming same_step step_tests_equality (turned_address n k d) (turned_address n k d) (address_back n k d) (address_back n k d) refl (λ x a. (turned_step n k (same_address (address_of d) a) x, refl)) l.naming
 
     abbrev pub asked : Address Step → Found
-    asked = λ a. expected session l.category f l.naming.number (turned_address n k d a)
+    asked = λ a. expected accounts l.category f l.naming.number (turned_address n k d a)
 
-    stands_turned : Stands same_step s naming asked
-    stands_turned = stands_renamed same_step step_tests_equality (turned_address n k d) (turned_address n k d) (address_back n k d) (address_back n k d) refl (λ x a. (turned_step n k (same_address (address_of d) a) x, refl)) s l.naming (expected session l.category f l.naming.number) l.stands
+    agrees_turned : Agrees same_step s naming asked
+    agrees_turned = agrees_renamed same_step step_tests_equality (turned_address n k d) (turned_address n k d) (address_back n k d) (address_back n k d) refl (λ x a. (turned_step n k (same_address (address_of d) a) x, refl)) s l.naming (expected accounts l.category f l.naming.number) l.agrees
 
     got : (q : Path) → get after.files q ≡ get f.files (turned n k d q)
     got q = get_renamed n k d f.files (not_under (k ∷ d) absent) q
@@ -93,78 +93,78 @@ module _ (session : Session) (s : State) (f : Flat) (l : ObjectsMatch session s 
           | inr t ↦ ap (λ b. turned_name n k b m ∷ turned n k d e) (sym t.0)
         ]
 
-    node_turned : (o : Option Path) → expected_node session l.category f l.naming.number (option_map (turned n k d) o) ≡ expected_node session l.category after naming.number o
+    node_turned : (o : Option Path) → expected_node accounts l.category f l.naming.number (option_map (turned n k d) o) ≡ expected_node accounts l.category after naming.number o
     node_turned None = refl
-    node_turned (Some q) = ap (node_object session l.category) (sym (got q))
+    node_turned (Some q) = ap (node_object accounts l.category) (sym (got q))
 
-    listing_turned : (e : Path) → d ≢ e → listing_at session l.category f l.naming.number (Some (turned n k d e)) ≡ listing_at session l.category after naming.number (Some e)
-    listing_turned e other = λ i. listing_object session l.category (spelling (directory_else e other i)) (sym (got e) i)
+    listing_turned : (e : Path) → d ≢ e → listing_at accounts l.category f l.naming.number (Some (turned n k d e)) ≡ listing_at accounts l.category after naming.number (Some e)
+    listing_turned e other = λ i. listing_object accounts l.category (spelling (directory_else e other i)) (sym (got e) i)
 
     -- what is asked for at an address is what was at the turned one
-    asked_else : (a : Address Step) → Listing ∷ address_of d ≢ a → asked a ≡ expected session l.category after naming.number a
+    asked_else : (a : Address Step) → Listing ∷ address_of d ≢ a → asked a ≡ expected accounts l.category after naming.number a
     asked_else [] other = refl
-    asked_else (Left q ∷ a) other = ap (λ b. cond b (left_by_boot session q) None) (same_tests n k d [] a)
-    asked_else (Slash ∷ a) other = ap (expected_node session l.category f l.naming.number) (path_turned n k d (Slash ∷ a)) ∙ node_turned (path_at (Slash ∷ a))
-    asked_else (Listing ∷ a) other = ap (listing_at session l.category f l.naming.number) (path_turned n k d a) ∙ by (path_at a) refl
+    asked_else (Left q ∷ a) other = ap (λ b. cond b (left_by_boot accounts q) None) (same_tests n k d [] a)
+    asked_else (Slash ∷ a) other = ap (expected_node accounts l.category f l.naming.number) (path_turned n k d (Slash ∷ a)) ∙ node_turned (path_at (Slash ∷ a))
+    asked_else (Listing ∷ a) other = ap (listing_at accounts l.category f l.naming.number) (path_turned n k d a) ∙ by (path_at a) refl
       where
-        by : (o : Option Path) → path_at a ≡ o → listing_at session l.category f l.naming.number (option_map (turned n k d) o) ≡ listing_at session l.category after naming.number o
+        by : (o : Option Path) → path_at a ≡ o → listing_at accounts l.category f l.naming.number (option_map (turned n k d) o) ≡ listing_at accounts l.category after naming.number o
         by None is = refl
         by (Some e) is = listing_turned e (λ i. other (ap (λ (b : Address Step). Listing ∷ b) (ap address_of i ∙ sym (address_path a e is))))
-    asked_else (Named m ∷ a) other = ap (expected_node session l.category f l.naming.number) (path_turned n k d (Named m ∷ a)) ∙ node_turned (path_at (Named m ∷ a))
-    asked_else (Home ∷ a) other = ap (expected_home session l.category f l.naming.number) (process_turned n k d (Home ∷ a)) ∙ by (process_at (Home ∷ a))
+    asked_else (Named m ∷ a) other = ap (expected_node accounts l.category f l.naming.number) (path_turned n k d (Named m ∷ a)) ∙ node_turned (path_at (Named m ∷ a))
+    asked_else (Home ∷ a) other = ap (expected_home accounts l.category f l.naming.number) (process_turned n k d (Home ∷ a)) ∙ by (process_at (Home ∷ a))
       where
-        by : (q : Option ProcName) → expected_home session l.category f l.naming.number q ≡ expected_home session l.category after naming.number q
+        by : (q : Option ProcName) → expected_home accounts l.category f l.naming.number q ≡ expected_home accounts l.category after naming.number q
         by None = refl
         by (Some q) = refl
-    asked_else (Status ∷ a) other = ap (expected_status session l.category f l.naming.number) (process_turned n k d a) ∙ by (process_at a)
+    asked_else (Status ∷ a) other = ap (expected_status accounts l.category f l.naming.number) (process_turned n k d a) ∙ by (process_at a)
       where
-        by : (q : Option ProcName) → expected_status session l.category f l.naming.number q ≡ expected_status session l.category after naming.number q
+        by : (q : Option ProcName) → expected_status accounts l.category f l.naming.number q ≡ expected_status accounts l.category after naming.number q
         by None = refl
-        by (Some q) = same_status session l.category f after.files l.naming.number naming.number same_numbers q
-    asked_else (Inside ∷ a) other = ap (container_inside session l.category f l.naming.number) (process_turned n k d a) ∙ by (process_at a)
+        by (Some q) = same_status accounts l.category f after.files l.naming.number naming.number same_numbers q
+    asked_else (Inside ∷ a) other = ap (container_inside accounts l.category f l.naming.number) (process_turned n k d a) ∙ by (process_at a)
       where
-        by : (q : Option ProcName) → container_inside session l.category f l.naming.number q ≡ container_inside session l.category after naming.number q
-        by None = refl
-        by (Some q) = refl
-    asked_else (Runner ∷ a) other = ap (thread_at session l.category f l.naming.number) (inside_turned n k d a) ∙ by (inside_at a)
-      where
-        by : (q : Option ProcName) → thread_at session l.category f l.naming.number q ≡ thread_at session l.category after naming.number q
+        by : (q : Option ProcName) → container_inside accounts l.category f l.naming.number q ≡ container_inside accounts l.category after naming.number q
         by None = refl
         by (Some q) = refl
-    asked_else (Child m ∷ a) other = ap (expected_home session l.category f l.naming.number) (process_turned n k d (Child m ∷ a)) ∙ by (process_at (Child m ∷ a))
+    asked_else (Runner ∷ a) other = ap (thread_at accounts l.category f l.naming.number) (inside_turned n k d a) ∙ by (inside_at a)
       where
-        by : (q : Option ProcName) → expected_home session l.category f l.naming.number q ≡ expected_home session l.category after naming.number q
+        by : (q : Option ProcName) → thread_at accounts l.category f l.naming.number q ≡ thread_at accounts l.category after naming.number q
+        by None = refl
+        by (Some q) = refl
+    asked_else (Child m ∷ a) other = ap (expected_home accounts l.category f l.naming.number) (process_turned n k d (Child m ∷ a)) ∙ by (process_at (Child m ∷ a))
+      where
+        by : (q : Option ProcName) → expected_home accounts l.category f l.naming.number q ≡ expected_home accounts l.category after naming.number q
         by None = refl
         by (Some q) = refl
 
     listing_stays : naming.number (Listing ∷ address_of d) ≡ Some N
     listing_stays = ap (λ (a : Address Step). l.naming.number (Listing ∷ a)) (address_stays n k d) ∙ at_listing
 
-    asked_here : asked (Listing ∷ address_of d) ≡ listing_object session l.category (spelling (directory_of f.files l.naming.number d)) (get after.files d)
+    asked_here : asked (Listing ∷ address_of d) ≡ listing_object accounts l.category (spelling (directory_of f.files l.naming.number d)) (get after.files d)
     asked_here =
-        ap (λ (a : Address Step). expected session l.category f l.naming.number (Listing ∷ a)) (address_stays n k d)
-        ∙ asked_listing session l.category f l.naming.number d
-        ∙ ap (listing_object session l.category (spelling (directory_of f.files l.naming.number d))) (sym (got d ∙ ap (get f.files) (directory_stays n k d)))
+        ap (λ (a : Address Step). expected accounts l.category f l.naming.number (Listing ∷ a)) (address_stays n k d)
+        ∙ asked_listing accounts l.category f l.naming.number d
+        ∙ ap (listing_object accounts l.category (spelling (directory_of f.files l.naming.number d))) (sym (got d ∙ ap (get f.files) (directory_stays n k d)))
 
     -- boot gave no number to what turns
-    boot_turned : (a : Address Step) → boot_number (length session.users) (turned_address n k d a) ≡ boot_number (length session.users) a
+    boot_turned : (a : Address Step) → boot_number (length accounts.users) (turned_address n k d a) ≡ boot_number (length accounts.users) a
     boot_turned [] = refl
-    boot_turned (Left q ∷ a) = ap (λ b. cond b (boot_number (length session.users) (Left q ∷ [])) None) (same_tests n k d [] a)
-    boot_turned (Slash ∷ a) = ap (λ b. cond b (Some (4 + 2 * length session.users)) None) (same_tests n k d [] a)
-    boot_turned (Listing ∷ a) = ap (λ b. cond b (Some (5 + 2 * length session.users)) None) (same_tests n k d (Slash ∷ []) a)
+    boot_turned (Left q ∷ a) = ap (λ b. cond b (boot_number (length accounts.users) (Left q ∷ [])) None) (same_tests n k d [] a)
+    boot_turned (Slash ∷ a) = ap (λ b. cond b (Some (4 + 2 * length accounts.users)) None) (same_tests n k d [] a)
+    boot_turned (Listing ∷ a) = ap (λ b. cond b (Some (5 + 2 * length accounts.users)) None) (same_tests n k d (Slash ∷ []) a)
     boot_turned (Named m ∷ a) = refl
-    boot_turned (Home ∷ a) = ap (λ b. cond b (Some (6 + 2 * length session.users)) None) (same_tests n k d [] a)
-    boot_turned (Status ∷ a) = ap (λ b. cond b (Some (9 + 2 * length session.users)) None) (same_tests n k d (Home ∷ []) a)
+    boot_turned (Home ∷ a) = ap (λ b. cond b (Some (6 + 2 * length accounts.users)) None) (same_tests n k d [] a)
+    boot_turned (Status ∷ a) = ap (λ b. cond b (Some (9 + 2 * length accounts.users)) None) (same_tests n k d (Home ∷ []) a)
     boot_turned (Inside ∷ a) = refl
     boot_turned (Runner ∷ a) = refl
     boot_turned (Child m ∷ a) = refl
 
-    fits_all : (q : Path) (there : Node) → get after.files q ≡ Some there → ClassFits session s f l there.class
-    fits_all q there at = old_fits session s f l (turned n k d q) there (sym (got q) ∙ at)
+    fits_all : (q : Path) (there : Node) → get after.files q ≡ Some there → ClassFits accounts s f l there.class
+    fits_all q there at = old_fits accounts s f l (turned n k d q) there (sym (got q) ∙ at)
 
     -- the numbers in the names of jobs were given as before
     pub jobs_renamed : AreJobsGiven f → AreJobsGiven after
-    jobs_renamed = jobs_kept session s f l after.files (λ q there at. old_known session s f l (turned n k d q) there (sym (got q) ∙ at))
+    jobs_renamed = jobs_kept accounts s f l after.files (λ q there at. old_known accounts s f l (turned n k d q) there (sym (got q) ∙ at))
 
     -- ---- the renamed directory
 
@@ -212,10 +212,10 @@ module _ (session : Session) (s : State) (f : Flat) (l : ObjectsMatch session s 
           (room_without (directory_of f.files l.naming.number d) n target h is_there) (name, (entry_found (directory_of f.files l.naming.number d) n target h is_there).1)
 
       -- The kernel has the objects of the flat state in which all below the old name is below the new one.
-      pub laid_renamed : IsTrue (is_name k) → is_dir_at f d ≡ true
-          → (later : ObjectsMatch session (with_segment_bytes s N (spelling renamed_directory)) after) × (later.naming ≡ naming) × (later.category ≡ l.category)
-      laid_renamed name dir = subst (λ (x : Entries). (later : ObjectsMatch session (with_segment_bytes s N (spelling x)) after) × (later.naming ≡ naming) × (later.category ≡ l.category)) directory_renamed
-          (laid_listed session s f l after.files fits_all s naming asked stands_turned l.numbered d N listing_stays
+      pub matched_renamed : IsTrue (is_name k) → is_dir_at f d ≡ true
+          → (later : ObjectsMatch accounts (with_segment_bytes s N (spelling renamed_directory)) after) × (later.naming ≡ naming) × (later.category ≡ l.category)
+      matched_renamed name dir = subst (λ (x : Entries). (later : ObjectsMatch accounts (with_segment_bytes s N (spelling x)) after) × (later.naming ≡ naming) × (later.category ≡ l.category)) directory_renamed
+          (matched_listed accounts s f l after.files fits_all s naming asked agrees_turned l.numbered d N listing_stays
           (spelling (directory_of f.files l.naming.number d)) asked_here asked_else
           (λ a q e. l.as_booted (turned_address n k d a) q (boot_turned a ∙ e)) listable refl l.boot_thread_gone)
         where
@@ -226,5 +226,5 @@ module _ (session : Session) (s : State) (f : Flat) (l : ObjectsMatch session s 
           ]
 
       -- and so the kernel represents the flat state with the entry renamed
-      pub represents_renamed : AreJobsGiven f → IsTrue (is_name k) → is_dir_at f d ≡ true → Represents session (with_segment_bytes s N (spelling renamed_directory)) after
-      represents_renamed given name dir = record { laid = (laid_renamed name dir).0; jobs_given = jobs_renamed given }
+      pub represents_renamed : AreJobsGiven f → IsTrue (is_name k) → is_dir_at f d ≡ true → Represents accounts (with_segment_bytes s N (spelling renamed_directory)) after
+      represents_renamed given name dir = record { matched = (matched_renamed name dir).0; jobs_given = jobs_renamed given }

@@ -10,18 +10,18 @@ use Rattle.histar_flat.specs.declared.calls.User.{User}
 use Rattle.histar_flat.specs.Words.{Name}
 use Rattle.histar_flat.specs.PathOrder.{same}
 use Rattle.histar_flat.proofs.FileLemmas.{same_name_found}
-use Rattle.histar_flat.specs.Sessions.{Group, Session, has, user_number, group_number, numbers_with, groups_of, is_member}
+use Rattle.histar_flat.specs.Accounts.{Group, Accounts, has, user_number, group_number, numbers_with, groups_of, is_member}
 use Rattle.histar_flat.specs.Classes.{nobody}
 use Rattle.histar_layout.proofs.Declared.{equal_names, equal_tested, placed, place_found, one_user}
 use Rattle.histar_layout.proofs.Members.{same_truth, first_of, second_of, mapped_from}
-use Rattle.histar_refinement.specs.Sessions.{IsSession}
+use Rattle.histar_refinement.specs.Accounts.{AreAccounts}
 
 -- who is declared is not nobody
-pub not_nobody : (session : Session) → IsSession session → (name : Name) (i : ℕ) → user_number session name ≡ Some i → same name nobody ≡ false
-not_nobody session ok name i is = by (same name nobody) refl
+pub not_nobody : (accounts : Accounts) → AreAccounts accounts → (name : Name) (i : ℕ) → user_number accounts name ≡ Some i → same name nobody ≡ false
+not_nobody accounts ok name i is = by (same name nobody) refl
   where
     by : (b : Bool) → same name nobody ≡ b → b ≡ false
-    by true e = let k : None ≡ Some i = sym ok.no_one ∙ ap (user_number session) (sym (equal_names name nobody e)) ∙ is in absurd cc
+    by true e = let k : None ≡ Some i = sym ok.no_one ∙ ap (user_number accounts) (sym (equal_names name nobody e)) ∙ is in absurd cc
     by false e = refl
 
 -- the number of a process's user is that of an owner
@@ -29,21 +29,21 @@ abbrev pub is_number : Option ℕ → ℕ → Bool
 is_number None i = false
 is_number (Some j) i = nat_eq i j
 
-pub is_owner : (session : Session) (name owner : Name) (i : ℕ) → user_number session owner ≡ Some i → is_number (user_number session name) i ≡ same name owner
-is_owner session name owner i numbered = by (user_number session name) refl
+pub is_owner : (accounts : Accounts) (name owner : Name) (i : ℕ) → user_number accounts owner ≡ Some i → is_number (user_number accounts name) i ≡ same name owner
+is_owner accounts name owner i numbered = by (user_number accounts name) refl
   where
-    by : (o : Option ℕ) → user_number session name ≡ o → is_number o i ≡ same name owner
+    by : (o : Option ℕ) → user_number accounts name ≡ o → is_number o i ≡ same name owner
     by None e = sym (other (same_name_found name owner))
       where
         other : ((same name owner ≡ true) × (name ≡ owner)) ⊎ ((same name owner ≡ false) × (name ≢ owner)) → same name owner ≡ false
-        other (inl k) = absurd (none-some i (sym e ∙ ap (user_number session) k.1 ∙ numbered))
+        other (inl k) = absurd (none-some i (sym e ∙ ap (user_number accounts) k.1 ∙ numbered))
         other (inr k) = k.0
     by (Some j) e = same_truth (nat_eq i j) (same name owner)
         (λ k. elim (eqb_tells i j) [
-          | inl is ↦ equal_tested name owner (one_user session name owner i (e ∙ ap Some (sym is.1)) numbered)
+          | inl is ↦ equal_tested name owner (one_user accounts name owner i (e ∙ ap Some (sym is.1)) numbered)
           | inr is ↦ absurd (true≢false (sym k ∙ is.0))
         ])
-        (λ k. let both : Some j ≡ Some i = sym e ∙ ap (user_number session) (equal_names name owner k) ∙ numbered in
+        (λ k. let both : Some j ≡ Some i = sym e ∙ ap (user_number accounts) (equal_names name owner k) ∙ numbered in
         elim (eqb_tells i j) [ inl is ↦ is.0 | inr is ↦ absurd (is.1 (sym (same_Some j i both))) ])
 
 -- a list of numbers has this one
@@ -101,31 +101,31 @@ to_members (h ∷ groups) name group zero g at is member =
 to_members (h ∷ groups) name group (suc i) g at is member = or_right (same h.name group && has h.members name) _ (to_members groups name group i g at is member)
 
 -- a user is a member of a group exactly where the group's number is among those of the user's groups
-pub is_member_number : (session : Session) → IsSession session → (name group : Name) (k : ℕ) → group_number session group ≡ Some k → has_number (groups_of session name) k ≡ is_member session name group
-is_member_number session ok name group k numbered =
-    let place = mapped_from (λ k. k + 1) (position (λ (g : Group). same g.name group) session.groups) k numbered in
-    let at = placed (λ (g : Group). same g.name group) session.groups place.0 place.1 in
-    same_truth (has_number (groups_of session name) k) (is_member session name group)
+pub is_member_number : (accounts : Accounts) → AreAccounts accounts → (name group : Name) (k : ℕ) → group_number accounts group ≡ Some k → has_number (groups_of accounts name) k ≡ is_member accounts name group
+is_member_number accounts ok name group k numbered =
+    let place = mapped_from (λ k. k + 1) (position (λ (g : Group). same g.name group) accounts.groups) k numbered in
+    let at = placed (λ (g : Group). same g.name group) accounts.groups place.0 place.1 in
+    same_truth (has_number (groups_of accounts name) k) (is_member accounts name group)
     (λ e.
-    let found = from_numbers 1 session.groups name k e in
+    let found = from_numbers 1 accounts.groups name k e in
     let same_place : found.0 ≡ place.0 = omega (arith, found.4, place.2) in
-    let one : found.1 ≡ at.0 = same_Some found.1 at.0 (sym found.2 ∙ ap (slice_get session.groups) same_place ∙ at.1) in
-    to_members session.groups name group found.0 found.1 found.2 (ap (λ (g : Group). same g.name group) one ∙ at.2) found.3)
+    let one : found.1 ≡ at.0 = same_Some found.1 at.0 (sym found.2 ∙ ap (slice_get accounts.groups) same_place ∙ at.1) in
+    to_members accounts.groups name group found.0 found.1 found.2 (ap (λ (g : Group). same g.name group) one ∙ at.2) found.3)
     (λ e.
-    let found = from_members session.groups name group e in
+    let found = from_members accounts.groups name group e in
     let alike : same found.1.name at.0.name ≡ true = equal_tested found.1.name at.0.name (equal_names found.1.name group found.3 ∙ sym (equal_names at.0.name group at.2)) in
     let same_place : found.0 ≡ place.0 = ok.groups_differ found.0 place.0 found.1 at.0 found.2 at.1 alike in
-    ap (has_number (groups_of session name)) (omega (arith, same_place, place.2)) ∙ to_numbers 1 session.groups name found.0 found.1 found.2 found.4)
+    ap (has_number (groups_of accounts name)) (omega (arith, same_place, place.2)) ∙ to_numbers 1 accounts.groups name found.0 found.1 found.2 found.4)
 
 -- a group that is not declared has no members
-pub no_member : (session : Session) (name group : Name) → group_number session group ≡ None → is_member session name group ≡ false
-no_member session name group undeclared = by (is_member session name group) refl
+pub no_member : (accounts : Accounts) (name group : Name) → group_number accounts group ≡ None → is_member accounts name group ≡ false
+no_member accounts name group undeclared = by (is_member accounts name group) refl
   where
-    by : (b : Bool) → is_member session name group ≡ b → b ≡ false
+    by : (b : Bool) → is_member accounts name group ≡ b → b ≡ false
     by false is = refl
     by true is =
-        let found = from_members session.groups name group is in
-        let place = position_or_len (λ (g : Group). same g.name group) session.groups in
-        let lt : place < length session.groups = place_found (λ (g : Group). same g.name group) session.groups found.0 found.1 found.2 found.3 in
-        let within : nat_lt place (length session.groups) ≡ true = grind (arith, nat_tests, lt) in
+        let found = from_members accounts.groups name group is in
+        let place = position_or_len (λ (g : Group). same g.name group) accounts.groups in
+        let lt : place < length accounts.groups = place_found (λ (g : Group). same g.name group) accounts.groups found.0 found.1 found.2 found.3 in
+        let within : nat_lt place (length accounts.groups) ≡ true = grind (arith, nat_tests, lt) in
         absurd (none-some (place + 1) (sym undeclared ∙ ap (λ b. option_map (λ k. k + 1) (cond b (Some place) None)) within))

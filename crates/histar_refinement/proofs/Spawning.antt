@@ -16,7 +16,7 @@ use Rattle.histar_object.specs.State.{State, Found}
 use Rattle.histar_container.specs.Tree.{Address, Naming}
 use Rattle.histar_rules.specs.Rules.{greatest}
 use Rattle.histar_login.specs.Boot.{boot_thread_number}
-use Rattle.histar_flat.specs.Sessions.{Session, has, user_number}
+use Rattle.histar_flat.specs.Accounts.{Accounts, has, user_number}
 use Rattle.histar_flat.specs.Classes.{Class, Process, knows}
 use Rattle.histar_flat.specs.Classes.Class.{Private, Readable, Open, Scratch, Grouped}
 use Rattle.histar_flat.specs.FlatState.{Node, Flat, with_child, was_given, is_given}
@@ -28,7 +28,7 @@ use Rattle.histar_refinement.specs.Addresses.{Step, same_step, address_of, home_
 use Rattle.histar_refinement.specs.Addresses.Step.{Left, Slash, Listing, Named, Home, Status, Inside, Runner, Child}
 use Rattle.histar_refinement.specs.Processes.{process_bytes}
 use Rattle.histar_refinement.specs.Directories.{directory_of}
-use Rattle.histar_refinement.specs.Stands.{Stands}
+use Rattle.histar_refinement.specs.Agrees.{Agrees}
 use Rattle.histar_refinement.specs.Expected.{listing_object, home_object, status_object, inside_object, thread_object, bytes_for, expected_status, expected}
 use Rattle.histar_login.specs.Start.{segment}
 use Rattle.histar_refinement.specs.Represents.{IsInOrder, AreInOrder, IsProcess, ObjectsMatch}
@@ -36,12 +36,12 @@ use Rattle.histar_refinement.proofs.ProcessBytes.{alike_bytes}
 use Rattle.histar_layout.proofs.Members.{first_of, second_of}
 use Rattle.histar_layout.proofs.Declared.{equal_tested}
 use Rattle.histar_refinement.proofs.Growing.{new_number, old_number, still_different}
-use Rattle.histar_refinement.proofs.Places.{path_address, same_home, same_directory, AsksAlike, asked_alike, asked_home, asked_status, asked_inside, asked_runner}
-use Rattle.histar_refinement.proofs.Moving.{number_below, stands_same}
+use Rattle.histar_refinement.proofs.Roots.{path_address, same_home, same_directory, AsksAlike, asked_alike, asked_home, asked_status, asked_inside, asked_runner}
+use Rattle.histar_refinement.proofs.Moving.{number_below, agrees_same}
 use Rattle.histar_refinement.proofs.Counting.{boot_used}
 use Rattle.histar_refinement.proofs.Steps.{step_tests_equality}
 use Rattle.histar_refinement.proofs.Uses.{keep_node, keep_listing, keep_process_label, keep_home, keep_inside, keep_runner, keep_order}
-use Rattle.histar_refinement.proofs.Birth.{born_state, born_naming, stands_born, number_kept, asks_born, gone_born}
+use Rattle.histar_refinement.proofs.Birth.{born_state, born_naming, agrees_born, number_kept, asks_born, gone_born}
 
 -- an address with no path is no path's
 not_path : (p : Path) (a : Address Step) → path_at a ≡ None → a ≢ address_of p
@@ -65,9 +65,9 @@ above : Address Step → Address Step
 above [] = []
 above (x ∷ a) = a
 
-module _ (session : Session) (s : State) (f : Flat) (l : ObjectsMatch session s f) (me : ProcName) (p : Process) (here : f.processes me ≡ Some p) (runs : p.exited ≡ None) (room : p.born < 64)
-    (chain : List ProcName) (chain_used : (job : ProcName) → has chain job ≡ true → IsUsed session f (OfJob job)) (chain_ordered : AreInOrder l.category chain)
-    (chain_free : is_some (user_number session p.user) ≡ false → chain ≡ [])
+module _ (accounts : Accounts) (s : State) (f : Flat) (l : ObjectsMatch accounts s f) (me : ProcName) (p : Process) (here : f.processes me ≡ Some p) (runs : p.exited ≡ None) (room : p.born < 64)
+    (chain : List ProcName) (chain_used : (job : ProcName) → has chain job ≡ true → IsUsed accounts f (OfJob job)) (chain_ordered : AreInOrder l.category chain)
+    (chain_free : is_some (user_number accounts p.user) ≡ false → chain ≡ [])
     (C S : ℕ) (at_home : l.naming.number (home_address me) ≡ Some C) (at_status : l.naming.number (Status ∷ home_address me) ≡ Some S) where
   -- the child, and its parent then
   abbrev pub child : ProcName
@@ -145,16 +145,16 @@ module _ (session : Session) (s : State) (f : Flat) (l : ObjectsMatch session s 
   pub different : AreDifferent category
   different = still_different with_reads different_reads (next + 1) writes
 
-  not_reads : (c : CategoryName) → IsUsed session f c → c ≢ reads
-  not_reads c used e = let k : is_some (f.processes child) ≡ true = subst (IsUsed session f) e used in true≢false (sym k ∙ ap is_some no_child)
+  not_reads : (c : CategoryName) → IsUsed accounts f c → c ≢ reads
+  not_reads c used e = let k : is_some (f.processes child) ≡ true = subst (IsUsed accounts f) e used in true≢false (sym k ∙ ap is_some no_child)
 
-  not_writes : (c : CategoryName) → IsUsed session f c → c ≢ writes
-  not_writes c used e = let k : is_some (f.processes child) ≡ true = subst (IsUsed session f) e used in true≢false (sym k ∙ ap is_some no_child)
+  not_writes : (c : CategoryName) → IsUsed accounts f c → c ≢ writes
+  not_writes c used e = let k : is_some (f.processes child) ≡ true = subst (IsUsed accounts f) e used in true≢false (sym k ∙ ap is_some no_child)
 
-  pub keeps_first : (c : CategoryName) → IsUsed session f c → with_reads c ≡ l.category c
+  pub keeps_first : (c : CategoryName) → IsUsed accounts f c → with_reads c ≡ l.category c
   keeps_first c used = old_number l.category l.different next reads c (not_reads c used) (l.made c used).1
 
-  pub keeps : (c : CategoryName) → IsUsed session f c → category c ≡ l.category c
+  pub keeps : (c : CategoryName) → IsUsed accounts f c → category c ≡ l.category c
   keeps c used =
       let first = keeps_first c used in
       let below = (l.made c used).1 in
@@ -176,34 +176,34 @@ module _ (session : Session) (s : State) (f : Flat) (l : ObjectsMatch session s 
   inner = guard_label category (inside_guard child newborn)
 
   abbrev pub label : Levels
-  label = rights_label category (thread_rights session child newborn)
+  label = rights_label category (thread_rights accounts child newborn)
 
   abbrev pub clearance : Levels
-  clearance = rights_clearance category (thread_rights session child newborn)
+  clearance = rights_clearance category (thread_rights accounts child newborn)
 
   abbrev old_asked : Address Step → Found
-  old_asked = expected session l.category f l.naming.number
+  old_asked = expected accounts l.category f l.naming.number
 
   -- nothing stands where the child is to stand, and its parent's container stands
   pub holder : is_container (old_asked (home_address me)) ≡ true
-  holder = ap is_container (asked_home session l.category f l.naming.number me) ∙ ap (λ (o : Option Process). is_container (home_object session l.category me o)) here
+  holder = ap is_container (asked_home accounts l.category f l.naming.number me) ∙ ap (λ (o : Option Process). is_container (home_object accounts l.category me o)) here
 
   pub no_home : is_present (old_asked (home_address child)) ≡ false
-  no_home = ap is_present (asked_home session l.category f l.naming.number child) ∙ ap (λ (o : Option Process). is_present (home_object session l.category child o)) no_child
+  no_home = ap is_present (asked_home accounts l.category f l.naming.number child) ∙ ap (λ (o : Option Process). is_present (home_object accounts l.category child o)) no_child
 
   pub no_inside : is_present (old_asked (Inside ∷ home_address child)) ≡ false
-  no_inside = ap is_present (asked_inside session l.category f l.naming.number child) ∙ ap (λ (o : Option Process). is_present (inside_object session l.category child o)) no_child
+  no_inside = ap is_present (asked_inside accounts l.category f l.naming.number child) ∙ ap (λ (o : Option Process). is_present (inside_object accounts l.category child o)) no_child
 
   pub no_runner : is_present (old_asked (Runner ∷ Inside ∷ home_address child)) ≡ false
-  no_runner = ap is_present (asked_runner session l.category f l.naming.number child) ∙ ap (λ (o : Option Process). is_present (thread_object session l.category child o)) no_child
+  no_runner = ap is_present (asked_runner accounts l.category f l.naming.number child) ∙ ap (λ (o : Option Process). is_present (thread_object accounts l.category child o)) no_child
 
   pub no_status : is_present (old_asked (Status ∷ home_address child)) ≡ false
-  no_status = ap is_present (asked_status session l.category f l.naming.number child)
-      ∙ ap (λ (o : Option Process). is_present (status_object session l.category (bytes_for session l.category f l.naming.number child o) child o)) no_child
+  no_status = ap is_present (asked_status accounts l.category f l.naming.number child)
+      ∙ ap (λ (o : Option Process). is_present (status_object accounts l.category (bytes_for accounts l.category f l.naming.number child o) child o)) no_child
 
   -- the numbers after the birth don't hang on what is written
   abbrev pub naming : Naming Step
-  naming = born_naming s l.naming old_asked l.stands me (p.born + 1) C S at_home at_status holder no_home no_inside no_runner no_status outer inner label clearance [] []
+  naming = born_naming s l.naming old_asked l.agrees me (p.born + 1) C S at_home at_status holder no_home no_inside no_runner no_status outer inner label clearance [] []
 
   abbrev pub child_written : List ℕ
   child_written = process_bytes after.processes naming.number child newborn
@@ -213,10 +213,10 @@ module _ (session : Session) (s : State) (f : Flat) (l : ObjectsMatch session s 
 
   -- the state after the birth, once the new categories are counted and the thread has its own labels again
   abbrev pub state_born : State
-  state_born = born_state s l.naming old_asked l.stands me (p.born + 1) C S at_home at_status holder no_home no_inside no_runner no_status outer inner label clearance child_written own_written
+  state_born = born_state s l.naming old_asked l.agrees me (p.born + 1) C S at_home at_status holder no_home no_inside no_runner no_status outer inner label clearance child_written own_written
 
   kept : (b : Address Step) → home_address child ≢ b → Inside ∷ home_address child ≢ b → Runner ∷ Inside ∷ home_address child ≢ b → Status ∷ home_address child ≢ b → naming.number b ≡ l.naming.number b
-  kept = number_kept s l.naming old_asked l.stands me (p.born + 1) C S at_home at_status holder no_home no_inside no_runner no_status outer inner label clearance [] []
+  kept = number_kept s l.naming old_asked l.agrees me (p.born + 1) C S at_home at_status holder no_home no_inside no_runner no_status outer inner label clearance [] []
 
   -- addresses of paths, and of other processes
   pub kept_path : (q : Path) → l.naming.number (address_of q) ≡ naming.number (address_of q)
@@ -281,14 +281,14 @@ module _ (session : Session) (s : State) (f : Flat) (l : ObjectsMatch session s 
 
   -- what is asked for then
   abbrev wish : Address Step → Found
-  wish = expected session category after naming.number
+  wish = expected accounts category after naming.number
 
-  files_alike : AsksAlike session l.category category f after l.naming.number naming.number
+  files_alike : AsksAlike accounts l.category category f after l.naming.number naming.number
   files_alike = record {
-    at_path = λ q. keep_node session f l.category category keeps q (get f.files q) refl;
+    at_path = λ q. keep_node accounts f l.category category keeps q (get f.files q) refl;
     in_directory = λ d.
-        ap (λ (dir : Entries). listing_object session l.category (spelling dir) (get f.files d)) (same_directory f l.naming.number naming.number kept_path kept_listing d)
-        ∙ keep_listing session f l.category category keeps d (spelling (directory_of f.files naming.number d)) (get f.files d) refl;
+        ap (λ (dir : Entries). listing_object accounts l.category (spelling dir) (get f.files d)) (same_directory f l.naming.number naming.number kept_path kept_listing d)
+        ∙ keep_listing accounts f l.category category keeps d (spelling (directory_of f.files naming.number d)) (get f.files d) refl;
   }
 
   -- what stands for a process but its process segment, where the child's is left out
@@ -300,41 +300,41 @@ module _ (session : Session) (s : State) (f : Flat) (l : ObjectsMatch session s 
     | inr (inr e) ↦ ap (object category q) (sym (at_other q e.0 e.1))
   ]
 
-  status_alike : (q : ProcName) → q ≢ child → q ≢ me → expected_status session l.category f l.naming.number (Some q) ≡ expected_status session category after naming.number (Some q)
-  status_alike q not_child not_me = by (f.processes q) refl ∙ sym (ap (λ (o : Option Process). status_object session category (bytes_for session category after naming.number q o) q o) (at_other q not_child not_me))
+  status_alike : (q : ProcName) → q ≢ child → q ≢ me → expected_status accounts l.category f l.naming.number (Some q) ≡ expected_status accounts category after naming.number (Some q)
+  status_alike q not_child not_me = by (f.processes q) refl ∙ sym (ap (λ (o : Option Process). status_object accounts category (bytes_for accounts category after naming.number q o) q o) (at_other q not_child not_me))
     where
-      by : (o : Option Process) → f.processes q ≡ o → status_object session l.category (bytes_for session l.category f l.naming.number q o) q o ≡ status_object session category (bytes_for session category after naming.number q o) q o
+      by : (o : Option Process) → f.processes q ≡ o → status_object accounts l.category (bytes_for accounts l.category f l.naming.number q o) q o ≡ status_object accounts category (bytes_for accounts category after naming.number q o) q o
       by None e = refl
-      by (Some x) e = λ i. segment (keep_process_label session f l.category category keeps q x e i) (same_bytes q x not_child not_me i)
+      by (Some x) e = λ i. segment (keep_process_label accounts f l.category category keeps q x e i) (same_bytes q x not_child not_me i)
 
   wish_other : (a : Address Step) → home_address child ≢ a → Inside ∷ home_address child ≢ a → Runner ∷ Inside ∷ home_address child ≢ a → Status ∷ home_address child ≢ a → Status ∷ home_address me ≢ a → old_asked a ≡ wish a
-  wish_other a not_home not_inner not_thread not_segment not_own = asked_alike session l.category category f after l.naming.number naming.number files_alike a (record {
-    home = λ q is. object_alike (home_object session) (λ x. keep_home session f l.category category keeps x (f.processes x) refl) refl q (λ e. not_home (ap home_address (sym e) ∙ sym is));
+  wish_other a not_home not_inner not_thread not_segment not_own = asked_alike accounts l.category category f after l.naming.number naming.number files_alike a (record {
+    home = λ q is. object_alike (home_object accounts) (λ x. keep_home accounts f l.category category keeps x (f.processes x) refl) refl q (λ e. not_home (ap home_address (sym e) ∙ sym is));
     status = λ q is. status_alike q (λ e. not_segment (ap (λ (x : ProcName). Status ∷ home_address x) (sym e) ∙ sym is)) (λ e. not_own (ap (λ (x : ProcName). Status ∷ home_address x) (sym e) ∙ sym is));
-    inside = λ q is. object_alike (inside_object session) (λ x. keep_inside session f l.category category keeps x (f.processes x) refl) refl q (λ e. not_inner (ap (λ (x : ProcName). Inside ∷ home_address x) (sym e) ∙ sym is));
-    runner = λ q is. object_alike (thread_object session) (λ x. keep_runner session f l.category category keeps x (f.processes x) refl) refl q (λ e. not_thread (ap (λ (x : ProcName). Runner ∷ Inside ∷ home_address x) (sym e) ∙ sym is));
+    inside = λ q is. object_alike (inside_object accounts) (λ x. keep_inside accounts f l.category category keeps x (f.processes x) refl) refl q (λ e. not_inner (ap (λ (x : ProcName). Inside ∷ home_address x) (sym e) ∙ sym is));
+    runner = λ q is. object_alike (thread_object accounts) (λ x. keep_runner accounts f l.category category keeps x (f.processes x) refl) refl q (λ e. not_thread (ap (λ (x : ProcName). Runner ∷ Inside ∷ home_address x) (sym e) ∙ sym is));
   })
 
   wish_own : option_map (holding own_written) (old_asked (Status ∷ home_address me)) ≡ wish (Status ∷ home_address me)
   wish_own =
-      ap (option_map (holding own_written)) (asked_status session l.category f l.naming.number me ∙ ap (λ (o : Option Process). status_object session l.category (bytes_for session l.category f l.naming.number me o) me o) here)
-      ∙ ap (λ (m : Levels). segment m own_written) (keep_process_label session f l.category category keeps me p here)
-      ∙ sym (asked_status session category after naming.number me ∙ ap (λ (o : Option Process). status_object session category (bytes_for session category after naming.number me o) me o) at_me)
+      ap (option_map (holding own_written)) (asked_status accounts l.category f l.naming.number me ∙ ap (λ (o : Option Process). status_object accounts l.category (bytes_for accounts l.category f l.naming.number me o) me o) here)
+      ∙ ap (λ (m : Levels). segment m own_written) (keep_process_label accounts f l.category category keeps me p here)
+      ∙ sym (asked_status accounts category after naming.number me ∙ ap (λ (o : Option Process). status_object accounts category (bytes_for accounts category after naming.number me o) me o) at_me)
 
   -- the kernel's objects are what the flat state with the child asks for
-  stands_after : Stands same_step state_born naming wish
-  stands_after = stands_same same_step state_born state_born naming _ wish
-      (stands_born s l.naming old_asked l.stands me (p.born + 1) C S at_home at_status holder no_home no_inside no_runner no_status outer inner label clearance child_written own_written)
-      (asks_born s l.naming old_asked l.stands me (p.born + 1) C S at_home at_status holder no_home no_inside no_runner no_status outer inner label clearance child_written own_written wish
-      (sym (asked_home session category after naming.number child ∙ ap (home_object session category child) at_child))
-      (sym (asked_inside session category after naming.number child ∙ ap (inside_object session category child) at_child))
-      (sym (asked_runner session category after naming.number child ∙ ap (thread_object session category child) at_child))
-      (sym (asked_status session category after naming.number child ∙ ap (λ (o : Option Process). status_object session category (bytes_for session category after naming.number child o) child o) at_child))
+  agrees_after : Agrees same_step state_born naming wish
+  agrees_after = agrees_same same_step state_born state_born naming _ wish
+      (agrees_born s l.naming old_asked l.agrees me (p.born + 1) C S at_home at_status holder no_home no_inside no_runner no_status outer inner label clearance child_written own_written)
+      (asks_born s l.naming old_asked l.agrees me (p.born + 1) C S at_home at_status holder no_home no_inside no_runner no_status outer inner label clearance child_written own_written wish
+      (sym (asked_home accounts category after naming.number child ∙ ap (home_object accounts category child) at_child))
+      (sym (asked_inside accounts category after naming.number child ∙ ap (inside_object accounts category child) at_child))
+      (sym (asked_runner accounts category after naming.number child ∙ ap (thread_object accounts category child) at_child))
+      (sym (asked_status accounts category after naming.number child ∙ ap (λ (o : Option Process). status_object accounts category (bytes_for accounts category after naming.number child o) child o) at_child))
       wish_own wish_other)
       (λ q. refl) refl
 
   -- a job that someone knows then was used, and which names are used then
-  known_then : (job x : ProcName) (px : Process) → after.processes x ≡ Some px → knows px job ≡ true → IsUsed session f (OfJob job)
+  known_then : (job x : ProcName) (px : Process) → after.processes x ≡ Some px → knows px job ≡ true → IsUsed accounts f (OfJob job)
   known_then job x px at known = elim (which x) [
     | inl e ↦
         let is : newborn ≡ px = same_Some newborn px (sym at_child ∙ ap after.processes (sym e) ∙ at) in
@@ -346,7 +346,7 @@ module _ (session : Session) (s : State) (f : Flat) (l : ObjectsMatch session s 
     | inr (inr e) ↦ inl (x, px, sym (at_other x e.0 e.1) ∙ at, known)
   ]
 
-  pub job_used : (job : ProcName) → IsKnown after job ⊎ IsServed after job → IsUsed session f (OfJob job)
+  pub job_used : (job : ProcName) → IsKnown after job ⊎ IsServed after job → IsUsed accounts f (OfJob job)
   job_used job (inl k) = known_then job k.0 k.1 k.2 k.3
   job_used job (inr served) = inr served
 
@@ -357,7 +357,7 @@ module _ (session : Session) (s : State) (f : Flat) (l : ObjectsMatch session s 
     | inr (inr e) ↦ inl (ap is_some (sym (at_other x e.0 e.1)) ∙ u)
   ]
 
-  pub used_then : (c : CategoryName) → IsUsed session after c → IsUsed session f c ⊎ ((c ≡ reads) ⊎ (c ≡ writes))
+  pub used_then : (c : CategoryName) → IsUsed accounts after c → IsUsed accounts f c ⊎ ((c ≡ reads) ⊎ (c ≡ writes))
   used_then OfBoot u = inl u
   used_then (ReadsUser i) u = inl u
   used_then (WritesUser i) u = inl u
@@ -367,17 +367,17 @@ module _ (session : Session) (s : State) (f : Flat) (l : ObjectsMatch session s 
   used_then (WritesProcess x) u = elim (used_process x u) [ inl old ↦ inl old | inr e ↦ inr (inr (ap WritesProcess e)) ]
   used_then (OfJob job) u = inl (job_used job u)
 
-  pub made_then : (c : CategoryName) → IsUsed session after c → IsMade (s.next_category + 2) (category c)
+  pub made_then : (c : CategoryName) → IsUsed accounts after c → IsMade (s.next_category + 2) (category c)
   made_then c u = elim (used_then c u) [
     | inl old ↦ let m = l.made c old in let k = keeps c old in (omega (arith, m.0, k), omega (arith, m.1, k))
     | inr (inl e) ↦ let k : category c ≡ next = ap category e ∙ reads_number in let m = l.made OfBoot tt in (omega (arith, m.0, m.1, k), omega (arith, k))
     | inr (inr e) ↦ let k : category c ≡ next + 1 = ap category e ∙ writes_number in (omega (arith, k), omega (arith, k))
   ]
 
-  as_booted_then : (a : Address Step) (q : ℕ) → boot_number (length session.users) a ≡ Some q → naming.number a ≡ Some q
+  as_booted_then : (a : Address Step) (q : ℕ) → boot_number (length accounts.users) a ≡ Some q → naming.number a ≡ Some q
   as_booted_then a q e =
-      kept a (λ k. none-some q (ap (boot_number (length session.users)) k ∙ e)) (λ k. none-some q (ap (boot_number (length session.users)) k ∙ e))
-      (λ k. none-some q (ap (boot_number (length session.users)) k ∙ e)) (λ k. none-some q (ap (boot_number (length session.users)) k ∙ e)) ∙ l.as_booted a q e
+      kept a (λ k. none-some q (ap (boot_number (length accounts.users)) k ∙ e)) (λ k. none-some q (ap (boot_number (length accounts.users)) k ∙ e))
+      (λ k. none-some q (ap (boot_number (length accounts.users)) k ∙ e)) (λ k. none-some q (ap (boot_number (length accounts.users)) k ∙ e)) ∙ l.as_booted a q e
 
   -- names that were given stay so
   higher : (k : ℕ) → was_given (Some p) k ≡ true → was_given (Some parent) k ≡ true
@@ -421,60 +421,60 @@ module _ (session : Session) (s : State) (f : Flat) (l : ObjectsMatch session s 
   in_order_by q there at (Private owner) is o = tt
   in_order_by q there at (Readable owner) is o = tt
   in_order_by q there at Open is o = tt
-  in_order_by q there at (Scratch owner jobs) is o = keep_order session f l.category category keeps jobs (λ job e. inr (q, there, at, ap (λ (c : Class). is_for c job) is ∙ e)) o
+  in_order_by q there at (Scratch owner jobs) is o = keep_order accounts f l.category category keeps jobs (λ job e. inr (q, there, at, ap (λ (c : Class). is_for c job) is ∙ e)) o
   in_order_by q there at (Grouped group) is o = tt
 
-  process_kept : (x : ProcName) (px : Process) → f.processes x ≡ Some px → IsProcess session category px
+  process_kept : (x : ProcName) (px : Process) → f.processes x ≡ Some px → IsProcess accounts category px
   process_kept x px at =
       let o = l.processes x px at in
       record {
         someone = o.someone;
         free = o.free;
         apart = o.apart;
-        chain = keep_order session f l.category category keeps px.chain (λ job e. inl (x, px, at, or_left (has px.chain job) (has px.held job) e)) o.chain;
-        held = λ r. keep_order session f l.category category keeps px.held (λ job e. inl (x, px, at, or_right (has px.chain job) (has px.held job) e)) (o.held r);
+        chain = keep_order accounts f l.category category keeps px.chain (λ job e. inl (x, px, at, or_left (has px.chain job) (has px.held job) e)) o.chain;
+        held = λ r. keep_order accounts f l.category category keeps px.held (λ job e. inl (x, px, at, or_right (has px.chain job) (has px.held job) e)) (o.held r);
         few = o.few;
         status = o.status;
       }
 
-  newborn_is : IsProcess session category newborn
+  newborn_is : IsProcess accounts category newborn
   newborn_is =
       let o = process_kept me p here in
-      record { someone = λ r. o.someone runs; free = λ r u. (chain_free u, refl); apart = λ r job e. refl; chain = keep_order session f l.category category keeps chain chain_used chain_ordered; held = λ r. tt; few = omega arith; status = λ n e. absurd (none-some n e) }
+      record { someone = λ r. o.someone runs; free = λ r u. (chain_free u, refl); apart = λ r job e. refl; chain = keep_order accounts f l.category category keeps chain chain_used chain_ordered; held = λ r. tt; few = omega arith; status = λ n e. absurd (none-some n e) }
 
-  parent_is : IsProcess session category parent
+  parent_is : IsProcess accounts category parent
   parent_is =
       let o = process_kept me p here in
       record { someone = o.someone; free = o.free; apart = o.apart; chain = o.chain; held = o.held; few = omega (arith, room); status = o.status }
 
-  process_then : (x : ProcName) (px : Process) → after.processes x ≡ Some px → IsProcess session category px
+  process_then : (x : ProcName) (px : Process) → after.processes x ≡ Some px → IsProcess accounts category px
   process_then x px at = elim (which x) [
-    | inl e ↦ subst (IsProcess session category) (same_Some newborn px (sym at_child ∙ ap after.processes (sym e) ∙ at)) newborn_is
-    | inr (inl e) ↦ subst (IsProcess session category) (same_Some parent px (sym at_me ∙ ap after.processes (sym e) ∙ at)) parent_is
+    | inl e ↦ subst (IsProcess accounts category) (same_Some newborn px (sym at_child ∙ ap after.processes (sym e) ∙ at)) newborn_is
+    | inr (inl e) ↦ subst (IsProcess accounts category) (same_Some parent px (sym at_me ∙ ap after.processes (sym e) ∙ at)) parent_is
     | inr (inr e) ↦ process_kept x px (sym (at_other x e.0 e.1) ∙ at)
   ]
 
   -- the boot thread stays gone
   boot_below : boot_thread_number < s.next_object
   boot_below =
-      let below = number_below same_step step_tests_equality s l.naming old_asked l.stands (Slash ∷ []) (4 + 2 * length session.users) (l.as_booted (Slash ∷ []) (4 + 2 * length session.users) refl) in
+      let below = number_below same_step step_tests_equality s l.naming old_asked l.agrees (Slash ∷ []) (4 + 2 * length accounts.users) (l.as_booted (Slash ∷ []) (4 + 2 * length accounts.users) refl) in
       omega (arith, below)
 
   gone_then : state_born.objects boot_thread_number ≡ None
-  gone_then = gone_born s l.naming old_asked l.stands me (p.born + 1) C S at_home at_status holder no_home no_inside no_runner no_status outer inner label clearance child_written own_written boot_thread_number l.boot_thread_gone boot_below
+  gone_then = gone_born s l.naming old_asked l.agrees me (p.born + 1) C S at_home at_status holder no_home no_inside no_runner no_status outer inner label clearance child_written own_written boot_thread_number l.boot_thread_gone boot_below
 
   -- The kernel has the objects of the flat state with the child.
-  pub laid_born : (new : State) → ((q : ℕ) → new.objects q ≡ state_born.objects q) → new.next_object ≡ state_born.next_object → new.next_category ≡ s.next_category + 2 → s.next_object + 3 < greatest → (born : ObjectsMatch session new after) × (born.naming ≡ naming) × (born.category ≡ category)
-  laid_born new objects next_is categories few = (
+  pub matched_born : (new : State) → ((q : ℕ) → new.objects q ≡ state_born.objects q) → new.next_object ≡ state_born.next_object → new.next_category ≡ s.next_category + 2 → s.next_object + 3 < greatest → (born : ObjectsMatch accounts new after) × (born.naming ≡ naming) × (born.category ≡ category)
+  matched_born new objects next_is categories few = (
     record {
       naming = naming;
       category = category;
-      stands = stands_same same_step state_born new naming wish wish stands_after (λ a. refl) objects next_is;
+      agrees = agrees_same same_step state_born new naming wish wish agrees_after (λ a. refl) objects next_is;
       numbered = omega (arith, next_is, few);
       as_booted = as_booted_then;
       different = different;
       made = λ c u. subst (λ (m : ℕ). IsMade m (category c)) (sym categories) (made_then c u);
-      as_made = λ c q e. keeps c (boot_used session f l.first c q e) ∙ l.as_made c q e;
+      as_made = λ c q e. keeps c (boot_used accounts f l.first c q e) ∙ l.as_made c q e;
       guarded = l.guarded;
       in_order = λ q there at. in_order_by q there at there.class refl (l.in_order q there at);
       listable = λ d is. subst IsListable (same_directory f l.naming.number naming.number kept_path kept_listing d) (l.listable d is);

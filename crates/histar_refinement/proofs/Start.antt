@@ -26,7 +26,7 @@ use Rattle.histar_container.proofs.Addresses.{same_tests_equality}
 use Rattle.histar_layout.specs.Categories.{write_category}
 use Rattle.histar_layout.specs.Labelling.{written_by, guarded_by, owner_label, cleared_at}
 use Rattle.histar_login.specs.Start.{numbered, declared, of_user, of_users, of_directory, of_process, user_table, start_objects, start_state, object_at, first_process_bytes, own_read_category, own_write_category, segment}
-use Rattle.histar_flat.specs.Sessions.{Session, user_number}
+use Rattle.histar_flat.specs.Accounts.{Accounts, user_number}
 use Rattle.histar_flat.specs.Classes.{Process, nobody, knows}
 use Rattle.histar_flat.specs.Classes.Class.{Readable}
 use Rattle.histar_flat.specs.FlatState.{Node, Flat, is_given}
@@ -40,34 +40,34 @@ use Rattle.histar_refinement.specs.LeftByBoot.{left_by_boot, left_for_user}
 use Rattle.histar_refinement.specs.Addresses.{Step, AddressNumbers, same_step, same_address, if_at, path_at, process_at, inside_at, boot_number}
 use Rattle.histar_refinement.specs.Addresses.Step.{Left, Slash, Listing, Named, Home, Status, Inside, Runner, Child}
 use Rattle.histar_refinement.specs.Directories.{directory_of}
-use Rattle.histar_refinement.specs.Stands.{bare, Stands}
+use Rattle.histar_refinement.specs.Agrees.{bare, Agrees}
 use Rattle.histar_refinement.specs.Expected.{bare_container, node_object, listing_object, guarded_object, expected_node, listing_at, expected_home, expected_status, container_inside, thread_at, expected}
 use Rattle.histar_refinement.specs.Represents.{IsInOrder, IsProcess, ObjectsMatch, Represents}
 use Rattle.histar_refinement.proofs.Steps.{step_tests_equality}
-use Rattle.histar_refinement.proofs.Places.{address_process, address_inside}
+use Rattle.histar_refinement.proofs.Roots.{address_process, address_inside}
 use Rattle.histar_refinement.proofs.StartNumbers.{is_left, process_address, inside_address, start_number}
 use Rattle.histar_refinement.proofs.StartNames.{place_of_number}
-use Rattle.histar_refinement.proofs.StartTable.{left_plain, slash_stands, listing_stands, home_stands, inside_stands, runner_stands, status_stands}
+use Rattle.histar_refinement.proofs.StartTable.{left_plain, slash_agrees, listing_agrees, home_agrees, inside_agrees, runner_agrees, status_agrees}
 use Rattle.histar_refinement.proofs.GateLabels.{user_reads, user_writes, group_test, gate_label_is, gate_clearance_is}
-use Rattle.histar_refinement.proofs.StartTree.{start_naming, place_there, start_laid}
+use Rattle.histar_refinement.proofs.StartTree.{start_naming, place_there, start_matched}
 use Rattle.histar_refinement.proofs.StartCategories.{start_category, start_as_made, start_made, start_different}
 
-module _ (session : Session) (some_user : 0 < length session.users) where
+module _ (accounts : Accounts) (some_user : 0 < length accounts.users) where
   -- how many users there are, how many groups, and how many of both
   abbrev n : ℕ
-  n = length session.users
+  n = length accounts.users
 
   abbrev m : ℕ
-  m = length session.groups
+  m = length accounts.groups
 
   abbrev owners : ℕ
-  owners = declared session
+  owners = declared accounts
 
   abbrev f : Flat
-  f = boot session
+  f = boot accounts
 
   abbrev slash_node : Node
-  slash_node = record { class = Readable (first_user session.users); content = Dir }
+  slash_node = record { class = Readable (first_user accounts.users); content = Dir }
 
   slash_got : get f.files [] ≡ Some slash_node
   slash_got = get_new empty [] slash_node
@@ -98,18 +98,18 @@ module _ (session : Session) (some_user : 0 < length session.users) where
   low_test : (i : ℕ) → i ≤ n → nat_le i n ≡ true
   low_test i h = grind (arith, nat_tests, h)
 
-  used_booted : (c : CategoryName) → IsUsed session f c → (q : ℕ) × (boot_category session c ≡ Some q)
+  used_booted : (c : CategoryName) → IsUsed accounts f c → (q : ℕ) × (boot_category accounts c ≡ Some q)
   used_booted OfBoot u = (1, refl)
   used_booted (ReadsUser i) u = (2 + 2 * i, ap (λ b. cond b (Some (2 + 2 * i)) None) (low_test i u))
   used_booted (WritesUser i) u = (3 + 2 * i, ap (λ b. cond b (Some (3 + 2 * i)) None) (low_test i u))
-  used_booted (ReadsGroup k) u = (2 + 2 * n + 2 * k, ap (λ b. cond b (Some (2 + 2 * n + 2 * k)) None) (group_test session k u.0 u.1))
-  used_booted (WritesGroup k) u = (3 + 2 * n + 2 * k, ap (λ b. cond b (Some (3 + 2 * n + 2 * k)) None) (group_test session k u.0 u.1))
-  used_booted (ReadsProcess me) u = (4 + 2 * n + 2 * m, ap (λ (x : ProcName). boot_category session (ReadsProcess x)) (some_first me u))
-  used_booted (WritesProcess me) u = (5 + 2 * n + 2 * m, ap (λ (x : ProcName). boot_category session (WritesProcess x)) (some_first me u))
+  used_booted (ReadsGroup k) u = (2 + 2 * n + 2 * k, ap (λ b. cond b (Some (2 + 2 * n + 2 * k)) None) (group_test accounts k u.0 u.1))
+  used_booted (WritesGroup k) u = (3 + 2 * n + 2 * k, ap (λ b. cond b (Some (3 + 2 * n + 2 * k)) None) (group_test accounts k u.0 u.1))
+  used_booted (ReadsProcess me) u = (4 + 2 * n + 2 * m, ap (λ (x : ProcName). boot_category accounts (ReadsProcess x)) (some_first me u))
+  used_booted (WritesProcess me) u = (5 + 2 * n + 2 * m, ap (λ (x : ProcName). boot_category accounts (WritesProcess x)) (some_first me u))
   used_booted (OfJob job) u = absurd (no_job job u)
 
   -- boot's numbers are those that it gave
-  booted_as_made : (c : CategoryName) (q : ℕ) → boot_category session c ≡ Some q → booted session c ≡ q
+  booted_as_made : (c : CategoryName) (q : ℕ) → boot_category accounts c ≡ Some q → booted accounts c ≡ q
   booted_as_made c q is = ap (λ (o : Option ℕ). unwrap_or o 0) is
 
   -- the first user has the number 1
@@ -122,18 +122,18 @@ module _ (session : Session) (some_user : 0 < length session.users) where
 
   -- the objects and the labels
   abbrev objects : Objects Levels
-  objects = object_at (start_objects session)
+  objects = object_at (start_objects accounts)
 
   abbrev number : AddressNumbers
   number = start_number n
 
   abbrev wish : Address Step → Found
-  wish = expected session (start_category session) f number
+  wish = expected accounts (start_category accounts) f number
 
-  root_label : guard_label (start_category session) (readable_guard 1) ≡ written_by (write_category 1)
+  root_label : guard_label (start_category accounts) (readable_guard 1) ≡ written_by (write_category 1)
   root_label =
       let low : nat_le 1 n ≡ true = grind (arith, nat_tests, some_user) in
-      ap (λ q. guarded_by [] (q ∷ [])) (start_as_made session (WritesUser 1) (3 + 2 * 1) (ap (λ b. cond b (Some (3 + 2 * 1)) None) low))
+      ap (λ q. guarded_by [] (q ∷ [])) (start_as_made accounts (WritesUser 1) (3 + 2 * 1) (ap (λ b. cond b (Some (3 + 2 * 1)) None) low))
 
   own_number : 4 + 2 * n + 2 * m ≡ own_read_category owners
   own_number = omega arith
@@ -154,73 +154,73 @@ module _ (session : Session) (some_user : 0 < length session.users) where
   bare_there (Some o) = refl
 
   -- what boot left
-  same_user : (i : ℕ) (u : User) → i ≤ n → of_user session i u ≡ left_for_user session i u
+  same_user : (i : ℕ) (u : User) → i ≤ n → of_user accounts i u ≡ left_for_user accounts i u
   same_user i u h =
-      let reads = user_reads session (booted session) booted_as_made i h in
-      let writes = user_writes session (booted session) booted_as_made i h in
+      let reads = user_reads accounts (booted accounts) booted_as_made i h in
+      let writes = user_writes accounts (booted accounts) booted_as_made i h in
       λ k. Some (record { label = guarded_by (sym reads k ∷ []) (sym writes k ∷ []); kind = Segment u.password })
-      ∷ Some (record { label = gate_label_is session (booted session) booted_as_made u.name i h k; kind = Gate (gate_clearance_is session (booted session) booted_as_made u.name i h k) (Login i) }) ∷ []
+      ∷ Some (record { label = gate_label_is accounts (booted accounts) booted_as_made u.name i h k; kind = Gate (gate_clearance_is accounts (booted accounts) booted_as_made u.name i h k) (Login i) }) ∷ []
 
   same_left : (i : ℕ) (some : List User) → i + length some ≤ n + 1 → (table : Found) (back : List Found) (k : ℕ) → k ≤ 2 * length some
-      → get_or (numbered (of_user session) i some ++ table ∷ back) k None ≡ get_or (numbered (left_for_user session) i some ++ table ∷ []) k None
+      → get_or (numbered (of_user accounts) i some ++ table ∷ back) k None ≡ get_or (numbered (left_for_user accounts) i some ++ table ∷ []) k None
   same_left i [] h table back zero le = refl
   same_left i [] h table back (suc k) le = absurd (omega (arith, le))
   same_left i (u ∷ some) h table back zero le = ap (λ (l : List Found). get_or (l ++ table ∷ []) 0 None) (same_user i u (omega (arith, h)))
   same_left i (u ∷ some) h table back (suc zero) le = ap (λ (l : List Found). get_or (l ++ table ∷ []) 1 None) (same_user i u (omega (arith, h)))
   same_left i (u ∷ some) h table back (suc (suc k)) le = same_left (i + 1) some (omega (arith, h)) table back k (omega (arith, le))
 
-  beyond_left : (i : ℕ) (some : List User) (table : Found) (k : ℕ) → 2 * length some < k → get_or (numbered (left_for_user session) i some ++ table ∷ []) k None ≡ None
+  beyond_left : (i : ℕ) (some : List User) (table : Found) (k : ℕ) → 2 * length some < k → get_or (numbered (left_for_user accounts) i some ++ table ∷ []) k None ≡ None
   beyond_left i [] table zero h = absurd (omega (arith, h))
   beyond_left i [] table (suc k) h = refl
   beyond_left i (u ∷ some) table zero h = absurd (omega (arith, h))
   beyond_left i (u ∷ some) table (suc zero) h = absurd (omega (arith, h))
   beyond_left i (u ∷ some) table (suc (suc k)) h = beyond_left (i + 1) some table k (omega (arith, h))
 
-  left_same : (q : ℕ) → is_left n q ≡ true → objects q ≡ left_by_boot session q
+  left_same : (q : ℕ) → is_left n q ≡ true → objects q ≡ left_by_boot accounts q
   left_same zero e = absurd (grind (arith, nat_tests, e))
   left_same (suc zero) e = absurd (grind (arith, nat_tests, e))
   left_same (suc (suc zero)) e = absurd (grind (arith, nat_tests, e))
   left_same (suc (suc (suc k))) e =
-      ap (λ (l : List Found). get_or l k None) (append_assoc (of_users session session.users) (of_directory n session) (of_process n owners))
-      ∙ same_left 1 session.users (omega arith) (segment (written_by 1) (user_table session)) (drop 1 (of_directory n session) ++ of_process n owners) k (grind (arith, nat_tests, e))
+      ap (λ (l : List Found). get_or l k None) (append_assoc (of_users accounts accounts.users) (of_directory n accounts) (of_process n owners))
+      ∙ same_left 1 accounts.users (omega arith) (segment (written_by 1) (user_table accounts)) (drop 1 (of_directory n accounts) ++ of_process n owners) k (grind (arith, nat_tests, e))
 
-  nothing_left : (q : ℕ) → is_left n q ≡ false → None ≡ left_by_boot session q
+  nothing_left : (q : ℕ) → is_left n q ≡ false → None ≡ left_by_boot accounts q
   nothing_left zero e = refl
   nothing_left (suc zero) e = refl
   nothing_left (suc (suc zero)) e = refl
-  nothing_left (suc (suc (suc k))) e = sym (beyond_left 1 session.users _ k (grind (arith, nat_tests, e)))
+  nothing_left (suc (suc (suc k))) e = sym (beyond_left 1 accounts.users _ k (grind (arith, nat_tests, e)))
 
-  left_stands : (q : ℕ) (b : Bool) → is_left n q ≡ b → bare (option_and_then objects (cond b (Some q) None)) ≡ left_by_boot session q
-  left_stands q true e = (left_plain session q e).bared ∙ left_same q e
-  left_stands q false e = nothing_left q e
+  left_agrees : (q : ℕ) (b : Bool) → is_left n q ≡ b → bare (option_and_then objects (cond b (Some q) None)) ≡ left_by_boot accounts q
+  left_agrees q true e = (left_plain accounts q e).bared ∙ left_same q e
+  left_agrees q false e = nothing_left q e
 
   -- what the flat state has at `/`
-  slash_guarded : (kind : Kind Levels) → guarded_object session (start_category session) kind (class_guard session (Readable (first_user session.users))) ≡ Some (record { label = written_by (write_category 1); kind = kind })
+  slash_guarded : (kind : Kind Levels) → guarded_object accounts (start_category accounts) kind (class_guard accounts (Readable (first_user accounts.users))) ≡ Some (record { label = written_by (write_category 1); kind = kind })
   slash_guarded kind =
-      ap (λ (i : Option ℕ). guarded_object session (start_category session) kind (option_map readable_guard i)) (first_numbered session.users some_user)
+      ap (λ (i : Option ℕ). guarded_object accounts (start_category accounts) kind (option_map readable_guard i)) (first_numbered accounts.users some_user)
       ∙ ap (λ (l : Levels). Some (record { label = l; kind = kind })) root_label
 
-  slash_expected : expected_node session (start_category session) f number (Some []) ≡ bare (objects (4 + 2 * n))
-  slash_expected = ap (node_object session (start_category session)) slash_got ∙ slash_guarded (Container set.empty) ∙ sym (ap bare (slash_stands session))
+  slash_expected : expected_node accounts (start_category accounts) f number (Some []) ≡ bare (objects (4 + 2 * n))
+  slash_expected = ap (node_object accounts (start_category accounts)) slash_got ∙ slash_guarded (Container set.empty) ∙ sym (ap bare (slash_agrees accounts))
 
-  listing_expected : listing_at session (start_category session) f number (Some []) ≡ bare (objects (5 + 2 * n))
-  listing_expected = (λ i. listing_object session (start_category session) (nothing_spelled number [] i) (slash_got i)) ∙ slash_guarded (Segment []) ∙ sym (ap bare (listing_stands session))
+  listing_expected : listing_at accounts (start_category accounts) f number (Some []) ≡ bare (objects (5 + 2 * n))
+  listing_expected = (λ i. listing_object accounts (start_category accounts) (nothing_spelled number [] i) (slash_got i)) ∙ slash_guarded (Segment []) ∙ sym (ap bare (listing_agrees accounts))
 
-  node_if : (b : Bool) → expected_node session (start_category session) f number (cond b (Some []) None) ≡ cond b (bare (objects (4 + 2 * n))) None
+  node_if : (b : Bool) → expected_node accounts (start_category accounts) f number (cond b (Some []) None) ≡ cond b (bare (objects (4 + 2 * n))) None
   node_if true = slash_expected
   node_if false = refl
 
-  listing_if : (b : Bool) → listing_at session (start_category session) f number (cond b (Some []) None) ≡ cond b (bare (objects (5 + 2 * n))) None
+  listing_if : (b : Bool) → listing_at accounts (start_category accounts) f number (cond b (Some []) None) ≡ cond b (bare (objects (5 + 2 * n))) None
   listing_if true = listing_expected
   listing_if false = refl
 
-  no_node : (name : Name) (d : Option Path) → expected_node session (start_category session) f number (option_map (λ q. name ∷ q) d) ≡ None
+  no_node : (name : Name) (d : Option Path) → expected_node accounts (start_category accounts) f number (option_map (λ q. name ∷ q) d) ≡ None
   no_node name None = refl
-  no_node name (Some d) = ap (node_object session (start_category session)) (nothing_named name d)
+  no_node name (Some d) = ap (node_object accounts (start_category accounts)) (nothing_named name d)
 
-  no_listing : (name : Name) (d : Option Path) → listing_at session (start_category session) f number (option_map (λ q. name ∷ q) d) ≡ None
+  no_listing : (name : Name) (d : Option Path) → listing_at accounts (start_category accounts) f number (option_map (λ q. name ∷ q) d) ≡ None
   no_listing name None = refl
-  no_listing name (Some d) = ap (listing_object session (start_category session) (spelling (directory_of f.files number (name ∷ d)))) (nothing_named name d)
+  no_listing name (Some d) = ap (listing_object accounts (start_category accounts) (spelling (directory_of f.files number (name ∷ d)))) (nothing_named name d)
 
   -- what is asked for at process 0, and nothing at any other
   process_wish : (ask : Option ProcName → Found) (y : Found) → ask None ≡ None → ask (Some []) ≡ y → ((n : ℕ) (q : ProcName) → ask (Some (n ∷ q)) ≡ None) → (a : Address Step) → ask (process_at a) ≡ if_at process_address a y
@@ -245,32 +245,32 @@ module _ (session : Session) (some_user : 0 < length session.users) where
       by (Some []) is other = absurd (other (sym (address_inside a [] is)))
       by (Some (n ∷ q)) is other = others n q
 
-  home_if : (b : Bool) → expected_home session (start_category session) f number (cond b (Some []) None) ≡ cond b (bare (objects (6 + 2 * n))) None
-  home_if true = ap (λ q. bare_container (guarded_by [] (q ∷ []))) own_write_number ∙ sym (ap bare (home_stands session))
+  home_if : (b : Bool) → expected_home accounts (start_category accounts) f number (cond b (Some []) None) ≡ cond b (bare (objects (6 + 2 * n))) None
+  home_if true = ap (λ q. bare_container (guarded_by [] (q ∷ []))) own_write_number ∙ sym (ap bare (home_agrees accounts))
   home_if false = refl
 
-  inside_expected : container_inside session (start_category session) f number (Some []) ≡ bare (objects (7 + 2 * n))
-  inside_expected = (λ i. bare_container (guarded_by (own_number i ∷ []) (own_write_number i ∷ []))) ∙ sym (ap bare (inside_stands session))
+  inside_expected : container_inside accounts (start_category accounts) f number (Some []) ≡ bare (objects (7 + 2 * n))
+  inside_expected = (λ i. bare_container (guarded_by (own_number i ∷ []) (own_write_number i ∷ []))) ∙ sym (ap bare (inside_agrees accounts))
 
-  status_expected : expected_status session (start_category session) f number (Some []) ≡ bare (objects (9 + 2 * n))
+  status_expected : expected_status accounts (start_category accounts) f number (Some []) ≡ bare (objects (9 + 2 * n))
   status_expected =
       (λ i. segment (guarded_by [] (own_write_number i ∷ [])) (append-nil (first_process_bytes (7 + 2 * n) (8 + 2 * n)) i))
-      ∙ sym (ap bare (status_stands session))
+      ∙ sym (ap bare (status_agrees accounts))
 
-  runner_expected : user_number session nobody ≡ None → thread_at session (start_category session) f number (Some []) ≡ bare (objects (8 + 2 * n))
+  runner_expected : user_number accounts nobody ≡ None → thread_at accounts (start_category accounts) f number (Some []) ≡ bare (objects (8 + 2 * n))
   runner_expected no_one =
-      ap (λ (o : Option ℕ). Some (thread_of (rights_label (start_category session) (rights o)) (rights_clearance (start_category session) (rights o)))) no_one
+      ap (λ (o : Option ℕ). Some (thread_of (rights_label (start_category accounts) (rights o)) (rights_clearance (start_category accounts) (rights o)))) no_one
       ∙ (λ i. Some (thread_of (owner_label (own_number i ∷ own_write_number i ∷ []) []) (cleared_at (own_number i ∷ own_write_number i ∷ []))))
-      ∙ sym (ap bare (runner_stands session))
+      ∙ sym (ap bare (runner_agrees accounts))
     where
       rights : Option ℕ → Rights
-      rights o = record { owned = ReadsProcess [] ∷ WritesProcess [] ∷ owned_as session first_process o ++ map OfJob []; tainted = map OfJob [] }
+      rights o = record { owned = ReadsProcess [] ∷ WritesProcess [] ∷ owned_as accounts first_process o ++ map OfJob []; tainted = map OfJob [] }
 
-  module _ (no_one : user_number session nobody ≡ None) (room : (start_state session).next_object ≤ greatest) where
+  module _ (no_one : user_number accounts nobody ≡ None) (room : (start_state accounts).next_object ≤ greatest) where
     -- what stands at each address is what the flat state asks for there
     start_expected : (a : Address Step) → bare (objects_at objects (start_naming n) a) ≡ wish a
     start_expected [] = refl
-    start_expected (Left q ∷ a) = found_if [] a (cond (is_left n q) (Some q) None) (left_by_boot session q) (left_stands q (is_left n q) refl)
+    start_expected (Left q ∷ a) = found_if [] a (cond (is_left n q) (Some q) None) (left_by_boot accounts q) (left_agrees q (is_left n q) refl)
     start_expected (Slash ∷ a) = found_if [] a (Some (4 + 2 * n)) _ refl ∙ sym (node_if (same_address [] a))
     start_expected (Listing ∷ []) = refl
     start_expected (Listing ∷ Slash ∷ a) = found_if [] a (Some (5 + 2 * n)) _ refl ∙ sym (listing_if (same_address [] a))
@@ -279,25 +279,25 @@ module _ (session : Session) (some_user : 0 < length session.users) where
     start_expected (Named name ∷ a) = sym (no_node name (path_at a))
     start_expected (Home ∷ a) = found_if [] a (Some (6 + 2 * n)) _ refl ∙ sym (home_if (same_address [] a))
     start_expected (Status ∷ a) = found_if process_address a (Some (9 + 2 * n)) _ refl
-        ∙ sym (process_wish (expected_status session (start_category session) f number) _ refl status_expected (λ n q. refl) a)
+        ∙ sym (process_wish (expected_status accounts (start_category accounts) f number) _ refl status_expected (λ n q. refl) a)
     start_expected (Inside ∷ a) = found_if process_address a (Some (7 + 2 * n)) _ refl
-        ∙ sym (process_wish (container_inside session (start_category session) f number) _ refl inside_expected (λ n q. refl) a)
+        ∙ sym (process_wish (container_inside accounts (start_category accounts) f number) _ refl inside_expected (λ n q. refl) a)
     start_expected (Runner ∷ a) = found_if inside_address a (Some (8 + 2 * n)) _ refl
-        ∙ sym (inside_wish (thread_at session (start_category session) f number) _ refl (runner_expected no_one) (λ n q. refl) a)
+        ∙ sym (inside_wish (thread_at accounts (start_category accounts) f number) _ refl (runner_expected no_one) (λ n q. refl) a)
     start_expected (Child n ∷ a) = by (process_at a)
       where
-        by : (q : Option ProcName) → None ≡ expected_home session (start_category session) f number (option_map (λ p. n ∷ p) q)
+        by : (q : Option ProcName) → None ≡ expected_home accounts (start_category accounts) f number (option_map (λ p. n ∷ p) q)
         by None = refl
         by (Some q) = refl
 
     -- an address has a number exactly where the flat state asks for something
     number_there : (a : Address Step) (found : Option ℕ) → number a ≡ found → is_some found ≡ is_present (option_and_then objects found)
     number_there a None e = refl
-    number_there a (Some q) e = sym (place_there session q a (place_of_number n q a e))
+    number_there a (Some q) e = sym (place_there accounts q a (place_of_number n q a e))
 
-    start_stands : Stands same_step (start_state session) (start_naming n) wish
-    start_stands = record {
-      tree = start_laid session;
+    start_agrees : Agrees same_step (start_state accounts) (start_naming n) wish
+    start_agrees = record {
+      tree = start_matched accounts;
       objects = start_expected;
       named = λ a. number_there a (number a) refl ∙ sym (bare_there (objects_at objects (start_naming n) a)) ∙ ap is_present (start_expected a);
     }
@@ -314,33 +314,33 @@ module _ (session : Session) (some_user : 0 < length session.users) where
     as_booted_then (Runner ∷ a) q e = absurd (none-some q e)
     as_booted_then (Child k ∷ a) q e = e
 
-    first_is : IsProcess session (start_category session) first_process
+    first_is : IsProcess accounts (start_category accounts) first_process
     first_is = record { someone = λ r. inl refl; free = λ r u. (refl, refl); apart = λ r job e. refl; chain = tt; held = λ r. tt; few = omega arith; status = λ n e. absurd (none-some n e) }
 
-    slash_guard : class_guard session (Readable (first_user session.users)) ≡ Some (readable_guard 1)
-    slash_guard = ap (option_map readable_guard) (first_numbered session.users some_user)
+    slash_guard : class_guard accounts (Readable (first_user accounts.users)) ≡ Some (readable_guard 1)
+    slash_guard = ap (option_map readable_guard) (first_numbered accounts.users some_user)
 
-    start_is_laid : ObjectsMatch session (start_state session) f
-    start_is_laid = record {
+    start_is_matched : ObjectsMatch accounts (start_state accounts) f
+    start_is_matched = record {
       naming = start_naming n;
-      category = start_category session;
-      stands = start_stands;
+      category = start_category accounts;
+      agrees = start_agrees;
       numbered = room;
       as_booted = as_booted_then;
-      different = start_different session;
-      made = λ c u. let b = used_booted c u in subst (λ (m : ℕ). IsMade m (start_category session c)) total (start_made session c b.0 b.1);
-      as_made = start_as_made session;
-      guarded = λ q there at none. none-some (readable_guard 1) (sym none ∙ ap (λ (x : Node). class_guard session x.class) (sym (only_slash q there at)) ∙ slash_guard);
-      in_order = λ q there at. subst (λ (x : Node). IsInOrder (start_category session) x.class) (only_slash q there at) tt;
+      different = start_different accounts;
+      made = λ c u. let b = used_booted c u in subst (λ (m : ℕ). IsMade m (start_category accounts c)) total (start_made accounts c b.0 b.1);
+      as_made = start_as_made accounts;
+      guarded = λ q there at none. none-some (readable_guard 1) (sym none ∙ ap (λ (x : Node). class_guard accounts x.class) (sym (only_slash q there at)) ∙ slash_guard);
+      in_order = λ q there at. subst (λ (x : Node). IsInOrder (start_category accounts) x.class) (only_slash q there at) tt;
       listable = λ d e. listable_empty;
       first = refl;
-      processes = λ me p at. subst (IsProcess session (start_category session)) (only_first me p at).1 first_is;
+      processes = λ me p at. subst (IsProcess accounts (start_category accounts)) (only_first me p at).1 first_is;
       processes_given = λ me u. subst (λ (x : ProcName). is_given f.processes x ≡ true) (sym (some_first me u)) refl;
       boot_thread_gone = refl;
     }
       where
-        total : 6 + 2 * n + 2 * m ≡ (start_state session).next_category
+        total : 6 + 2 * n + 2 * m ≡ (start_state accounts).next_category
         total = omega arith
 
-    pub start_represents : Represents session (start_state session) f
-    start_represents = record { laid = start_is_laid; jobs_given = λ job u. absurd (no_job job u) }
+    pub start_represents : Represents accounts (start_state accounts) f
+    start_represents = record { matched = start_is_matched; jobs_given = λ job u. absurd (no_job job u) }

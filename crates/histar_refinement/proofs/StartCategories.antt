@@ -4,7 +4,7 @@ use Rattle.std.specs.Prelude.{nat_le, unwrap_or}
 use Rattle.std.proofs.lemmas.Bool.{cases_lt}
 use Rattle.std.proofs.lemmas.Bool.Decides.{nat_tests}
 use Rattle.std.proofs.lemmas.Option.{none-some, same_Some}
-use Rattle.histar_flat.specs.Sessions.{Session}
+use Rattle.histar_flat.specs.Accounts.{Accounts}
 use Rattle.histar_refinement.specs.Categories.{CategoryName, Categories, AreDifferent, IsMade, split_category, boot_category}
 use Rattle.histar_refinement.specs.Categories.CategoryName.{OfBoot, ReadsUser, WritesUser, ReadsGroup, WritesGroup, ReadsProcess, WritesProcess, OfJob}
 use Rattle.histar_layout.proofs.Members.{first_of, second_of}
@@ -137,16 +137,16 @@ module _ (n m : ℕ) where
   one_booted c d p (on_writes_own q e) (on_reads_own o u) = absurd (omega (arith, e, u))
   one_booted c d p (on_writes_own q e) (on_writes_own o u) = refl
 
-module _ (session : Session) where
+module _ (accounts : Accounts) where
   abbrev n : ℕ
-  n = length session.users
+  n = length accounts.users
 
   abbrev m : ℕ
-  m = length session.groups
+  m = length accounts.groups
 
-  told : (b : Bool) (x q : ℕ) → cond b (Some x) None ≡ Some q → (b ≡ true) × (q ≡ x)
-  told true x q e = (refl, sym (same_Some x q e))
-  told false x q e = absurd (none-some q e)
+  revealed : (b : Bool) (x q : ℕ) → cond b (Some x) None ≡ Some q → (b ≡ true) × (q ≡ x)
+  revealed true x q e = (refl, sym (same_Some x q e))
+  revealed false x q e = absurd (none-some q e)
 
   in_range : (k : ℕ) → (nat_le 1 k && nat_le k m) ≡ true → (1 ≤ k) × (k ≤ m)
   in_range k e =
@@ -154,12 +154,12 @@ module _ (session : Session) where
       let high : nat_le k m ≡ true = second_of (nat_le 1 k) (nat_le k m) e in
       (grind (arith, nat_tests, low), grind (arith, nat_tests, high))
 
-  booted_is : (c : CategoryName) (q : ℕ) → boot_category session c ≡ Some q → Booted n m c q
+  booted_is : (c : CategoryName) (q : ℕ) → boot_category accounts c ≡ Some q → Booted n m c q
   booted_is OfBoot q e = on_boot q (sym (same_Some 1 q e))
-  booted_is (ReadsUser i) q e = let t = told (nat_le i n) (2 + 2 * i) q e in let le : nat_le i n ≡ true = t.0 in on_reads_user i q (grind (arith, nat_tests, le)) t.1
-  booted_is (WritesUser i) q e = let t = told (nat_le i n) (3 + 2 * i) q e in let le : nat_le i n ≡ true = t.0 in on_writes_user i q (grind (arith, nat_tests, le)) t.1
-  booted_is (ReadsGroup k) q e = let t = told (nat_le 1 k && nat_le k m) (2 + 2 * n + 2 * k) q e in on_reads_group k q (in_range k t.0) t.1
-  booted_is (WritesGroup k) q e = let t = told (nat_le 1 k && nat_le k m) (3 + 2 * n + 2 * k) q e in on_writes_group k q (in_range k t.0) t.1
+  booted_is (ReadsUser i) q e = let t = revealed (nat_le i n) (2 + 2 * i) q e in let le : nat_le i n ≡ true = t.0 in on_reads_user i q (grind (arith, nat_tests, le)) t.1
+  booted_is (WritesUser i) q e = let t = revealed (nat_le i n) (3 + 2 * i) q e in let le : nat_le i n ≡ true = t.0 in on_writes_user i q (grind (arith, nat_tests, le)) t.1
+  booted_is (ReadsGroup k) q e = let t = revealed (nat_le 1 k && nat_le k m) (2 + 2 * n + 2 * k) q e in on_reads_group k q (in_range k t.0) t.1
+  booted_is (WritesGroup k) q e = let t = revealed (nat_le 1 k && nat_le k m) (3 + 2 * n + 2 * k) q e in on_writes_group k q (in_range k t.0) t.1
   booted_is (ReadsProcess []) q e = on_reads_own q (sym (same_Some (4 + 2 * n + 2 * m) q e))
   booted_is (ReadsProcess (x ∷ p)) q e = absurd (none-some q e)
   booted_is (WritesProcess []) q e = on_writes_own q (sym (same_Some (5 + 2 * n + 2 * m) q e))
@@ -168,18 +168,18 @@ module _ (session : Session) where
 
   -- the naming at the start: boot's numbers, and behind them one for each other name
   abbrev pub start_category : Categories
-  start_category c = unwrap_or (boot_category session c) (6 + 2 * n + 2 * m + code c)
+  start_category c = unwrap_or (boot_category accounts c) (6 + 2 * n + 2 * m + code c)
 
-  pub start_as_made : (c : CategoryName) (q : ℕ) → boot_category session c ≡ Some q → start_category c ≡ q
+  pub start_as_made : (c : CategoryName) (q : ℕ) → boot_category accounts c ≡ Some q → start_category c ≡ q
   start_as_made c q e = ap (λ (o : Option ℕ). unwrap_or o (6 + 2 * n + 2 * m + code c)) e
 
-  pub start_made : (c : CategoryName) (q : ℕ) → boot_category session c ≡ Some q → IsMade (6 + 2 * n + 2 * m) (start_category c)
+  pub start_made : (c : CategoryName) (q : ℕ) → boot_category accounts c ≡ Some q → IsMade (6 + 2 * n + 2 * m) (start_category c)
   start_made c q e = subst (IsMade (6 + 2 * n + 2 * m)) (sym (start_as_made c q e)) (booted_below n m c q (booted_is c q e))
 
   pub start_different : AreDifferent start_category
-  start_different c d e = by (boot_category session c) (boot_category session d) refl refl e
+  start_different c d e = by (boot_category accounts c) (boot_category accounts d) refl refl e
     where
-      by : (a b : Option ℕ) → boot_category session c ≡ a → boot_category session d ≡ b → unwrap_or a (6 + 2 * n + 2 * m + code c) ≡ unwrap_or b (6 + 2 * n + 2 * m + code d) → c ≡ d
+      by : (a b : Option ℕ) → boot_category accounts c ≡ a → boot_category accounts d ≡ b → unwrap_or a (6 + 2 * n + 2 * m + code c) ≡ unwrap_or b (6 + 2 * n + 2 * m + code d) → c ≡ d
       by (Some q) (Some r) at_c at_d e = one_booted n m c d q (booted_is c q at_c) (booted_is d q (at_d ∙ ap Some (sym e)))
       by (Some q) None at_c at_d e = let low = (booted_below n m c q (booted_is c q at_c)).1 in absurd (omega (arith, low, e))
       by None (Some r) at_c at_d e = let low = (booted_below n m d r (booted_is d r at_d)).1 in absurd (omega (arith, low, e))

@@ -4,7 +4,7 @@ use Rattle.std.proofs.lemmas.List.{length-append}
 use Rattle.std.proofs.lemmas.Bool.Decides.{nat_tests}
 use Rattle.std.specs.FinSet as set
 use Rattle.histar_flat.specs.declared.calls.User.{User}
-use Rattle.histar_flat.specs.Sessions.{Session}
+use Rattle.histar_flat.specs.Accounts.{Accounts}
 use Rattle.histar_label.specs.Levels.{Levels}
 use Rattle.histar_object.specs.declared.objects.Kind.TheVariants.{Thread}
 use Rattle.histar_object.specs.Objects.{is_present, links_in}
@@ -14,7 +14,7 @@ use Rattle.histar_layout.specs.Labelling.{written_by, secret_of, owner_of, clear
 use Rattle.histar_login.specs.Start.{root_category, declared, own_read_category, own_write_category, segment, container, numbered, of_user, of_users, of_directory, of_process, first_process_bytes, user_table, start_objects, object_at}
 use Rattle.histar_login.proofs.Stages.{length-numbered}
 use Rattle.histar_refinement.proofs.StartNumbers.{is_left}
-use Rattle.histar_refinement.specs.Stands.{bare}
+use Rattle.histar_refinement.specs.Agrees.{bare}
 
 -- something stands there that is no container
 pub record IsPlain (found : Found) : Type 0 where
@@ -28,71 +28,71 @@ behind [] back k = let same : 0 + k ≡ k = omega arith in ap (λ j. get_or back
 behind (x ∷ front) back k = let next : length (x ∷ front) + k ≡ suc (length front + k) = omega arith in ap (λ j. get_or (x ∷ front ++ back) j None) next ∙ behind front back k
 
 -- the users' passwords and gates are no containers, and a segment behind them is none
-users_plain : (session : Session) (i : ℕ) (users : List User) (label : Levels) (bytes : List ℕ) (back : List Found) (k : ℕ) → k ≤ 2 * length users
-    → IsPlain (get_or (numbered (of_user session) i users ++ segment label bytes ∷ back) k None)
-users_plain session i [] label bytes back zero h = record { there = refl; bared = refl; linkless = refl }
-users_plain session i [] label bytes back (suc k) h = absurd (omega arith)
-users_plain session i (user ∷ users) label bytes back zero h = record { there = refl; bared = refl; linkless = refl }
-users_plain session i (user ∷ users) label bytes back (suc zero) h = record { there = refl; bared = refl; linkless = refl }
-users_plain session i (user ∷ users) label bytes back (suc (suc k)) h = users_plain session (i + 1) users label bytes back k (omega arith)
+users_plain : (accounts : Accounts) (i : ℕ) (users : List User) (label : Levels) (bytes : List ℕ) (back : List Found) (k : ℕ) → k ≤ 2 * length users
+    → IsPlain (get_or (numbered (of_user accounts) i users ++ segment label bytes ∷ back) k None)
+users_plain accounts i [] label bytes back zero h = record { there = refl; bared = refl; linkless = refl }
+users_plain accounts i [] label bytes back (suc k) h = absurd (omega arith)
+users_plain accounts i (user ∷ users) label bytes back zero h = record { there = refl; bared = refl; linkless = refl }
+users_plain accounts i (user ∷ users) label bytes back (suc zero) h = record { there = refl; bared = refl; linkless = refl }
+users_plain accounts i (user ∷ users) label bytes back (suc (suc k)) h = users_plain accounts (i + 1) users label bytes back k (omega arith)
 
-module _ (session : Session) where
+module _ (accounts : Accounts) where
   -- how many users there are
   abbrev pub n : ℕ
-  n = length session.users
+  n = length accounts.users
 
   -- and how many users and groups together
   abbrev pub owners : ℕ
-  owners = declared session
+  owners = declared accounts
 
   -- what stands behind the root container
-  from_users : (k : ℕ) → object_at (start_objects session) (suc (suc (suc k))) ≡ get_or (of_users session session.users ++ (of_directory n session ++ of_process n owners)) k None
-  from_users k = ap (λ (l : List Found). get_or l k None) (append_assoc (of_users session session.users) (of_directory n session) (of_process n owners))
+  from_users : (k : ℕ) → object_at (start_objects accounts) (suc (suc (suc k))) ≡ get_or (of_users accounts accounts.users ++ (of_directory n accounts ++ of_process n owners)) k None
+  from_users k = ap (λ (l : List Found). get_or l k None) (append_assoc (of_users accounts accounts.users) (of_directory n accounts) (of_process n owners))
 
   -- what stands behind the users' passwords and gates
-  last_at : (k q : ℕ) → q ≡ 3 + 2 * n + k → object_at (start_objects session) q ≡ get_or (of_directory n session ++ of_process n owners) k None
+  last_at : (k q : ℕ) → q ≡ 3 + 2 * n + k → object_at (start_objects accounts) q ≡ get_or (of_directory n accounts ++ of_process n owners) k None
   last_at k q e =
-      let is : q ≡ suc (suc (suc (length (of_users session session.users) + k))) = omega (arith, length-numbered session 1 session.users) in
-      ap (object_at (start_objects session)) is ∙ from_users (length (of_users session session.users) + k) ∙ behind (of_users session session.users) (of_directory n session ++ of_process n owners) k
+      let is : q ≡ suc (suc (suc (length (of_users accounts accounts.users) + k))) = omega (arith, length-numbered accounts 1 accounts.users) in
+      ap (object_at (start_objects accounts)) is ∙ from_users (length (of_users accounts accounts.users) + k) ∙ behind (of_users accounts accounts.users) (of_directory n accounts ++ of_process n owners) k
 
   -- what boot left is there, and is no container
-  pub left_plain : (q : ℕ) → is_left n q ≡ true → IsPlain (object_at (start_objects session) q)
+  pub left_plain : (q : ℕ) → is_left n q ≡ true → IsPlain (object_at (start_objects accounts) q)
   left_plain zero e = absurd (grind (arith, nat_tests))
   left_plain (suc zero) e = absurd (grind (arith, nat_tests))
   left_plain (suc (suc zero)) e = absurd (grind (arith, nat_tests))
   left_plain (suc (suc (suc k))) e =
-      let back = drop 1 (of_directory n session ++ of_process n owners) in
-      subst IsPlain (sym (from_users k)) (users_plain session 1 session.users (written_by root_category) (user_table session) back k (grind (arith, nat_tests)))
+      let back = drop 1 (of_directory n accounts ++ of_process n owners) in
+      subst IsPlain (sym (from_users k)) (users_plain accounts 1 accounts.users (written_by root_category) (user_table accounts) back k (grind (arith, nat_tests)))
 
   -- `/` links its directory segment, and the first user alone may write it
-  pub slash_stands : object_at (start_objects session) (4 + 2 * n) ≡ container (written_by (write_category 1)) ((5 + 2 * n) ∷ [])
-  slash_stands = last_at 1 _ (omega arith)
+  pub slash_agrees : object_at (start_objects accounts) (4 + 2 * n) ≡ container (written_by (write_category 1)) ((5 + 2 * n) ∷ [])
+  slash_agrees = last_at 1 _ (omega arith)
 
   -- the directory segment of `/` is empty
-  pub listing_stands : object_at (start_objects session) (5 + 2 * n) ≡ segment (written_by (write_category 1)) []
-  listing_stands = last_at 2 _ (omega arith)
+  pub listing_agrees : object_at (start_objects accounts) (5 + 2 * n) ≡ segment (written_by (write_category 1)) []
+  listing_agrees = last_at 2 _ (omega arith)
 
   -- the container of process 0 links its internal container and its process segment
-  pub home_stands : object_at (start_objects session) (6 + 2 * n) ≡ container (written_by (own_write_category owners)) ((7 + 2 * n) ∷ (9 + 2 * n) ∷ [])
-  home_stands = last_at 3 _ (omega arith)
+  pub home_agrees : object_at (start_objects accounts) (6 + 2 * n) ≡ container (written_by (own_write_category owners)) ((7 + 2 * n) ∷ (9 + 2 * n) ∷ [])
+  home_agrees = last_at 3 _ (omega arith)
 
   -- the internal container of process 0 links its thread
-  pub inside_stands : object_at (start_objects session) (7 + 2 * n) ≡ container (secret_of (own_read_category owners) (own_write_category owners)) ((8 + 2 * n) ∷ [])
-  inside_stands = last_at 4 _ (omega arith)
+  pub inside_agrees : object_at (start_objects accounts) (7 + 2 * n) ≡ container (secret_of (own_read_category owners) (own_write_category owners)) ((8 + 2 * n) ∷ [])
+  inside_agrees = last_at 4 _ (omega arith)
 
   -- the thread of process 0 owns its own two categories alone
-  pub runner_stands : object_at (start_objects session) (8 + 2 * n)
+  pub runner_agrees : object_at (start_objects accounts) (8 + 2 * n)
       ≡ Some (record { label = owner_of (own_read_category owners) (own_write_category owners); kind = Thread (cleared_of (own_read_category owners) (own_write_category owners)) })
-  runner_stands = last_at 5 _ (omega arith)
+  runner_agrees = last_at 5 _ (omega arith)
 
   -- the process segment names the internal container and the thread
-  pub status_stands : object_at (start_objects session) (9 + 2 * n) ≡ segment (written_by (own_write_category owners)) (first_process_bytes (7 + 2 * n) (8 + 2 * n))
-  status_stands = last_at 6 _ (omega arith)
+  pub status_agrees : object_at (start_objects accounts) (9 + 2 * n) ≡ segment (written_by (own_write_category owners)) (first_process_bytes (7 + 2 * n) (8 + 2 * n))
+  status_agrees = last_at 6 _ (omega arith)
 
   -- nothing stands behind the process segment
-  pub none_behind : (q : ℕ) → 10 + 2 * n ≤ q → object_at (start_objects session) q ≡ None
+  pub none_behind : (q : ℕ) → 10 + 2 * n ≤ q → object_at (start_objects accounts) q ≡ None
   none_behind q h = last_at (suc (suc (suc (suc (suc (suc (suc (q - (10 + 2 * n))))))))) q (omega arith)
 
   -- so many objects stand at the start
-  pub length_start : length (start_objects session) ≡ 9 + 2 * n
-  length_start = omega (arith, length-append (of_users session session.users ++ of_directory n session) (of_process n owners), length-append (of_users session session.users) (of_directory n session), length-numbered session 1 session.users)
+  pub length_start : length (start_objects accounts) ≡ 9 + 2 * n
+  length_start = omega (arith, length-append (of_users accounts accounts.users ++ of_directory n accounts) (of_process n owners), length-append (of_users accounts accounts.users) (of_directory n accounts), length-numbered accounts 1 accounts.users)

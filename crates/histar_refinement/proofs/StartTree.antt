@@ -7,11 +7,11 @@ use Rattle.std.specs.FinSet as set
 use Rattle.std.specs.Ordering.{nat_cmp}
 use Rattle.std.proofs.lemmas.Option.{same_Some}
 use Rattle.std.proofs.Math.Bool.{or-false}
-use Rattle.histar_flat.specs.Sessions.{Session}
+use Rattle.histar_flat.specs.Accounts.{Accounts}
 use Rattle.histar_label.specs.Levels.{Levels}
 use Rattle.histar_object.specs.Objects.{Objects, is_present, links_in}
 use Rattle.histar_object.specs.State.{Found}
-use Rattle.histar_container.specs.Tree.{Address, Naming, wanted, same_steps, is_one_below, IsLaid, objects_at}
+use Rattle.histar_container.specs.Tree.{Address, Naming, wanted, same_steps, is_one_below, MatchesNaming, objects_at}
 use Rattle.histar_container.proofs.Addresses.{same_itself, same_other}
 use Rattle.histar_login.specs.Start.{start_objects, start_state, object_at}
 use Rattle.histar_refinement.specs.Addresses.{Step, same_step}
@@ -19,7 +19,7 @@ use Rattle.histar_refinement.proofs.StartNumbers.{process_address, inside_addres
 use Rattle.histar_refinement.specs.Addresses.Step.{Left, Slash, Listing, Status, Runner}
 use Rattle.histar_refinement.proofs.Steps.{step_tests_equality}
 use Rattle.histar_refinement.proofs.StartNames.{start_address, Place, on_root, on_left, on_slash, on_listing, on_home, on_inside, on_runner, on_status, IsFree, Seen, placed, unplaced, seen, place_of_address, address_of_place, number_of_place, place_of_number}
-use Rattle.histar_refinement.proofs.StartTable.{left_plain, slash_stands, listing_stands, home_stands, inside_stands, runner_stands, status_stands, none_behind, length_start}
+use Rattle.histar_refinement.proofs.StartTable.{left_plain, slash_agrees, listing_agrees, home_agrees, inside_agrees, runner_agrees, status_agrees, none_behind, length_start}
 
 -- the naming at the start, where there are n users
 abbrev pub start_naming : ℕ → Naming Step
@@ -179,20 +179,20 @@ module _ (n : ℕ) where
     | Some q ↦ λ e k. held_place q x a (place_of_number n q (x ∷ a) e)
   ] refl h
 
-module _ (session : Session) where
+module _ (accounts : Accounts) where
   -- how many users there are
   abbrev n : ℕ
-  n = length session.users
+  n = length accounts.users
 
   -- the objects at the start
   abbrev objects : Objects Levels
-  objects = object_at (start_objects session)
+  objects = object_at (start_objects accounts)
 
   -- nothing stands where there is no address
   free_none : (q : ℕ) → IsFree n q → objects q ≡ None
   free_none q (inl e) = ap objects e
   free_none q (inr (inl e)) = ap objects e
-  free_none q (inr (inr h)) = none_behind session q h
+  free_none q (inr (inr h)) = none_behind accounts q h
 
   -- the object at each number is the one at its address
   start_as_expected : (q : ℕ) → objects q ≡ wanted (objects_at objects (start_naming n)) (start_address n q)
@@ -212,32 +212,32 @@ module _ (session : Session) where
   -- an object links exactly what stands one step below it
   place_links : (q c : ℕ) (a : Address Step) → Place n a q → set.contains (links_in (objects q)) c ≡ is_one_below same_step a (start_address n c)
   place_links p c b (on_root q e) = same_links q c _ _ (ap objects e) (root_links n c)
-  place_links p c b (on_left q e) = no_links q c (left_plain session q e).linkless ∙ no_child n (Left q ∷ []) refl refl refl refl c
-  place_links p c b (on_slash q e) = same_links q c _ _ (ap objects e ∙ slash_stands session) (slash_links n c)
-  place_links p c b (on_listing q e) = no_links q c (ap links_in (ap objects e ∙ listing_stands session)) ∙ no_child n (Listing ∷ Slash ∷ []) refl refl refl refl c
-  place_links p c b (on_home q e) = same_links q c _ _ (ap objects e ∙ home_stands session) (home_links n c)
-  place_links p c b (on_inside q e) = same_links q c _ _ (ap objects e ∙ inside_stands session) (inside_links n c)
-  place_links p c b (on_runner q e) = no_links q c (ap links_in (ap objects e ∙ runner_stands session)) ∙ no_child n (Runner ∷ inside_address) refl refl refl refl c
-  place_links p c b (on_status q e) = no_links q c (ap links_in (ap objects e ∙ status_stands session)) ∙ no_child n (Status ∷ process_address) refl refl refl refl c
+  place_links p c b (on_left q e) = no_links q c (left_plain accounts q e).linkless ∙ no_child n (Left q ∷ []) refl refl refl refl c
+  place_links p c b (on_slash q e) = same_links q c _ _ (ap objects e ∙ slash_agrees accounts) (slash_links n c)
+  place_links p c b (on_listing q e) = no_links q c (ap links_in (ap objects e ∙ listing_agrees accounts)) ∙ no_child n (Listing ∷ Slash ∷ []) refl refl refl refl c
+  place_links p c b (on_home q e) = same_links q c _ _ (ap objects e ∙ home_agrees accounts) (home_links n c)
+  place_links p c b (on_inside q e) = same_links q c _ _ (ap objects e ∙ inside_agrees accounts) (inside_links n c)
+  place_links p c b (on_runner q e) = no_links q c (ap links_in (ap objects e ∙ runner_agrees accounts)) ∙ no_child n (Runner ∷ inside_address) refl refl refl refl c
+  place_links p c b (on_status q e) = no_links q c (ap links_in (ap objects e ∙ status_agrees accounts)) ∙ no_child n (Status ∷ process_address) refl refl refl refl c
 
   -- something stands where there is an address
   pub place_there : (q : ℕ) (a : Address Step) → Place n a q → is_present (objects q) ≡ true
   place_there p b (on_root q e) = ap is_present (ap objects e)
-  place_there p b (on_left q e) = (left_plain session q e).there
-  place_there p b (on_slash q e) = ap is_present (ap objects e ∙ slash_stands session)
-  place_there p b (on_listing q e) = ap is_present (ap objects e ∙ listing_stands session)
-  place_there p b (on_home q e) = ap is_present (ap objects e ∙ home_stands session)
-  place_there p b (on_inside q e) = ap is_present (ap objects e ∙ inside_stands session)
-  place_there p b (on_runner q e) = ap is_present (ap objects e ∙ runner_stands session)
-  place_there p b (on_status q e) = ap is_present (ap objects e ∙ status_stands session)
+  place_there p b (on_left q e) = (left_plain accounts q e).there
+  place_there p b (on_slash q e) = ap is_present (ap objects e ∙ slash_agrees accounts)
+  place_there p b (on_listing q e) = ap is_present (ap objects e ∙ listing_agrees accounts)
+  place_there p b (on_home q e) = ap is_present (ap objects e ∙ home_agrees accounts)
+  place_there p b (on_inside q e) = ap is_present (ap objects e ∙ inside_agrees accounts)
+  place_there p b (on_runner q e) = ap is_present (ap objects e ∙ runner_agrees accounts)
+  place_there p b (on_status q e) = ap is_present (ap objects e ∙ status_agrees accounts)
 
   -- the objects at the start are laid
-  pub start_laid : IsLaid same_step objects (start_state session).next_object (objects_at objects (start_naming n)) (start_naming n)
-  start_laid = record {
+  pub start_matched : MatchesNaming same_step objects (start_state accounts).next_object (objects_at objects (start_naming n)) (start_naming n)
+  start_matched = record {
     as_expected = start_as_expected;
     numbered = λ q a h. number_of_place n q a (place_of_address n q a h);
     addressed = λ a q h. address_of_place n q a (place_of_number n q a h);
     held = start_held n;
     links = λ q c a h. place_links q c a (place_of_address n q a h);
-    unused = λ q h. start_unused n q (omega (arith, length_start session));
+    unused = λ q h. start_unused n q (omega (arith, length_start accounts));
   }

@@ -17,8 +17,8 @@ use Rattle.histar_flat.specs.FlatState.{moved}
 use Rattle.histar_refinement.specs.Addresses.{Step, same_step, same_address, address_of, home_address, path_at, process_at, inside_at}
 use Rattle.histar_refinement.specs.Addresses.Step.{Left, Slash, Listing, Named, Home, Status, Inside, Runner, Child}
 use Rattle.histar_refinement.proofs.Steps.{step_tests_equality}
-use Rattle.histar_refinement.proofs.Places.{address_path}
-use Rattle.histar_refinement.proofs.FileRows.{same_address_path}
+use Rattle.histar_refinement.proofs.Roots.{address_path}
+use Rattle.histar_refinement.proofs.ListedFiles.{same_address_path}
 
 -- ---- lists in which the steps right below one list change
 
@@ -27,7 +27,7 @@ abbrev pub turned_list : {X : Type 0} → (List X → List X → Bool) → List 
 turned_list eq top f [] = []
 turned_list eq top f (x ∷ a) = f (eq top a) x ∷ turned_list eq top f a
 
-module _ {X : Type 0} (eq : List X → List X → Bool) (tells : (a b : List X) → ((eq a b ≡ true) × (a ≡ b)) ⊎ ((eq a b ≡ false) × (a ≢ b))) (top : List X) (f : Bool → X → X)
+module _ {X : Type 0} (eq : List X → List X → Bool) (decides : (a b : List X) → ((eq a b ≡ true) × (a ≡ b)) ⊎ ((eq a b ≡ false) × (a ≢ b))) (top : List X) (f : Bool → X → X)
     (still : (x : X) → f false x ≡ x) (back : (b : Bool) (x : X) → f b (f b x) ≡ x) where
   abbrev there : List X → List X
   there = turned_list eq top f
@@ -39,7 +39,7 @@ module _ {X : Type 0} (eq : List X → List X → Bool) (tells : (a b : List X) 
   -- what is not longer than `top` stays
   pub short_stays : (a : List X) → length a ≤ length top → there a ≡ a
   short_stays [] h = refl
-  short_stays (x ∷ a) h = elim (tells top a) [
+  short_stays (x ∷ a) h = elim (decides top a) [
     | inl e ↦ let same_length = ap length e.1 in absurd (omega (arith, h, same_length))
     | inr e ↦
         let rest : there a ≡ a = short_stays a (omega (arith, h)) in
@@ -51,9 +51,9 @@ module _ {X : Type 0} (eq : List X → List X → Bool) (tells : (a b : List X) 
 
   -- only `top` becomes `top`
   pub same_top : (a : List X) → eq top (there a) ≡ eq top a
-  same_top a = elim (tells top a) [
+  same_top a = elim (decides top a) [
     | inl e ↦ ap (eq top) (ap there (sym e.1) ∙ top_stays ∙ e.1)
-    | inr e ↦ by e (tells top (there a))
+    | inr e ↦ by e (decides top (there a))
   ]
     where
       by : (eq top a ≡ false) × (top ≢ a) → ((eq top (there a) ≡ true) × (top ≡ there a)) ⊎ ((eq top (there a) ≡ false) × (top ≢ there a)) → eq top (there a) ≡ eq top a
@@ -66,9 +66,9 @@ module _ {X : Type 0} (eq : List X → List X → Bool) (tells : (a b : List X) 
   turned_back (x ∷ a) = (λ i. f (same_top a i) (f (eq top a) x) ∷ turned_back a i) ∙ ap (λ (y : X). y ∷ a) (back (eq top a) x)
 
   pub turned_tests : (a b : List X) → eq a (there b) ≡ eq (there a) b
-  turned_tests a b = elim (tells a (there b)) [
-    | inl e ↦ e.0 ∙ by_equal (ap there e.1 ∙ turned_back b) (tells (there a) b)
-    | inr e ↦ e.0 ∙ by_other (λ k. e.1 (sym (turned_back a) ∙ ap there k)) (tells (there a) b)
+  turned_tests a b = elim (decides a (there b)) [
+    | inl e ↦ e.0 ∙ by_equal (ap there e.1 ∙ turned_back b) (decides (there a) b)
+    | inr e ↦ e.0 ∙ by_other (λ k. e.1 (sym (turned_back a) ∙ ap there k)) (decides (there a) b)
   ]
     where
       by_equal : there a ≡ b → ((eq (there a) b ≡ true) × (there a ≡ b)) ⊎ ((eq (there a) b ≡ false) × (there a ≢ b)) → true ≡ eq (there a) b
@@ -169,15 +169,15 @@ module _ (n k : Name) where
     same_tests = turned_tests same_address (same_tests_equality same_step step_tests_equality) (address_of d) turned_step step_still step_back
 
     -- a path's address turns with the path
-    same_places : (e : Path) → same_address (address_of d) (address_of e) ≡ same_path d e
-    same_places e = elim (same_path_found d e) [
+    same_roots : (e : Path) → same_address (address_of d) (address_of e) ≡ same_path d e
+    same_roots e = elim (same_path_found d e) [
       | inl t ↦ ap (λ (z : Path). same_address (address_of d) (address_of z)) (sym t.1) ∙ same_itself same_step step_tests_equality (address_of d) ∙ sym t.0
       | inr t ↦ same_other same_step step_tests_equality (address_of d) (address_of e) (λ i. t.1 (same_address_path d e i)) ∙ sym t.0
     ]
 
     pub turned_path_address : (q : Path) → turned_address (address_of q) ≡ address_of (turned q)
     turned_path_address [] = refl
-    turned_path_address (m ∷ e) = λ i. Named (turned_name (same_places e i) m) ∷ turned_path_address e i
+    turned_path_address (m ∷ e) = λ i. Named (turned_name (same_roots e i) m) ∷ turned_path_address e i
 
     pub turned_home : (p : ProcName) → turned_address (home_address p) ≡ home_address p
     turned_home [] = refl
@@ -220,7 +220,7 @@ module _ (n k : Name) where
       where
         by : (o : Option Path) → path_at a ≡ o → option_map (λ e. turned_name (same_address (address_of d) a) m ∷ e) (option_map turned o) ≡ option_map turned (option_map (λ e. m ∷ e) o)
         by None is = refl
-        by (Some e) is = ap (λ b. Some (turned_name b m ∷ turned e)) (ap (same_address (address_of d)) (address_path a e is) ∙ same_places e)
+        by (Some e) is = ap (λ b. Some (turned_name b m ∷ turned e)) (ap (same_address (address_of d)) (address_path a e is) ∙ same_roots e)
     path_turned (Home ∷ a) = refl
     path_turned (Status ∷ a) = refl
     path_turned (Inside ∷ a) = refl

@@ -13,7 +13,7 @@ use Rattle.histar_object.specs.State.{Found}
 use Rattle.histar_object.specs.declared.objects.Kind.{Kind}
 use Rattle.histar_object.specs.declared.objects.Kind.TheVariants.{Segment}
 use Rattle.histar_label.specs.Levels.{Levels}
-use Rattle.histar_flat.specs.Sessions.{Group, Session, has, user_number, group_number, groups_of}
+use Rattle.histar_flat.specs.Accounts.{Group, Accounts, has, user_number, group_number, groups_of}
 use Rattle.histar_flat.specs.Classes.{Class, Process, is_free}
 use Rattle.histar_flat.specs.Classes.Class.{Private, Readable, Open, Scratch, Grouped}
 use Rattle.histar_flat.specs.FlatState.{Node, Content, Flat}
@@ -25,7 +25,7 @@ use Rattle.histar_refinement.specs.Labels.{class_guard, private_guard, readable_
 use Rattle.histar_refinement.specs.Expected.{bare_container, guarded_object, content_kind, node_object, listing_object, home_object, inside_object, thread_object}
 use Rattle.histar_refinement.specs.Represents.{AreInOrder}
 use Rattle.histar_layout.specs.ClassLabels.{IsRisingFrom}
-use Rattle.histar_refinement.proofs.CategoryTests.{same_told}
+use Rattle.histar_refinement.proofs.CategoryTests.{same_revealed}
 use Rattle.histar_refinement.proofs.AmongNames.{each_none, each_one, each_head, each_append}
 use Rattle.histar_layout.proofs.Members.{mapped_from}
 use Rattle.histar_refinement.proofs.Growing.{GuardHas, RightsHave, same_guard_label, same_rights_label, same_rights_clearance}
@@ -36,7 +36,7 @@ use Rattle.histar_layout.proofs.Declared.{group_range, user_range, equal_tested}
 pub job_among : (jobs : List ProcName) (c : CategoryName) → among (map OfJob jobs) c ≡ true → (job : ProcName) × (c ≡ OfJob job) × (has jobs job ≡ true)
 job_among [] c e = absurd (true≢false (sym e))
 job_among (j ∷ jobs) c e = elim (or_cases (same_category c (OfJob j)) (among (map OfJob jobs) c) e) [
-  | inl k ↦ (j, same_told c (OfJob j) k, or_left (same j j) (has jobs j) (equal_tested j j refl))
+  | inl k ↦ (j, same_revealed c (OfJob j) k, or_left (same j j) (has jobs j) (equal_tested j j refl))
   | inr k ↦ let later = job_among jobs c k in (later.0, later.1, or_right (same later.0 j) (has jobs later.0) later.2)
 ]
 
@@ -44,7 +44,7 @@ job_among (j ∷ jobs) c e = elim (or_cases (same_category c (OfJob j)) (among (
 pub group_among : (f : ℕ → CategoryName) (ks : List ℕ) (c : CategoryName) → among (map f ks) c ≡ true → (k : ℕ) × (c ≡ f k) × (has_number ks k ≡ true)
 group_among f [] c e = absurd (true≢false (sym e))
 group_among f (m ∷ ks) c e = elim (or_cases (same_category c (f m)) (among (map f ks) c) e) [
-  | inl k ↦ (m, same_told c (f m) k, or_left (nat_eq m m) (has_number ks m) (grind (arith, nat_tests)))
+  | inl k ↦ (m, same_revealed c (f m) k, or_left (nat_eq m m) (has_number ks m) (grind (arith, nat_tests)))
   | inr k ↦ let later = group_among f ks c k in (later.0, later.1, or_right (nat_eq later.0 m) (has_number ks later.0) later.2)
 ]
 
@@ -54,41 +54,41 @@ placed_below [] i g e = absurd (none-some g e)
 placed_below (h ∷ groups) zero g e = omega arith
 placed_below (h ∷ groups) (suc i) g e = let later = placed_below groups i g e in omega (arith, later)
 
-pub groups_within : (session : Session) (name : Name) (k : ℕ) → has_number (groups_of session name) k ≡ true → (1 ≤ k) × (k ≤ length session.groups)
-groups_within session name k e =
-    let found = from_numbers 1 session.groups name k e in
-    let below = placed_below session.groups found.0 found.1 found.2 in
+pub groups_within : (accounts : Accounts) (name : Name) (k : ℕ) → has_number (groups_of accounts name) k ≡ true → (1 ≤ k) × (k ≤ length accounts.groups)
+groups_within accounts name k e =
+    let found = from_numbers 1 accounts.groups name k e in
+    let below = placed_below accounts.groups found.0 found.1 found.2 in
     (omega (arith, found.4), omega (arith, found.4, below))
 
-module _ (session : Session) (f : Flat) where
+module _ (accounts : Accounts) (f : Flat) where
   abbrev pub Used : CategoryName → Type 0
-  Used = IsUsed session f
+  Used = IsUsed accounts f
 
   -- what guards what is of a class, where its jobs are known or served
-  pub names_used : (class : Class) → ((job : ProcName) → is_for class job ≡ true → Used (OfJob job)) → (g : Guard) → class_guard session class ≡ Some g → GuardHas Used g
+  pub names_used : (class : Class) → ((job : ProcName) → is_for class job ≡ true → Used (OfJob job)) → (g : Guard) → class_guard accounts class ≡ Some g → GuardHas Used g
   names_used (Private owner) known g e =
-      let n = mapped_from private_guard (user_number session owner) g e in
-      let within = (user_range session owner n.0 n.1).1 in
+      let n = mapped_from private_guard (user_number accounts owner) g e in
+      let within = (user_range accounts owner n.0 n.1).1 in
       subst (GuardHas Used) n.2 (each_one Used (ReadsUser n.0) within, each_one Used (WritesUser n.0) within)
   names_used (Readable owner) known g e =
-      let n = mapped_from readable_guard (user_number session owner) g e in
-      subst (GuardHas Used) n.2 (each_none Used, each_one Used (WritesUser n.0) (user_range session owner n.0 n.1).1)
+      let n = mapped_from readable_guard (user_number accounts owner) g e in
+      subst (GuardHas Used) n.2 (each_none Used, each_one Used (WritesUser n.0) (user_range accounts owner n.0 n.1).1)
   names_used Open known g e = subst (GuardHas Used) (same_Some open_guard g e) (each_none Used, each_none Used)
   names_used (Scratch owner jobs) known g e =
-      let n = mapped_from (scratch_guard jobs) (user_number session owner) g e in
+      let n = mapped_from (scratch_guard jobs) (user_number accounts owner) g e in
       subst (GuardHas Used) n.2 (
-        each_head Used (ReadsUser n.0) (map OfJob jobs) (user_range session owner n.0 n.1).1 (λ d k.
+        each_head Used (ReadsUser n.0) (map OfJob jobs) (user_range accounts owner n.0 n.1).1 (λ d k.
             let found = job_among jobs d k in
             subst Used (sym found.1) (known found.0 found.2)),
         each_none Used,
       )
   names_used (Grouped group) known g e =
-      let n = mapped_from group_guard (group_number session group) g e in
-      let within = group_range session group n.0 n.1 in
+      let n = mapped_from group_guard (group_number accounts group) g e in
+      let within = group_range accounts group n.0 n.1 in
       subst (GuardHas Used) n.2 (each_one Used (ReadsGroup n.0) within, each_one Used (WritesGroup n.0) within)
 
   -- and so what guards a file or a directory
-  pub class_used : (q : Path) (there : Node) → get f.files q ≡ Some there → (class : Class) → there.class ≡ class → (g : Guard) → class_guard session class ≡ Some g → GuardHas Used g
+  pub class_used : (q : Path) (there : Node) → get f.files q ≡ Some there → (class : Class) → there.class ≡ class → (g : Guard) → class_guard accounts class ≡ Some g → GuardHas Used g
   class_used q there at class is = names_used class (λ job e. inr (q, there, at, ap (λ (c : Class). is_for c job) is ∙ e))
 
   module _ (me : ProcName) (p : Process) (here : f.processes me ≡ Some p) where
@@ -108,27 +108,27 @@ module _ (session : Session) (f : Flat) where
     pub inside_used : GuardHas Used (inside_guard me p)
     inside_used = (each_head Used (ReadsProcess me) (map OfJob p.chain) there chain_used, each_one Used (WritesProcess me) there)
 
-    groups_used : (make : ℕ → CategoryName) → ((k : ℕ) → (1 ≤ k) × (k ≤ length session.groups) → Used (make k)) → (c : CategoryName) → among (map make (groups_of session p.user)) c ≡ true → Used c
-    groups_used make used c e = let found = group_among make (groups_of session p.user) c e in subst Used (sym found.1) (used found.0 (groups_within session p.user found.0 found.2))
+    groups_used : (make : ℕ → CategoryName) → ((k : ℕ) → (1 ≤ k) × (k ≤ length accounts.groups) → Used (make k)) → (c : CategoryName) → among (map make (groups_of accounts p.user)) c ≡ true → Used c
+    groups_used make used c e = let found = group_among make (groups_of accounts p.user) c e in subst Used (sym found.1) (used found.0 (groups_within accounts p.user found.0 found.2))
 
-    user_used : (number : Option ℕ) → user_number session p.user ≡ number → (c : CategoryName) → among (owned_as session p number) c ≡ true → Used c
+    user_used : (number : Option ℕ) → user_number accounts p.user ≡ number → (c : CategoryName) → among (owned_as accounts p number) c ≡ true → Used c
     user_used None is = each_none Used
-    user_used (Some i) is = each_append Used (reading session p.user i) (if is_free p then writing session p.user i else [])
-        (each_head Used (ReadsUser i) (map ReadsGroup (groups_of session p.user)) within (groups_used ReadsGroup (λ k h. h)))
+    user_used (Some i) is = each_append Used (reading accounts p.user i) (if is_free p then writing accounts p.user i else [])
+        (each_head Used (ReadsUser i) (map ReadsGroup (groups_of accounts p.user)) within (groups_used ReadsGroup (λ k h. h)))
         (by (is_free p))
       where
-        within : i ≤ length session.users
-        within = (user_range session p.user i is).1
+        within : i ≤ length accounts.users
+        within = (user_range accounts p.user i is).1
 
-        by : (b : Bool) → (c : CategoryName) → among (if b then writing session p.user i else []) c ≡ true → Used c
-        by true = each_head Used (WritesUser i) (map WritesGroup (groups_of session p.user)) within (groups_used WritesGroup (λ k h. h))
+        by : (b : Bool) → (c : CategoryName) → among (if b then writing accounts p.user i else []) c ≡ true → Used c
+        by true = each_head Used (WritesUser i) (map WritesGroup (groups_of accounts p.user)) within (groups_used WritesGroup (λ k h. h))
         by false = each_none Used
 
-    pub rights_used : RightsHave Used (thread_rights session me p)
+    pub rights_used : RightsHave Used (thread_rights accounts me p)
     rights_used = (
-      each_head Used (ReadsProcess me) (WritesProcess me ∷ owned_as session p (user_number session p.user) ++ map OfJob p.held) there
-          (each_head Used (WritesProcess me) (owned_as session p (user_number session p.user) ++ map OfJob p.held) there
-          (each_append Used (owned_as session p (user_number session p.user)) (map OfJob p.held) (user_used (user_number session p.user) refl) held_used)),
+      each_head Used (ReadsProcess me) (WritesProcess me ∷ owned_as accounts p (user_number accounts p.user) ++ map OfJob p.held) there
+          (each_head Used (WritesProcess me) (owned_as accounts p (user_number accounts p.user) ++ map OfJob p.held) there
+          (each_append Used (owned_as accounts p (user_number accounts p.user)) (map OfJob p.held) (user_used (user_number accounts p.user) refl) held_used)),
       chain_used,
     )
 
@@ -137,19 +137,19 @@ module _ (session : Session) (f : Flat) where
     keep_guard : (g : Guard) → GuardHas Used g → guard_label category g ≡ guard_label other g
     keep_guard g used = sym (same_guard_label category other g (λ c e. keeps c (used.0 c e), λ c e. keeps c (used.1 c e)))
 
-    keep_guarded : (kind : Kind Levels) (o : Option Guard) → ((g : Guard) → o ≡ Some g → GuardHas Used g) → guarded_object session category kind o ≡ guarded_object session other kind o
+    keep_guarded : (kind : Kind Levels) (o : Option Guard) → ((g : Guard) → o ≡ Some g → GuardHas Used g) → guarded_object accounts category kind o ≡ guarded_object accounts other kind o
     keep_guarded kind None used = refl
     keep_guarded kind (Some g) used = ap (λ (l : Levels). Some (record { label = l; kind = kind })) (keep_guard g (used g refl))
 
-    pub keep_node : (q : Path) (o : Option Node) → get f.files q ≡ o → node_object session category o ≡ node_object session other o
+    pub keep_node : (q : Path) (o : Option Node) → get f.files q ≡ o → node_object accounts category o ≡ node_object accounts other o
     keep_node q None at = refl
-    keep_node q (Some there) at = keep_guarded (content_kind there.content) (class_guard session there.class) (class_used q there at there.class refl)
+    keep_node q (Some there) at = keep_guarded (content_kind there.content) (class_guard accounts there.class) (class_used q there at there.class refl)
 
-    pub keep_listing : (q : Path) (bytes : List ℕ) (o : Option Node) → get f.files q ≡ o → listing_object session category bytes o ≡ listing_object session other bytes o
+    pub keep_listing : (q : Path) (bytes : List ℕ) (o : Option Node) → get f.files q ≡ o → listing_object accounts category bytes o ≡ listing_object accounts other bytes o
     keep_listing q bytes None at = refl
     keep_listing q bytes (Some there) at =
-        elim there.content as (λ (c : Content). listing_object session category bytes (Some (record { class = there.class; content = c })) ≡ listing_object session other bytes (Some (record { class = there.class; content = c }))) [
-          | Dir ↦ keep_guarded (Segment bytes) (class_guard session there.class) (class_used q there at there.class refl)
+        elim there.content as (λ (c : Content). listing_object accounts category bytes (Some (record { class = there.class; content = c })) ≡ listing_object accounts other bytes (Some (record { class = there.class; content = c }))) [
+          | Dir ↦ keep_guarded (Segment bytes) (class_guard accounts there.class) (class_used q there at there.class refl)
           | File old ↦ refl
         ]
 
@@ -159,23 +159,23 @@ module _ (session : Session) (f : Flat) where
     pub keep_inside_label : (me : ProcName) (p : Process) → f.processes me ≡ Some p → guard_label category (inside_guard me p) ≡ guard_label other (inside_guard me p)
     keep_inside_label me p here = keep_guard (inside_guard me p) (inside_used me p here)
 
-    pub keep_thread : (me : ProcName) (p : Process) → f.processes me ≡ Some p → thread_of (rights_label category (thread_rights session me p)) (rights_clearance category (thread_rights session me p))
-        ≡ thread_of (rights_label other (thread_rights session me p)) (rights_clearance other (thread_rights session me p))
+    pub keep_thread : (me : ProcName) (p : Process) → f.processes me ≡ Some p → thread_of (rights_label category (thread_rights accounts me p)) (rights_clearance category (thread_rights accounts me p))
+        ≡ thread_of (rights_label other (thread_rights accounts me p)) (rights_clearance other (thread_rights accounts me p))
     keep_thread me p here =
         let used = rights_used me p here in
         λ i. thread_of
-        (sym (same_rights_label category other (thread_rights session me p) (λ c e. keeps c (used.0 c e), λ c e. keeps c (used.1 c e))) i)
-        (sym (same_rights_clearance category other (thread_rights session me p) (λ c e. keeps c (used.0 c e), λ c e. keeps c (used.1 c e))) i)
+        (sym (same_rights_label category other (thread_rights accounts me p) (λ c e. keeps c (used.0 c e), λ c e. keeps c (used.1 c e))) i)
+        (sym (same_rights_clearance category other (thread_rights accounts me p) (λ c e. keeps c (used.0 c e), λ c e. keeps c (used.1 c e))) i)
 
-    pub keep_home : (q : ProcName) (o : Option Process) → f.processes q ≡ o → home_object session category q o ≡ home_object session other q o
+    pub keep_home : (q : ProcName) (o : Option Process) → f.processes q ≡ o → home_object accounts category q o ≡ home_object accounts other q o
     keep_home q None at = refl
     keep_home q (Some p) at = ap bare_container (keep_process_label q p at)
 
-    pub keep_inside : (q : ProcName) (o : Option Process) → f.processes q ≡ o → inside_object session category q o ≡ inside_object session other q o
+    pub keep_inside : (q : ProcName) (o : Option Process) → f.processes q ≡ o → inside_object accounts category q o ≡ inside_object accounts other q o
     keep_inside q None at = refl
     keep_inside q (Some p) at = λ i. elim p.exited as (λ _. Found) [ None ↦ bare_container (keep_inside_label q p at i) | Some n ↦ None ]
 
-    pub keep_runner : (q : ProcName) (o : Option Process) → f.processes q ≡ o → thread_object session category q o ≡ thread_object session other q o
+    pub keep_runner : (q : ProcName) (o : Option Process) → f.processes q ≡ o → thread_object accounts category q o ≡ thread_object accounts other q o
     keep_runner q None at = refl
     keep_runner q (Some p) at = λ i. elim p.exited as (λ _. Found) [ None ↦ Some (keep_thread q p at i) | Some n ↦ None ]
 

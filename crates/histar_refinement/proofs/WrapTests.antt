@@ -12,7 +12,7 @@ use Rattle.histar_flat.specs.PathOrder.{same}
 use Rattle.histar_label.specs.Level.{rank, raised}
 use Rattle.histar_label.specs.Levels.{is_below, is_below_raised, is_below_join_raised}
 use Rattle.histar_label.proofs.Orders.{is_below-law, is_below_raised-law, is_below_join_raised-law}
-use Rattle.histar_flat.specs.Sessions.{Session, has, user_number}
+use Rattle.histar_flat.specs.Accounts.{Accounts, has, user_number}
 use Rattle.histar_flat.specs.Classes.{Class, Process, is_free, may_read, may_write}
 use Rattle.histar_flat.proofs.WrappedJobs.{has_last}
 use Rattle.histar_flat.proofs.GivenNames.{longer_has}
@@ -26,7 +26,7 @@ use Rattle.histar_refinement.proofs.Levelled.{cleared_exactly, same_owning, same
 use Rattle.histar_layout.proofs.LabelLevels.{at_owning, at_guarded, owning_level, guarded_level}
 use Rattle.histar_refinement.proofs.CategoryTests.{among-append, among_none, among_jobs, is_in_names, all_names, named_in}
 use Rattle.histar_refinement.proofs.Tested.{observes_by_names, below_by_names, cleared_by_names, rights_by_names, capped_by_names, clearances_by_names}
-use Rattle.histar_refinement.specs.Sessions.{IsSession}
+use Rattle.histar_refinement.specs.Accounts.{AreAccounts}
 use Rattle.histar_refinement.proofs.SessionLemmas.{is_number}
 use Rattle.histar_refinement.proofs.ClassTests.{owns_read_of, jobs_apart, observes_class, modifies_class}
 use Rattle.histar_refinement.proofs.AmongNames.{covers, in_first, in_second, at_head, later, each_head, each_append}
@@ -83,9 +83,9 @@ has_old (j ∷ jobs) child job e = elim (or_cases (same job j) (has jobs job) e)
   | inr k ↦ or_right (same job j) (has (jobs ++ child ∷ []) job) (has_old jobs child job k)
 ]
 
-module _ (session : Session) (category : Categories) (different : AreDifferent category) (me : ProcName) (p : Process) (child : ProcName) where
+module _ (accounts : Accounts) (category : Categories) (different : AreDifferent category) (me : ProcName) (p : Process) (child : ProcName) where
   abbrev own : Rights
-  own = thread_rights session me p
+  own = thread_rights accounts me p
 
   abbrev pub jobs : List ProcName
   jobs = p.chain ++ child ∷ []
@@ -116,8 +116,8 @@ module _ (session : Session) (category : Categories) (different : AreDifferent c
         below_by_names category different (scratch_guard jobs i) with_job (λ c e. refl)
         ∙ and_from _ _ (covers (ReadsUser i ∷ map OfJob jobs) (map OfJob p.chain) (λ c e. later (ReadsUser i) (map OfJob jobs) c (old_job c e))) refl
 
-    reads_user : among both (ReadsUser i) ≡ is_number (user_number session p.user) i
-    reads_user = among-append own.owned (map OfJob p.chain) (ReadsUser i) ∙ (λ k. owns_read_of session me p i k || among_none OfJob (ReadsUser i) (λ job. refl) p.chain k) ∙ or-false (is_number (user_number session p.user) i)
+    reads_user : among both (ReadsUser i) ≡ is_number (user_number accounts p.user) i
+    reads_user = among-append own.owned (map OfJob p.chain) (ReadsUser i) ∙ (λ k. owns_read_of accounts me p i k || among_none OfJob (ReadsUser i) (λ job. refl) p.chain k) ∙ or-false (is_number (user_number accounts p.user) i)
 
     jobs_both : list_all (among both) (map OfJob jobs) ≡ true
     jobs_both = covers both (map OfJob jobs) (λ c e. elim (which_job p.chain c e) [
@@ -125,26 +125,26 @@ module _ (session : Session) (category : Categories) (different : AreDifferent c
       | inr is ↦ subst (λ x. among both x ≡ true) (sym is) (at_head (OfJob child) (own.owned ++ with_job.tainted))
     ])
 
-    pub scratch_below : is_below (guard_label category (scratch_guard jobs i)) (rights_clearance category with_job) ≡ is_number (user_number session p.user) i
+    pub scratch_below : is_below (guard_label category (scratch_guard jobs i)) (rights_clearance category with_job) ≡ is_number (user_number accounts p.user) i
     scratch_below =
         cleared_exactly (map category (scratch_guard jobs i).secret) [] (map category both) (λ q e. refl)
         ∙ all_names category different (is_in (map category both)) (among both) (is_in_names category different both) (scratch_guard jobs i).secret
-        ∙ (λ k. reads_user k && jobs_both k) ∙ and-true (is_number (user_number session p.user) i)
+        ∙ (λ k. reads_user k && jobs_both k) ∙ and-true (is_number (user_number accounts p.user) i)
 
     -- the directory segment in it: the thread may observe the directory where the user has this number
-    pub scratch_seen : is_below_raised (guard_label category (scratch_guard jobs i)) (rights_label category with_job) ≡ is_number (user_number session p.user) i
+    pub scratch_seen : is_below_raised (guard_label category (scratch_guard jobs i)) (rights_label category with_job) ≡ is_number (user_number accounts p.user) i
     scratch_seen =
         observes_by_names category different (scratch_guard jobs i) with_job (λ c e. refl)
-        ∙ (λ k. (ap (λ b. b || among (map OfJob p.chain) (ReadsUser i)) (owns_read_of session me p i) ∙ ap (λ b. is_number (user_number session p.user) i || b) (among_none OfJob (ReadsUser i) (λ job. refl) p.chain) ∙ or-false (is_number (user_number session p.user) i)) k
+        ∙ (λ k. (ap (λ b. b || among (map OfJob p.chain) (ReadsUser i)) (owns_read_of accounts me p i) ∙ ap (λ b. is_number (user_number accounts p.user) i || b) (among_none OfJob (ReadsUser i) (λ job. refl) p.chain) ∙ or-false (is_number (user_number accounts p.user) i)) k
         && passed_by_all (λ c. among with_job.owned c || among with_job.tainted c) (map OfJob jobs) (λ c e. elim (which_job p.chain c e) [
           | inl old ↦ or_right (among with_job.owned c) (among with_job.tainted c) old
           | inr is ↦ or_left (among with_job.owned c) (among with_job.tainted c) (subst (λ x. among with_job.owned x ≡ true) (sym is) (at_head (OfJob child) own.owned))
         ]) k)
-        ∙ and-true (is_number (user_number session p.user) i)
+        ∙ and-true (is_number (user_number accounts p.user) i)
 
   -- The new job is in no label that stands, so the parent directory and its directory segment are observed and modified exactly where the
   -- flat rule lets them be read and written.
-  module _ (ok : IsSession session) (class : Class) (g : Guard) (is : class_guard session class ≡ Some g) (stranger : has p.chain child ≡ false) (secret : among g.secret (OfJob child) ≡ false) (written : among g.written (OfJob child) ≡ false) where
+  module _ (ok : AreAccounts accounts) (class : Class) (g : Guard) (is : class_guard accounts class ≡ Some g) (stranger : has p.chain child ≡ false) (secret : among g.secret (OfJob child) ≡ false) (written : among g.written (OfJob child) ≡ false) where
     not_tainted : is_in (map category own.tainted) (category (OfJob child)) ≡ false
     not_tainted = is_in_names category different own.tainted (OfJob child) ∙ among_jobs p.chain child ∙ stranger
 
@@ -157,26 +157,26 @@ module _ (session : Session) (category : Categories) (different : AreDifferent c
     seen_as_before : is_below_raised (guard_label category g) (rights_label category with_job) ≡ is_below_raised (guard_label category g) (rights_label category own)
     seen_as_before = more_seen (map category own.owned) (map category own.tainted) (map category g.secret) (map category g.written) (category (OfJob child)) not_tainted not_secret not_written
 
-    pub observes_parent : is_below_raised (guard_label category g) (rights_label category with_job) ≡ may_read session p class
-    observes_parent = seen_as_before ∙ observes_class session me p category different ok class g is
+    pub observes_parent : is_below_raised (guard_label category g) (rights_label category with_job) ≡ may_read accounts p class
+    observes_parent = seen_as_before ∙ observes_class accounts me p category different ok class g is
 
-    pub modifies_parent : (is_below (rights_label category with_job) (guard_label category g) && is_below_raised (guard_label category g) (rights_label category with_job)) ≡ may_write session p class
+    pub modifies_parent : (is_below (rights_label category with_job) (guard_label category g) && is_below_raised (guard_label category g) (rights_label category with_job)) ≡ may_write accounts p class
     modifies_parent =
         (λ k. more_below (map category own.owned) (map category own.tainted) (map category g.secret) (map category g.written) (category (OfJob child)) not_tainted not_secret not_written k && seen_as_before k)
-        ∙ modifies_class session me p category different ok class g is
+        ∙ modifies_class accounts me p category different ok class g is
 
   -- It takes its own label and clearance again.
   job_clears : (c : CategoryName) → among (own.owned ++ own.tainted) c ≡ true → among both c ≡ true
   job_clears c e = later (OfJob child) (own.owned ++ own.tainted) c e
 
-  pub label_back : (is_below (rights_label category with_job) (rights_label category (thread_rights session me p)) ≡ true) × (is_below (rights_label category (thread_rights session me p)) (rights_clearance category with_job) ≡ true)
+  pub label_back : (is_below (rights_label category with_job) (rights_label category (thread_rights accounts me p)) ≡ true) × (is_below (rights_label category (thread_rights accounts me p)) (rights_clearance category with_job) ≡ true)
   label_back = (
     rights_by_names category different with_job own (covers own.tainted own.tainted (λ c e. e)) (covers with_job.owned own.owned (λ c e. later (OfJob child) own.owned c e)),
     capped_by_names category different own both ∙ covers both own.tainted (in_second with_job.owned with_job.tainted),
   )
 
-  pub clearance_back : (is_below (rights_label category (thread_rights session me p)) (rights_clearance category (thread_rights session me p)) ≡ true)
-      × (is_below_join_raised (rights_clearance category (thread_rights session me p)) (rights_clearance category with_job) (rights_label category (thread_rights session me p)) ≡ true)
+  pub clearance_back : (is_below (rights_label category (thread_rights accounts me p)) (rights_clearance category (thread_rights accounts me p)) ≡ true)
+      × (is_below_join_raised (rights_clearance category (thread_rights accounts me p)) (rights_clearance category with_job) (rights_label category (thread_rights accounts me p)) ≡ true)
   clearance_back = (
     capped_by_names category different own (own.owned ++ own.tainted) ∙ covers (own.owned ++ own.tainted) own.tainted (in_second own.owned own.tainted),
     (is_below_join_raised-law (rights_clearance category own) (rights_clearance category with_job) (rights_label category own)).1 (λ q.
@@ -218,28 +218,28 @@ module _ (session : Session) (category : Categories) (different : AreDifferent c
   -- its own container and process segment it modifies
   pub own_modified : (is_below (rights_label category grown) (guard_label category (process_guard me p)) && is_below_raised (guard_label category (process_guard me p)) (rights_label category grown)) ≡ true
   own_modified = and_from _ _
-      (below_by_names category different (process_guard me p) grown (jobs_apart session me p p.chain (WritesProcess me ∷ []) (λ job. refl))
-      ∙ and_from _ _ (covers (map OfJob p.chain) (map OfJob p.chain) (λ c e. e)) (and_from _ _ (old_owned (WritesProcess me) (later (ReadsProcess me) (WritesProcess me ∷ owned_as session p (user_number session p.user) ++ map OfJob p.held) (WritesProcess me) (at_head (WritesProcess me) (owned_as session p (user_number session p.user) ++ map OfJob p.held)))) refl))
-      (observes_by_names category different (process_guard me p) grown (jobs_apart session me p p.chain (WritesProcess me ∷ []) (λ job. refl))
+      (below_by_names category different (process_guard me p) grown (jobs_apart accounts me p p.chain (WritesProcess me ∷ []) (λ job. refl))
+      ∙ and_from _ _ (covers (map OfJob p.chain) (map OfJob p.chain) (λ c e. e)) (and_from _ _ (old_owned (WritesProcess me) (later (ReadsProcess me) (WritesProcess me ∷ owned_as accounts p (user_number accounts p.user) ++ map OfJob p.held) (WritesProcess me) (at_head (WritesProcess me) (owned_as accounts p (user_number accounts p.user) ++ map OfJob p.held)))) refl))
+      (observes_by_names category different (process_guard me p) grown (jobs_apart accounts me p p.chain (WritesProcess me ∷ []) (λ job. refl))
       ∙ passed_by_all (λ c. among grown.owned c || among grown.tainted c) (map OfJob p.chain) (λ c e. or_right (among grown.owned c) (among grown.tainted c) e))
 
   -- the child's container and process segment are in its range, and it modifies the container
   pub outer_above : is_below (rights_label category grown) (guard_label category (process_guard child newborn)) ≡ true
   outer_above =
-      below_by_names category different (process_guard child newborn) grown (jobs_apart session me p p.chain (WritesProcess child ∷ []) (λ job. refl))
+      below_by_names category different (process_guard child newborn) grown (jobs_apart accounts me p p.chain (WritesProcess child ∷ []) (λ job. refl))
       ∙ and_from _ _ (covers (map OfJob jobs) (map OfJob p.chain) old_job) (and_from _ _ (at_head (WritesProcess child) (ReadsProcess child ∷ OfJob child ∷ own.owned)) refl)
 
   pub outer_below : is_below (guard_label category (process_guard child newborn)) (rights_clearance category grown) ≡ true
   outer_below = cleared_by_names category different (process_guard child newborn) grown (covers all (map OfJob jobs) jobs_within)
 
   pub outer_seen : is_below_raised (guard_label category (process_guard child newborn)) (rights_label category grown) ≡ true
-  outer_seen = observes_by_names category different (process_guard child newborn) grown (jobs_apart session me p jobs (WritesProcess child ∷ []) (λ job. refl))
+  outer_seen = observes_by_names category different (process_guard child newborn) grown (jobs_apart accounts me p jobs (WritesProcess child ∷ []) (λ job. refl))
       ∙ passed_by_all (λ c. among grown.owned c || among grown.tainted c) (map OfJob jobs) job_passes
 
   -- and so with the internal container
   pub inner_above : is_below (rights_label category grown) (guard_label category (inside_guard child newborn)) ≡ true
   inner_above =
-      below_by_names category different (inside_guard child newborn) grown (jobs_apart session me p p.chain (WritesProcess child ∷ []) (λ job. refl))
+      below_by_names category different (inside_guard child newborn) grown (jobs_apart accounts me p p.chain (WritesProcess child ∷ []) (λ job. refl))
       ∙ and_from _ _ (covers (ReadsProcess child ∷ map OfJob jobs) (map OfJob p.chain) (λ c e. later (ReadsProcess child) (map OfJob jobs) c (old_job c e))) (and_from _ _ (at_head (WritesProcess child) (ReadsProcess child ∷ OfJob child ∷ own.owned)) refl)
 
   pub inner_below : is_below (guard_label category (inside_guard child newborn)) (rights_clearance category grown) ≡ true
@@ -247,25 +247,25 @@ module _ (session : Session) (category : Categories) (different : AreDifferent c
 
   pub inner_seen : is_below_raised (guard_label category (inside_guard child newborn)) (rights_label category grown) ≡ true
   inner_seen = observes_by_names category different (inside_guard child newborn) grown
-      (each_head (λ c. among (WritesProcess child ∷ []) c ≡ false) (ReadsProcess child) (map OfJob jobs) refl (jobs_apart session me p jobs (WritesProcess child ∷ []) (λ job. refl)))
+      (each_head (λ c. among (WritesProcess child ∷ []) c ≡ false) (ReadsProcess child) (map OfJob jobs) refl (jobs_apart accounts me p jobs (WritesProcess child ∷ []) (λ job. refl)))
       ∙ and_from _ _ (or_left (among grown.owned (ReadsProcess child)) (among grown.tainted (ReadsProcess child)) reads_owned) (passed_by_all (λ c. among grown.owned c || among grown.tainted c) (map OfJob jobs) job_passes)
 
   -- the child's thread has no more than its parent's
   abbrev pub childs : Rights
-  childs = thread_rights session child newborn
+  childs = thread_rights accounts child newborn
 
-  less_as_user : (number : Option ℕ) (c : CategoryName) → among (owned_as session newborn number) c ≡ true → among (owned_as session p number) c ≡ true
+  less_as_user : (number : Option ℕ) (c : CategoryName) → among (owned_as accounts newborn number) c ≡ true → among (owned_as accounts p number) c ≡ true
   less_as_user None c e = e
-  less_as_user (Some i) c e = elim (or_cases (among (reading session p.user i) c) (among (if is_free newborn then writing session p.user i else []) c) (sym (among-append (reading session p.user i) (if is_free newborn then writing session p.user i else []) c) ∙ e)) [
-    | inl k ↦ in_first (reading session p.user i) (if is_free p then writing session p.user i else []) c k
-    | inr k ↦ absurd (true≢false (sym k ∙ ap (λ b. among (if b then writing session p.user i else []) c) (not_free p.chain child)))
+  less_as_user (Some i) c e = elim (or_cases (among (reading accounts p.user i) c) (among (if is_free newborn then writing accounts p.user i else []) c) (sym (among-append (reading accounts p.user i) (if is_free newborn then writing accounts p.user i else []) c) ∙ e)) [
+    | inl k ↦ in_first (reading accounts p.user i) (if is_free p then writing accounts p.user i else []) c k
+    | inr k ↦ absurd (true≢false (sym k ∙ ap (λ b. among (if b then writing accounts p.user i else []) c) (not_free p.chain child)))
   ]
 
   childs_owned : (c : CategoryName) → among childs.owned c ≡ true → among grown.owned c ≡ true
-  childs_owned = each_head (λ c. among grown.owned c ≡ true) (ReadsProcess child) (WritesProcess child ∷ owned_as session newborn (user_number session p.user) ++ []) reads_owned
-      (each_head (λ c. among grown.owned c ≡ true) (WritesProcess child) (owned_as session newborn (user_number session p.user) ++ []) (at_head (WritesProcess child) (ReadsProcess child ∷ OfJob child ∷ own.owned))
-      (each_append (λ c. among grown.owned c ≡ true) (owned_as session newborn (user_number session p.user)) []
-      (λ c e. old_owned c (later (ReadsProcess me) (WritesProcess me ∷ owned_as session p (user_number session p.user) ++ map OfJob p.held) c (later (WritesProcess me) (owned_as session p (user_number session p.user) ++ map OfJob p.held) c (in_first (owned_as session p (user_number session p.user)) (map OfJob p.held) c (less_as_user (user_number session p.user) c e)))))
+  childs_owned = each_head (λ c. among grown.owned c ≡ true) (ReadsProcess child) (WritesProcess child ∷ owned_as accounts newborn (user_number accounts p.user) ++ []) reads_owned
+      (each_head (λ c. among grown.owned c ≡ true) (WritesProcess child) (owned_as accounts newborn (user_number accounts p.user) ++ []) (at_head (WritesProcess child) (ReadsProcess child ∷ OfJob child ∷ own.owned))
+      (each_append (λ c. among grown.owned c ≡ true) (owned_as accounts newborn (user_number accounts p.user)) []
+      (λ c e. old_owned c (later (ReadsProcess me) (WritesProcess me ∷ owned_as accounts p (user_number accounts p.user) ++ map OfJob p.held) c (later (WritesProcess me) (owned_as accounts p (user_number accounts p.user) ++ map OfJob p.held) c (in_first (owned_as accounts p (user_number accounts p.user)) (map OfJob p.held) c (less_as_user (user_number accounts p.user) c e)))))
       (λ c e. absurd (true≢false (sym e)))))
 
   pub thread_above : is_below (rights_label category grown) (rights_label category childs) ≡ true
@@ -280,20 +280,20 @@ module _ (session : Session) (category : Categories) (different : AreDifferent c
 
   -- its own label and clearance with the job it may have
   abbrev pub holding : Rights
-  holding = thread_rights session me holder
+  holding = thread_rights accounts me holder
 
   held_owned : (c : CategoryName) → among holding.owned c ≡ true → among grown.owned c ≡ true
-  held_owned = each_head (λ c. among grown.owned c ≡ true) (ReadsProcess me) (WritesProcess me ∷ owned_as session p (user_number session p.user) ++ map OfJob (p.held ++ child ∷ [])) (old_owned (ReadsProcess me) (at_head (ReadsProcess me) (WritesProcess me ∷ owned_as session p (user_number session p.user) ++ map OfJob p.held)))
-      (each_head (λ c. among grown.owned c ≡ true) (WritesProcess me) (owned_as session p (user_number session p.user) ++ map OfJob (p.held ++ child ∷ [])) (old_owned (WritesProcess me) (later (ReadsProcess me) (WritesProcess me ∷ owned_as session p (user_number session p.user) ++ map OfJob p.held) (WritesProcess me) (at_head (WritesProcess me) (owned_as session p (user_number session p.user) ++ map OfJob p.held))))
-      (each_append (λ c. among grown.owned c ≡ true) (owned_as session p (user_number session p.user)) (map OfJob (p.held ++ child ∷ []))
-      (λ c e. before c (in_first (owned_as session p (user_number session p.user)) (map OfJob p.held) c e))
+  held_owned = each_head (λ c. among grown.owned c ≡ true) (ReadsProcess me) (WritesProcess me ∷ owned_as accounts p (user_number accounts p.user) ++ map OfJob (p.held ++ child ∷ [])) (old_owned (ReadsProcess me) (at_head (ReadsProcess me) (WritesProcess me ∷ owned_as accounts p (user_number accounts p.user) ++ map OfJob p.held)))
+      (each_head (λ c. among grown.owned c ≡ true) (WritesProcess me) (owned_as accounts p (user_number accounts p.user) ++ map OfJob (p.held ++ child ∷ [])) (old_owned (WritesProcess me) (later (ReadsProcess me) (WritesProcess me ∷ owned_as accounts p (user_number accounts p.user) ++ map OfJob p.held) (WritesProcess me) (at_head (WritesProcess me) (owned_as accounts p (user_number accounts p.user) ++ map OfJob p.held))))
+      (each_append (λ c. among grown.owned c ≡ true) (owned_as accounts p (user_number accounts p.user)) (map OfJob (p.held ++ child ∷ []))
+      (λ c e. before c (in_first (owned_as accounts p (user_number accounts p.user)) (map OfJob p.held) c e))
       (λ c e. elim (which_job p.held c e) [
-        | inl old ↦ before c (in_second (owned_as session p (user_number session p.user)) (map OfJob p.held) c old)
+        | inl old ↦ before c (in_second (owned_as accounts p (user_number accounts p.user)) (map OfJob p.held) c old)
         | inr is ↦ subst (λ x. among grown.owned x ≡ true) (sym is) job_owned
       ])))
     where
-      before : (c : CategoryName) → among (owned_as session p (user_number session p.user) ++ map OfJob p.held) c ≡ true → among grown.owned c ≡ true
-      before c e = old_owned c (later (ReadsProcess me) (WritesProcess me ∷ owned_as session p (user_number session p.user) ++ map OfJob p.held) c (later (WritesProcess me) (owned_as session p (user_number session p.user) ++ map OfJob p.held) c e))
+      before : (c : CategoryName) → among (owned_as accounts p (user_number accounts p.user) ++ map OfJob p.held) c ≡ true → among grown.owned c ≡ true
+      before c e = old_owned c (later (ReadsProcess me) (WritesProcess me ∷ owned_as accounts p (user_number accounts p.user) ++ map OfJob p.held) c (later (WritesProcess me) (owned_as accounts p (user_number accounts p.user) ++ map OfJob p.held) c e))
 
   pub label_kept : (is_below (rights_label category grown) (rights_label category holding) ≡ true) × (is_below (rights_label category holding) (rights_clearance category grown) ≡ true)
   label_kept = (
@@ -318,7 +318,7 @@ module _ (session : Session) (category : Categories) (different : AreDifferent c
       (λ e. let there = named_in category others q e in ap (is_in (map category names)) there.1 ∙ is_in_names category different names there.0 ∙ back there.0 there.2)
 
   abbrev user_part : List CategoryName
-  user_part = owned_as session p (user_number session p.user)
+  user_part = owned_as accounts p (user_number accounts p.user)
 
   within_holding : (c : CategoryName) → among (user_part ++ map OfJob (p.held ++ child ∷ [])) c ≡ true → among holding.owned c ≡ true
   within_holding c e = later (ReadsProcess me) (WritesProcess me ∷ user_part ++ map OfJob (p.held ++ child ∷ [])) c (later (WritesProcess me) (user_part ++ map OfJob (p.held ++ child ∷ [])) c e)

@@ -19,7 +19,7 @@ use Rattle.histar_rules.specs.Rules.{greatest}
 use Rattle.histar_rules.specs.Rights.{with_category}
 use Rattle.histar_object.specs.State.{State, with_object, with_segment_bytes, with_next_category}
 use Rattle.histar_container.specs.Tree.{Naming}
-use Rattle.histar_flat.specs.Sessions.{Session, has, user_number}
+use Rattle.histar_flat.specs.Accounts.{Accounts, has, user_number}
 use Rattle.histar_flat.specs.Classes.{Class, Process}
 use Rattle.histar_flat.specs.Classes.Class.{Scratch}
 use Rattle.histar_flat.specs.FlatState.{Node, Flat, entries_in, with_node, with_child, is_given}
@@ -38,19 +38,19 @@ use Rattle.histar_refinement.specs.Represents.{AreInOrder, Represents, ObjectsMa
 use Rattle.histar_refinement.proofs.JobLists.{in_order_last}
 use Rattle.histar_refinement.proofs.Beside.{Beside, beside_added, beside_written, beside_category}
 use Rattle.histar_refinement.proofs.Spawned.{own_label, own_clearance, beside_start}
-use Rattle.histar_refinement.proofs.FileRows.{SameNumbers, ClassFits}
-use Rattle.histar_refinement.proofs.Creating.{directory_naming, laid_directory_created, directory_numbers}
+use Rattle.histar_refinement.proofs.ListedFiles.{SameNumbers, ClassFits}
+use Rattle.histar_refinement.proofs.Creating.{directory_naming, matched_directory_created, directory_numbers}
 use Rattle.histar_refinement.proofs.JobNamed as jobs
-use Rattle.histar_refinement.proofs.JobBorn.{after, state_held, given_after, given_child, used_before, laid_held}
+use Rattle.histar_refinement.proofs.JobBorn.{after, state_held, given_after, given_child, used_before, matched_held}
 
 -- The process that wraps and its user, the name of the directory that it makes and the directory above, and the numbers at which the objects of
 -- the process and of the directory above stand.
-pub record Wrapper (session : Session) (s : State) (f : Flat) (l : Represents session s f) (me : ProcName) (p : Process) : Type 0 where
+pub record Wrapper (accounts : Accounts) (s : State) (f : Flat) (l : Represents accounts s f) (me : ProcName) (p : Process) : Type 0 where
   pub here : f.processes me ≡ Some p
   pub runs : p.exited ≡ None
   pub room : p.born < 64
   pub user : ℕ
-  pub declared : user_number session p.user ≡ Some user
+  pub declared : user_number accounts p.user ≡ Some user
   pub directory : Path
   pub name : Name
   pub absent : get f.files (name ∷ directory) ≡ None
@@ -61,14 +61,14 @@ pub record Wrapper (session : Session) (s : State) (f : Flat) (l : Represents se
   pub thread : ℕ
   pub container : ℕ
   pub listing : ℕ
-  pub at_home : l.laid.naming.number (home_address me) ≡ Some home
-  pub at_status : l.laid.naming.number (Status ∷ home_address me) ≡ Some segment
-  pub at_thread : l.laid.naming.number (Runner ∷ Inside ∷ home_address me) ≡ Some thread
-  pub at_container : l.laid.naming.number (address_of directory) ≡ Some container
-  pub at_listing : l.laid.naming.number (Listing ∷ address_of directory) ≡ Some listing
+  pub at_home : l.matched.naming.number (home_address me) ≡ Some home
+  pub at_status : l.matched.naming.number (Status ∷ home_address me) ≡ Some segment
+  pub at_thread : l.matched.naming.number (Runner ∷ Inside ∷ home_address me) ≡ Some thread
+  pub at_container : l.matched.naming.number (address_of directory) ≡ Some container
+  pub at_listing : l.matched.naming.number (Listing ∷ address_of directory) ≡ Some listing
   pub few : s.next_object + 1 < greatest
 
-module _ (session : Session) (s : State) (f : Flat) (l : Represents session s f) (me : ProcName) (p : Process) (it : Wrapper session s f l me p) where
+module _ (accounts : Accounts) (s : State) (f : Flat) (l : Represents accounts s f) (me : ProcName) (p : Process) (it : Wrapper accounts s f l me p) where
   -- its fields by name
   abbrev here : f.processes me ≡ Some p
   here = it.here
@@ -82,7 +82,7 @@ module _ (session : Session) (s : State) (f : Flat) (l : Represents session s f)
   abbrev i : ℕ
   i = it.user
 
-  abbrev declared : user_number session p.user ≡ Some i
+  abbrev declared : user_number accounts p.user ≡ Some i
   declared = it.declared
 
   -- the directory above, and the name in it
@@ -117,19 +117,19 @@ module _ (session : Session) (s : State) (f : Flat) (l : Represents session s f)
   abbrev N : ℕ
   N = it.listing
 
-  abbrev at_home : l.laid.naming.number (home_address me) ≡ Some C
+  abbrev at_home : l.matched.naming.number (home_address me) ≡ Some C
   at_home = it.at_home
 
-  abbrev at_status : l.laid.naming.number (Status ∷ home_address me) ≡ Some S
+  abbrev at_status : l.matched.naming.number (Status ∷ home_address me) ≡ Some S
   at_status = it.at_status
 
-  abbrev at_thread : l.laid.naming.number (Runner ∷ Inside ∷ home_address me) ≡ Some T
+  abbrev at_thread : l.matched.naming.number (Runner ∷ Inside ∷ home_address me) ≡ Some T
   at_thread = it.at_thread
 
-  abbrev at_D : l.laid.naming.number (address_of d) ≡ Some D
+  abbrev at_D : l.matched.naming.number (address_of d) ≡ Some D
   at_D = it.at_container
 
-  abbrev at_N : l.laid.naming.number (Listing ∷ address_of d) ≡ Some N
+  abbrev at_N : l.matched.naming.number (Listing ∷ address_of d) ≡ Some N
   at_N = it.at_listing
 
   abbrev few : s.next_object + 1 < greatest
@@ -148,43 +148,43 @@ module _ (session : Session) (s : State) (f : Flat) (l : Represents session s f)
   class = Scratch p.user chain
 
   -- the job's name was not used
-  pub unused : ¬ IsUsed session f (OfJob child)
-  unused = jobs.unused session s f l me p here
+  pub unused : ¬ IsUsed accounts f (OfJob child)
+  unused = jobs.unused accounts s f l me p here
 
   pub stranger : has p.chain child ≡ false
-  stranger = jobs.stranger session s f l me p here
+  stranger = jobs.stranger accounts s f l me p here
 
   -- no class names the job yet
-  pub not_named : (q : Path) (there : Node) (x : Guard) → get f.files q ≡ Some there → class_guard session there.class ≡ Some x → (among x.secret (OfJob child) ≡ false) × (among x.written (OfJob child) ≡ false)
-  not_named = jobs.not_named session s f l me p here
+  pub not_named : (q : Path) (there : Node) (x : Guard) → get f.files q ≡ Some there → class_guard accounts there.class ≡ Some x → (among x.secret (OfJob child) ≡ false) × (among x.written (OfJob child) ≡ false)
+  not_named = jobs.not_named accounts s f l me p here
 
   -- once the job's category is made
-  abbrev pub named : (later : ObjectsMatch session (with_next_category s) f) × (later.naming ≡ l.laid.naming) × (later.category ≡ naming_next l.laid.category s.next_category (OfJob child))
-  named = jobs.named session s f l me p here
+  abbrev pub named : (later : ObjectsMatch accounts (with_next_category s) f) × (later.naming ≡ l.matched.naming) × (later.category ≡ naming_next l.matched.category s.next_category (OfJob child))
+  named = jobs.named accounts s f l me p here
 
-  abbrev pub m : ObjectsMatch session (with_next_category s) f
+  abbrev pub m : ObjectsMatch accounts (with_next_category s) f
   m = named.0
 
   -- which has the next number
   pub job_number : m.category (OfJob child) ≡ s.next_category
-  job_number = jobs.job_number session s f l me p here
+  job_number = jobs.job_number accounts s f l me p here
 
   -- and used names keep theirs
-  pub keeps : (c : CategoryName) → IsUsed session f c → m.category c ≡ l.laid.category c
-  keeps = jobs.keeps session s f l me p here
+  pub keeps : (c : CategoryName) → IsUsed accounts f c → m.category c ≡ l.matched.category c
+  keeps = jobs.keeps accounts s f l me p here
 
   -- jobs that were used have smaller numbers
-  below_job : (job : ProcName) → IsUsed session f (OfJob job) → m.category (OfJob job) < m.category (OfJob child)
+  below_job : (job : ProcName) → IsUsed accounts f (OfJob job) → m.category (OfJob job) < m.category (OfJob child)
   below_job job used =
-      let old = l.laid.made (OfJob job) used in
+      let old = l.matched.made (OfJob job) used in
       let kept = keeps (OfJob job) used in
       let new = job_number in
       omega (arith, old.1, kept, new)
 
-  chain_known : (job : ProcName) → has p.chain job ≡ true → IsUsed session f (OfJob job)
+  chain_known : (job : ProcName) → has p.chain job ≡ true → IsUsed accounts f (OfJob job)
   chain_known job e = inl (me, p, here, or_left (has p.chain job) (has p.held job) e)
 
-  held_known : (job : ProcName) → has p.held job ≡ true → IsUsed session f (OfJob job)
+  held_known : (job : ProcName) → has p.held job ≡ true → IsUsed accounts f (OfJob job)
   held_known job e = inl (me, p, here, or_right (has p.chain job) (has p.held job) e)
 
   chain_ordered : AreInOrder m.category chain
@@ -194,9 +194,9 @@ module _ (session : Session) (s : State) (f : Flat) (l : Represents session s f)
   held_ordered = in_order_last m.category child p.held (λ job e. below_job job (held_known job e)) ((m.processes me p here).held runs)
 
   class_made : (job : ProcName) → is_for class job ≡ true → IsMade (s.next_category + 1) (m.category (OfJob job))
-  class_made = jobs.chain_made session s f l me p here
+  class_made = jobs.chain_made accounts s f l me p here
 
-  pub guard_is : class_guard session class ≡ Some (scratch_guard chain i)
+  pub guard_is : class_guard accounts class ≡ Some (scratch_guard chain i)
   guard_is = ap (option_map (scratch_guard chain)) declared
 
   pub at_D_named : m.naming.number (address_of d) ≡ Some D
@@ -209,7 +209,7 @@ module _ (session : Session) (s : State) (f : Flat) (l : Represents session s f)
   abbrev pub with_directory : Flat
   with_directory = with_node f (n ∷ d) class Dir
 
-  pub fits : ClassFits session (with_next_category s) f m class
+  pub fits : ClassFits accounts (with_next_category s) f m class
   fits = record { guard = λ none. none_is_some (scratch_guard chain i) (sym none ∙ guard_is); order = chain_ordered; made = class_made }
     where
       none_is_some : (g : Guard) → ◌≡◌ {A = Option Guard} None (Some g) → ⊥
@@ -230,17 +230,17 @@ module _ (session : Session) (s : State) (f : Flat) (l : Represents session s f)
 
   -- Once the parent's directory has room for it.
   module _ (is_named : IsTrue (is_name n)) (room_above : length (entries_in f d) < most_entries) where
-    pub made : (later : ObjectsMatch session made_state with_directory) × (later.naming ≡ directory_naming session (with_next_category s) f m d above at_parent D N at_D_named at_N_named n absent class fits (scratch_guard chain i) guard_is) × (later.category ≡ m.category)
-    made = laid_directory_created session (with_next_category s) f m d above at_parent D N at_D_named at_N_named n absent class fits (scratch_guard chain i) guard_is is_named room_above (omega (arith, few))
+    pub made : (later : ObjectsMatch accounts made_state with_directory) × (later.naming ≡ directory_naming accounts (with_next_category s) f m d above at_parent D N at_D_named at_N_named n absent class fits (scratch_guard chain i) guard_is) × (later.category ≡ m.category)
+    made = matched_directory_created accounts (with_next_category s) f m d above at_parent D N at_D_named at_N_named n absent class fits (scratch_guard chain i) guard_is is_named room_above (omega (arith, few))
 
-    numbers : SameNumbers m.naming.number (directory_naming session (with_next_category s) f m d above at_parent D N at_D_named at_N_named n absent class fits (scratch_guard chain i) guard_is).number
-    numbers = directory_numbers session (with_next_category s) f m d above at_parent D N at_D_named at_N_named n absent class fits (scratch_guard chain i) guard_is (omega (arith, few))
+    numbers : SameNumbers m.naming.number (directory_naming accounts (with_next_category s) f m d above at_parent D N at_D_named at_N_named n absent class fits (scratch_guard chain i) guard_is).number
+    numbers = directory_numbers accounts (with_next_category s) f m d above at_parent D N at_D_named at_N_named n absent class fits (scratch_guard chain i) guard_is (omega (arith, few))
 
-    abbrev pub k : ObjectsMatch session made_state with_directory
+    abbrev pub k : ObjectsMatch accounts made_state with_directory
     k = made.0
 
     -- what processes have keeps its numbers
-    pub k_numbers : SameNumbers l.laid.naming.number k.naming.number
+    pub k_numbers : SameNumbers l.matched.naming.number k.naming.number
     k_numbers = subst (λ (x : Naming Step × Naming Step). SameNumbers x.0.number x.1.number) (λ j. (named.1 j, sym made.1 j)) numbers
 
     pub k_home : k.naming.number (home_address me) ≡ Some C
@@ -252,7 +252,7 @@ module _ (session : Session) (s : State) (f : Flat) (l : Represents session s f)
     pub k_thread : k.naming.number (Runner ∷ Inside ∷ home_address me) ≡ Some T
     k_thread = sym (k_numbers.runner me) ∙ at_thread
 
-    pub is_declared : is_some (user_number session p.user) ≡ true
+    pub is_declared : is_some (user_number accounts p.user) ≡ true
     is_declared = ap is_some declared
 
     pub served : IsServed with_directory child
@@ -266,20 +266,20 @@ module _ (session : Session) (s : State) (f : Flat) (l : Represents session s f)
 
     -- the calls as the kernel runs them: the thread owns the job's category from the first one on
     abbrev own : Levels
-    own = own_label session s f l.laid me p here runs T at_thread
+    own = own_label accounts s f l.matched me p here runs T at_thread
 
-    abbrev most : Levels
-    most = own_clearance session s f l.laid me p here runs T at_thread
+    abbrev clearance : Levels
+    clearance = own_clearance accounts s f l.matched me p here runs T at_thread
 
     abbrev pub state_directory : State
     state_directory = with_segment_bytes (with_object (with_object (with_category s T) D new_container) s.next_object new_segment) N written
 
-    pub beside : Beside T own most state_directory made_state
+    pub beside : Beside T own clearance state_directory made_state
     beside =
-        beside_written T own most (with_object (with_object (with_category s T) D new_container) s.next_object new_segment) (with_object (with_object (with_next_category s) D new_container) s.next_object new_segment) N written
-        (beside_added T own most (with_object (with_category s T) D new_container) (with_object (with_next_category s) D new_container) s.next_object new_segment
-        (beside_added T own most (with_category s T) (with_next_category s) D new_container
-        (beside_category T own most s s (beside_start session s f l.laid me p here runs T at_thread))))
+        beside_written T own clearance (with_object (with_object (with_category s T) D new_container) s.next_object new_segment) (with_object (with_object (with_next_category s) D new_container) s.next_object new_segment) N written
+        (beside_added T own clearance (with_object (with_category s T) D new_container) (with_object (with_next_category s) D new_container) s.next_object new_segment
+        (beside_added T own clearance (with_category s T) (with_next_category s) D new_container
+        (beside_category T own clearance s s (beside_start accounts s f l.matched me p here runs T at_thread))))
 
     pub counted : made_state.next_category ≤ state_directory.next_category
     counted = omega arith
@@ -287,7 +287,7 @@ module _ (session : Session) (s : State) (f : Flat) (l : Represents session s f)
     -- And once there are numbers for what the birth makes.
     module _ (few_born : made_state.next_object + 3 < greatest) where
       abbrev pub state_wrapped : State
-      state_wrapped = state_held session made_state with_directory k me p here runs room is_declared served stranger k_chain k_held C S T k_home k_status k_thread few_born own most state_directory beside counted
+      state_wrapped = state_held accounts made_state with_directory k me p here runs room is_declared served stranger k_chain k_held C S T k_home k_status k_thread few_born own clearance state_directory beside counted
 
       -- the flat state after it
       abbrev pub wrapped : Flat
@@ -311,11 +311,11 @@ module _ (session : Session) (s : State) (f : Flat) (l : Represents session s f)
       same_process x false true e u o q = refl
       same_process x false false e u o q = refl
 
-      same_flat : after session made_state with_directory k me p here runs room is_declared served stranger k_chain k_held C S T k_home k_status k_thread few_born ≡ wrapped
+      same_flat : after accounts made_state with_directory k me p here runs room is_declared served stranger k_chain k_held C S T k_home k_status k_thread few_born ≡ wrapped
       same_flat = λ j. record { files = with_directory.files; processes = λ x. same_process x (same me x) (same child x) refl refl (Some (record { user = p.user; chain = p.chain; held = p.held; exited = p.exited; born = p.born + 1 })) (f.processes x) j }
 
       -- a job that is known or served then was, or is one of the child's
-      old_or_new : (job : ProcName) → IsUsed session with_directory (OfJob job) → IsUsed session f (OfJob job) ⊎ (has chain job ≡ true)
+      old_or_new : (job : ProcName) → IsUsed accounts with_directory (OfJob job) → IsUsed accounts f (OfJob job) ⊎ (has chain job ≡ true)
       old_or_new job (inl known) = inl (inl known)
       old_or_new job (inr at) = elim (same_path_found at.0 (n ∷ d)) [
         | inl e ↦
@@ -324,25 +324,25 @@ module _ (session : Session) (s : State) (f : Flat) (l : Represents session s f)
         | inr e ↦ inl (inr (at.0, at.1, sym (get_other f.files (n ∷ d) (record { class = class; content = Dir }) at.0 e.1) ∙ at.2, at.3))
       ]
 
-      old_given : (job : ProcName) → IsUsed session f (OfJob job) → is_given (after session made_state with_directory k me p here runs room is_declared served stranger k_chain k_held C S T k_home k_status k_thread few_born).processes job ≡ true
-      old_given job u = given_after session made_state with_directory k me p here runs room is_declared served stranger k_chain k_held C S T k_home k_status k_thread few_born job (l.jobs_given job u)
+      old_given : (job : ProcName) → IsUsed accounts f (OfJob job) → is_given (after accounts made_state with_directory k me p here runs room is_declared served stranger k_chain k_held C S T k_home k_status k_thread few_born).processes job ≡ true
+      old_given job u = given_after accounts made_state with_directory k me p here runs room is_declared served stranger k_chain k_held C S T k_home k_status k_thread few_born job (l.jobs_given job u)
 
-      given_now : (job : ProcName) → has chain job ≡ true → is_given (after session made_state with_directory k me p here runs room is_declared served stranger k_chain k_held C S T k_home k_status k_thread few_born).processes job ≡ true
+      given_now : (job : ProcName) → has chain job ≡ true → is_given (after accounts made_state with_directory k me p here runs room is_declared served stranger k_chain k_held C S T k_home k_status k_thread few_born).processes job ≡ true
       given_now job e = elim (longer_has p.chain child job e) [
         | inl old ↦ old_given job (chain_known job old)
-        | inr is ↦ subst (λ (j : ProcName). is_given (after session made_state with_directory k me p here runs room is_declared served stranger k_chain k_held C S T k_home k_status k_thread few_born).processes j ≡ true) (sym is) (given_child session made_state with_directory k me p here runs room is_declared served stranger k_chain k_held C S T k_home k_status k_thread few_born)
+        | inr is ↦ subst (λ (j : ProcName). is_given (after accounts made_state with_directory k me p here runs room is_declared served stranger k_chain k_held C S T k_home k_status k_thread few_born).processes j ≡ true) (sym is) (given_child accounts made_state with_directory k me p here runs room is_declared served stranger k_chain k_held C S T k_home k_status k_thread few_born)
       ]
 
-      jobs_given_then : (job : ProcName) → IsKnown (after session made_state with_directory k me p here runs room is_declared served stranger k_chain k_held C S T k_home k_status k_thread few_born) job ⊎ IsServed (after session made_state with_directory k me p here runs room is_declared served stranger k_chain k_held C S T k_home k_status k_thread few_born) job → is_given (after session made_state with_directory k me p here runs room is_declared served stranger k_chain k_held C S T k_home k_status k_thread few_born).processes job ≡ true
-      jobs_given_then job u = elim (old_or_new job (used_before session made_state with_directory k me p here runs room is_declared served stranger k_chain k_held C S T k_home k_status k_thread few_born job u)) [
+      jobs_given_then : (job : ProcName) → IsKnown (after accounts made_state with_directory k me p here runs room is_declared served stranger k_chain k_held C S T k_home k_status k_thread few_born) job ⊎ IsServed (after accounts made_state with_directory k me p here runs room is_declared served stranger k_chain k_held C S T k_home k_status k_thread few_born) job → is_given (after accounts made_state with_directory k me p here runs room is_declared served stranger k_chain k_held C S T k_home k_status k_thread few_born).processes job ≡ true
+      jobs_given_then job u = elim (old_or_new job (used_before accounts made_state with_directory k me p here runs room is_declared served stranger k_chain k_held C S T k_home k_status k_thread few_born job u)) [
         | inl old ↦ old_given job old
         | inr e ↦ given_now job e
       ]
 
       -- The state after all calls of the wrap represents the flat state with the directory and the job's first process, whose wrapper holds the job.
-      pub represents_wrapped : Represents session state_wrapped wrapped
-      represents_wrapped = subst (Represents session state_wrapped) same_flat
+      pub represents_wrapped : Represents accounts state_wrapped wrapped
+      represents_wrapped = subst (Represents accounts state_wrapped) same_flat
           (record {
-            laid = laid_held session made_state with_directory k me p here runs room is_declared served stranger k_chain k_held C S T k_home k_status k_thread few_born own most state_directory beside counted;
+            matched = matched_held accounts made_state with_directory k me p here runs room is_declared served stranger k_chain k_held C S T k_home k_status k_thread few_born own clearance state_directory beside counted;
             jobs_given = jobs_given_then;
           })

@@ -14,21 +14,21 @@ use Rattle.histar_container.specs.Tree.{Address, set_at}
 use Rattle.histar_container.proofs.Addresses.{same_tests_equality}
 use Rattle.histar_container.proofs.Trees.{kind_held_links}
 use Rattle.histar_login.specs.Boot.{boot_thread_number}
-use Rattle.histar_flat.specs.Sessions.{Session}
+use Rattle.histar_flat.specs.Accounts.{Accounts}
 use Rattle.histar_flat.specs.Classes.{Class}
 use Rattle.histar_flat.specs.FlatState.{Node, Flat, is_some_and, is_dir, is_dir_at, class_of, with_node, with_bytes as with_file_bytes}
 use Rattle.histar_flat.specs.FlatState.Content.{File}
 use Rattle.histar_refinement.specs.Addresses.{Step, same_step, address_of}
 use Rattle.histar_refinement.specs.Directories.{target_for, directory_of}
-use Rattle.histar_refinement.specs.Stands.{Stands}
+use Rattle.histar_refinement.specs.Agrees.{Agrees}
 use Rattle.histar_refinement.specs.Expected.{node_object, listing_object, listing_at, expected}
 use Rattle.histar_refinement.specs.Represents.{AreJobsGiven, ObjectsMatch, Represents}
 use Rattle.histar_refinement.proofs.Steps.{step_tests_equality}
-use Rattle.histar_refinement.proofs.Moving.{bare_held, stands_changed, stands_same}
-use Rattle.histar_refinement.proofs.Places.{asked_path}
-use Rattle.histar_refinement.proofs.FileRows.{asked_same, held_node, leads_at, directories_alike, same_leads, ClassFits, AreKnown, old_known, old_fits, jobs_kept, laid_files}
+use Rattle.histar_refinement.proofs.Moving.{bare_held, agrees_changed, agrees_same}
+use Rattle.histar_refinement.proofs.Roots.{asked_path}
+use Rattle.histar_refinement.proofs.ListedFiles.{asked_same, held_node, leads_at, directories_alike, same_leads, ClassFits, AreKnown, old_known, old_fits, jobs_kept, matched_files}
 
-module _ (session : Session) (s : State) (f : Flat) (l : ObjectsMatch session s f) (q : Path) (class : Class) (old bytes : List ℕ) (at : get f.files q ≡ Some (record { class = class; content = File old })) (O : ℕ) (at_file : l.naming.number (address_of q) ≡ Some O) where
+module _ (accounts : Accounts) (s : State) (f : Flat) (l : ObjectsMatch accounts s f) (q : Path) (class : Class) (old bytes : List ℕ) (at : get f.files q ≡ Some (record { class = class; content = File old })) (O : ℕ) (at_file : l.naming.number (address_of q) ≡ Some O) where
   abbrev after : Flat
   after = with_node f q class (File bytes)
 
@@ -36,7 +36,7 @@ module _ (session : Session) (s : State) (f : Flat) (l : ObjectsMatch session s 
   written = record { class = class; content = File bytes }
 
   abbrev old_asked : Address Step → Found
-  old_asked = expected session l.category f l.naming.number
+  old_asked = expected accounts l.category f l.naming.number
 
   got_new : get after.files q ≡ Some written
   got_new = get_new f.files q written
@@ -53,35 +53,35 @@ module _ (session : Session) (s : State) (f : Flat) (l : ObjectsMatch session s 
   directory_all : (d : Path) → directory_of f.files l.naming.number d ≡ directory_of after.files l.naming.number d
   directory_all d = directories_alike f.files after.files l.naming.number l.naming.number d d (λ n. leads_all (n ∷ d))
 
-  listing_all : (d : Path) → listing_at session l.category f l.naming.number (Some d) ≡ listing_at session l.category after l.naming.number (Some d)
+  listing_all : (d : Path) → listing_at accounts l.category f l.naming.number (Some d) ≡ listing_at accounts l.category after l.naming.number (Some d)
   listing_all d = elim (same_path_found d q) [
-    | inl e ↦ ap (listing_object session l.category (spelling (directory_of f.files l.naming.number d))) (ap (get f.files) e.1 ∙ at) ∙ sym (ap (listing_object session l.category (spelling (directory_of after.files l.naming.number d))) (ap (get after.files) e.1 ∙ got_new))
-    | inr e ↦ λ i. listing_object session l.category (spelling (directory_all d i)) (sym (got_else d e.1) i)
+    | inl e ↦ ap (listing_object accounts l.category (spelling (directory_of f.files l.naming.number d))) (ap (get f.files) e.1 ∙ at) ∙ sym (ap (listing_object accounts l.category (spelling (directory_of after.files l.naming.number d))) (ap (get after.files) e.1 ∙ got_new))
+    | inr e ↦ λ i. listing_object accounts l.category (spelling (directory_all d i)) (sym (got_else d e.1) i)
   ]
 
-  stands_then : Stands same_step (with_segment_bytes s O bytes) l.naming (set_at same_step old_asked (address_of q) (option_map (holding bytes) (old_asked (address_of q))))
-  stands_then = stands_changed same_step step_tests_equality s l.naming old_asked l.stands O (address_of q) (holding bytes) at_file (λ x. kind_held_links bytes x.kind) (bare_held bytes)
+  agrees_then : Agrees same_step (with_segment_bytes s O bytes) l.naming (set_at same_step old_asked (address_of q) (option_map (holding bytes) (old_asked (address_of q))))
+  agrees_then = agrees_changed same_step step_tests_equality s l.naming old_asked l.agrees O (address_of q) (holding bytes) at_file (λ x. kind_held_links bytes x.kind) (bare_held bytes)
 
-  asks : (a : Address Step) → set_at same_step old_asked (address_of q) (option_map (holding bytes) (old_asked (address_of q))) a ≡ expected session l.category after l.naming.number a
+  asks : (a : Address Step) → set_at same_step old_asked (address_of q) (option_map (holding bytes) (old_asked (address_of q))) a ≡ expected accounts l.category after l.naming.number a
   asks a = elim (same_tests_equality same_step step_tests_equality (address_of q) a) [
     | inl e ↦
         ap (λ (t : Bool). if t then option_map (holding bytes) (old_asked (address_of q)) else old_asked a) e.0
-        ∙ ap (option_map (holding bytes)) (asked_path session l.category f l.naming.number q ∙ ap (node_object session l.category) at) ∙ held_node session l.category old bytes class
-        ∙ sym (ap (expected session l.category after l.naming.number) (sym e.1) ∙ asked_path session l.category after l.naming.number q ∙ ap (node_object session l.category) got_new)
+        ∙ ap (option_map (holding bytes)) (asked_path accounts l.category f l.naming.number q ∙ ap (node_object accounts l.category) at) ∙ held_node accounts l.category old bytes class
+        ∙ sym (ap (expected accounts l.category after l.naming.number) (sym e.1) ∙ asked_path accounts l.category after l.naming.number q ∙ ap (node_object accounts l.category) got_new)
     | inr e ↦
         ap (λ (t : Bool). if t then option_map (holding bytes) (old_asked (address_of q)) else old_asked a) e.0
-        ∙ asked_same session l.category f after.files l.naming.number l.naming.number (record { home = λ p. refl; status = λ p. refl; inside = λ p. refl; runner = λ p. refl }) a (record {
-          at_path = λ p is. ap (node_object session l.category) (sym (got_else p (λ k. e.1 (ap address_of (sym k) ∙ sym is))));
+        ∙ asked_same accounts l.category f after.files l.naming.number l.naming.number (record { home = λ p. refl; status = λ p. refl; inside = λ p. refl; runner = λ p. refl }) a (record {
+          at_path = λ p is. ap (node_object accounts l.category) (sym (got_else p (λ k. e.1 (ap address_of (sym k) ∙ sym is))));
           in_directory = λ p is. listing_all p;
         })
   ]
 
-  all_fit : (p : Path) (there : Node) → get after.files p ≡ Some there → ClassFits session s f l there.class
+  all_fit : (p : Path) (there : Node) → get after.files p ≡ Some there → ClassFits accounts s f l there.class
   all_fit p there is = elim (same_path_found p q) [
     | inl e ↦
         let same : written ≡ there = same_Some written there (sym got_new ∙ ap (get after.files) (sym e.1) ∙ is) in
-        subst (λ (x : Node). ClassFits session s f l x.class) same (old_fits session s f l q (record { class = class; content = File old }) at)
-    | inr e ↦ old_fits session s f l p there (sym (got_else p e.1) ∙ is)
+        subst (λ (x : Node). ClassFits accounts s f l x.class) same (old_fits accounts s f l q (record { class = class; content = File old }) at)
+    | inr e ↦ old_fits accounts s f l p there (sym (got_else p e.1) ∙ is)
   ]
 
   was_dir : (d : Path) → is_dir_at after d ≡ true → is_dir_at f d ≡ true
@@ -97,24 +97,24 @@ module _ (session : Session) (s : State) (f : Flat) (l : ObjectsMatch session s 
   ]
 
   -- The kernel has the objects of the flat state with the new bytes: `write`, and `append` where these are the old ones with more.
-  pub laid_overwritten : (later : ObjectsMatch session (with_segment_bytes s O bytes) (with_file_bytes f q bytes)) × (later.naming ≡ l.naming) × (later.category ≡ l.category)
-  laid_overwritten = subst (λ (c : Class). (later : ObjectsMatch session (with_segment_bytes s O bytes) (with_node f q c (File bytes))) × (later.naming ≡ l.naming) × (later.category ≡ l.category)) (sym (ap class_of at))
-      (laid_files session s f l after.files all_fit (with_segment_bytes s O bytes) l.naming
-      (stands_same same_step (with_segment_bytes s O bytes) (with_segment_bytes s O bytes) l.naming _ (expected session l.category after l.naming.number) stands_then asks (λ k. refl) refl) l.numbered
+  pub matched_overwritten : (later : ObjectsMatch accounts (with_segment_bytes s O bytes) (with_file_bytes f q bytes)) × (later.naming ≡ l.naming) × (later.category ≡ l.category)
+  matched_overwritten = subst (λ (c : Class). (later : ObjectsMatch accounts (with_segment_bytes s O bytes) (with_node f q c (File bytes))) × (later.naming ≡ l.naming) × (later.category ≡ l.category)) (sym (ap class_of at))
+      (matched_files accounts s f l after.files all_fit (with_segment_bytes s O bytes) l.naming
+      (agrees_same same_step (with_segment_bytes s O bytes) (with_segment_bytes s O bytes) l.naming _ (expected accounts l.category after l.naming.number) agrees_then asks (λ k. refl) refl) l.numbered
       l.as_booted (λ d is. subst IsListable (directory_all d) (l.listable d (was_dir d is))) refl (by_bytes s.objects boot_thread_number l.boot_thread_gone))
 
-  all_known : (p : Path) (there : Node) → get after.files p ≡ Some there → AreKnown session s f l there.class
+  all_known : (p : Path) (there : Node) → get after.files p ≡ Some there → AreKnown accounts s f l there.class
   all_known p there is = elim (same_path_found p q) [
     | inl e ↦
         let same : written ≡ there = same_Some written there (sym got_new ∙ ap (get after.files) (sym e.1) ∙ is) in
-        subst (λ (x : Node). AreKnown session s f l x.class) same (old_known session s f l q (record { class = class; content = File old }) at)
-    | inr e ↦ old_known session s f l p there (sym (got_else p e.1) ∙ is)
+        subst (λ (x : Node). AreKnown accounts s f l x.class) same (old_known accounts s f l q (record { class = class; content = File old }) at)
+    | inr e ↦ old_known accounts s f l p there (sym (got_else p e.1) ∙ is)
   ]
 
   -- the numbers in the names of jobs were given as before
   pub jobs_overwritten : AreJobsGiven f → AreJobsGiven (with_file_bytes f q bytes)
-  jobs_overwritten = subst (λ (c : Class). AreJobsGiven f → AreJobsGiven (with_node f q c (File bytes))) (sym (ap class_of at)) (jobs_kept session s f l after.files all_known)
+  jobs_overwritten = subst (λ (c : Class). AreJobsGiven f → AreJobsGiven (with_node f q c (File bytes))) (sym (ap class_of at)) (jobs_kept accounts s f l after.files all_known)
 
   -- and so the kernel represents the flat state with the new bytes
-  pub represents_overwritten : AreJobsGiven f → Represents session (with_segment_bytes s O bytes) (with_file_bytes f q bytes)
-  represents_overwritten given = record { laid = laid_overwritten.0; jobs_given = jobs_overwritten given }
+  pub represents_overwritten : AreJobsGiven f → Represents accounts (with_segment_bytes s O bytes) (with_file_bytes f q bytes)
+  represents_overwritten given = record { matched = matched_overwritten.0; jobs_given = jobs_overwritten given }

@@ -4,7 +4,7 @@ use Rattle.std.specs.List.{list_any}
 use Rattle.histar_flat.specs.Words.{Path, ProcName}
 use Rattle.histar_flat.specs.PathOrder.{same}
 use Rattle.histar_flat.specs.Files.{get}
-use Rattle.histar_flat.specs.Sessions.{Session, has}
+use Rattle.histar_flat.specs.Accounts.{Accounts, has}
 use Rattle.histar_flat.specs.Classes.{Class, Process, knows}
 use Rattle.histar_flat.specs.Classes.Class.{Private, Readable, Open, Scratch, Grouped}
 use Rattle.histar_flat.specs.FlatState.{Node, Flat}
@@ -50,19 +50,19 @@ abbrev pub IsMade : ℕ → ℕ → Type 0
 IsMade next q = (0 < q) × (q < next)
 
 -- the number that boot gave: 1 is the empty kernel's, then come two for nobody, for each user, for each group, and for process 0
-abbrev pub boot_category : Session → CategoryName → Option ℕ
-boot_category session OfBoot = Some 1
-boot_category session (ReadsUser i) = cond (nat_le i (length session.users)) (Some (2 + 2 * i)) None
-boot_category session (WritesUser i) = cond (nat_le i (length session.users)) (Some (3 + 2 * i)) None
-boot_category session (ReadsGroup k) = cond (nat_le 1 k && nat_le k (length session.groups)) (Some (2 + 2 * length session.users + 2 * k)) None
-boot_category session (WritesGroup k) = cond (nat_le 1 k && nat_le k (length session.groups)) (Some (3 + 2 * length session.users + 2 * k)) None
-boot_category session (ReadsProcess []) = Some (4 + 2 * length session.users + 2 * length session.groups)
-boot_category session (WritesProcess []) = Some (5 + 2 * length session.users + 2 * length session.groups)
-boot_category session c = None
+abbrev pub boot_category : Accounts → CategoryName → Option ℕ
+boot_category accounts OfBoot = Some 1
+boot_category accounts (ReadsUser i) = cond (nat_le i (length accounts.users)) (Some (2 + 2 * i)) None
+boot_category accounts (WritesUser i) = cond (nat_le i (length accounts.users)) (Some (3 + 2 * i)) None
+boot_category accounts (ReadsGroup k) = cond (nat_le 1 k && nat_le k (length accounts.groups)) (Some (2 + 2 * length accounts.users + 2 * k)) None
+boot_category accounts (WritesGroup k) = cond (nat_le 1 k && nat_le k (length accounts.groups)) (Some (3 + 2 * length accounts.users + 2 * k)) None
+boot_category accounts (ReadsProcess []) = Some (4 + 2 * length accounts.users + 2 * length accounts.groups)
+boot_category accounts (WritesProcess []) = Some (5 + 2 * length accounts.users + 2 * length accounts.groups)
+boot_category accounts c = None
 
 -- the number that boot gave, and 0 where it gave none
-abbrev pub booted : Session → Categories
-booted session c = unwrap_or (boot_category session c) 0
+abbrev pub booted : Accounts → Categories
+booted accounts c = unwrap_or (boot_category accounts c) 0
 
 -- a file or directory is for processes of this job
 abbrev pub is_for : Class → ProcName → Bool
@@ -79,15 +79,15 @@ IsServed f job = (q : Path) × (there : Node) × (get f.files q ≡ Some there) 
 
 -- The names that are used: those of boot, of users and groups, of the processes that are there, and of the jobs that some process
 -- knows or some file is for. The categories of what was killed stay made, and have no name any more.
-abbrev pub IsUsed : Session → Flat → CategoryName → Type 0
-IsUsed session f OfBoot = Unit {0}
-IsUsed session f (ReadsUser i) = i ≤ length session.users
-IsUsed session f (WritesUser i) = i ≤ length session.users
-IsUsed session f (ReadsGroup k) = (1 ≤ k) × (k ≤ length session.groups)
-IsUsed session f (WritesGroup k) = (1 ≤ k) × (k ≤ length session.groups)
-IsUsed session f (ReadsProcess me) = is_some (f.processes me) ≡ true
-IsUsed session f (WritesProcess me) = is_some (f.processes me) ≡ true
-IsUsed session f (OfJob job) = IsKnown f job ⊎ IsServed f job
+abbrev pub IsUsed : Accounts → Flat → CategoryName → Type 0
+IsUsed accounts f OfBoot = Unit {0}
+IsUsed accounts f (ReadsUser i) = i ≤ length accounts.users
+IsUsed accounts f (WritesUser i) = i ≤ length accounts.users
+IsUsed accounts f (ReadsGroup k) = (1 ≤ k) × (k ≤ length accounts.groups)
+IsUsed accounts f (WritesGroup k) = (1 ≤ k) × (k ≤ length accounts.groups)
+IsUsed accounts f (ReadsProcess me) = is_some (f.processes me) ≡ true
+IsUsed accounts f (WritesProcess me) = is_some (f.processes me) ≡ true
+IsUsed accounts f (OfJob job) = IsKnown f job ⊎ IsServed f job
 
 -- two numbers change places
 abbrev pub swapped : ℕ → ℕ → ℕ → ℕ

@@ -2,7 +2,7 @@
 use Rattle.std.specs.Prelude.{ℕ, List, [], ◌∷◌, Option, None, Some, option_and_then, option_map}
 use Rattle.std.specs.FinSet as set
 use Rattle.histar_flat.specs.Words.{Path, ProcName}
-use Rattle.histar_flat.specs.Sessions.{Session}
+use Rattle.histar_flat.specs.Accounts.{Accounts}
 use Rattle.histar_flat.specs.Files.{get}
 use Rattle.histar_flat.specs.Classes.{Process}
 use Rattle.histar_flat.specs.FlatState.{Node, Content, Flat}
@@ -33,18 +33,18 @@ abbrev pub content_kind : Content → Kind Levels
 content_kind Dir = Container set.empty
 content_kind (File bytes) = Segment bytes
 
-module _ (session : Session) (category : Categories) where
+module _ (accounts : Accounts) (category : Categories) where
   -- an object of this kind that is guarded so
   abbrev pub guarded_object : Kind Levels → Option Guard → Found
   guarded_object kind guard = option_map (λ (g : Guard). record { label = guard_label category g; kind = kind }) guard
 
   -- what stands at a path, with the label of its class
   abbrev pub node_object : Option Node → Found
-  node_object = option_and_then (λ there. guarded_object (content_kind there.content) (class_guard session there.class))
+  node_object = option_and_then (λ there. guarded_object (content_kind there.content) (class_guard accounts there.class))
 
   -- the directory segment of a directory: it has the directory's label, and spells its entries; a file has none
   abbrev pub listing_object : List ℕ → Option Node → Found
-  listing_object bytes = option_and_then (λ there. elim there.content [ Dir ↦ guarded_object (Segment bytes) (class_guard session there.class) | File old ↦ None ])
+  listing_object bytes = option_and_then (λ there. elim there.content [ Dir ↦ guarded_object (Segment bytes) (class_guard accounts there.class) | File old ↦ None ])
 
   -- the container of a process that is there
   abbrev pub home_object : ProcName → Option Process → Found
@@ -61,7 +61,7 @@ module _ (session : Session) (category : Categories) where
   -- its thread, which a process that has exited has no more
   abbrev pub thread_object : ProcName → Option Process → Found
   thread_object me = option_and_then (λ p. elim p.exited [
-    | None ↦ Some (thread_of (rights_label category (thread_rights session me p)) (rights_clearance category (thread_rights session me p)))
+    | None ↦ Some (thread_of (rights_label category (thread_rights accounts me p)) (rights_clearance category (thread_rights accounts me p)))
     | Some n ↦ None
   ])
 
@@ -99,8 +99,8 @@ module _ (session : Session) (category : Categories) where
     -- in a directory its directory segment and its entries; in a process's container its process segment, the containers of its
     -- children and its internal container, and in that the thread.
     abbrev pub expected : Address Step → Found
-    expected [] = bare_container (guard_label (booted session) boot_guard)
-    expected (Left q ∷ a) = if_at [] a (left_by_boot session q)
+    expected [] = bare_container (guard_label (booted accounts) boot_guard)
+    expected (Left q ∷ a) = if_at [] a (left_by_boot accounts q)
     expected (Slash ∷ a) = expected_node (path_at (Slash ∷ a))
     expected (Listing ∷ a) = listing_at (path_at a)
     expected (Named n ∷ a) = expected_node (path_at (Named n ∷ a))

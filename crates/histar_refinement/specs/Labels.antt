@@ -1,7 +1,7 @@
 -- The labels of files, processes, threads and gates, by the names of their categories.
 use Rattle.std.specs.Prelude.{ℕ, List, [], ◌∷◌, ◌++◌, map, Option, None, Some, option_map, if◌then◌else◌}
 use Rattle.histar_flat.specs.Words.{Name, ProcName}
-use Rattle.histar_flat.specs.Sessions.{Session, user_number, group_number, groups_of}
+use Rattle.histar_flat.specs.Accounts.{Accounts, user_number, group_number, groups_of}
 use Rattle.histar_flat.specs.Classes.{Class, Process, is_free}
 use Rattle.histar_flat.specs.Classes.Class.{Private, Readable, Open, Scratch, Grouped}
 use Rattle.histar_refinement.specs.Categories.{CategoryName}
@@ -33,12 +33,12 @@ abbrev pub open_guard : Guard
 open_guard = record { secret = []; written = [] }
 
 -- how what is of a class is guarded; there is no guard where no user or group has the name
-abbrev pub class_guard : Session → Class → Option Guard
-class_guard session (Private owner) = option_map private_guard (user_number session owner)
-class_guard session (Readable owner) = option_map readable_guard (user_number session owner)
-class_guard session Open = Some open_guard
-class_guard session (Scratch owner jobs) = option_map (scratch_guard jobs) (user_number session owner)
-class_guard session (Grouped group) = option_map group_guard (group_number session group)
+abbrev pub class_guard : Accounts → Class → Option Guard
+class_guard accounts (Private owner) = option_map private_guard (user_number accounts owner)
+class_guard accounts (Readable owner) = option_map readable_guard (user_number accounts owner)
+class_guard accounts Open = Some open_guard
+class_guard accounts (Scratch owner jobs) = option_map (scratch_guard jobs) (user_number accounts owner)
+class_guard accounts (Grouped group) = option_map group_guard (group_number accounts group)
 
 -- a process's container and its process segment are written by the process alone, and are secret to its jobs
 abbrev pub process_guard : ProcName → Process → Guard
@@ -49,26 +49,26 @@ abbrev pub inside_guard : ProcName → Process → Guard
 inside_guard me p = record { secret = ReadsProcess me ∷ map OfJob p.chain; written = WritesProcess me ∷ [] }
 
 -- the categories by which user i reads: its own and those of its groups
-abbrev pub reading : Session → Name → ℕ → List CategoryName
-reading session name i = ReadsUser i ∷ map ReadsGroup (groups_of session name)
+abbrev pub reading : Accounts → Name → ℕ → List CategoryName
+reading accounts name i = ReadsUser i ∷ map ReadsGroup (groups_of accounts name)
 
 -- the categories by which user i writes: its own and those of its groups
-abbrev pub writing : Session → Name → ℕ → List CategoryName
-writing session name i = WritesUser i ∷ map WritesGroup (groups_of session name)
+abbrev pub writing : Accounts → Name → ℕ → List CategoryName
+writing accounts name i = WritesUser i ∷ map WritesGroup (groups_of accounts name)
 
 -- what a process owns as its user, by the user's number: nothing as nobody, and in a job what the user reads by alone
-abbrev pub owned_as : Session → Process → Option ℕ → List CategoryName
-owned_as session p None = []
-owned_as session p (Some i) = reading session p.user i ++ (if is_free p then writing session p.user i else [])
+abbrev pub owned_as : Accounts → Process → Option ℕ → List CategoryName
+owned_as accounts p None = []
+owned_as accounts p (Some i) = reading accounts p.user i ++ (if is_free p then writing accounts p.user i else [])
 
 -- the rights of the thread of a process: it owns its own two categories, what its user does, and the jobs that it holds, and has
 -- those of its jobs at 3
-abbrev pub thread_rights : Session → ProcName → Process → Rights
-thread_rights session me p = record {
-  owned = ReadsProcess me ∷ WritesProcess me ∷ owned_as session p (user_number session p.user) ++ map OfJob p.held;
+abbrev pub thread_rights : Accounts → ProcName → Process → Rights
+thread_rights accounts me p = record {
+  owned = ReadsProcess me ∷ WritesProcess me ∷ owned_as accounts p (user_number accounts p.user) ++ map OfJob p.held;
   tainted = map OfJob p.chain;
 }
 
 -- the rights that the gate of user i gives
-abbrev pub gate_rights : Session → Name → ℕ → Rights
-gate_rights session name i = record { owned = reading session name i ++ writing session name i; tainted = [] }
+abbrev pub gate_rights : Accounts → Name → ℕ → Rights
+gate_rights accounts name i = record { owned = reading accounts name i ++ writing accounts name i; tainted = [] }

@@ -1,4 +1,4 @@
-pub mod Sessions
+pub mod Accounts
 pub mod Categories
 pub mod Guards
 pub mod Labels
@@ -8,7 +8,7 @@ pub mod Addresses
 pub mod Processes
 pub mod Directories
 pub mod Expected
-pub mod Stands
+pub mod Agrees
 pub mod Represents
 pub mod Lines
 pub mod Laws

@@ -10,38 +10,38 @@ use Rattle.histar_layout.specs.Status.{ProcessStatus, IsStatus, child_at}
 use Rattle.histar_layout.specs.declared.entry.Target.{Target}
 use Rattle.histar_layout.specs.declared.entry.Target.TheVariants as targets
 use Rattle.histar_rules.specs.Sound.{root_number}
-use Rattle.histar_flat.specs.Sessions.{Session}
+use Rattle.histar_flat.specs.Accounts.{Accounts}
 use Rattle.histar_refinement.specs.Addresses.{slash_number, slash_listing_number, home_number, status_number}
 
 -- The container and the process segment of a process: those of process 0 boot made, and those of a child the process segment above
 -- it lists.
-abbrev pub IsStatusSegment : Session → State → ProcName → ℕ → ℕ → Type 0
-IsStatusSegment session s [] container segment = (container ≡ home_number (length session.users)) × (segment ≡ status_number (length session.users))
-IsStatusSegment session s (n ∷ p) container segment =
+abbrev pub IsStatusSegment : Accounts → State → ProcName → ℕ → ℕ → Type 0
+IsStatusSegment accounts s [] container segment = (container ≡ home_number (length accounts.users)) × (segment ≡ status_number (length accounts.users))
+IsStatusSegment accounts s (n ∷ p) container segment =
     (above : ℕ) × (listing : ℕ) × (status : ProcessStatus)
-    × IsStatusSegment session s p above listing × IsStatus (bytes_in (s.objects listing)) status
+    × IsStatusSegment accounts s p above listing × IsStatus (bytes_in (s.objects listing)) status
     × (child_at status.children n ≡ Some (record { number = n; container = container; segment = segment }))
 
 -- the thread is the one that the process segment of this process, which runs, names
-abbrev pub IsThreadOf : Session → State → ProcName → ℕ → Type 0
-IsThreadOf session s process thread =
+abbrev pub IsThreadOf : Accounts → State → ProcName → ℕ → Type 0
+IsThreadOf accounts s process thread =
     (container : ℕ) × (segment : ℕ) × (status : ProcessStatus)
-    × IsStatusSegment session s process container segment × IsStatus (bytes_in (s.objects segment)) status × (status.exited ≡ None) × (status.thread ≡ thread)
+    × IsStatusSegment accounts s process container segment × IsStatus (bytes_in (s.objects segment)) status × (status.exited ≡ None) × (status.thread ≡ thread)
 
 -- The container and the directory segment of a directory: those of `/` boot made, and those of another the directory segment above
 -- it lists.
-abbrev pub IsDirectoryAt : Session → State → Path → ℕ → ℕ → Type 0
-IsDirectoryAt session s [] container segment = (container ≡ slash_number (length session.users)) × (segment ≡ slash_listing_number (length session.users))
-IsDirectoryAt session s (name ∷ d) container segment =
+abbrev pub IsDirectoryAt : Accounts → State → Path → ℕ → ℕ → Type 0
+IsDirectoryAt accounts s [] container segment = (container ≡ slash_number (length accounts.users)) × (segment ≡ slash_listing_number (length accounts.users))
+IsDirectoryAt accounts s (name ∷ d) container segment =
     (above : ℕ) × (listing : ℕ) × (dir : Entries)
-    × IsDirectoryAt session s d above listing × IsDirectory (bytes_in (s.objects listing)) dir
+    × IsDirectoryAt accounts s d above listing × IsDirectory (bytes_in (s.objects listing)) dir
     × (map.get dir name ≡ Some (targets.Directory container segment))
 
 -- The object of what stands at a path, and the container that links it: `/` is linked by the root container, and another by the
 -- container of the directory above it, whose segment lists it.
-abbrev pub IsObjectAt : Session → State → Path → ℕ → ℕ → Type 0
-IsObjectAt session s [] container object = (container ≡ root_number) × (object ≡ slash_number (length session.users))
-IsObjectAt session s (name ∷ d) container object =
+abbrev pub IsObjectAt : Accounts → State → Path → ℕ → ℕ → Type 0
+IsObjectAt accounts s [] container object = (container ≡ root_number) × (object ≡ slash_number (length accounts.users))
+IsObjectAt accounts s (name ∷ d) container object =
     (listing : ℕ) × (dir : Entries) × (target : Target)
-    × IsDirectoryAt session s d container listing × IsDirectory (bytes_in (s.objects listing)) dir
+    × IsDirectoryAt accounts s d container listing × IsDirectory (bytes_in (s.objects listing)) dir
     × (map.get dir name ≡ Some target) × (object ≡ object_of target)

@@ -1,7 +1,7 @@
 -- When the state of a labelled kernel represents a flat state.
 use Rattle.std.specs.Prelude.{◌≡◌, ◌≢◌, ℕ, ◌+◌, ◌≤◌, ◌⊎◌, true, false, List, [], ◌∷◌, length, map, None, Some, is_some}
 use Rattle.histar_flat.specs.Words.{Path, ProcName, greatest_status, most_children}
-use Rattle.histar_flat.specs.Sessions.{Session, has, user_number}
+use Rattle.histar_flat.specs.Accounts.{Accounts, has, user_number}
 use Rattle.histar_flat.specs.Files.{get}
 use Rattle.histar_flat.specs.Classes.{Class, Process, nobody}
 use Rattle.histar_flat.specs.Classes.Class.{Private, Readable, Open, Scratch, Grouped}
@@ -16,7 +16,7 @@ use Rattle.histar_refinement.specs.Categories.{CategoryName, Categories, AreDiff
 use Rattle.histar_refinement.specs.Labels.{class_guard}
 use Rattle.histar_refinement.specs.NumberedClasses.{job_numbers}
 use Rattle.histar_refinement.specs.Addresses.{Step, same_step, boot_number}
-use Rattle.histar_refinement.specs.Stands.{Stands}
+use Rattle.histar_refinement.specs.Agrees.{Agrees}
 use Rattle.histar_refinement.specs.Directories.{directory_of}
 use Rattle.histar_refinement.specs.Expected.{expected}
 
@@ -32,9 +32,9 @@ IsInOrder category class = Unit {0}
 -- A process that can be represented: its user is declared, or is nobody, who is in no job and holds none; it holds no job that it is
 -- in, its jobs stand in order, and its counts are those that its segment has room for. Of one that has exited neither the user nor
 -- the held jobs can be known, and nothing is said of them.
-pub record IsProcess (session : Session) (category : Categories) (p : Process) : Type 0 where
-  pub someone : p.exited ≡ None → (p.user ≡ nobody) ⊎ (is_some (user_number session p.user) ≡ true)
-  pub free : p.exited ≡ None → is_some (user_number session p.user) ≡ false → (p.chain ≡ []) × (p.held ≡ [])
+pub record IsProcess (accounts : Accounts) (category : Categories) (p : Process) : Type 0 where
+  pub someone : p.exited ≡ None → (p.user ≡ nobody) ⊎ (is_some (user_number accounts p.user) ≡ true)
+  pub free : p.exited ≡ None → is_some (user_number accounts p.user) ≡ false → (p.chain ≡ []) × (p.held ≡ [])
   pub apart : p.exited ≡ None → (job : ProcName) → has p.chain job ≡ true → has p.held job ≡ false
   pub chain : AreInOrder category p.chain
   pub held : p.exited ≡ None → AreInOrder category p.held
@@ -43,28 +43,28 @@ pub record IsProcess (session : Session) (category : Categories) (p : Process) :
 
 -- A state of the kernel has the objects of a flat state, under a naming of its objects by addresses and a naming of its categories.
 -- This holds also in the midst of a call that begins a job: there a directory is for a job whose first process was not yet born.
-pub record ObjectsMatch (session : Session) (s : State) (f : Flat) : Type 0 where
+pub record ObjectsMatch (accounts : Accounts) (s : State) (f : Flat) : Type 0 where
   pub naming : Naming Step
   pub category : Categories
   -- each object stands at an address, links exactly what stands one step below it, and is what the flat state asks for there: its
   -- label, its clearance and its bytes
-  pub stands : Stands same_step s naming (expected session category f naming.number)
+  pub agrees : Agrees same_step s naming (expected accounts category f naming.number)
   -- the numbers of objects are numbers of 64 bits
   pub numbered : s.next_object ≤ greatest
   -- what boot made for good has the numbers that boot gave
-  pub as_booted : (a : Address Step) (q : ℕ) → boot_number (length session.users) a ≡ Some q → naming.number a ≡ Some q
+  pub as_booted : (a : Address Step) (q : ℕ) → boot_number (length accounts.users) a ≡ Some q → naming.number a ≡ Some q
   -- no two names of categories have one number; those that are used were made, and those of boot are the ones that boot made
   pub different : AreDifferent category
-  pub made : (c : CategoryName) → IsUsed session f c → IsMade s.next_category (category c)
-  pub as_made : (c : CategoryName) (q : ℕ) → boot_category session c ≡ Some q → category c ≡ q
+  pub made : (c : CategoryName) → IsUsed accounts f c → IsMade s.next_category (category c)
+  pub as_made : (c : CategoryName) (q : ℕ) → boot_category accounts c ≡ Some q → category c ≡ q
   -- each file and directory is of a user or a group that is declared, and its jobs stand in order
-  pub guarded : (q : Path) (there : Node) → get f.files q ≡ Some there → class_guard session there.class ≢ None
+  pub guarded : (q : Path) (there : Node) → get f.files q ≡ Some there → class_guard accounts there.class ≢ None
   pub in_order : (q : Path) (there : Node) → get f.files q ≡ Some there → IsInOrder category there.class
   -- each directory is one that a directory segment can hold
   pub listable : (d : Path) → is_dir_at f d ≡ true → IsListable (directory_of f.files naming.number d)
   -- process 0 is there, and each process is one that can be represented
   pub first : is_some (f.processes []) ≡ true
-  pub processes : (me : ProcName) (p : Process) → f.processes me ≡ Some p → IsProcess session category p
+  pub processes : (me : ProcName) (p : Process) → f.processes me ≡ Some p → IsProcess accounts category p
   -- the numbers in the names of processes were given to children that were born
   pub processes_given : (me : ProcName) → is_some (f.processes me) ≡ true → is_given f.processes me ≡ true
   -- the boot thread is gone for good
@@ -75,6 +75,6 @@ abbrev pub AreJobsGiven : Flat → Type 0
 AreJobsGiven f = (job : ProcName) → IsKnown f job ⊎ IsServed f job → is_given f.processes job ≡ true
 
 -- a state of the kernel represents a flat state
-pub record Represents (session : Session) (s : State) (f : Flat) : Type 0 where
-  pub laid : ObjectsMatch session s f
+pub record Represents (accounts : Accounts) (s : State) (f : Flat) : Type 0 where
+  pub matched : ObjectsMatch accounts s f
   pub jobs_given : AreJobsGiven f

@@ -1,11 +1,11 @@
 //! A session that is written as a page, from bytes to bytes.
 ghost use Rattle.std.specs.Prelude.{◌≡◌, false, None, IfErr, IfSome};
-ghost use Rattle.histar_devices.specs.Device.{CountsFailure};
+ghost use Rattle.histar_io.specs.Device.{CountsFailure};
 ghost use Rattle.histar_script.specs.Runs.{LeavesSink, RunsInput, is_read_failed, is_write_failed};
 ghost use Rattle.histar_report.specs.Session.{AreSecrets, GivesText, IsTable, WritesPage};
 
 use histar_access::access;
-use histar_devices::{Sink, Source, read_input, write_bytes};
+use histar_io::{Sink, Source, read_input, write_bytes};
 use histar_page::{Texts, page_text};
 use histar_script::Fault;
 use histar_shell::{Counted, Options};

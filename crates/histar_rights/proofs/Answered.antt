@@ -12,12 +12,12 @@ use Rattle.histar_flat.specs.declared.replies.Errno.{Errno}
 use Rattle.histar_flat.specs.declared.replies.Errno.TheVariants.{EEXIST, ENOSPC, EACCES, EPERM}
 use Rattle.histar_flat.specs.declared.replies.Reply.{Reply}
 use Rattle.histar_flat.specs.Words.{Name, Path, ProcName}
-use Rattle.histar_flat.specs.Sessions.{Session}
+use Rattle.histar_flat.specs.Accounts.{Accounts}
 use Rattle.histar_flat.specs.Files.{get}
 use Rattle.histar_flat.specs.Classes.{Process, class_made}
 use Rattle.histar_flat.specs.FlatState.{Flat, Node, is_dir, is_there, writes, entries_in, into}
 use Rattle.histar_flat.specs.FlatCalls.{most_entries, refused, running, answer, stat_reply, reply_or, reply_to, reply_by}
-use Rattle.histar_flat.specs.Meaning.{Answered, boot, flat_end, meaning}
+use Rattle.histar_flat.specs.Meaning.{RepliedCall, boot, flat_end, meaning}
 use Rattle.histar_flat.proofs.Laws.{replies_go_on}
 use Rattle.histar_rights.specs.Rights.{reading_call, may_write_at, may_make_in, rights_at}
 use Rattle.histar_rights.specs.Laws.{IsAnswered, LettersAre, LettersAreReplies, WritersMakeEntries, is_answer}
@@ -38,23 +38,23 @@ none_passes : (w : Option Errno) → w ≡ None → passes w ≡ true
 none_passes w e = ap passes e
 
 -- an entry is made exactly where the directory may be written
-makes_entries : (session : Session) (f : Flat) (me : ProcName) (p : Process) (n : Name) (d : Path) (mode : Mode)
-    → is_there f (n ∷ d) ≡ false → nat_lt (length (entries_in f d)) most_entries ≡ true → is_some (class_made session p mode) ≡ true
-    → passes (refused session f me p (Create (n ∷ d) mode)) ≡ may_make_in session f p d
-makes_entries session f me p n d mode free room made =
-    made_passes (into session f p d) (not (is_there f (n ∷ d))) (nat_lt (length (entries_in f d)) most_entries) (writes session f p d) (is_some (class_made session p mode)) (ap not free) room made
+makes_entries : (accounts : Accounts) (f : Flat) (me : ProcName) (p : Process) (n : Name) (d : Path) (mode : Mode)
+    → is_there f (n ∷ d) ≡ false → nat_lt (length (entries_in f d)) most_entries ≡ true → is_some (class_made accounts p mode) ≡ true
+    → passes (refused accounts f me p (Create (n ∷ d) mode)) ≡ may_make_in accounts f p d
+makes_entries accounts f me p n d mode free room made =
+    made_passes (into accounts f p d) (not (is_there f (n ∷ d))) (nat_lt (length (entries_in f d)) most_entries) (writes accounts f p d) (is_some (class_made accounts p mode)) (ap not free) room made
 
 -- who may walk into a directory and write it may make an entry of a new name in it, while it has room, and no one else may
 pub writers_make_entries : WritersMakeEntries
-writers_make_entries session f me p n d mode free room made =
-    let same = makes_entries session f me p n d mode free room made in
-    ((λ e. sym same ∙ none_passes (refused session f me p (Create (n ∷ d) mode)) e), (λ e. passes_none (refused session f me p (Create (n ∷ d) mode)) (same ∙ e)))
+writers_make_entries accounts f me p n d mode free room made =
+    let same = makes_entries accounts f me p n d mode free room made in
+    ((λ e. sym same ∙ none_passes (refused accounts f me p (Create (n ∷ d) mode)) e), (λ e. passes_none (refused accounts f me p (Create (n ∷ d) mode)) (same ∙ e)))
 
 -- the first of a list of one
-first_reply : (a b : Answered) → (a ∷ []) ≡ (b ∷ []) → a ≡ b
+first_reply : (a b : RepliedCall) → (a ∷ []) ≡ (b ∷ []) → a ≡ b
 first_reply a b e = ap first e
   where
-    first : List Answered → Answered
+    first : List RepliedCall → RepliedCall
     first [] = a
     first (x ∷ xs) = x
 
@@ -67,30 +67,30 @@ passes_answer : (refusal : Option Errno) (reply : Reply) → is_answer reply ≡
 passes_answer None reply h k = h
 passes_answer (Some e) reply h k = absurd (true≢false (sym k))
 
-module _ (session : Session) (calls : List CallLine) (me : ProcName) (p : Process) (number : ℕ) where
+module _ (accounts : Accounts) (calls : List CallLine) (me : ProcName) (p : Process) (number : ℕ) where
   abbrev end : Flat
-  end = flat_end session (boot session) calls
+  end = flat_end accounts (boot accounts) calls
 
   module _ (runs : running end me ≡ Some p) (call : UnixCall) where
     abbrev line : CallLine
     line = record { line = number; process = me; call = call }
 
     -- the reply to one more line
-    reply_is : reply_to session end me call ≡ reply_or (refused session end me p call) (answer end me p call)
-    reply_is = ap (λ o. reply_by session end me o call) runs
+    reply_is : reply_to accounts end me call ≡ reply_or (refused accounts end me p call) (answer end me p call)
+    reply_is = ap (λ o. reply_by accounts end me o call) runs
 
     -- a call of a right, where its answer is no refusal
-    answered_where : is_answer (answer end me p call) ≡ true → (passes (refused session end me p call) ≡ true) ↔ IsAnswered session calls line
+    answered_where : is_answer (answer end me p call) ≡ true → (passes (refused accounts end me p call) ≡ true) ↔ IsAnswered accounts calls line
     answered_where answers = (
       (λ h. record {
-        reply = reply_to session end me call;
-        more = replies_go_on session (boot session) calls (line ∷ []);
-        answered = ap is_answer reply_is ∙ passes_answer (refused session end me p call) (answer end me p call) answers h;
+        reply = reply_to accounts end me call;
+        more = replies_go_on accounts (boot accounts) calls (line ∷ []);
+        answered = ap is_answer reply_is ∙ passes_answer (refused accounts end me p call) (answer end me p call) answers h;
       }),
       (λ a.
-          let last = first_reply (record { call = line; reply = reply_to session end me call }) (record { call = line; reply = a.reply })
-          (append_cancel_left (meaning session calls) _ _ (sym (replies_go_on session (boot session) calls (line ∷ [])) ∙ a.more)) in
-          answer_passes (refused session end me p call) (answer end me p call) (ap is_answer (sym reply_is) ∙ ap (λ (x : Answered). is_answer x.reply) last ∙ a.answered)),
+          let last = first_reply (record { call = line; reply = reply_to accounts end me call }) (record { call = line; reply = a.reply })
+          (append_cancel_left (meaning accounts calls) _ _ (sym (replies_go_on accounts (boot accounts) calls (line ∷ [])) ∙ a.more)) in
+          answer_passes (refused accounts end me p call) (answer end me p call) (ap is_answer (sym reply_is) ∙ ap (λ (x : RepliedCall). is_answer x.reply) last ∙ a.answered)),
     )
 
   module _ (runs : running end me ≡ Some p) (q : Path) (node : Node) (at : get end.files q ≡ Some node) where
@@ -98,15 +98,15 @@ module _ (session : Session) (calls : List CallLine) (me : ProcName) (p : Proces
     reading_answers true = refl
     reading_answers false = refl
 
-    pub letters_are : LettersAre session calls me number q node (rights_at session end me p q node)
+    pub letters_are : LettersAre accounts calls me number q node (rights_at accounts end me p q node)
     letters_are = record {
       stat = answered_where runs (Stat q) (ap (λ o. is_answer (stat_reply o)) at);
       read = answered_where runs (reading_call q (is_dir node)) (reading_answers (is_dir node));
-      append = λ file. subst (λ (b : Bool). (may_write_at session end me p q b ≡ true) ↔ IsAnswered session calls (line runs (Append q []))) (sym file) (answered_where runs (Append q []) refl);
+      append = λ file. subst (λ (b : Bool). (may_write_at accounts end me p q b ≡ true) ↔ IsAnswered accounts calls (line runs (Append q []))) (sym file) (answered_where runs (Append q []) refl);
       create = λ dir n mode r is free room made.
           let same : p ≡ r = some_same p r (sym runs ∙ is) in
-          let by = makes_entries session end me p n q mode free room (ap (λ (x : Process). is_some (class_made session x mode)) same ∙ made) in
-          subst (λ (b : Bool). (b ≡ true) ↔ IsAnswered session calls (line runs (Create (n ∷ q) mode))) (by ∙ ap (may_write_at session end me p q) (sym dir)) (answered_where runs (Create (n ∷ q) mode) refl);
+          let by = makes_entries accounts end me p n q mode free room (ap (λ (x : Process). is_some (class_made accounts x mode)) same ∙ made) in
+          subst (λ (b : Bool). (b ≡ true) ↔ IsAnswered accounts calls (line runs (Create (n ∷ q) mode))) (by ∙ ap (may_write_at accounts end me p q) (sym dir)) (answered_where runs (Create (n ∷ q) mode) refl);
       remove = answered_where runs (Rmtree q) refl;
     }
       where
@@ -115,4 +115,4 @@ module _ (session : Session) (calls : List CallLine) (me : ProcName) (p : Proces
 
 -- After the calls of a script, at each path and for each process that runs, a letter is there exactly where one more line is answered.
 pub letters_are_replies : LettersAreReplies
-letters_are_replies session calls me p runs q node at number = letters_are session calls me p number runs q node at
+letters_are_replies accounts calls me p runs q node at number = letters_are accounts calls me p number runs q node at

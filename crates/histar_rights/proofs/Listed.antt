@@ -293,11 +293,11 @@ module _ (f : Flat) (named : HaveShownNames f) (joined : AreJoined f) (given : A
 
 -- after the calls of a script the processes of the table are exactly those that run, in the order of their names
 pub running_are_listed : RunningAreListed
-running_are_listed session calls =
-    let f = flat_end session (boot session) calls in
-    let placed = calls_place session calls in
+running_are_listed accounts calls =
+    let f = flat_end accounts (boot accounts) calls in
+    let placed = calls_place accounts calls in
     are_running f placed.named placed.joined (λ me here. given_to me (f.processes me) refl here)
   where
-    given_to : (me : ProcName) (o : Option Process) → (flat_end session (boot session) calls).processes me ≡ o → is_some o ≡ true → is_given (flat_end session (boot session) calls).processes me ≡ true
+    given_to : (me : ProcName) (o : Option Process) → (flat_end accounts (boot accounts) calls).processes me ≡ o → is_some o ≡ true → is_given (flat_end accounts (boot accounts) calls).processes me ≡ true
     given_to me None e here = absurd (true≢false (sym here))
-    given_to me (Some p) e here = (names_are_given_once.old session calls).of_processes me p e
+    given_to me (Some p) e here = (names_are_given_once.old accounts calls).of_processes me p e

@@ -11,7 +11,7 @@ use Rattle.histar_flat.specs.declared.replies.Errno.{Errno}
 use Rattle.histar_flat.specs.declared.replies.Errno.TheVariants.{EAGAIN, EPERM}
 use Rattle.histar_flat.specs.Words.{ProcName, most_children, most_numbers}
 use Rattle.histar_flat.specs.PathOrder.{same, under_process}
-use Rattle.histar_flat.specs.Sessions.{Session}
+use Rattle.histar_flat.specs.Accounts.{Accounts}
 use Rattle.histar_flat.specs.Classes.{Process, nobody}
 use Rattle.histar_flat.specs.Classes.Class.{Scratch}
 use Rattle.histar_flat.specs.FlatState.Content.{Dir}
@@ -103,9 +103,9 @@ pub record AreInPlace (f : Flat) : Type 0 where
   pub named : HaveShownNames f
   pub joined : AreJoined f
 
-module _ (session : Session) (f : Flat) (placed : AreInPlace f) (me : ProcName) where
+module _ (accounts : Accounts) (f : Flat) (placed : AreInPlace f) (me : ProcName) where
   -- the change of a call that is not refused
-  after_change : (p : Process) → length me ≤ most_numbers → IsOver f me → (call : UnixCall) → refused session f me p call ≡ None → AreInPlace (changed session f me p call)
+  after_change : (p : Process) → length me ≤ most_numbers → IsOver f me → (call : UnixCall) → refused accounts f me p call ≡ None → AreInPlace (changed accounts f me p call)
   after_change p short over Spawn passes = record { named = named_child f me p p.chain placed.named (room_for_child me p passes); joined = joined_child f me p p.chain placed.joined over }
   after_change p short over (Exit n) passes = record { named = named_with f me (record p { exited = Some n }) placed.named short; joined = joined_with f me (record p { exited = Some n }) placed.joined over }
   after_change p short over (Kill name) passes = record { named = named_without f name placed.named; joined = joined_without f name placed.joined }
@@ -114,37 +114,37 @@ module _ (session : Session) (f : Flat) (placed : AreInPlace f) (me : ProcName) 
       let g = with_node f q (Scratch p.user (inner_chain me p)) Dir in
       let r = record p { held = p.held ++ next_child me p ∷ [] } in
       record {
-        named = named_child g me r (inner_chain me p) placed.named (room_for_child me p (passes_first (no_child me p) (no_room session f p q orelse unless (not (same p.user nobody)) EPERM) passes));
+        named = named_child g me r (inner_chain me p) placed.named (room_for_child me p (passes_first (no_child me p) (no_room accounts f p q orelse unless (not (same p.user nobody)) EPERM) passes));
         joined = joined_child g me r (inner_chain me p) placed.joined over;
       }
   after_change p short over call passes = record { named = placed.named; joined = placed.joined }
 
-  by_refusal : (p : Process) → length me ≤ most_numbers → IsOver f me → (call : UnixCall) → (refusal : Option Errno) → refused session f me p call ≡ refusal → AreInPlace (flat_or refusal f (changed session f me p call))
+  by_refusal : (p : Process) → length me ≤ most_numbers → IsOver f me → (call : UnixCall) → (refusal : Option Errno) → refused accounts f me p call ≡ refusal → AreInPlace (flat_or refusal f (changed accounts f me p call))
   by_refusal p short over call None is = after_change p short over call is
   by_refusal p short over call (Some e) is = placed
 
   -- and so after each call
-  pub placed_after : (call : UnixCall) → AreInPlace (flat_after session f me call)
+  pub placed_after : (call : UnixCall) → AreInPlace (flat_after accounts f me call)
   placed_after call = by (running f me) refl
     where
-      by : (o : Option Process) → running f me ≡ o → AreInPlace (flat_by session f me o call)
+      by : (o : Option Process) → running f me ≡ o → AreInPlace (flat_by accounts f me o call)
       by None e = placed
-      by (Some p) e = by_refusal p (placed.named me (ap is_some (runs_is_there (f.processes me) p e))) (placed.joined me (ap is_some (runs_is_there (f.processes me) p e))) call (refused session f me p call) refl
+      by (Some p) e = by_refusal p (placed.named me (ap is_some (runs_is_there (f.processes me) p e))) (placed.joined me (ap is_some (runs_is_there (f.processes me) p e))) call (refused accounts f me p call) refl
 
 -- at the start there is process 0 alone
-placed_at_start : (session : Session) → AreInPlace (boot session)
-placed_at_start session =
-    let none : Flat = record { files = (boot session).files; processes = λ q. None } in
+placed_at_start : (accounts : Accounts) → AreInPlace (boot accounts)
+placed_at_start accounts =
+    let none : Flat = record { files = (boot accounts).files; processes = λ q. None } in
     record { named = named_with none [] first_process (λ q at. absurd (true≢false (sym at))) (omega arith); joined = joined_with none [] first_process (λ q at. absurd (true≢false (sym at))) tt }
 
-placed_at_end : (session : Session) (f : Flat) → AreInPlace f → (calls : List CallLine) → AreInPlace (flat_end session f calls)
-placed_at_end session f placed [] = placed
-placed_at_end session f placed (c ∷ calls) = placed_at_end session (flat_after session f c.process c.call) (placed_after session f placed c.process c.call) calls
+placed_at_end : (accounts : Accounts) (f : Flat) → AreInPlace f → (calls : List CallLine) → AreInPlace (flat_end accounts f calls)
+placed_at_end accounts f placed [] = placed
+placed_at_end accounts f placed (c ∷ calls) = placed_at_end accounts (flat_after accounts f c.process c.call) (placed_after accounts f placed c.process c.call) calls
 
 -- after the calls of a script processes are in their places
-pub calls_place : (session : Session) (calls : List CallLine) → AreInPlace (flat_end session (boot session) calls)
-calls_place session calls = placed_at_end session (boot session) (placed_at_start session) calls
+pub calls_place : (accounts : Accounts) (calls : List CallLine) → AreInPlace (flat_end accounts (boot accounts) calls)
+calls_place accounts calls = placed_at_end accounts (boot accounts) (placed_at_start accounts) calls
 
 -- after the calls of a script each process that is there has a name that can be shown
 pub processes_are_named : ProcessesHaveShownNames
-processes_are_named session calls = (calls_place session calls).named
+processes_are_named accounts calls = (calls_place accounts calls).named

@@ -6,7 +6,7 @@ use Rattle.histar_flat.specs.declared.calls.UnixCall.TheVariants.{Append, Create
 use Rattle.histar_flat.specs.declared.replies.Reply.{Reply}
 use Rattle.histar_flat.specs.declared.replies.Reply.TheVariants.{Refused, Gone}
 use Rattle.histar_flat.specs.Words.{Name, Path, ProcName}
-use Rattle.histar_flat.specs.Sessions.{Session}
+use Rattle.histar_flat.specs.Accounts.{Accounts}
 use Rattle.histar_flat.specs.Files.{get}
 use Rattle.histar_flat.specs.Classes.{Process, may_read, may_write, class_made}
 use Rattle.histar_flat.specs.FlatState.{Flat, Node, IsTree, is_dir, is_there, bytes_at, entries_in}
@@ -21,20 +21,20 @@ abbrev pub HaveFewBytes : Flat → Type 0
 HaveFewBytes f = (q : Path) → length (bytes_at f q) ≤ most_bytes
 
 -- the rights at what may stand somewhere; where nothing stands, those above `/`
-abbrev pub rights_or : Session → Flat → ProcName → Process → Path → Option Node → Rights
-rights_or session f me p d None = above_root
-rights_or session f me p d (Some above) = rights_at session f me p d above
+abbrev pub rights_or : Accounts → Flat → ProcName → Process → Path → Option Node → Rights
+rights_or accounts f me p d None = above_root
+rights_or accounts f me p d (Some above) = rights_at accounts f me p d above
 
 -- the rights at the directory that a path lies in
-abbrev pub rights_above : Session → Flat → ProcName → Process → Path → Rights
-rights_above session f me p [] = above_root
-rights_above session f me p (n ∷ d) = rights_or session f me p d (get f.files d)
+abbrev pub rights_above : Accounts → Flat → ProcName → Process → Path → Rights
+rights_above accounts f me p [] = above_root
+rights_above accounts f me p (n ∷ d) = rights_or accounts f me p d (get f.files d)
 
 -- the rights at a path are those that its directory gives, and that its class allows the process
 abbrev pub DirectoriesGiveRights : Type 0
 DirectoriesGiveRights =
-    (session : Session) (f : Flat) → IsTree f → HaveFewBytes f → (me : ProcName) (p : Process) (q : Path) (node : Node) → get f.files q ≡ Some node
-    → rights_at session f me p q node ≡ rights_below (rights_above session f me p q) (may_read session p node.class) (may_write session p node.class)
+    (accounts : Accounts) (f : Flat) → IsTree f → HaveFewBytes f → (me : ProcName) (p : Process) (q : Path) (node : Node) → get f.files q ≡ Some node
+    → rights_at accounts f me p q node ≡ rights_below (rights_above accounts f me p q) (may_read accounts p node.class) (may_write accounts p node.class)
 
 -- a reply that is neither a refusal nor `gone`
 abbrev pub is_answer : Reply → Bool
@@ -43,44 +43,44 @@ is_answer Gone = false
 is_answer reply = true
 
 -- a script with one more line behind its calls has the replies that it had, and then one that is neither a refusal nor `gone`
-pub record IsAnswered (session : Session) (calls : List CallLine) (line : CallLine) : Type 0 where
+pub record IsAnswered (accounts : Accounts) (calls : List CallLine) (line : CallLine) : Type 0 where
   pub reply : Reply
-  pub more : meaning session (calls ++ line ∷ []) ≡ meaning session calls ++ record { call = line; reply = reply } ∷ []
+  pub more : meaning accounts (calls ++ line ∷ []) ≡ meaning accounts calls ++ record { call = line; reply = reply } ∷ []
   pub answered : is_answer reply ≡ true
 
 -- One more line, by which a process uses a right at a path. A directory is written by making an entry in it.
-pub record LettersAre (session : Session) (calls : List CallLine) (me : ProcName) (number : ℕ) (q : Path) (node : Node) (r : Rights) : Type 0 where
-  pub stat : (r.stat ≡ true) ↔ IsAnswered session calls (record { line = number; process = me; call = Stat q })
-  pub read : (r.read ≡ true) ↔ IsAnswered session calls (record { line = number; process = me; call = reading_call q (is_dir node) })
-  pub append : is_dir node ≡ false → (r.write ≡ true) ↔ IsAnswered session calls (record { line = number; process = me; call = Append q [] })
-  pub create : is_dir node ≡ true → (n : Name) (mode : Mode) (p : Process) → running (flat_end session (boot session) calls) me ≡ Some p
-      → is_there (flat_end session (boot session) calls) (n ∷ q) ≡ false
-      → nat_lt (length (entries_in (flat_end session (boot session) calls) q)) most_entries ≡ true
-      → is_some (class_made session p mode) ≡ true
-      → (r.write ≡ true) ↔ IsAnswered session calls (record { line = number; process = me; call = Create (n ∷ q) mode })
-  pub remove : (r.remove ≡ true) ↔ IsAnswered session calls (record { line = number; process = me; call = Rmtree q })
+pub record LettersAre (accounts : Accounts) (calls : List CallLine) (me : ProcName) (number : ℕ) (q : Path) (node : Node) (r : Rights) : Type 0 where
+  pub stat : (r.stat ≡ true) ↔ IsAnswered accounts calls (record { line = number; process = me; call = Stat q })
+  pub read : (r.read ≡ true) ↔ IsAnswered accounts calls (record { line = number; process = me; call = reading_call q (is_dir node) })
+  pub append : is_dir node ≡ false → (r.write ≡ true) ↔ IsAnswered accounts calls (record { line = number; process = me; call = Append q [] })
+  pub create : is_dir node ≡ true → (n : Name) (mode : Mode) (p : Process) → running (flat_end accounts (boot accounts) calls) me ≡ Some p
+      → is_there (flat_end accounts (boot accounts) calls) (n ∷ q) ≡ false
+      → nat_lt (length (entries_in (flat_end accounts (boot accounts) calls) q)) most_entries ≡ true
+      → is_some (class_made accounts p mode) ≡ true
+      → (r.write ≡ true) ↔ IsAnswered accounts calls (record { line = number; process = me; call = Create (n ∷ q) mode })
+  pub remove : (r.remove ≡ true) ↔ IsAnswered accounts calls (record { line = number; process = me; call = Rmtree q })
 
 -- After the calls of a script, at each path and for each process that runs, a letter is there exactly where one more line is answered.
 abbrev pub LettersAreReplies : Type 0
 LettersAreReplies =
-    (session : Session) (calls : List CallLine) (me : ProcName) (p : Process) → running (flat_end session (boot session) calls) me ≡ Some p
-    → (q : Path) (node : Node) → get (flat_end session (boot session) calls).files q ≡ Some node
-    → (number : ℕ) → LettersAre session calls me number q node (rights_at session (flat_end session (boot session) calls) me p q node)
+    (accounts : Accounts) (calls : List CallLine) (me : ProcName) (p : Process) → running (flat_end accounts (boot accounts) calls) me ≡ Some p
+    → (q : Path) (node : Node) → get (flat_end accounts (boot accounts) calls).files q ≡ Some node
+    → (number : ℕ) → LettersAre accounts calls me number q node (rights_at accounts (flat_end accounts (boot accounts) calls) me p q node)
 
 -- who may walk into a directory and write it may make an entry of a new name in it, while it has room, and no one else may
 abbrev pub WritersMakeEntries : Type 0
 WritersMakeEntries =
-    (session : Session) (f : Flat) (me : ProcName) (p : Process) (n : Name) (d : Path) (mode : Mode)
-    → is_there f (n ∷ d) ≡ false → nat_lt (length (entries_in f d)) most_entries ≡ true → is_some (class_made session p mode) ≡ true
-    → (refused session f me p (Create (n ∷ d) mode) ≡ None) ↔ (may_make_in session f p d ≡ true)
+    (accounts : Accounts) (f : Flat) (me : ProcName) (p : Process) (n : Name) (d : Path) (mode : Mode)
+    → is_there f (n ∷ d) ≡ false → nat_lt (length (entries_in f d)) most_entries ≡ true → is_some (class_made accounts p mode) ≡ true
+    → (refused accounts f me p (Create (n ∷ d) mode) ≡ None) ↔ (may_make_in accounts f p d ≡ true)
 
 -- after the calls of a script the processes of the table are exactly those that run, in the order of their names
 abbrev pub RunningAreListed : Type 0
-RunningAreListed = (session : Session) (calls : List CallLine) → AreRunning (flat_end session (boot session) calls) (running_in (flat_end session (boot session) calls))
+RunningAreListed = (accounts : Accounts) (calls : List CallLine) → AreRunning (flat_end accounts (boot accounts) calls) (running_in (flat_end accounts (boot accounts) calls))
 
 -- after the calls of a script each process that is there has a name that can be shown
 abbrev pub ProcessesHaveShownNames : Type 0
-ProcessesHaveShownNames = (session : Session) (calls : List CallLine) → HaveShownNames (flat_end session (boot session) calls)
+ProcessesHaveShownNames = (accounts : Accounts) (calls : List CallLine) → HaveShownNames (flat_end accounts (boot accounts) calls)
 
 -- a text spells rights exactly where it is their letters
 abbrev pub LettersSpellRights : Type 0

@@ -3,15 +3,15 @@ use Rattle.std.specs.Prelude.{ℕ, Bool, true, false, not, ◌&&◌, ◌==◌, L
 use Rattle.histar_flat.specs.declared.calls.UnixCall.{UnixCall}
 use Rattle.histar_flat.specs.declared.calls.UnixCall.TheVariants.{Append, Read, List as ListCall, Stat, Rmtree}
 use Rattle.histar_flat.specs.Words.{Path, ProcName}
-use Rattle.histar_flat.specs.Sessions.{Session}
+use Rattle.histar_flat.specs.Accounts.{Accounts}
 use Rattle.histar_flat.specs.Classes.{Process}
 use Rattle.histar_flat.specs.FlatState.{Flat, Node, is_dir, writes, into}
 use Rattle.histar_flat.specs.FlatCalls.{refused}
 use Rattle.histar_rights.specs.declared.rights.Rights.{Rights}
 
 -- a call of the process p, whose name is me, is not refused
-abbrev pub is_passed : Session → Flat → ProcName → Process → UnixCall → Bool
-is_passed session f me p call = not (is_some (refused session f me p call))
+abbrev pub is_passed : Accounts → Flat → ProcName → Process → UnixCall → Bool
+is_passed accounts f me p call = not (is_some (refused accounts f me p call))
 
 -- the call that reads what stands at a path
 abbrev pub reading_call : Path → Bool → UnixCall
@@ -19,21 +19,21 @@ reading_call q true = ListCall q
 reading_call q false = Read q
 
 -- the process may walk into the directory and write it
-abbrev pub may_make_in : Session → Flat → Process → Path → Bool
-may_make_in session f p d = not (is_some (into session f p d)) && writes session f p d
+abbrev pub may_make_in : Accounts → Flat → Process → Path → Bool
+may_make_in accounts f p d = not (is_some (into accounts f p d)) && writes accounts f p d
 
 -- the process may write what stands at a path: make something in a directory, or append nothing to a file
-abbrev pub may_write_at : Session → Flat → ProcName → Process → Path → Bool → Bool
-may_write_at session f me p q true = may_make_in session f p q
-may_write_at session f me p q false = is_passed session f me p (Append q [])
+abbrev pub may_write_at : Accounts → Flat → ProcName → Process → Path → Bool → Bool
+may_write_at accounts f me p q true = may_make_in accounts f p q
+may_write_at accounts f me p q false = is_passed accounts f me p (Append q [])
 
 -- the rights of the process p, whose name is me, at a path where this stands
-abbrev pub rights_at : Session → Flat → ProcName → Process → Path → Node → Rights
-rights_at session f me p q node = record {
-  stat = is_passed session f me p (Stat q);
-  read = is_passed session f me p (reading_call q (is_dir node));
-  write = may_write_at session f me p q (is_dir node);
-  remove = is_passed session f me p (Rmtree q);
+abbrev pub rights_at : Accounts → Flat → ProcName → Process → Path → Node → Rights
+rights_at accounts f me p q node = record {
+  stat = is_passed accounts f me p (Stat q);
+  read = is_passed accounts f me p (reading_call q (is_dir node));
+  write = may_write_at accounts f me p q (is_dir node);
+  remove = is_passed accounts f me p (Rmtree q);
 }
 
 -- as if `/` lay in a directory to which each process may walk, and that no process may write

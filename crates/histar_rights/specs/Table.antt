@@ -3,7 +3,7 @@ use Rattle.std.specs.Prelude.{ℕ, List, ◌++◌, codes, map}
 use Rattle.std.specs.List.{flat_map}
 use Rattle.histar_flat.specs.declared.replies.Stat.{Stat}
 use Rattle.histar_flat.specs.Words.{Path, ProcName}
-use Rattle.histar_flat.specs.Sessions.{Session}
+use Rattle.histar_flat.specs.Accounts.{Accounts}
 use Rattle.histar_flat.specs.Classes.{class_owner, class_mode}
 use Rattle.histar_flat.specs.FlatState.{Flat, Node, is_dir}
 use Rattle.histar_flat.specs.Texts.{path_text, process_text, stat_text}
@@ -22,10 +22,10 @@ pub record AccessLine : Type 0 where
   pub stat : Stat
   pub cells : List Cell
 
-module _ (session : Session) (f : Flat) where
+module _ (accounts : Accounts) (f : Flat) where
   -- the rights of a process at a path
   abbrev pub cell_at : Path × Node → Named → Cell
-  cell_at e c = record { process = c.0; rights = rights_at session f c.0 c.1 e.0 e.1 }
+  cell_at e c = record { process = c.0; rights = rights_at accounts f c.0 c.1 e.0 e.1 }
 
   -- what stands at a path, and the rights of these processes
   abbrev pub line_of : List Named → Path × Node → AccessLine

@@ -124,7 +124,7 @@ module _ {Id : Type 0} (labels : Id → Option Levels) (es : TableModel Id) wher
           → check (state_with labels es next) t (calls.Enter d o wanted clearance verify)
           ≡ (unless (is_below O L) NoWay orelse unless (is_below O verify) NoWay orelse unless (lies_between O G wanted clearance M L) Range
           orelse unless (is_made next.category wanted) Range orelse unless (is_made next.category clearance) Range orelse unless (is_made next.category verify) Range)
-      enter_found next wanted clearance verify gate_label gate_clearance entry O M G L gate own_is most_is given_is limit_is =
+      enter_found next wanted clearance verify gate_label gate_clearance entry O M G L gate own_is own_clearance_is given_is limit_is =
           let T = object_shown labels es t (thread_of own own_clearance) thread in
           let E = object_shown labels es o (gate_of gate_label gate_clearance entry) gate in
           let made = unless (is_made next.category wanted) Range orelse unless (is_made next.category clearance) Range orelse unless (is_made next.category verify) Range in
@@ -134,7 +134,7 @@ module _ {Id : Type 0} (labels : Id → Option Levels) (es : TableModel Id) wher
           orelse unless (in_gate (objects_of (shown labels es) t) (objects_of (shown labels es) o) wanted clearance) Range orelse made) linked
           ∙ (λ i. unless (is_gate (E i)) BadKind orelse unless (is_let_in (T i) (E i)) NoWay orelse unless (is_own_below (T i) verify) NoWay orelse unless (in_gate (T i) (E i) wanted clearance) Range orelse made)
           ∙ (λ i. unless (is_below (sym own_is i) (sym limit_is i)) NoWay orelse unless (is_below (sym own_is i) verify) NoWay
-          orelse unless (lies_between (sym own_is i) (sym given_is i) wanted clearance (sym most_is i) (sym limit_is i)) Range orelse made)
+          orelse unless (lies_between (sym own_is i) (sym given_is i) wanted clearance (sym own_clearance_is i) (sym limit_is i)) Range orelse made)
 
   module _ (t d : ℕ) (own own_clearance : Id) (made : no_making (state_shown labels es) t d ≡ None) (thread : objects_of es t ≡ Some (thread_of own own_clearance)) where
     -- of the making of an object that owns nothing, the thread's labels
@@ -142,21 +142,21 @@ module _ {Id : Type 0} (labels : Id → Option Levels) (es : TableModel Id) wher
         → no_new (state_with labels es next) t d label size
         ≡ (unless (is_below O label && is_below label M) Range orelse unless (is_made next.category label) Range orelse unless (not (has_star label)) Range
         orelse unless (fits_segment size) TooBig orelse unless (nat_lt next.object greatest) TooBig)
-    new_found next label size O M own_is most_is =
+    new_found next label size O M own_is own_clearance_is =
         let T = object_shown labels es t (thread_of own own_clearance) thread in
         let later = unless (is_made next.category label) Range orelse unless (not (has_star label)) Range orelse unless (fits_segment size) TooBig orelse unless (nat_lt next.object greatest) TooBig in
         ap (λ (f : Option Denied). f orelse unless (in_range (objects_of (shown labels es) t) label) Range orelse later) made
         ∙ (λ i. unless (in_range (T i) label) Range orelse later)
-        ∙ (λ i. unless (is_below (sym own_is i) label && is_below label (sym most_is i)) Range orelse later)
+        ∙ (λ i. unless (is_below (sym own_is i) label && is_below label (sym own_clearance_is i)) Range orelse later)
 
     -- and of one that may own
     pub new_owner_found : (next : Next) (label clearance : Levels) (O M : Levels) → O ≡ label_at labels own → M ≡ label_at labels own_clearance
         → no_new_owner (state_with labels es next) t d label clearance
         ≡ (unless (is_below O label && is_below label clearance && is_below clearance M) Range orelse unless (is_made next.category label) Range orelse unless (is_made next.category clearance) Range
         orelse unless (nat_lt next.object greatest) TooBig)
-    new_owner_found next label clearance O M own_is most_is =
+    new_owner_found next label clearance O M own_is own_clearance_is =
         let T = object_shown labels es t (thread_of own own_clearance) thread in
         let later = unless (is_made next.category label) Range orelse unless (is_made next.category clearance) Range orelse unless (nat_lt next.object greatest) TooBig in
         ap (λ (f : Option Denied). f orelse unless (in_span (objects_of (shown labels es) t) label clearance) Range orelse later) made
         ∙ (λ i. unless (in_span (T i) label clearance) Range orelse later)
-        ∙ (λ i. unless (is_below (sym own_is i) label && is_below label clearance && is_below clearance (sym most_is i)) Range orelse later)
+        ∙ (λ i. unless (is_below (sym own_is i) label && is_below label clearance && is_below clearance (sym own_clearance_is i)) Range orelse later)

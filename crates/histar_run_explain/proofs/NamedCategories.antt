@@ -7,7 +7,7 @@ use Rattle.std.proofs.lemmas.List.{length-map}
 use Rattle.std.proofs.lemmas.Option.{none-some, same_Some}
 use Rattle.std.proofs.Math.Bool.{or-false}
 use Rattle.histar_flat.specs.Words.{ProcName}
-use Rattle.histar_flat.specs.Sessions.{Session, has}
+use Rattle.histar_flat.specs.Accounts.{Accounts, has}
 use Rattle.histar_flat.specs.Classes.{Process}
 use Rattle.histar_flat.specs.FlatState.{Flat}
 use Rattle.histar_label.specs.Levels.{Levels}
@@ -18,9 +18,9 @@ use Rattle.histar_layout.specs.Status.{ProcessStatus}
 use Rattle.histar_layout.specs.UserTable.{without_password, without_passwords}
 use Rattle.histar_layout.proofs.LabelLevels.{at_guarded, guarded_level}
 use Rattle.histar_layout.proofs.Members.{is_in}
-use Rattle.histar_calls.specs.declared.places.Home.{Home as Where}
-use Rattle.histar_calls.specs.declared.places.Places.{Places}
-use Rattle.histar_login.specs.Start.{places_of, declared}
+use Rattle.histar_calls.specs.declared.roots.Home.{Home as Where}
+use Rattle.histar_calls.specs.declared.roots.Roots.{Roots}
+use Rattle.histar_login.specs.Start.{roots_of, declared}
 use Rattle.histar_process.specs.Caller.{if_runs, is_zero, status_at}
 use Rattle.histar_refinement.specs.Addresses.{same_step, home_address}
 use Rattle.histar_refinement.specs.Addresses.Step.{Inside, Runner}
@@ -34,7 +34,7 @@ use Rattle.histar_refinement.proofs.CallerFound.{is_or_zero, where_is, status_is
 use Rattle.histar_refinement.proofs.CategoryTests.{among_jobs, category_tests_equality, is_in_names, named_in}
 use Rattle.histar_refinement.proofs.FileLabels.{label_bare}
 use Rattle.histar_refinement.proofs.Moving.{at_number}
-use Rattle.histar_refinement.proofs.Places.{asked_home, asked_inside}
+use Rattle.histar_refinement.proofs.Roots.{asked_home, asked_inside}
 use Rattle.histar_refinement.proofs.StatusFound.{numbered_home, numbered_runner}
 use Rattle.histar_refinement.proofs.Steps.{step_tests_equality}
 use Rattle.histar_run_explain.specs.Births.{Births}
@@ -76,31 +76,31 @@ which_job (j ∷ jobs) name e = elim (category_tests_equality name (names.OfJob 
   | inr k ↦ which_job jobs name (sym (ap (λ b. b || among (map names.OfJob jobs) name) k.0) ∙ e)
 ]
 
-module _ (session : Session) (s : State) (f : Flat) (l : ObjectsMatch session s f) where
-  abbrev places : Places
-  places = places_of (length session.users)
+module _ (accounts : Accounts) (s : State) (f : Flat) (l : ObjectsMatch accounts s f) where
+  abbrev roots : Roots
+  roots = roots_of (length accounts.users)
 
   abbrev first : Where
-  first = places.home
+  first = roots.home
 
   abbrev there_is : ProcName → Where
-  there_is me = where_is session s f l me
+  there_is me = where_is accounts s f l me
 
   -- the category of a name that is used, of which the purpose is right
   abbrev Named : ℕ → Purpose → Type 0
-  Named c purpose = (name : CategoryName) × (l.category name ≡ c) × IsUsed session f name × IsPurposeOf session f name purpose
+  Named c purpose = (name : CategoryName) × (l.category name ≡ c) × IsUsed accounts f name × IsPurposeOf accounts f name purpose
 
   -- ---- the labels of the containers of processes
 
   outer_there : (me : ProcName) (p : Process) → f.processes me ≡ Some p → outer_label s first me ≡ Some (guard_label l.category (process_guard me p))
   outer_there me p here =
-      ap (option_and_then (λ (home : Where). label_there (s.objects home.container))) (home_is session s f l me ∙ ap (option_map (λ (q : Process). there_is me)) here)
+      ap (option_and_then (λ (home : Where). label_there (s.objects home.container))) (home_is accounts s f l me ∙ ap (option_map (λ (q : Process). there_is me)) here)
       ∙ sym (label_bare (s.objects (there_is me).container))
-      ∙ ap label_there (at_number same_step step_tests_equality s l.naming (expected session l.category f l.naming.number) l.stands (home_address me) (there_is me).container (is_or_zero _ (numbered_home session s f l me ∙ ap is_some here)))
-      ∙ ap label_there (asked_home session l.category f l.naming.number me ∙ ap (home_object session l.category me) here)
+      ∙ ap label_there (at_number same_step step_tests_equality s l.naming (expected accounts l.category f l.naming.number) l.agrees (home_address me) (there_is me).container (is_or_zero _ (numbered_home accounts s f l me ∙ ap is_some here)))
+      ∙ ap label_there (asked_home accounts l.category f l.naming.number me ∙ ap (home_object accounts l.category me) here)
 
   outer_absent : (me : ProcName) → f.processes me ≡ None → outer_label s first me ≡ None
-  outer_absent me none = ap (option_and_then (λ (home : Where). label_there (s.objects home.container))) (home_is session s f l me ∙ ap (option_map (λ (q : Process). there_is me)) none)
+  outer_absent me none = ap (option_and_then (λ (home : Where). label_there (s.objects home.container))) (home_is accounts s f l me ∙ ap (option_map (λ (q : Process). there_is me)) none)
 
   abbrev of_status : ProcessStatus → Option Levels
   of_status status = if_runs status.exited (label_there (s.objects status.internal))
@@ -108,23 +108,23 @@ module _ (session : Session) (s : State) (f : Flat) (l : ObjectsMatch session s 
   abbrev of_home : Where → Option Levels
   of_home home = option_and_then of_status (status_at s home.segment)
 
-  inner_told : (me : ProcName) (p : Process) → f.processes me ≡ Some p → inner_label s first me ≡ if_runs p.exited (label_there (s.objects (or_zero (l.naming.number (Inside ∷ home_address me)))))
-  inner_told me p here =
-      ap (option_and_then of_home) (home_is session s f l me ∙ ap (option_map (λ (q : Process). there_is me)) here)
-      ∙ ap (option_and_then of_status) (status_is session s f l me p here)
+  inner_revealed : (me : ProcName) (p : Process) → f.processes me ≡ Some p → inner_label s first me ≡ if_runs p.exited (label_there (s.objects (or_zero (l.naming.number (Inside ∷ home_address me)))))
+  inner_revealed me p here =
+      ap (option_and_then of_home) (home_is accounts s f l me ∙ ap (option_map (λ (q : Process). there_is me)) here)
+      ∙ ap (option_and_then of_status) (status_is accounts s f l me p here)
 
   inner_absent : (me : ProcName) → f.processes me ≡ None → inner_label s first me ≡ None
-  inner_absent me none = ap (option_and_then of_home) (home_is session s f l me ∙ ap (option_map (λ (q : Process). there_is me)) none)
+  inner_absent me none = ap (option_and_then of_home) (home_is accounts s f l me ∙ ap (option_map (λ (q : Process). there_is me)) none)
 
   inner_there : (me : ProcName) (p : Process) → f.processes me ≡ Some p → p.exited ≡ None → inner_label s first me ≡ Some (guard_label l.category (inside_guard me p))
   inner_there me p here runs =
-      let inside = l.stands.tree.held Runner (Inside ∷ home_address me) (numbered_runner session s f l me p here runs) in
-      inner_told me p here
+      let inside = l.agrees.tree.held Runner (Inside ∷ home_address me) (numbered_runner accounts s f l me p here runs) in
+      inner_revealed me p here
       ∙ ap (λ (e : Option ℕ). if_runs e (label_there (s.objects (or_zero (l.naming.number (Inside ∷ home_address me)))))) runs
       ∙ sym (label_bare (s.objects (or_zero (l.naming.number (Inside ∷ home_address me)))))
-      ∙ ap label_there (at_number same_step step_tests_equality s l.naming (expected session l.category f l.naming.number) l.stands (Inside ∷ home_address me) (or_zero (l.naming.number (Inside ∷ home_address me))) (is_or_zero _ inside))
-      ∙ ap label_there (asked_inside session l.category f l.naming.number me ∙ ap (inside_object session l.category me) here)
-      ∙ ap (λ (e : Option ℕ). label_there (inside_object session l.category me (Some (record p { exited = e })))) runs
+      ∙ ap label_there (at_number same_step step_tests_equality s l.naming (expected accounts l.category f l.naming.number) l.agrees (Inside ∷ home_address me) (or_zero (l.naming.number (Inside ∷ home_address me))) (is_or_zero _ inside))
+      ∙ ap label_there (asked_inside accounts l.category f l.naming.number me ∙ ap (inside_object accounts l.category me) here)
+      ∙ ap (λ (e : Option ℕ). label_there (inside_object accounts l.category me (Some (record p { exited = e })))) runs
 
   -- ---- what they say
 
@@ -165,7 +165,7 @@ module _ (session : Session) (s : State) (f : Flat) (l : ObjectsMatch session s 
 
       of_life : (p : Process) → f.processes me ≡ Some p → (x : Option ℕ) → p.exited ≡ x → Named c (ReadsProcess me)
       of_life p is (Some n) exited =
-          absurd (true≢false (sym parts.0 ∙ ap (λ (L : Option Levels). has_three L c) (inner_told me p is ∙ ap (λ (x : Option ℕ). if_runs x (label_there (s.objects (or_zero (l.naming.number (Inside ∷ home_address me)))))) exited)))
+          absurd (true≢false (sym parts.0 ∙ ap (λ (L : Option Levels). has_three L c) (inner_revealed me p is ∙ ap (λ (x : Option ℕ). if_runs x (label_there (s.objects (or_zero (l.naming.number (Inside ∷ home_address me)))))) exited)))
       of_life p is None runs =
           let r = l.category (names.ReadsProcess me) in
           let level = sym (ap is_three (at_guarded (r ∷ jobs_of p) (own me ∷ []) c)) ∙ sym (ap (λ (L : Option Levels). has_three L c) (inner_there me p is runs)) ∙ parts.0 in
@@ -238,41 +238,41 @@ module _ (session : Session) (s : State) (f : Flat) (l : ObjectsMatch session s 
 
   -- ---- what boot made
 
-  same_count : declared (without_passwords session) ≡ length session.users + length session.groups
-  same_count = ap (λ n. n + length session.groups) (length-map session.users without_password)
+  same_count : declared (without_passwords accounts) ≡ length accounts.users + length accounts.groups
+  same_count = ap (λ n. n + length accounts.groups) (length-map accounts.users without_password)
 
   abbrev most : ℕ
-  most = length session.users + length session.groups
+  most = length accounts.users + length accounts.groups
 
   reads_named : (c i : ℕ) → c ≡ 2 + 2 * i → i ≤ most → Named c (Reads i)
-  reads_named c i is le = by (nat_le i (length session.users)) refl
+  reads_named c i is le = by (nat_le i (length accounts.users)) refl
     where
-      by : (b : Bool) → nat_le i (length session.users) ≡ b → Named c (Reads i)
+      by : (b : Bool) → nat_le i (length accounts.users) ≡ b → Named c (Reads i)
       by true small =
-          (names.ReadsUser i, l.as_made (names.ReadsUser i) c (ap (λ b. cond b (Some (2 + 2 * i)) None) small ∙ ap Some (sym is)), grind (arith, nat_tests, small), sym (ap (λ b. if b then names.ReadsUser i else names.ReadsGroup (i - length session.users)) small))
+          (names.ReadsUser i, l.as_made (names.ReadsUser i) c (ap (λ b. cond b (Some (2 + 2 * i)) None) small ∙ ap Some (sym is)), grind (arith, nat_tests, small), sym (ap (λ b. if b then names.ReadsUser i else names.ReadsGroup (i - length accounts.users)) small))
       by false big =
-          let k = i - length session.users in
-          let above : length session.users < i = grind (arith, nat_tests, big) in
+          let k = i - length accounts.users in
+          let above : length accounts.users < i = grind (arith, nat_tests, big) in
           let low : 1 ≤ k = omega (arith, above) in
-          let high : k ≤ length session.groups = omega (arith, above, le) in
-          let test : (nat_le 1 k && nat_le k (length session.groups)) ≡ true = grind (arith, nat_tests, low, high) in
-          let value : 2 + 2 * length session.users + 2 * k ≡ c = omega (arith, above, is) in
-          (names.ReadsGroup k, l.as_made (names.ReadsGroup k) c (ap (λ b. cond b (Some (2 + 2 * length session.users + 2 * k)) None) test ∙ ap Some value), (low, high), sym (ap (λ b. if b then names.ReadsUser i else names.ReadsGroup k) big))
+          let high : k ≤ length accounts.groups = omega (arith, above, le) in
+          let test : (nat_le 1 k && nat_le k (length accounts.groups)) ≡ true = grind (arith, nat_tests, low, high) in
+          let value : 2 + 2 * length accounts.users + 2 * k ≡ c = omega (arith, above, is) in
+          (names.ReadsGroup k, l.as_made (names.ReadsGroup k) c (ap (λ b. cond b (Some (2 + 2 * length accounts.users + 2 * k)) None) test ∙ ap Some value), (low, high), sym (ap (λ b. if b then names.ReadsUser i else names.ReadsGroup k) big))
 
   writes_named : (c i : ℕ) → c ≡ 3 + 2 * i → i ≤ most → Named c (Writes i)
-  writes_named c i is le = by (nat_le i (length session.users)) refl
+  writes_named c i is le = by (nat_le i (length accounts.users)) refl
     where
-      by : (b : Bool) → nat_le i (length session.users) ≡ b → Named c (Writes i)
+      by : (b : Bool) → nat_le i (length accounts.users) ≡ b → Named c (Writes i)
       by true small =
-          (names.WritesUser i, l.as_made (names.WritesUser i) c (ap (λ b. cond b (Some (3 + 2 * i)) None) small ∙ ap Some (sym is)), grind (arith, nat_tests, small), sym (ap (λ b. if b then names.WritesUser i else names.WritesGroup (i - length session.users)) small))
+          (names.WritesUser i, l.as_made (names.WritesUser i) c (ap (λ b. cond b (Some (3 + 2 * i)) None) small ∙ ap Some (sym is)), grind (arith, nat_tests, small), sym (ap (λ b. if b then names.WritesUser i else names.WritesGroup (i - length accounts.users)) small))
       by false big =
-          let k = i - length session.users in
-          let above : length session.users < i = grind (arith, nat_tests, big) in
+          let k = i - length accounts.users in
+          let above : length accounts.users < i = grind (arith, nat_tests, big) in
           let low : 1 ≤ k = omega (arith, above) in
-          let high : k ≤ length session.groups = omega (arith, above, le) in
-          let test : (nat_le 1 k && nat_le k (length session.groups)) ≡ true = grind (arith, nat_tests, low, high) in
-          let value : 3 + 2 * length session.users + 2 * k ≡ c = omega (arith, above, is) in
-          (names.WritesGroup k, l.as_made (names.WritesGroup k) c (ap (λ b. cond b (Some (3 + 2 * length session.users + 2 * k)) None) test ∙ ap Some value), (low, high), sym (ap (λ b. if b then names.WritesUser i else names.WritesGroup k) big))
+          let high : k ≤ length accounts.groups = omega (arith, above, le) in
+          let test : (nat_le 1 k && nat_le k (length accounts.groups)) ≡ true = grind (arith, nat_tests, low, high) in
+          let value : 3 + 2 * length accounts.users + 2 * k ≡ c = omega (arith, above, is) in
+          (names.WritesGroup k, l.as_made (names.WritesGroup k) c (ap (λ b. cond b (Some (3 + 2 * length accounts.users + 2 * k)) None) test ∙ ap Some value), (low, high), sym (ap (λ b. if b then names.WritesUser i else names.WritesGroup k) big))
 
   pair_named : (c : ℕ) (purpose : Purpose) → 2 ≤ c → c < 4 + 2 * most → pair_purpose c ≡ purpose → Named c purpose
   pair_named c purpose low high e = subst (Named c) e (by ((c % 2) == 0) refl)
@@ -290,12 +290,12 @@ module _ (session : Session) (s : State) (f : Flat) (l : ObjectsMatch session s 
           the_rest : c % 2 ≡ 1
           the_rest = let positive : 0 < c % 2 = grind (arith, nat_tests, odd) in omega (arith, positive)
 
-  boot_named : (c : ℕ) (purpose : Purpose) → boot_purpose (declared (without_passwords session)) c ≡ Some purpose → Named c purpose
+  boot_named : (c : ℕ) (purpose : Purpose) → boot_purpose (declared (without_passwords accounts)) c ≡ Some purpose → Named c purpose
   boot_named c purpose e = elim (tested (c == 1) _ _ purpose e) [
     | inl one ↦ subst (Named c) (same_Some _ _ one.1) (names.OfBoot, l.as_made names.OfBoot c (ap Some (sym (equal_one one.0))), tt, refl)
-    | inr more ↦ elim (tested (nat_le 2 c && nat_lt c (4 + 2 * declared (without_passwords session))) _ _ purpose more.1) [
+    | inr more ↦ elim (tested (nat_le 2 c && nat_lt c (4 + 2 * declared (without_passwords accounts))) _ _ purpose more.1) [
       | inl pair ↦
-          let bounds = both (nat_le 2 c) (nat_lt c (4 + 2 * declared (without_passwords session))) pair.0 in
+          let bounds = both (nat_le 2 c) (nat_lt c (4 + 2 * declared (without_passwords accounts))) pair.0 in
           pair_named c purpose (grind (arith, nat_tests, bounds.0)) (subst (λ n. c < 4 + 2 * n) same_count (grind (arith, nat_tests, bounds.1))) (same_Some _ _ pair.1)
       | inr none ↦ absurd (none-some purpose none.1)
     ]
@@ -305,13 +305,13 @@ module _ (session : Session) (s : State) (f : Flat) (l : ObjectsMatch session s 
       equal_one is = grind (arith, nat_tests, is)
 
 pub purposes_are_right : PurposesAreRight
-purposes_are_right session s f l clue births c purpose e = elim (either_there (boot_purpose (declared (without_passwords session)) c) _ purpose e) [
-  | inl boot ↦ boot_named session s f l c purpose boot
-  | inr more ↦ elim (either_there (purpose_born s (places_of (length session.users)).home c births) _ purpose more) [
-    | inl born ↦ born_named session s f l c births purpose born
-    | inr rest ↦ elim (either_there (purpose_up s (places_of (length session.users)).home c clue.caller) _ purpose rest) [
-      | inl own ↦ up_named session s f l c clue.caller purpose own
-      | inr named ↦ up_named session s f l c clue.named purpose named
+purposes_are_right accounts s f l clue births c purpose e = elim (either_there (boot_purpose (declared (without_passwords accounts)) c) _ purpose e) [
+  | inl boot ↦ boot_named accounts s f l c purpose boot
+  | inr more ↦ elim (either_there (purpose_born s (roots_of (length accounts.users)).home c births) _ purpose more) [
+    | inl born ↦ born_named accounts s f l c births purpose born
+    | inr rest ↦ elim (either_there (purpose_up s (roots_of (length accounts.users)).home c clue.caller) _ purpose rest) [
+      | inl own ↦ up_named accounts s f l c clue.caller purpose own
+      | inr named ↦ up_named accounts s f l c clue.named purpose named
     ]
   ]
 ]

@@ -5,9 +5,9 @@ use Rattle.std.proofs.lemmas.Bool.{true≢false}
 use Rattle.std.proofs.lemmas.Option.{none-some}
 use Rattle.histar_flat.specs.Words.{Path}
 use Rattle.histar_object.specs.State.{State}
-use Rattle.histar_calls.specs.declared.places.Places.{Places}
+use Rattle.histar_calls.specs.declared.roots.Roots.{Roots}
 use Rattle.histar_run_explain.specs.Purposes.{or_else}
-use Rattle.histar_run_explain.specs.Standing.{is_target, path_up, target_at}
+use Rattle.histar_run_explain.specs.Location.{is_target, path_up, target_at}
 
 -- the first of two, or the second
 pub either_there : {A : Type 0} (x y : Option A) (a : A) → or_else x y ≡ Some a → (x ≡ Some a) ⊎ (y ≡ Some a)
@@ -39,6 +39,6 @@ one_piece (Ok x) new old a b written same = written ∙ ap (λ l. old ++ l) same
 one_piece (Err e) new old a b written same = tt
 
 -- an object that stands at a path stands at it or above it
-pub path_here : (s : State) (places : Places) (q : ℕ) (path : Path) → is_target q (target_at s places path) ≡ true → Some path ≡ path_up s places q path
-path_here s places q [] e = sym (ap (λ b. if b then Some [] else None) e)
-path_here s places q (name ∷ d) e = sym (ap (λ b. if b then Some (name ∷ d) else path_up s places q d) e)
+pub path_here : (s : State) (roots : Roots) (q : ℕ) (path : Path) → is_target q (target_at s roots path) ≡ true → Some path ≡ path_up s roots q path
+path_here s roots q [] e = sym (ap (λ b. if b then Some [] else None) e)
+path_here s roots q (name ∷ d) e = sym (ap (λ b. if b then Some (name ∷ d) else path_up s roots q d) e)

@@ -3,18 +3,18 @@ use Rattle.std.proofs.Common.{◌≡◌, ℕ, List, [], ◌∷◌, ◌++◌, Opt
 use Rattle.std.proofs.lemmas.List.{append_cancel_left}
 use Rattle.std.specs.Io.KnownBytes.{Appends}
 use Rattle.std.proofs.KnownBytes.{Appends-trans}
-use Rattle.histar_devices.specs.Writing.{AppendsFront}
+use Rattle.histar_io.specs.Writing.{AppendsFront}
 use Rattle.histar_flat.specs.declared.calls.CallLine.{CallLine}
-use Rattle.histar_flat.specs.Sessions.{Session}
+use Rattle.histar_flat.specs.Accounts.{Accounts}
 use Rattle.histar_flat.specs.FlatState.{Flat}
 use Rattle.histar_flat.specs.FlatCalls.{flat_after}
-use Rattle.histar_flat.specs.Meaning.{boot, Answered}
+use Rattle.histar_flat.specs.Meaning.{boot, RepliedCall}
 use Rattle.histar_object.specs.State.{State, empty_state}
-use Rattle.histar_script.specs.Script.{Reading, IsDeclared}
+use Rattle.histar_script.specs.Script.{ScriptModel, IsDeclared}
 use Rattle.histar_syscall.specs.declared.trace.TraceEntry.{TraceEntry}
 use Rattle.histar_syscall.specs.KernelModel.{state}
 use Rattle.histar_syscall.specs.Runs.{IsRun}
-use Rattle.histar_calls.specs.declared.places.Places.{Places}
+use Rattle.histar_calls.specs.declared.roots.Roots.{Roots}
 use Rattle.histar_layout.specs.UserTable.{without_passwords}
 use Rattle.histar_refinement.specs.Represents.{Represents}
 use Rattle.histar_sim.specs.Simulation.{SimulatesLines}
@@ -25,11 +25,11 @@ use Rattle.histar_shell.specs.Machine.{MachineModel, IsStart}
 use Rattle.histar_shell.specs.Meaning.{Shows, meaning_text}
 use Rattle.histar_shell.specs.declared.session.Options.{Options}
 use Rattle.histar_shell.proofs.AnswerLemmas.{front_after}
-use Rattle.histar_shell.proofs.CallRows.{calls_refine}
+use Rattle.histar_shell.proofs.CallRefinements.{calls_refine}
 use Rattle.histar_shell.proofs.LineMeanings.{line_follows}
-use Rattle.histar_shell.proofs.RowRuns.{run_after, rows_run}
+use Rattle.histar_shell.proofs.RefinedRuns.{run_after, refinements_run}
 use Rattle.histar_shell.proofs.SessionMeanings.{boot_trace, whole_is, longer_front, answers_begin}
-use Rattle.histar_shell.proofs.Starts.{start_is_laid, start_shows}
+use Rattle.histar_shell.proofs.Starts.{start_is_matched, start_shows}
 use Rattle.histar_shell.proofs.Users.{AreScriptable}
 use Rattle.histar_run_explain.specs.Births.{Births, births_after}
 use Rattle.histar_run_explain.specs.Clues.{clue_of}
@@ -40,41 +40,41 @@ use Rattle.histar_run_explain.specs.Run.{births_of, words_of, ExplainsRows, Expl
 use Rattle.histar_run_explain.proofs.Turns.{answers_calls}
 
 -- what the lines have done, from a machine that shows a flat state on
-record IsExplainedSession (session : Session) (m : MachineModel) (f : Flat) (births : Births) (calls : List CallLine) (text : List ℕ) (end : MachineModel) : Type 0 where
+record IsExplainedSession (accounts : Accounts) (m : MachineModel) (f : Flat) (births : Births) (calls : List CallLine) (text : List ℕ) (end : MachineModel) : Type 0 where
   entries : List TraceEntry
   trace : end.kernel.trace ≡ m.kernel.trace ++ entries
-  rows : ExplainsRows session (state m.kernel) f births calls entries text (state end.kernel)
+  refinements : ExplainsRows accounts (state m.kernel) f births calls entries text (state end.kernel)
 
 -- the words of a machine are those of what it shows
-module _ (session : Session) (m mid : MachineModel) (g : Flat) (asked : CallLine) (shows : Shows session mid g) where
+module _ (accounts : Accounts) (m mid : MachineModel) (g : Flat) (asked : CallLine) (shows : Shows accounts mid g) where
   words_shown : (births : Births) (entries : List TraceEntry) (lines : List ℕ) (one : ExplainsLine m mid asked births lines) → one.entries ≡ entries
-      → ExplainsEntries (words_of session (state mid.kernel) asked births) (state m.kernel) entries lines (state mid.kernel)
+      → ExplainsEntries (words_of accounts (state mid.kernel) asked births) (state m.kernel) entries lines (state mid.kernel)
   words_shown births entries lines one same =
-      subst (λ (places : Places). ExplainsEntries (words_at (without_passwords session) places (state mid.kernel) (clue_of asked.process asked.call) births) (state m.kernel) entries lines (state mid.kernel)) shows.places
-      (subst (λ (users : Session). ExplainsEntries (words_at users mid.places (state mid.kernel) (clue_of asked.process asked.call) births) (state m.kernel) entries lines (state mid.kernel)) shows.users
-      (subst (λ (es : List TraceEntry). ExplainsEntries (words_at mid.users mid.places (state mid.kernel) (clue_of asked.process asked.call) births) (state m.kernel) es lines (state mid.kernel)) same one.explained))
+      subst (λ (roots : Roots). ExplainsEntries (words_at (without_passwords accounts) roots (state mid.kernel) (clue_of asked.process asked.call) births) (state m.kernel) entries lines (state mid.kernel)) shows.roots
+      (subst (λ (users : Accounts). ExplainsEntries (words_at users mid.roots (state mid.kernel) (clue_of asked.process asked.call) births) (state m.kernel) entries lines (state mid.kernel)) shows.users
+      (subst (λ (es : List TraceEntry). ExplainsEntries (words_at mid.users mid.roots (state mid.kernel) (clue_of asked.process asked.call) births) (state m.kernel) es lines (state mid.kernel)) same one.explained))
 
   -- and so is what is known of births
-  births_shown : (births : Births) → births_by mid asked births ≡ births_of session (state mid.kernel) asked births
-  births_shown births = ap (λ (places : Places). births_after (state mid.kernel) places asked.process births) shows.places
+  births_shown : (births : Births) → births_by mid asked births ≡ births_of accounts (state mid.kernel) asked births
+  births_shown births = ap (λ (roots : Roots). births_after (state mid.kernel) roots asked.process births) shows.roots
 
-session_explained : (session : Session) (m : MachineModel) (f : Flat) (births : Births) (answers : List Answered) (text : List ℕ) (end : MachineModel) (born : Births) → ExplainsInTurn m births answers text end born → Shows session m f
-    → AreScriptable (calls_of answers) → IsExplainedSession session m f births (calls_of answers) text end
-session_explained session m f births [] text end born h shows can = record {
+accounts_explained : (accounts : Accounts) (m : MachineModel) (f : Flat) (births : Births) (answers : List RepliedCall) (text : List ℕ) (end : MachineModel) (born : Births) → ExplainsInTurn m births answers text end born → Shows accounts m f
+    → AreScriptable (calls_of answers) → IsExplainedSession accounts m f births (calls_of answers) text end
+accounts_explained accounts m f births [] text end born h shows can = record {
   entries = [];
   trace = ap (λ (x : MachineModel). x.kernel.trace) h.1 ∙ sym (append-nil m.kernel.trace);
-  rows = (refl, h.0, ap (λ (x : MachineModel). state x.kernel) h.1);
+  refinements = (refl, h.0, ap (λ (x : MachineModel). state x.kernel) h.1);
 }
-session_explained session m f births (a ∷ answers) text end born h shows can =
-    let line = line_follows calls_refine m h.0 a.call.line a.call.process a.call.call (Ok a.reply) can.0 h.3 session f shows in
-    let g = flat_after session f a.call.process a.call.call in
-    let known = births_shown session m h.0 g a.call line.shows births in
-    let later = session_explained session h.0 g (births_by h.0 a.call births) answers h.2 end born h.6 line.shows can.1 in
+accounts_explained accounts m f births (a ∷ answers) text end born h shows can =
+    let line = line_follows calls_refine m h.0 a.call.line a.call.process a.call.call (Ok a.reply) can.0 h.3 accounts f shows in
+    let g = flat_after accounts f a.call.process a.call.call in
+    let known = births_shown accounts m h.0 g a.call line.shows births in
+    let later = accounts_explained accounts h.0 g (births_by h.0 a.call births) answers h.2 end born h.6 line.shows can.1 in
     let same : h.4.entries ≡ line.entries = append_cancel_left m.kernel.trace h.4.entries line.entries (sym h.4.trace ∙ line.trace) in
     record {
       entries = line.entries ++ later.entries;
       trace = later.trace ∙ ap (λ (es : List TraceEntry). es ++ later.entries) line.trace ∙ append_assoc m.kernel.trace line.entries later.entries;
-      rows = (
+      refinements = (
         line.entries,
         later.entries,
         state h.0.kernel,
@@ -82,20 +82,20 @@ session_explained session m f births (a ∷ answers) text end born h shows can =
         h.2,
         refl,
         h.5,
-        line.row,
-        subst (λ (b : Births). ExplainsEntries (words_of session (state h.0.kernel) a.call b) (state m.kernel) line.entries h.1 (state h.0.kernel)) known
-            (words_shown session m h.0 g a.call line.shows (births_by h.0 a.call births) line.entries h.1 h.4 same),
-        subst (λ (b : Births). ExplainsRows session (state h.0.kernel) g b (calls_of answers) later.entries h.2 (state end.kernel)) known later.rows,
+        line.refined,
+        subst (λ (b : Births). ExplainsEntries (words_of accounts (state h.0.kernel) a.call b) (state m.kernel) line.entries h.1 (state h.0.kernel)) known
+            (words_shown accounts m h.0 g a.call line.shows (births_by h.0 a.call births) line.entries h.1 h.4 same),
+        subst (λ (b : Births). ExplainsRows accounts (state h.0.kernel) g b (calls_of answers) later.entries h.2 (state end.kernel)) known later.refinements,
       );
     }
 
 -- explained rows are rows
-rows_explained : (session : Session) (s : State) (f : Flat) (births : Births) (calls : List CallLine) (entries : List TraceEntry) (text : List ℕ) (end : State) → ExplainsRows session s f births calls entries text end → SimulatesLines session s f calls entries end
-rows_explained session s f births [] entries text end h = (h.0, h.2)
-rows_explained session s f births (asked ∷ more) entries text end h =
-    (h.0, h.1, h.2, h.5, h.7, rows_explained session h.2 (flat_after session f asked.process asked.call) (births_of session h.2 asked births) more h.1 h.4 end h.9)
+refinements_explained : (accounts : Accounts) (s : State) (f : Flat) (births : Births) (calls : List CallLine) (entries : List TraceEntry) (text : List ℕ) (end : State) → ExplainsRows accounts s f births calls entries text end → SimulatesLines accounts s f calls entries end
+refinements_explained accounts s f births [] entries text end h = (h.0, h.2)
+refinements_explained accounts s f births (asked ∷ more) entries text end h =
+    (h.0, h.1, h.2, h.5, h.7, refinements_explained accounts h.2 (flat_after accounts f asked.process asked.call) (births_of accounts h.2 asked births) more h.1 h.4 end h.9)
 
-module _ (script : Reading) (declared : IsDeclared script.session) (can : AreScriptable script.calls) (start : MachineModel) (starts : IsStart script.session start) where
+module _ (script : ScriptModel) (declared : IsDeclared script.accounts) (can : AreScriptable script.calls) (start : MachineModel) (starts : IsStart script.accounts start) where
   module _ (old replied : Option (List ℕ)) (end : MachineModel) (text : List ℕ) (born : Births) (all : ExplainsCalls start end old replied script.calls text born) where
     abbrev answered : AnswersCalls start end old replied script.calls
     answered = answers_calls start end old replied script.calls text born all
@@ -104,11 +104,11 @@ module _ (script : Reading) (declared : IsDeclared script.session) (can : AreScr
     trace_explained : ExplainsTrace script end.kernel.trace text
     trace_explained =
         let these : AreScriptable (calls_of all.answers) = subst AreScriptable (sym all.each) can in
-        let explained = session_explained script.session start (boot script.session) [] all.answers text end born all.in_turn (start_shows script.session declared start starts) these in
-        let rows : ExplainsRows script.session (state start.kernel) (boot script.session) [] script.calls explained.entries text (state end.kernel) =
-        subst (λ (calls : List CallLine). ExplainsRows script.session (state start.kernel) (boot script.session) [] calls explained.entries text (state end.kernel)) all.each explained.rows in
-        let of_lines = rows_explained script.session (state start.kernel) (boot script.session) [] script.calls explained.entries text (state end.kernel) rows in
-        let of_boot = boot_trace script.session start starts.booted in
+        let explained = accounts_explained script.accounts start (boot script.accounts) [] all.answers text end born all.in_turn (start_shows script.accounts declared start starts) these in
+        let refinements : ExplainsRows script.accounts (state start.kernel) (boot script.accounts) [] script.calls explained.entries text (state end.kernel) =
+        subst (λ (calls : List CallLine). ExplainsRows script.accounts (state start.kernel) (boot script.accounts) [] calls explained.entries text (state end.kernel)) all.each explained.refinements in
+        let of_lines = refinements_explained script.accounts (state start.kernel) (boot script.accounts) [] script.calls explained.entries text (state end.kernel) refinements in
+        let of_boot = boot_trace script.accounts start starts.booted in
         let parts : end.kernel.trace ≡ of_boot.entries ++ explained.entries = explained.trace ∙ ap (λ (es : List TraceEntry). es ++ explained.entries) of_boot.trace in
         record {
           recorded = record {
@@ -118,14 +118,14 @@ module _ (script : Reading) (declared : IsDeclared script.session) (can : AreScr
             start = state start.kernel;
             boot_run = of_boot.run;
             boot_own = of_boot.own;
-            boot_represents = subst (λ (s : State). Represents script.session s (boot script.session)) (sym starts.state) (start_is_laid script.session declared);
+            boot_represents = subst (λ (s : State). Represents script.accounts s (boot script.accounts)) (sym starts.state) (start_is_matched script.accounts declared);
             end = state end.kernel;
-            rows = of_lines;
+            refinements = of_lines;
             run = subst (λ (es : List TraceEntry). IsRun empty_state es (state end.kernel)) (sym parts)
                 (run_after empty_state (state start.kernel) (state end.kernel) of_boot.entries explained.entries of_boot.run
-                (rows_run script.session (state start.kernel) (boot script.session) script.calls explained.entries (state end.kernel) of_lines));
+                (refinements_run script.accounts (state start.kernel) (boot script.accounts) script.calls explained.entries (state end.kernel) of_lines));
           };
-          rows = rows;
+          refinements = refinements;
         }
 
     module _ (options : Options) where

@@ -5,15 +5,15 @@ use Rattle.std.specs.Io.KnownBytes.{Appends, Keeps}
 use Rattle.std.proofs.lemmas.Bool.{cases_lt, false≢true}
 use Rattle.std.proofs.lemmas.List.{length-append}
 use Rattle.std.proofs.KnownBytes.{Keeps-refl}
-use Rattle.histar_devices.specs.declared.input.InputError.{InputError}
-use Rattle.histar_devices.specs.declared.input.InputError.TheVariants as input
-use Rattle.histar_devices.specs.Input.{most_taken, TakesAll, TakesSome}
-use Rattle.histar_devices.specs.Writing.{AppendsFront}
+use Rattle.histar_io.specs.declared.input.InputError.{InputError}
+use Rattle.histar_io.specs.declared.input.InputError.TheVariants as input
+use Rattle.histar_io.specs.Input.{most_taken, TakesAll, TakesSome}
+use Rattle.histar_io.specs.Writing.{AppendsFront}
 use Rattle.histar_flat.specs.declared.calls.CallLine.{CallLine}
-use Rattle.histar_flat.specs.Sessions.{Session}
+use Rattle.histar_flat.specs.Accounts.{Accounts}
 use Rattle.histar_script.specs.declared.fault.Fault.{Fault}
 use Rattle.histar_script.specs.declared.fault.Fault.TheVariants.{BadScript, TooLong, OutOfMemory, ReadFailed, WriteFailed}
-use Rattle.histar_script.specs.Script.{Reading}
+use Rattle.histar_script.specs.Script.{ScriptModel}
 use Rattle.histar_script.specs.Outcome.{Gives, input_fault}
 use Rattle.histar_script.specs.Lines.{most_script_bytes}
 use Rattle.histar_script.specs.Reading.{script_of}
@@ -24,7 +24,7 @@ use Rattle.histar_shell.specs.Ending.{AppendsEnding, BeginsTheEnding, HasTree}
 use Rattle.histar_shell.specs.Machine.{MachineModel, IsStart, IsTraced}
 use Rattle.histar_shell.specs.Outcome.{AgreesWith, IsFaultAt}
 use Rattle.histar_shell.specs.declared.session.Options.{Options}
-use Rattle.histar_shell.proofs.CallRows.{calls_refine}
+use Rattle.histar_shell.proofs.CallRefinements.{calls_refine}
 use Rattle.histar_shell.proofs.SessionMeanings.{booted_traced, tree_at_last}
 use Rattle.histar_shell.proofs.Users.{script_says}
 use Rattle.histar_run_explain.specs.Births.{Births}
@@ -59,7 +59,7 @@ module _ (options : Options) where
   -- ---- a text that is a script or none
 
   -- what reading the script answers is the fault in it, or out of memory
-  script_fault_agrees : (f : Fault) (read : Result Reading Fault) → Gives (Err f) read → IsFaultAt read f
+  script_fault_agrees : (f : Fault) (read : Result ScriptModel Fault) → Gives (Err f) read → IsFaultAt read f
   script_fault_agrees (BadScript n) read given = given
   script_fault_agrees TooLong read given = given
   script_fault_agrees OutOfMemory read given = tt
@@ -67,7 +67,7 @@ module _ (options : Options) where
   script_fault_agrees WriteFailed read given = absurd given
 
   -- and nothing was written then
-  script_fault_writes : (f : Fault) (w : Option (List ℕ)) (read : Result Reading Fault) → Gives (Err f) read → ExplainsAtFault options w w read f
+  script_fault_writes : (f : Fault) (w : Option (List ℕ)) (read : Result ScriptModel Fault) → Gives (Err f) read → ExplainsAtFault options w w read f
   script_fault_writes (BadScript n) w read given = Keeps-refl w
   script_fault_writes TooLong w read given = Keeps-refl w
   script_fault_writes OutOfMemory w read given = inl (Keeps-refl w)
@@ -84,14 +84,14 @@ module _ (options : Options) where
 
   -- ---- a script whose machine was booted
 
-  module _ (text : List ℕ) (script : Reading) (given : script_of text ≡ Ok script) (session : Session) (session_is : session ≡ script.session) (calls : List CallLine) (calls_are : calls ≡ script.calls)
-      (start : MachineModel) (starts : IsStart session start) where
-    started : IsStart script.session start
-    started = subst (λ (s : Session). IsStart s start) session_is starts
+  module _ (text : List ℕ) (script : ScriptModel) (given : script_of text ≡ Ok script) (accounts : Accounts) (accounts_is : accounts ≡ script.accounts) (calls : List CallLine) (calls_are : calls ≡ script.calls)
+      (start : MachineModel) (starts : IsStart accounts start) where
+    started : IsStart script.accounts start
+    started = subst (λ (s : Accounts). IsStart s start) accounts_is starts
 
     -- its trace is a run
     pub start_traced : IsTraced start.kernel
-    start_traced = booted_traced session start.kernel starts.booted
+    start_traced = booted_traced accounts start.kernel starts.booted
 
     -- a beginning was written
     begins : (f : Fault) (old new : Option (List ℕ)) → IsOutputFault f → BeginsExplained options old new (script_of text) → ExplainsText options text old new (Err f)
@@ -175,8 +175,8 @@ module _ (options : Options) where
   -- what was run is the script of the whole input
   same_run : (input taken : List ℕ) (old new : Option (List ℕ)) (result : Answer) → script_of taken ≡ script_of input → ExplainsText options taken old new result → ExplainsText options input old new result
   same_run input taken old new result same runs = record {
-    faults = subst (λ (read : Result Reading Fault). AgreesWith read result) same runs.faults;
-    writes = subst (λ (read : Result Reading Fault). MatchResult result (λ _. ExplainsScript options old new read) (ExplainsAtFault options old new read)) same runs.writes;
+    faults = subst (λ (read : Result ScriptModel Fault). AgreesWith read result) same runs.faults;
+    writes = subst (λ (read : Result ScriptModel Fault). MatchResult result (λ _. ExplainsScript options old new read) (ExplainsAtFault options old new read)) same runs.writes;
   }
 
   -- a known input that was taken was run

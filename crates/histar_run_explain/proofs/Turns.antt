@@ -5,11 +5,11 @@ use Rattle.std.proofs.lemmas.Grind.{flat_map-append}
 use Rattle.std.proofs.KnownBytes.{Appends-trans, Appends-nil}
 use Rattle.std.specs.Prelude.{OnOk}
 use Rattle.std.specs.Io.KnownBytes.{Appends}
-use Rattle.histar_devices.proofs.WritingLemmas.{whole_front}
+use Rattle.histar_io.proofs.WritingLemmas.{whole_front}
 use Rattle.histar_flat.specs.declared.calls.CallLine.{CallLine}
 use Rattle.histar_flat.specs.declared.calls.UnixCall.{UnixCall}
 use Rattle.histar_flat.specs.declared.replies.Reply.{Reply}
-use Rattle.histar_flat.specs.Meaning.{Answered}
+use Rattle.histar_flat.specs.Meaning.{RepliedCall}
 use Rattle.histar_flat.specs.Words.{ProcName}
 use Rattle.histar_object.specs.State.{State, empty_state}
 use Rattle.histar_process.specs.declared.caller.Caller.{Caller}
@@ -44,12 +44,12 @@ line_goes old new line me call reply h = by old.is_stopped h
     found : (o : Option Caller) → AnswersFound o old new line me call (Ok reply) → GoesBy old.kernel new.kernel
     found None k = record { entries = []; trace = ap (λ (m : MachineModel). m.kernel.trace) k.1 ∙ sym (append-nil old.kernel.trace); run = ap (λ (m : MachineModel). state m.kernel) k.1 }
     found (Some caller) k =
-        let goes = by_program (program_of old.users old.places me caller call) (on_line line old.kernel) new.kernel caller.thread (Ok reply) k.made in
+        let goes = by_program (program_of old.users old.roots me caller call) (on_line line old.kernel) new.kernel caller.thread (Ok reply) k.made in
         record { entries = goes.entries; trace = goes.trace; run = goes.run }
 
     by : (b : Bool) → AnswersIf b old new line me call (Ok reply) → GoesBy old.kernel new.kernel
     by true k = absurd cc
-    by false k = found (caller_at (state old.kernel) old.places.home me) k
+    by false k = found (caller_at (state old.kernel) old.roots.home me) k
 
 module _ (old new : MachineModel) (a b : Option (List ℕ)) (asked : CallLine) (one : AnswersCall old new a b asked) (trace : List TraceEntry) (same : trace ≡ new.kernel.trace) where
   goes : GoesBy old.kernel new.kernel
@@ -89,9 +89,9 @@ module _ (old new : MachineModel) (a b : Option (List ℕ)) (asked : CallLine) (
 
     -- also where the words are by what the line names
     pub line_said : (last : State) (clue : Clue) (births : Births) (lines : List ℕ) → clue ≡ clue_of asked.process asked.call → EndsAsRun first (drop n trace) last
-        → ExplainsEntries (words_at new.users new.places (state new.kernel) clue births) first (drop n trace) lines last → ExplainsCall old new a b asked births lines
+        → ExplainsEntries (words_at new.users new.roots (state new.kernel) clue births) first (drop n trace) lines last → ExplainsCall old new a b asked births lines
     line_said last clue births lines named ends explained =
-        line_explained last births lines ends (subst (λ (x : Clue). ExplainsEntries (words_at new.users new.places (state new.kernel) x births) first (drop n trace) lines last) named explained)
+        line_explained last births lines ends (subst (λ (x : Clue). ExplainsEntries (words_at new.users new.roots (state new.kernel) x births) first (drop n trace) lines last) named explained)
 
 -- a line that was answered has begun to be
 pub line_begins : (old new : MachineModel) (a b : Option (List ℕ)) (asked : CallLine) → AnswersCall old new a b asked → BeginsAnswer old new a b asked
@@ -122,7 +122,7 @@ module _ (k : KernelModel) (traced : IsTraced k) (first : State) (empty : first 
 -- ---- lines in turn
 
 -- a machine that explains in turn answers in turn
-pub answers_in_turn : (m : MachineModel) (births : Births) (answers : List Answered) (text : List ℕ) (end : MachineModel) (born : Births) → ExplainsInTurn m births answers text end born → AnswersInTurn m answers end
+pub answers_in_turn : (m : MachineModel) (births : Births) (answers : List RepliedCall) (text : List ℕ) (end : MachineModel) (born : Births) → ExplainsInTurn m births answers text end born → AnswersInTurn m answers end
 answers_in_turn m births [] text end born h = h.1
 answers_in_turn m births (a ∷ answers) text end born h = (h.0, h.3, answers_in_turn h.0 (births_by h.0 a.call births) answers h.2 end born h.6)
 
@@ -133,8 +133,8 @@ answers_calls m end a b calls text born h = record { answers = h.answers; each =
 pub explains_none : (m : MachineModel) (a : Option (List ℕ)) → ExplainsCalls m m a a [] [] []
 explains_none m a = record { answers = []; each = refl; in_turn = (refl, refl, refl); written = Appends-nil a }
 
-module _ (mid last : MachineModel) (born : Births) (a : Answered) (lines : List ℕ) (answered : AnswersLine mid last a.call.line a.call.process a.call.call (Ok a.reply)) (explained : ExplainsLine mid last a.call (births_by last a.call born) lines) where
-  turn_more : (first : MachineModel) (births : Births) (answers : List Answered) (text : List ℕ) → ExplainsInTurn first births answers text mid born → ExplainsInTurn first births (answers ++ a ∷ []) (text ++ lines) last (births_by last a.call born)
+module _ (mid last : MachineModel) (born : Births) (a : RepliedCall) (lines : List ℕ) (answered : AnswersLine mid last a.call.line a.call.process a.call.call (Ok a.reply)) (explained : ExplainsLine mid last a.call (births_by last a.call born) lines) where
+  turn_more : (first : MachineModel) (births : Births) (answers : List RepliedCall) (text : List ℕ) → ExplainsInTurn first births answers text mid born → ExplainsInTurn first births (answers ++ a ∷ []) (text ++ lines) last (births_by last a.call born)
   turn_more first births [] text done = (
     last,
     lines,
@@ -155,14 +155,14 @@ module _ (mid last : MachineModel) (born : Births) (a : Answered) (lines : List 
   )
 
 -- the text of one more answer
-text_more : (answers : List Answered) (a : Answered) → answers_text (answers ++ a ∷ []) ≡ answers_text answers ++ answer_text a
+text_more : (answers : List RepliedCall) (a : RepliedCall) → answers_text (answers ++ a ∷ []) ≡ answers_text answers ++ answer_text a
 text_more answers a = flat_map-append answer_text answers (a ∷ []) ∙ ap (λ (l : List ℕ). answers_text answers ++ l) (append-nil (answer_text a))
 
 -- one line more
 module _ (first mid last : MachineModel) (a b c : Option (List ℕ)) (calls : List CallLine) (call : CallLine) (text lines : List ℕ) (old new : Births) where
   pub explains_more : ExplainsCalls first mid a b calls text old → new ≡ births_by last call old → ExplainsCall mid last b c call new lines → ExplainsCalls first last a c (calls ++ call ∷ []) (text ++ lines) new
   explains_more done is one =
-      let next : Answered = record { call = call; reply = one.answered.reply } in
+      let next : RepliedCall = record { call = call; reply = one.answered.reply } in
       let explained = subst (λ (births : Births). ExplainsLine mid last call births lines) is one.explained in
       record {
         answers = done.answers ++ next ∷ [];

@@ -3,8 +3,8 @@ use Rattle.std.specs.Prelude.{ℕ, ◌-◌, nat_lt, List, ◌∷◌, ◌++◌, l
 use Rattle.histar_flat.specs.Words.{ProcName, most_numbers}
 use Rattle.histar_object.specs.State.{State}
 use Rattle.histar_layout.specs.Reading.{◌>>=◌}
-use Rattle.histar_calls.specs.declared.places.Home.{Home}
-use Rattle.histar_calls.specs.declared.places.Places.{Places}
+use Rattle.histar_calls.specs.declared.roots.Home.{Home}
+use Rattle.histar_calls.specs.declared.roots.Roots.{Roots}
 use Rattle.histar_process.specs.Caller.{home_at, status_at}
 
 -- for each category, in the order of their numbers, a process that it may be of
@@ -23,5 +23,5 @@ last_child s first me = do
   child_of me status.born
 
 -- Once a process has made a call: each category that is new may be of the child that was born last to that process.
-abbrev pub births_after : State → Places → ProcName → Births → Births
-births_after s places me births = births ++ replicate (s.next_category - length births) (last_child s places.home me)
+abbrev pub births_after : State → Roots → ProcName → Births → Births
+births_after s roots me births = births ++ replicate (s.next_category - length births) (last_child s roots.home me)

@@ -1,12 +1,12 @@
 -- What names amount to in a state that represents a flat state.
 use Rattle.std.specs.Prelude.{◌≡◌, ℕ, ◌-◌, ◌+◌, ◌*◌, ◌≤◌, ◌⊎◌, true, false, ◌∷◌, [], length, nat_le, Some, if◌then◌else◌}
 use Rattle.histar_flat.specs.Words.{ProcName}
-use Rattle.histar_flat.specs.Sessions.{Session, has}
+use Rattle.histar_flat.specs.Accounts.{Accounts, has}
 use Rattle.histar_flat.specs.Classes.{Process}
 use Rattle.histar_flat.specs.FlatState.{Flat}
 use Rattle.histar_object.specs.State.{State}
 use Rattle.histar_layout.specs.UserTable.{without_passwords}
-use Rattle.histar_login.specs.Start.{places_of}
+use Rattle.histar_login.specs.Start.{roots_of}
 use Rattle.histar_refinement.specs.Addresses.{home_address, table_number}
 use Rattle.histar_refinement.specs.Addresses.Step.{Left, Status, Inside, Runner}
 use Rattle.histar_refinement.specs.Categories.{CategoryName, CategoryName as names, IsUsed}
@@ -16,20 +16,20 @@ use Rattle.histar_run_explain.specs.Births.{Births}
 use Rattle.histar_run_explain.specs.declared.clues.Clue.{Clue}
 use Rattle.histar_run_explain.specs.declared.purposes.Purpose.{Purpose}
 use Rattle.histar_run_explain.specs.declared.purposes.Purpose.TheVariants.{Boot, Reads, Writes, ReadsProcess, WritesProcess, Job}
-use Rattle.histar_run_explain.specs.declared.standing.Standing.{Standing}
-use Rattle.histar_run_explain.specs.declared.standing.Standing.TheVariants.{Root, Password, Gate, Users, At, Part}
+use Rattle.histar_run_explain.specs.declared.location.Location.{Location}
+use Rattle.histar_run_explain.specs.declared.location.Location.TheVariants.{Root, Password, Gate, Users, At, Part}
 use Rattle.histar_run_explain.specs.Purposes.{purpose_of}
-use Rattle.histar_run_explain.specs.Standing.{standing_of}
+use Rattle.histar_run_explain.specs.Location.{location_of}
 
 -- ---- categories
 
 -- the category by which nobody, a user or a group reads: these are numbered from 0, 1 and on behind the users
-abbrev pub reads_of : Session → ℕ → CategoryName
-reads_of session i = if nat_le i (length session.users) then names.ReadsUser i else names.ReadsGroup (i - length session.users)
+abbrev pub reads_of : Accounts → ℕ → CategoryName
+reads_of accounts i = if nat_le i (length accounts.users) then names.ReadsUser i else names.ReadsGroup (i - length accounts.users)
 
 -- and the one by which it writes
-abbrev pub writes_of : Session → ℕ → CategoryName
-writes_of session i = if nat_le i (length session.users) then names.WritesUser i else names.WritesGroup (i - length session.users)
+abbrev pub writes_of : Accounts → ℕ → CategoryName
+writes_of accounts i = if nat_le i (length accounts.users) then names.WritesUser i else names.WritesGroup (i - length accounts.users)
 
 -- a process is in a job, and the one above it isn't
 pub record BeginsJob (f : Flat) (job : ProcName) (n : ℕ) (above : ProcName) : Type 0 where
@@ -39,24 +39,24 @@ pub record BeginsJob (f : Flat) (job : ProcName) (n : ℕ) (above : ProcName) : 
   pub outside : (parent : Process) → f.processes above ≡ Some parent → has parent.chain job ≡ false
 
 -- a purpose is that of the category of this name: a job is told by a process that is in it and whose parent isn't
-abbrev pub IsPurposeOf : Session → Flat → CategoryName → Purpose → Type 0
-IsPurposeOf session f name Boot = name ≡ names.OfBoot
-IsPurposeOf session f name (Reads i) = name ≡ reads_of session i
-IsPurposeOf session f name (Writes i) = name ≡ writes_of session i
-IsPurposeOf session f name (ReadsProcess me) = name ≡ names.ReadsProcess me
-IsPurposeOf session f name (WritesProcess me) = name ≡ names.WritesProcess me
-IsPurposeOf session f name (Job me) = (job : ProcName) × (n : ℕ) × (above : ProcName) × (me ≡ n ∷ above) × (name ≡ names.OfJob job) × BeginsJob f job n above
+abbrev pub IsPurposeOf : Accounts → Flat → CategoryName → Purpose → Type 0
+IsPurposeOf accounts f name Boot = name ≡ names.OfBoot
+IsPurposeOf accounts f name (Reads i) = name ≡ reads_of accounts i
+IsPurposeOf accounts f name (Writes i) = name ≡ writes_of accounts i
+IsPurposeOf accounts f name (ReadsProcess me) = name ≡ names.ReadsProcess me
+IsPurposeOf accounts f name (WritesProcess me) = name ≡ names.WritesProcess me
+IsPurposeOf accounts f name (Job me) = (job : ProcName) × (n : ℕ) × (above : ProcName) × (me ≡ n ∷ above) × (name ≡ names.OfJob job) × BeginsJob f job n above
 
 -- Whatever naming represents the flat state: a category for which a purpose is given is that of a name that is used, and has this purpose.
 abbrev pub PurposesAreRight : Type 0
 PurposesAreRight =
-    (session : Session) (s : State) (f : Flat) (l : ObjectsMatch session s f) (clue : Clue) (births : Births) (c : ℕ) (purpose : Purpose)
-    → purpose_of (without_passwords session) (places_of (length session.users)) s clue births c ≡ Some purpose
-    → (name : CategoryName) × (l.category name ≡ c) × IsUsed session f name × IsPurposeOf session f name purpose
+    (accounts : Accounts) (s : State) (f : Flat) (l : ObjectsMatch accounts s f) (clue : Clue) (births : Births) (c : ℕ) (purpose : Purpose)
+    → purpose_of (without_passwords accounts) (roots_of (length accounts.users)) s clue births c ≡ Some purpose
+    → (name : CategoryName) × (l.category name ≡ c) × IsUsed accounts f name × IsPurposeOf accounts f name purpose
 
 -- ---- objects
 
-module _ (session : Session) (s : State) (f : Flat) (l : ObjectsMatch session s f) where
+module _ (accounts : Accounts) (s : State) (f : Flat) (l : ObjectsMatch accounts s f) where
   -- what boot left in the root container under this number
   abbrev pub IsLeft : ℕ → Type 0
   IsLeft q = l.naming.number (Left q ∷ []) ≡ Some q
@@ -68,17 +68,17 @@ module _ (session : Session) (s : State) (f : Flat) (l : ObjectsMatch session s 
       ⊎ ((l.naming.number (Inside ∷ home_address me) ≡ Some q) ⊎ (l.naming.number (Runner ∷ Inside ∷ home_address me) ≡ Some q))
 
   -- an object of this number is what is said: boot left the password and the gate of user i under 1 + 2i and 2 + 2i
-  abbrev pub StandsAs : ℕ → Standing → Type 0
+  abbrev pub StandsAs : ℕ → Location → Type 0
   StandsAs q Root = l.naming.number [] ≡ Some q
-  StandsAs q (Password i) = IsLeft q × (q ≡ 1 + 2 * i) × (1 ≤ i) × (i ≤ length session.users)
-  StandsAs q (Gate i) = IsLeft q × (q ≡ 2 + 2 * i) × (1 ≤ i) × (i ≤ length session.users)
-  StandsAs q Users = IsLeft q × (q ≡ table_number (length session.users))
-  StandsAs q (At path) = StandsFor session s f l path q
+  StandsAs q (Password i) = IsLeft q × (q ≡ 1 + 2 * i) × (1 ≤ i) × (i ≤ length accounts.users)
+  StandsAs q (Gate i) = IsLeft q × (q ≡ 2 + 2 * i) × (1 ≤ i) × (i ≤ length accounts.users)
+  StandsAs q Users = IsLeft q × (q ≡ table_number (length accounts.users))
+  StandsAs q (At path) = StandsFor accounts s f l path q
   StandsAs q (Part me) = IsPartOf me q
 
 -- Whatever naming represents the flat state: what an object is said to be is what it is at the address that has its number.
 abbrev pub StandingsAreRight : Type 0
 StandingsAreRight =
-    (session : Session) (s : State) (f : Flat) (l : ObjectsMatch session s f) (clue : Clue) (q : ℕ) (standing : Standing)
-    → standing_of (without_passwords session) (places_of (length session.users)) s clue q ≡ Some standing
-    → StandsAs session s f l q standing
+    (accounts : Accounts) (s : State) (f : Flat) (l : ObjectsMatch accounts s f) (clue : Clue) (q : ℕ) (location : Location)
+    → location_of (without_passwords accounts) (roots_of (length accounts.users)) s clue q ≡ Some location
+    → StandsAs accounts s f l q location

@@ -1,7 +1,7 @@
 pub mod Births
 pub mod Clues
 pub mod Purposes
-pub mod Standing
+pub mod Location
 pub mod NamedWords
 pub mod Entries
 pub mod Session

@@ -3,7 +3,7 @@ use Rattle.std.specs.Prelude.{ℕ, ◌+◌, ◌*◌, ◌-◌, ◌/◌, ◌%◌, 
 use Rattle.std.specs.Prelude.{Option, None, Some, slice_get, codes, if◌then◌else◌}
 use Rattle.histar_flat.specs.Words.{Name, ProcName}
 use Rattle.histar_flat.specs.Texts.{process_text}
-use Rattle.histar_flat.specs.Sessions.{Group, Session}
+use Rattle.histar_flat.specs.Accounts.{Group, Accounts}
 use Rattle.histar_label.specs.Levels.{Levels, level_of}
 use Rattle.histar_object.specs.Objects.{label_there}
 use Rattle.histar_object.specs.State.{State}
@@ -12,8 +12,8 @@ use Rattle.histar_layout.specs.Reading.{◌>>=◌}
 use Rattle.histar_login.specs.Start.{declared}
 use Rattle.histar_process.specs.Caller.{home_at, if_runs, is_zero, status_at}
 use Rattle.histar_process.specs.Kin.{user_name}
-use Rattle.histar_calls.specs.declared.places.Home.{Home}
-use Rattle.histar_calls.specs.declared.places.Places.{Places}
+use Rattle.histar_calls.specs.declared.roots.Home.{Home}
+use Rattle.histar_calls.specs.declared.roots.Roots.{Roots}
 use Rattle.histar_run_explain.specs.Births.{Births}
 use Rattle.histar_run_explain.specs.declared.clues.Clue.{Clue}
 use Rattle.histar_run_explain.specs.declared.purposes.Purpose.{Purpose}
@@ -90,11 +90,11 @@ purpose_born s first c births = do
 
 -- What a category is for: boot's are known by their numbers, and others are looked for at the process that was born with the
 -- category, and then at the processes that a line names and those above them.
-abbrev pub purpose_of : Session → Places → State → Clue → Births → ℕ → Option Purpose
-purpose_of session places s clue births c =
-    or_else (boot_purpose (declared session) c)
-    (or_else (purpose_born s places.home c births)
-    (or_else (purpose_up s places.home c clue.caller) (purpose_up s places.home c clue.named)))
+abbrev pub purpose_of : Accounts → Roots → State → Clue → Births → ℕ → Option Purpose
+purpose_of accounts roots s clue births c =
+    or_else (boot_purpose (declared accounts) c)
+    (or_else (purpose_born s roots.home c births)
+    (or_else (purpose_up s roots.home c clue.caller) (purpose_up s roots.home c clue.named)))
 
 -- ---- how it is written
 
@@ -104,16 +104,16 @@ name_of_group None = []
 name_of_group (Some group) = group.name
 
 -- the name of nobody, of a user or of a group
-abbrev pub owner_name : Session → ℕ → Name
-owner_name session i =
-    if nat_le i (length session.users) then user_name session.users i
-    else name_of_group (slice_get session.groups (i - length session.users - 1))
+abbrev pub owner_name : Accounts → ℕ → Name
+owner_name accounts i =
+    if nat_le i (length accounts.users) then user_name accounts.users i
+    else name_of_group (slice_get accounts.groups (i - length accounts.users - 1))
 
 -- what a category is for
-abbrev pub purpose_text : Session → Purpose → List ℕ
-purpose_text session Boot = codes "boot"
-purpose_text session (Reads i) = codes "read:" ++ owner_name session i
-purpose_text session (Writes i) = codes "write:" ++ owner_name session i
-purpose_text session (ReadsProcess me) = codes "own-read:" ++ process_text me
-purpose_text session (WritesProcess me) = codes "own-write:" ++ process_text me
-purpose_text session (Job me) = codes "job:" ++ process_text me
+abbrev pub purpose_text : Accounts → Purpose → List ℕ
+purpose_text accounts Boot = codes "boot"
+purpose_text accounts (Reads i) = codes "read:" ++ owner_name accounts i
+purpose_text accounts (Writes i) = codes "write:" ++ owner_name accounts i
+purpose_text accounts (ReadsProcess me) = codes "own-read:" ++ process_text me
+purpose_text accounts (WritesProcess me) = codes "own-write:" ++ process_text me
+purpose_text accounts (Job me) = codes "job:" ++ process_text me

@@ -2,7 +2,7 @@
 use Rattle.std.specs.Prelude.{◌≡◌, ℕ, List, [], ◌∷◌, ◌++◌, Option, Ok}
 use Rattle.std.specs.Io.KnownBytes.{Appends}
 use Rattle.histar_flat.specs.declared.calls.CallLine.{CallLine}
-use Rattle.histar_flat.specs.Meaning.{Answered}
+use Rattle.histar_flat.specs.Meaning.{RepliedCall}
 use Rattle.histar_syscall.specs.declared.trace.TraceEntry.{TraceEntry}
 use Rattle.histar_syscall.specs.KernelModel.{state}
 use Rattle.histar_shell.specs.Answers.{answers_text, calls_of}
@@ -16,11 +16,11 @@ use Rattle.histar_run_explain.specs.NamedWords.{words_at}
 
 -- how a machine's state after a line names what the line's explanations speak of
 abbrev pub words_after : MachineModel → CallLine → Births → Words
-words_after m asked births = words_at m.users m.places (state m.kernel) (clue_of asked.process asked.call) births
+words_after m asked births = words_at m.users m.roots (state m.kernel) (clue_of asked.process asked.call) births
 
 -- what is known of births, once a machine has answered a line
 abbrev pub births_by : MachineModel → CallLine → Births → Births
-births_by m asked births = births_after (state m.kernel) m.places asked.process births
+births_by m asked births = births_after (state m.kernel) m.roots asked.process births
 
 -- the lines explain each denied entry that a call line has added to the trace, at the state before the entry
 pub record ExplainsLine (before after : MachineModel) (asked : CallLine) (births : Births) (lines : List ℕ) : Type 0 where
@@ -29,7 +29,7 @@ pub record ExplainsLine (before after : MachineModel) (asked : CallLine) (births
   pub explained : ExplainsEntries (words_after after asked births) (state before.kernel) entries lines (state after.kernel)
 
 -- a machine answered these call lines one after another, each with the reply that it is listed with, and the text explains them
-abbrev pub ExplainsInTurn : MachineModel → Births → List Answered → List ℕ → MachineModel → Births → Type 0
+abbrev pub ExplainsInTurn : MachineModel → Births → List RepliedCall → List ℕ → MachineModel → Births → Type 0
 ExplainsInTurn m births [] text end born = (text ≡ []) × (end ≡ m) × (born ≡ births)
 ExplainsInTurn m births (a ∷ answers) text end born =
     (mid : MachineModel) × (lines : List ℕ) × (rest : List ℕ)
@@ -39,7 +39,7 @@ ExplainsInTurn m births (a ∷ answers) text end born =
 
 -- the machine answered each of these call lines, the lines of its replies were written, and the text explains them
 pub record ExplainsCalls (before after : MachineModel) (old new : Option (List ℕ)) (calls : List CallLine) (text : List ℕ) (born : Births) : Type 0 where
-  pub answers : List Answered
+  pub answers : List RepliedCall
   pub each : calls_of answers ≡ calls
   pub in_turn : ExplainsInTurn before [] answers text after born
   pub written : Appends old new (answers_text answers)

@@ -5,7 +5,7 @@ ghost use Rattle.histar_syscall.specs.KernelModel.{state};
 ghost use Rattle.histar_run_explain.specs.Births.{births_after, child_of, last_child};
 
 use crate::homes::home_at;
-use histar_calls::Places;
+use histar_calls::Roots;
 use histar_flat::{MOST_NUMBERS, ProcName};
 use histar_label::LabelStore;
 use histar_layout::read_status;
@@ -27,12 +27,12 @@ fn child_of(process: &ProcName, number: u8) -> Option<ProcName>
 /// Returns the child that was born last to a process.
 fn last_child<S: LabelStore + Drop>(
     kernel: &Kernel<S>,
-    places: &Places,
+    roots: &Roots,
     process: &ProcName,
 ) -> Option<ProcName>
-    ensures { result ≡ last_child (state kernel.now) places.now.home process.now }
+    ensures { result ≡ last_child (state kernel.now) roots.now.home process.now }
 {
-    let home = home_at(kernel, places.home, process.numbers())?;
+    let home = home_at(kernel, roots.home, process.numbers())?;
     let head = read_status(kernel.bytes(home.segment))?;
     child_of(process, head.born)
 }
@@ -60,13 +60,13 @@ pub(crate) fn note_births<S: LabelStore + Drop>(
     births: &mut Vec<Option<ProcName>>,
 ) -> Result<(), AllocError>
     ensures { OnOk result (births.new.items
-        ≡ births_after (state machine.now.kernel) machine.now.places process.now births.old.items) }
+        ≡ births_after (state machine.now.kernel) machine.now.roots process.now births.old.items) }
 {
     let kernel = machine.kernel();
     let next = kernel.next_category() as usize;
     if next <= births.len() {
         return Ok(());
     }
-    let birth = last_child(kernel, machine.places(), process);
+    let birth = last_child(kernel, machine.roots(), process);
     add_births(births, next, &birth)
 }

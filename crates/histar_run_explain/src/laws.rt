@@ -9,6 +9,6 @@ pub fn purposes_are_right()
 
 /// What an object is said to be is what stands at the address that has its number, under each naming by which
 /// the state represents a flat state.
-pub fn standings_are_right()
+pub fn locations_are_right()
     ensures { StandingsAreRight }
 {}

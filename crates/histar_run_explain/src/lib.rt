@@ -8,10 +8,10 @@ mod births;
 mod clues;
 mod homes;
 pub mod laws;
+mod location;
 mod named_words;
 mod purposes;
 mod replaying;
 mod session;
-mod standing;
 
 pub use session::explain_script;

@@ -1,16 +1,16 @@
 //! How the explanation of a denied call of a script names what it speaks of.
 ghost use Rattle.std.specs.Prelude.{◌≡◌, ◌≤◌, ◌++◌, slice_get, OnOk};
-ghost use Rattle.histar_flat.specs.Sessions.{most_users};
+ghost use Rattle.histar_flat.specs.Accounts.{most_users};
 ghost use Rattle.histar_flat.specs.Texts.{process_text};
 ghost use Rattle.histar_process.specs.Kin.{user_name};
 ghost use Rattle.histar_syscall.specs.KernelModel.{state};
 ghost use Rattle.histar_run_explain.specs.Purposes.{name_of_group, owner_name, purpose_text};
-ghost use Rattle.histar_run_explain.specs.Standing.{standing_text};
+ghost use Rattle.histar_run_explain.specs.Location.{location_text};
 ghost use Rattle.histar_run_explain.specs.NamedWords.{category_text, words_at};
 
 use crate::clues::Clue;
+use crate::location::{Location, location_of};
 use crate::purposes::{Purpose, purpose_of};
-use crate::standing::{Standing, standing_of};
 use histar_flat::{Name, ProcName};
 use histar_label::{Category, LabelStore};
 use histar_layout::UserTable;
@@ -85,27 +85,27 @@ fn push_purpose(text: &mut Vec<u8>, users: &UserTable, purpose: &Purpose) -> Res
 }
 
 /// Adds what an object is.
-fn push_standing(
+fn push_location(
     text: &mut Vec<u8>,
     users: &UserTable,
-    standing: &Standing,
+    location: &Location,
 ) -> Result<(), AllocError>
-    ensures { OnOk result (text.new.items ≡ text.old.items ++ standing_text users.now standing.now) }
+    ensures { OnOk result (text.new.items ≡ text.old.items ++ location_text users.now location.now) }
 {
-    match standing {
-        Standing::Root => text.extend_from_slice(b"the root container"),
-        Standing::Password(user) => push_owned(text, b"the password of ", users, *user),
-        Standing::Gate(user) => push_owned(text, b"the gate of ", users, *user),
-        Standing::Users => text.extend_from_slice(b"the user table"),
-        Standing::At(path) => push_path(text, path),
-        Standing::Part(process) => push_of(text, b"process ", process),
+    match location {
+        Location::Root => text.extend_from_slice(b"the root container"),
+        Location::Password(user) => push_owned(text, b"the password of ", users, *user),
+        Location::Gate(user) => push_owned(text, b"the gate of ", users, *user),
+        Location::Users => text.extend_from_slice(b"the user table"),
+        Location::At(path) => push_path(text, path),
+        Location::Part(process) => push_of(text, b"process ", process),
     }
 }
 
 impl<'m, S: LabelStore + Drop> Names<'m, S> {
     /// Adds a category by what it is for.
     fn push_category_name(&self, text: &mut Vec<u8>, category: Category) -> Result<(), AllocError>
-        ensures { OnOk result (text.new.items ≡ text.old.items ++ (words_at self.now.machine.now.users self.now.machine.now.places
+        ensures { OnOk result (text.new.items ≡ text.old.items ++ (words_at self.now.machine.now.users self.now.machine.now.roots
             (state self.now.machine.now.kernel) self.now.clue.now self.now.births.now).category category) }
     {
         match purpose_of(self.machine, self.clue, self.births, category) {
@@ -116,16 +116,16 @@ impl<'m, S: LabelStore + Drop> Names<'m, S> {
 }
 
 impl<'m, S: LabelStore + Drop> Wording for Names<'m, S> {
-    ghost words = { λ n. words_at n.machine.now.users n.machine.now.places (state n.machine.now.kernel) n.clue.now n.births.now };
+    ghost words = { λ n. words_at n.machine.now.users n.machine.now.roots (state n.machine.now.kernel) n.clue.now n.births.now };
 
     fn push_thread(&self, text: &mut Vec<u8>, _thread: ObjId) -> Result<(), AllocError> {
         push_process(text, &self.clue.caller)
     }
 
     fn push_object(&self, text: &mut Vec<u8>, object: ObjId) -> Result<(), AllocError> {
-        match standing_of(self.machine, self.clue, object) {
+        match location_of(self.machine, self.clue, object) {
             None => ByNumber.push_object(text, object),
-            Some(standing) => push_standing(text, self.machine.users(), &standing),
+            Some(location) => push_location(text, self.machine.users(), &location),
         }
     }
 

@@ -2,14 +2,14 @@
 ghost use Rattle.std.specs.Prelude.{◌≡◌, ◌+◌, ◌≤◌, length};
 ghost use Rattle.std.specs.Option.{option_copied};
 ghost use Rattle.histar_flat.specs.Words.{most_numbers};
-ghost use Rattle.histar_flat.specs.Sessions.{most_groups, most_users};
+ghost use Rattle.histar_flat.specs.Accounts.{most_groups, most_users};
 ghost use Rattle.histar_login.specs.Start.{declared};
 ghost use Rattle.histar_syscall.specs.KernelModel.{state};
 ghost use Rattle.histar_run_explain.specs.Purposes.{boot_purpose, has_three, has_zero, inner_label, job_by, outer_label, pair_purpose, purpose_born, purpose_by, purpose_of, purpose_up};
 
 use crate::clues::Clue;
 use crate::homes::{home_at, name_of};
-use histar_calls::Places;
+use histar_calls::Roots;
 use histar_flat::ProcName;
 use histar_label::{Category, Label, LabelStore, Level};
 use histar_layout::{UserTable, is_three, read_status};
@@ -64,24 +64,24 @@ fn pair_purpose(number: usize) -> Purpose
 /// Returns the label of the container of a process.
 fn outer_label<'k, S: LabelStore + Drop>(
     kernel: &'k Kernel<S>,
-    places: &Places,
+    roots: &Roots,
     numbers: &[u8],
 ) -> Option<&'k Label>
-    ensures { option_copied result ≡ outer_label (state kernel.now) places.now.home numbers.now }
+    ensures { option_copied result ≡ outer_label (state kernel.now) roots.now.home numbers.now }
 {
-    let home = home_at(kernel, places.home, numbers)?;
+    let home = home_at(kernel, roots.home, numbers)?;
     kernel.label(home.container)
 }
 
 /// Returns the label of the internal container of a process that runs.
 fn inner_label<'k, S: LabelStore + Drop>(
     kernel: &'k Kernel<S>,
-    places: &Places,
+    roots: &Roots,
     numbers: &[u8],
 ) -> Option<&'k Label>
-    ensures { option_copied result ≡ inner_label (state kernel.now) places.now.home numbers.now }
+    ensures { option_copied result ≡ inner_label (state kernel.now) roots.now.home numbers.now }
 {
-    let home = home_at(kernel, places.home, numbers)?;
+    let home = home_at(kernel, roots.home, numbers)?;
     let head = read_status(kernel.bytes(home.segment))?;
     if head.exited.is_some() {
         return None;
@@ -113,17 +113,17 @@ fn has_three(label: Option<&Label>, category: Category) -> bool
 /// container of its parent hasn't that.
 fn job_by<S: LabelStore + Drop>(
     kernel: &Kernel<S>,
-    places: &Places,
+    roots: &Roots,
     category: Category,
     numbers: &[u8],
 ) -> Option<Purpose>
     requires { length numbers.now ≤ most_numbers }
-    ensures { result ≡ job_by (state kernel.now) places.now.home category numbers.now }
+    ensures { result ≡ job_by (state kernel.now) roots.now.home category numbers.now }
 {
     let [_, above @ ..] = numbers else {
         return None;
     };
-    if has_three(outer_label(kernel, places, above), category) {
+    if has_three(outer_label(kernel, roots, above), category) {
         return None;
     }
     Some(Purpose::Job(name_of(numbers)))
@@ -132,19 +132,19 @@ fn job_by<S: LabelStore + Drop>(
 /// Returns what a category is for, where it is one of a process's.
 fn purpose_by<S: LabelStore + Drop>(
     kernel: &Kernel<S>,
-    places: &Places,
+    roots: &Roots,
     category: Category,
     numbers: &[u8],
 ) -> Option<Purpose>
     requires { length numbers.now ≤ most_numbers }
-    ensures { result ≡ purpose_by (state kernel.now) places.now.home category numbers.now }
+    ensures { result ≡ purpose_by (state kernel.now) roots.now.home category numbers.now }
 {
-    let outer = outer_label(kernel, places, numbers);
+    let outer = outer_label(kernel, roots, numbers);
     if has_zero(outer, category) {
         Some(Purpose::WritesProcess(name_of(numbers)))
     } else if has_three(outer, category) {
-        job_by(kernel, places, category, numbers)
-    } else if has_three(inner_label(kernel, places, numbers), category) {
+        job_by(kernel, roots, category, numbers)
+    } else if has_three(inner_label(kernel, roots, numbers), category) {
         Some(Purpose::ReadsProcess(name_of(numbers)))
     } else {
         None
@@ -154,35 +154,35 @@ fn purpose_by<S: LabelStore + Drop>(
 /// Returns what a category is for, where it is one of a process's or of one above it.
 fn purpose_up<S: LabelStore + Drop>(
     kernel: &Kernel<S>,
-    places: &Places,
+    roots: &Roots,
     category: Category,
     numbers: &[u8],
 ) -> Option<Purpose>
     requires { length numbers.now ≤ most_numbers }
-    ensures { result ≡ purpose_up (state kernel.now) places.now.home category numbers.now }
+    ensures { result ≡ purpose_up (state kernel.now) roots.now.home category numbers.now }
 {
-    let purpose = purpose_by(kernel, places, category, numbers);
+    let purpose = purpose_by(kernel, roots, category, numbers);
     let [_, above @ ..] = numbers else {
         return purpose;
     };
     match purpose {
         Some(purpose) => Some(purpose),
-        None => purpose_up(kernel, places, category, above),
+        None => purpose_up(kernel, roots, category, above),
     }
 }
 
 /// Returns what a category is for, where it is one of the process's that it may be of.
 fn purpose_born<S: LabelStore + Drop>(
     kernel: &Kernel<S>,
-    places: &Places,
+    roots: &Roots,
     category: Category,
     births: &[Option<ProcName>],
 ) -> Option<Purpose>
-    ensures { result ≡ purpose_born (state kernel.now) places.now.home category births.now }
+    ensures { result ≡ purpose_born (state kernel.now) roots.now.home category births.now }
 {
     let birth = *births.get(category.number() as usize)?;
     let child = birth?;
-    purpose_by(kernel, places, category, child.numbers())
+    purpose_by(kernel, roots, category, child.numbers())
 }
 
 /// Returns how many users and groups there are together.
@@ -201,17 +201,17 @@ pub(crate) fn purpose_of<S: LabelStore + Drop>(
     category: Category,
 ) -> Option<Purpose>
     ensures { result
-        ≡ purpose_of machine.now.users machine.now.places (state machine.now.kernel) clue.now births.now category }
+        ≡ purpose_of machine.now.users machine.now.roots (state machine.now.kernel) clue.now births.now category }
 {
-    let (kernel, places) = (machine.kernel(), machine.places());
+    let (kernel, roots) = (machine.kernel(), machine.roots());
     if let Some(purpose) = boot_purpose(owners(machine.users()), category) {
         return Some(purpose);
     }
-    if let Some(purpose) = purpose_born(kernel, places, category, births) {
+    if let Some(purpose) = purpose_born(kernel, roots, category, births) {
         return Some(purpose);
     }
-    if let Some(purpose) = purpose_up(kernel, places, category, clue.caller.numbers()) {
+    if let Some(purpose) = purpose_up(kernel, roots, category, clue.caller.numbers()) {
         return Some(purpose);
     }
-    purpose_up(kernel, places, category, clue.named.numbers())
+    purpose_up(kernel, roots, category, clue.named.numbers())
 }

@@ -1,8 +1,8 @@
 //! A run with explanations, from bytes to bytes.
 ghost use Rattle.std.specs.Prelude.{◌≡◌, ◌≤◌, [], drop, length, false, IfErr, IfOk, IfSome, OnOk, OnErr};
 ghost use Rattle.std.specs.Io.KnownBytes.{Appends};
-ghost use Rattle.histar_devices.specs.Device.{CountsFailure};
-ghost use Rattle.histar_devices.specs.Writing.{AppendsFront};
+ghost use Rattle.histar_io.specs.Device.{CountsFailure};
+ghost use Rattle.histar_io.specs.Writing.{AppendsFront};
 ghost use Rattle.histar_script.specs.Runs.{IsOutputFault, LeavesSink, RunsInput, is_read_failed, is_write_failed};
 ghost use Rattle.histar_syscall.specs.KernelModel.{state};
 ghost use Rattle.histar_shell.specs.AnsweredCalls.{BeginsAnswer, BeginsAnswers};
@@ -16,8 +16,8 @@ use crate::births::note_births;
 use crate::clues::{Clue, clue_of};
 use crate::named_words::Names;
 use crate::replaying::explain_entries;
-use histar_devices::{Sink, Source, read_input, write_bytes};
 use histar_flat::{CallLine, ProcName};
+use histar_io::{Sink, Source, read_input, write_bytes};
 use histar_label::{InternStore, LabelStore, OutOfMemory};
 use histar_raw_explain::ByNumber;
 use histar_script::{Fault, read_script};
@@ -84,8 +84,8 @@ fn explain_text<W: Sink>(
 {
     let store = InternStore::new(alloc, REMEMBERED_ANSWERS)?;
     let script = read_script(alloc, text)?;
-    let (session, calls) = script.into_parts();
-    let Ok(mut machine) = Machine::boot(alloc, store, session) else {
+    let (accounts, calls) = script.into_parts();
+    let Ok(mut machine) = Machine::boot(alloc, store, accounts) else {
         return Err(Fault::OutOfMemory);
     };
     let second = second_kernel(alloc, &machine)?;
@@ -196,7 +196,7 @@ fn explain_line<S: LabelStore + Drop, T: LabelStore + Drop>(
     requires within { before ≤ length machine.now.kernel.trace }
     requires run { IsRunFrom (state explainer.old.second) (drop before machine.now.kernel.trace) }
     ensures explained { OnOk result (AddsEntries
-        (words_at machine.now.users machine.now.places (state machine.now.kernel) clue.now explainer.old.births.items)
+        (words_at machine.now.users machine.now.roots (state machine.now.kernel) clue.now explainer.old.births.items)
         (state explainer.old.second) (drop before machine.now.kernel.trace) (state explainer.new.second)
         explainer.old.text.items explainer.new.text.items) }
     ensures births { explainer.new.births.items ≡ explainer.old.births.items }

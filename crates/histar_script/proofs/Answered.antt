@@ -4,7 +4,7 @@ use Rattle.std.specs.Prelude.{IfOk}
 use Rattle.histar_script.specs.declared.fault.Fault.{Fault}
 use Rattle.histar_script.specs.declared.fault.Fault.TheVariants.{BadScript}
 use Rattle.histar_script.specs.Lines.{lines_of}
-use Rattle.histar_script.specs.Script.{Reading, IsDeclared, IsNumbered}
+use Rattle.histar_script.specs.Script.{ScriptModel, IsDeclared, IsNumbered}
 use Rattle.histar_script.specs.Reading.{reading}
 use Rattle.histar_script.specs.Outcome.{Gives}
 use Rattle.histar_script.specs.Grammar.{IsScript, IsFirstBad}
@@ -14,10 +14,10 @@ use Rattle.histar_script.proofs.FirstBad.{first_bad}
 
 -- what reading a script answers
 abbrev Answer : Type 0
-Answer = Result Reading Fault
+Answer = Result ScriptModel Fault
 
 -- a script that was read
-abbrev read_as : Reading → Answer
+abbrev read_as : ScriptModel → Answer
 read_as script = Ok script
 
 -- what is read is a script
@@ -26,15 +26,15 @@ is_found (Ok script) text given = found_from text script given
 is_found (Err f) text given = tt
 
 -- a script is read
-pub is_read : (r : Answer) (text : List ℕ) (script : Reading) → Gives r (reading text) → IsScript text script → Gives r (Ok script)
+pub is_read : (r : Answer) (text : List ℕ) (script : ScriptModel) → Gives r (reading text) → IsScript text script → Gives r (Ok script)
 is_read r text script given is = subst (Gives r) (again_from text script is) given
 
 -- one answer has one script
-same_script : (a b : Reading) → read_as a ≡ read_as b → a ≡ b
+same_script : (a b : ScriptModel) → read_as a ≡ read_as b → a ≡ b
 same_script a b e = cc
 
 -- a text has one reading
-pub one_script : (text : List ℕ) (a b : Reading) → IsScript text a → IsScript text b → a ≡ b
+pub one_script : (text : List ℕ) (a b : ScriptModel) → IsScript text a → IsScript text b → a ≡ b
 one_script text a b p q = same_script a b (sym (again_from text a p) ∙ again_from text b q)
 
 -- a bad line is the first one
@@ -42,7 +42,7 @@ pub is_first_bad : (r : Answer) (text : List ℕ) (n : ℕ) → Gives r (reading
 is_first_bad r text n given e = first_bad text n (subst (λ (x : Answer). Gives x (reading text)) e given)
 
 -- the users and the groups of what is read
-pub declares : (r : Answer) (text : List ℕ) → Gives r (reading text) → IfOk r (λ script. IsDeclared script.session)
+pub declares : (r : Answer) (text : List ℕ) → Gives r (reading text) → IfOk r (λ script. IsDeclared script.accounts)
 declares (Ok script) text given = is_declared text script (found_from text script given)
 declares (Err f) text given = tt
 

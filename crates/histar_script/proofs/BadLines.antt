@@ -5,30 +5,30 @@ use Rattle.std.proofs.lemmas.List.{length-take-le, take-take, take_all}
 use Rattle.histar_script.specs.declared.fault.Fault.{Fault}
 use Rattle.histar_script.specs.declared.fault.Fault.TheVariants.{BadScript}
 use Rattle.histar_script.specs.Lines.{lines_of}
-use Rattle.histar_script.specs.Script.{Reading, nothing_read}
+use Rattle.histar_script.specs.Script.{ScriptModel, nothing_read}
 use Rattle.histar_script.specs.Reading.{with_line, with_lines, reading}
 use Rattle.histar_script.specs.Grammar.{TakesLines, IsScript, IsFirstBad}
 use Rattle.histar_script.proofs.ScriptsBack.{after, line_again, found_from}
 use Rattle.histar_script.proofs.FirstBad.{first_bad}
 
 -- reading has answered a script, or a bad line
-abbrev IsAnswered : Result Reading Fault → Type 0
-IsAnswered r = ((t : Reading) × (r ≡ Ok t)) ⊎ ((n : ℕ) × (r ≡ Err (BadScript n)))
+abbrev IsAnswered : Result ScriptModel Fault → Type 0
+IsAnswered r = ((t : ScriptModel) × (r ≡ Ok t)) ⊎ ((n : ℕ) × (r ≡ Err (BadScript n)))
 
 -- the last answer is one of the two
-ended_so : (b : Bool) (n : ℕ) (s : Reading) → IsAnswered (cond b (Err (BadScript n)) (Ok s))
+ended_so : (b : Bool) (n : ℕ) (s : ScriptModel) → IsAnswered (cond b (Err (BadScript n)) (Ok s))
 ended_so true n s = inr (n, refl)
 ended_so false n s = inl (s, refl)
 
 -- and so is what follows a line
-after_so : (n : ℕ) (rest : Reading → Result Reading Fault) (o : Option Reading) → ((m : Reading) → IsAnswered (rest m)) → IsAnswered (after n rest o)
+after_so : (n : ℕ) (rest : ScriptModel → Result ScriptModel Fault) (o : Option ScriptModel) → ((m : ScriptModel) → IsAnswered (rest m)) → IsAnswered (after n rest o)
 after_so n rest None later = inr (n, refl)
 after_so n rest (Some m) later = later m
 
 -- lines are read as a script, or one of them is bad
-lines_so : (s : Reading) (n : ℕ) (lines : List (List ℕ)) → IsAnswered (with_lines s n lines)
+lines_so : (s : ScriptModel) (n : ℕ) (lines : List (List ℕ)) → IsAnswered (with_lines s n lines)
 unfolding with_lines
-lines_so s n [] = ended_so (eqb (length s.session.users) 0) (n + 1) s
+lines_so s n [] = ended_so (eqb (length s.accounts.users) 0) (n + 1) s
 lines_so s n (line ∷ lines) = after_so (n + 1) (λ m. with_lines m (n + 1) lines) (with_line s (n + 1) line) (λ m. lines_so m (n + 1) lines)
 
 -- a text is read as a script, or a line of it is bad
@@ -37,10 +37,10 @@ unfolding reading
 answered text = lines_so nothing_read 0 (lines_of text)
 
 -- lines that are taken without a user are bad after their last
-userless : (s : Reading) (n : ℕ) (lines : List (List ℕ)) (t : Reading) → TakesLines s n lines t → t.session.users ≡ [] → with_lines s n lines ≡ Err (BadScript (n + length lines + 1))
+userless : (s : ScriptModel) (n : ℕ) (lines : List (List ℕ)) (t : ScriptModel) → TakesLines s n lines t → t.accounts.users ≡ [] → with_lines s n lines ≡ Err (BadScript (n + length lines + 1))
 unfolding with_lines
 userless s n [] t taken none =
-    let here : s.session.users ≡ [] = ap (λ (x : Reading). x.session.users) (sym taken) ∙ none in
+    let here : s.accounts.users ≡ [] = ap (λ (x : ScriptModel). x.accounts.users) (sym taken) ∙ none in
     let number : n + 1 ≡ n + 0 + 1 = omega arith in
     rw here (ap (λ (k : ℕ). Err (BadScript k)) number)
 userless s n (line ∷ lines) t taken none =
@@ -79,7 +79,7 @@ bad_at_end text n bad past =
     userless nothing_read 0 (lines_of text) bad.before.0 taken (bad.before.2 past) ∙ ap (λ (k : ℕ). Err (BadScript k)) number
 
 -- a script has a first bad line nowhere but after its last line
-bad_in_script : (text : List ℕ) (n : ℕ) (script : Reading) → IsFirstBad text n → IsScript text script → length (lines_of text) < n
+bad_in_script : (text : List ℕ) (n : ℕ) (script : ScriptModel) → IsFirstBad text n → IsScript text script → length (lines_of text) < n
 bad_in_script text n script bad is =
     elim (cases_lt (length (lines_of text)) n) [ inl lt ↦ lt | inr le ↦ absurd (bad.none (omega arith) text script refl is) ]
 
@@ -92,7 +92,7 @@ bad_again text n bad =
     ]
 
 -- each text is a script or has a first bad line
-pub script_or_bad : (text : List ℕ) → ((s : Reading) × IsScript text s) ⊎ ((n : ℕ) × IsFirstBad text n)
+pub script_or_bad : (text : List ℕ) → ((s : ScriptModel) × IsScript text s) ⊎ ((n : ℕ) × IsFirstBad text n)
 script_or_bad text =
     elim (answered text) [
       | inl read ↦ inl (read.0, found_from text read.0 read.1)

@@ -6,11 +6,11 @@ use Rattle.std.proofs.lemmas.List.Elements.{All-nil}
 use Rattle.std.proofs.lemmas.List.{nil_from_length, take_at}
 use Rattle.histar_flat.specs.declared.calls.User.{User}
 use Rattle.histar_flat.specs.Words.{is_name, is_user_name, is_password}
-use Rattle.histar_flat.specs.Sessions.{Group, with_user}
+use Rattle.histar_flat.specs.Accounts.{Group, with_user}
 use Rattle.histar_script.specs.declared.items.Item.{Item}
 use Rattle.histar_script.specs.declared.items.Item.TheVariants as items
 use Rattle.histar_script.specs.Lines.{lines_of, is_plain, is_plain_byte, most_line_bytes}
-use Rattle.histar_script.specs.Script.{Reading, IsMembership, nothing_read}
+use Rattle.histar_script.specs.Script.{ScriptModel, IsMembership, nothing_read}
 use Rattle.histar_script.specs.Grammar.{Says, Adds, Takes, TakesLines, BeginsSome}
 
 -- a byte that ends no line
@@ -60,18 +60,18 @@ said_is_one_line line i (inl h) = rw h.0 refl
 said_is_one_line line i (inr h) = plain_bytes line (and_parts (leb (length line) most_line_bytes) (list_all is_plain_byte line) h.0).1
 
 -- lines that are taken are lines each
-taken_are_lines : (s : Reading) (k : ℕ) (lines : List (List ℕ)) (t : Reading) → TakesLines s k lines t → AllByRecursion IsOneLine lines
+taken_are_lines : (s : ScriptModel) (k : ℕ) (lines : List (List ℕ)) (t : ScriptModel) → TakesLines s k lines t → AllByRecursion IsOneLine lines
 taken_are_lines s k [] t h = tt
 taken_are_lines s k (line ∷ lines) t h = (said_is_one_line line h.1.0 h.1.1, taken_are_lines h.0 (k + 1) lines t h.2)
 
 -- one more line is taken after the others
-pub takes_on : (s : Reading) (k n : ℕ) (lines : List (List ℕ)) (t : Reading) (line : List ℕ) (u : Reading) → TakesLines s k lines t → n ≡ k + length lines + 1 → Takes t n line u → TakesLines s k (lines ++ line ∷ []) u
-takes_on s k n [] t line u h is next = let number : n ≡ k + 1 = omega arith in (u, subst (λ (x : ℕ). Takes s x line u) number (subst (λ (x : Reading). Takes x n line u) h next), refl)
+pub takes_on : (s : ScriptModel) (k n : ℕ) (lines : List (List ℕ)) (t : ScriptModel) (line : List ℕ) (u : ScriptModel) → TakesLines s k lines t → n ≡ k + length lines + 1 → Takes t n line u → TakesLines s k (lines ++ line ∷ []) u
+takes_on s k n [] t line u h is next = let number : n ≡ k + 1 = omega arith in (u, subst (λ (x : ℕ). Takes s x line u) number (subst (λ (x : ScriptModel). Takes x n line u) h next), refl)
 takes_on s k n (first ∷ lines) t line u h is next = (h.0, h.1, takes_on h.0 (k + 1) n lines t line u h.2 (omega arith) next)
 
 -- where there is no user, there is no call and no group
-abbrev IsBlank : Reading → Type 0
-IsBlank s = s.session.users ≡ [] → (s.calls ≡ []) × (s.session.groups ≡ [])
+abbrev IsBlank : ScriptModel → Type 0
+IsBlank s = s.accounts.users ≡ [] → (s.calls ≡ []) × (s.accounts.groups ≡ [])
 
 -- no group has members where there is no user
 no_members : (users : List User) (g : Group) → users ≡ [] → IsMembership users g → ⊥
@@ -83,18 +83,18 @@ no_members users g none is =
     omega arith
 
 -- an item that adds no user adds no call and no group where there is no user
-still : (s t : Reading) (n : ℕ) (i : Item) → IsBlank s → Adds s n i t → IsBlank t
+still : (s t : ScriptModel) (n : ℕ) (i : Item) → IsBlank s → Adds s n i t → IsBlank t
 still s t n items.Comment here added = subst IsBlank (sym added) here
-still s t n (items.User u) here added = λ none. (ap (λ (x : Reading). x.calls) added.4 ∙ added.0, ap (λ (x : Reading). x.session.groups) added.4 ∙ added.1)
-still s t n (items.Group g) here added = λ none. absurd (no_members s.session.users g (sym (ap (λ (x : Reading). x.session.users) added.5) ∙ none) added.4)
+still s t n (items.User u) here added = λ none. (ap (λ (x : ScriptModel). x.calls) added.4 ∙ added.0, ap (λ (x : ScriptModel). x.accounts.groups) added.4 ∙ added.1)
+still s t n (items.Group g) here added = λ none. absurd (no_members s.accounts.users g (sym (ap (λ (x : ScriptModel). x.accounts.users) added.5) ∙ none) added.4)
 still s t n (items.Call p c) here added = λ e.
-    let none : s.session.users ≡ [] = sym (ap (λ (x : Reading). x.session.users) added.2) ∙ e in
-    let some : 0 < length s.session.users = added.0 in
-    let len : length s.session.users ≡ 0 = ap length none in
+    let none : s.accounts.users ≡ [] = sym (ap (λ (x : ScriptModel). x.accounts.users) added.2) ∙ e in
+    let some : 0 < length s.accounts.users = added.0 in
+    let len : length s.accounts.users ≡ 0 = ap length none in
     absurd (omega arith)
 
 -- without a user there is no call and no group
-stays_blank : (s : Reading) (k : ℕ) (lines : List (List ℕ)) (t : Reading) → IsBlank s → TakesLines s k lines t → IsBlank t
+stays_blank : (s : ScriptModel) (k : ℕ) (lines : List (List ℕ)) (t : ScriptModel) → IsBlank s → TakesLines s k lines t → IsBlank t
 stays_blank s k [] t here h = subst IsBlank (sym h) here
 stays_blank s k (line ∷ lines) t here h = stays_blank h.0 (k + 1) lines t (still s h.0 (k + 1) h.1.0 here h.1.2) h.2
 
@@ -107,11 +107,11 @@ abbrev user_a : User
 user_a = record { name = codes "a"; password = codes "a" }
 
 -- what was read, with this user
-abbrev with_a : Reading → Reading
-with_a t = record { session = with_user t.session user_a; calls = t.calls }
+abbrev with_a : ScriptModel → ScriptModel
+with_a t = record { accounts = with_user t.accounts user_a; calls = t.calls }
 
 -- the user line is taken where there is no user
-takes_user : (t : Reading) (n : ℕ) → t.session.users ≡ [] → IsBlank t → Takes t n user_line (with_a t)
+takes_user : (t : ScriptModel) (n : ℕ) → t.accounts.users ≡ [] → IsBlank t → Takes t n user_line (with_a t)
 unfolding is_plain is_name is_user_name is_password
 takes_user t n none blank = (
   items.User user_a,
@@ -130,7 +130,7 @@ unfolding lines_of
 no_lines_left = refl
 
 -- where there is no user yet, the user line makes a script
-begun_without : (lines : List (List ℕ)) (t : Reading) → TakesLines nothing_read 0 lines t → t.session.users ≡ [] → BeginsSome lines
+begun_without : (lines : List (List ℕ)) (t : ScriptModel) → TakesLines nothing_read 0 lines t → t.accounts.users ≡ [] → BeginsSome lines
 begun_without lines t h none =
     let is : lines_of (with_ends lines ++ user_line) ≡ lines ++ user_line ∷ [] = lines_back lines user_line (taken_are_lines nothing_read 0 lines t h) ∙ ap (λ (l : List (List ℕ)). lines ++ l) user_line_alone in
     let next = takes_user t (length lines + 1) none (stays_blank nothing_read 0 lines t (λ _. (refl, refl)) h) in
@@ -138,11 +138,11 @@ begun_without lines t h none =
       with_ends lines ++ user_line,
       with_a t,
       ap (take (length lines)) is ∙ take_at lines (user_line ∷ []) (length lines) refl,
-      (subst (λ (l : List (List ℕ)). TakesLines nothing_read 0 l (with_a t)) (sym is) all, omega (arith, length-append t.session.users (user_a ∷ []))),
+      (subst (λ (l : List (List ℕ)). TakesLines nothing_read 0 l (with_a t)) (sym is) all, omega (arith, length-append t.accounts.users (user_a ∷ []))),
     )
 
 -- where there is a user, the lines are a script
-begun_with : (lines : List (List ℕ)) (t : Reading) → TakesLines nothing_read 0 lines t → 0 < length t.session.users → BeginsSome lines
+begun_with : (lines : List (List ℕ)) (t : ScriptModel) → TakesLines nothing_read 0 lines t → 0 < length t.accounts.users → BeginsSome lines
 begun_with lines t h some =
     let is : lines_of (with_ends lines ++ []) ≡ lines ++ [] = lines_back lines [] (taken_are_lines nothing_read 0 lines t h) ∙ ap (λ (l : List (List ℕ)). lines ++ l) no_lines_left in (
       with_ends lines ++ [],
@@ -152,9 +152,9 @@ begun_with lines t h some =
     )
 
 -- some script begins with lines that are taken
-pub begun : (lines : List (List ℕ)) (t : Reading) → TakesLines nothing_read 0 lines t → BeginsSome lines
+pub begun : (lines : List (List ℕ)) (t : ScriptModel) → TakesLines nothing_read 0 lines t → BeginsSome lines
 begun lines t h =
-    elim (cases_lt 0 (length t.session.users)) [
+    elim (cases_lt 0 (length t.accounts.users)) [
       | inl some ↦ begun_with lines t h some
-      | inr none ↦ begun_without lines t h (nil_from_length t.session.users (omega arith))
+      | inr none ↦ begun_without lines t h (nil_from_length t.accounts.users (omega arith))
     ]

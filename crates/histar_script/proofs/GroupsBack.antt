@@ -4,7 +4,7 @@ use Rattle.std.specs.List.{list_all}
 use Rattle.std.proofs.lemmas.Option.{cond_some, same_Some}
 use Rattle.std.proofs.lemmas.Bool.{and_parts}
 use Rattle.histar_flat.specs.Words.{Name, is_user_name, user_name_of}
-use Rattle.histar_flat.specs.Sessions.{Group, most_members}
+use Rattle.histar_flat.specs.Accounts.{Group, most_members}
 use Rattle.histar_flat.proofs.SplitLemmas.{split_alone}
 use Rattle.histar_flat.proofs.Options.{bind_some}
 use Rattle.histar_script.specs.Lines.{split_word, ◌space◌}

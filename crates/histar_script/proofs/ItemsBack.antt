@@ -7,7 +7,7 @@ use Rattle.histar_flat.specs.declared.calls.User.{User}
 use Rattle.histar_flat.specs.declared.calls.UnixCall.{UnixCall}
 use Rattle.histar_flat.specs.Words.{ProcName, split_at_first, is_user_name, is_process, process_of}
 use Rattle.histar_flat.specs.Texts.{process_text}
-use Rattle.histar_flat.specs.Sessions.{Group}
+use Rattle.histar_flat.specs.Accounts.{Group}
 use Rattle.histar_flat.proofs.Options.{bind_some, either_chosen}
 use Rattle.histar_script.specs.declared.items.Item.{Item}
 use Rattle.histar_script.specs.declared.items.Item.TheVariants as items

@@ -9,7 +9,7 @@ use Rattle.histar_flat.specs.PathOrder.{under_process}
 use Rattle.histar_flat.specs.Meaning.{without}
 use Rattle.histar_script.specs.declared.items.Item.{Item}
 use Rattle.histar_script.specs.declared.items.Item.TheVariants as items
-use Rattle.histar_script.specs.Script.{Reading, nothing_read, without_job}
+use Rattle.histar_script.specs.Script.{ScriptModel, nothing_read, without_job}
 use Rattle.histar_script.specs.Lines.{lines_of, is_plain}
 use Rattle.histar_script.specs.Grammar.{Says, Adds, Takes, TakesLines}
 use Rattle.histar_script.specs.Laws.{is_job_item, line_without, CommentsLeaveOut}
@@ -22,7 +22,7 @@ hash = inr (refl, ([], refl))
 
 module _ (job : ProcName) where
   -- what is left of a script
-  abbrev left : Reading → Reading
+  abbrev left : ScriptModel → ScriptModel
   left = without_job job
 
   -- a line stays where its item is none of the job's
@@ -42,27 +42,27 @@ module _ (job : ProcName) where
   call_stays calls c other = filter-append (λ x. not (under_process job x.process)) calls (c ∷ []) ∙ ap (λ (t : Bool). without job calls ++ (cond (not t) (c ∷ []) [])) other
 
   -- what stays is taken as it was
-  stays : (old mid : Reading) (n : ℕ) (line : List ℕ) (item : Item) → Says line item → is_job_item job (Some item) ≡ false → Adds (left old) n item (left mid) → Takes (left old) n (line_without job line) (left mid)
+  stays : (old mid : ScriptModel) (n : ℕ) (line : List ℕ) (item : Item) → Says line item → is_job_item job (Some item) ≡ false → Adds (left old) n item (left mid) → Takes (left old) n (line_without job line) (left mid)
   stays old mid n line item says other adds = subst (λ (l : List ℕ). Takes (left old) n l (left mid)) (sym (line_stays line item says other)) (item, says, adds)
 
   -- a call line that is taken is taken as it is left
-  call_taken : (old mid : Reading) (n : ℕ) (line : List ℕ) (p : ProcName) (c : UnixCall) → Says line (items.Call p c) → Adds old n (items.Call p c) mid → (b : Bool) → under_process job p ≡ b → Takes (left old) n (line_without job line) (left mid)
+  call_taken : (old mid : ScriptModel) (n : ℕ) (line : List ℕ) (p : ProcName) (c : UnixCall) → Says line (items.Call p c) → Adds old n (items.Call p c) mid → (b : Bool) → under_process job p ≡ b → Takes (left old) n (line_without job line) (left mid)
   call_taken old mid n line p c says adds true own =
-      let same : left mid ≡ left old = ap left adds.2 ∙ ap (λ (calls : List CallLine). record { session = old.session; calls = calls }) (call_goes old.calls (record { line = n; process = p; call = c }) own) in
+      let same : left mid ≡ left old = ap left adds.2 ∙ ap (λ (calls : List CallLine). record { accounts = old.accounts; calls = calls }) (call_goes old.calls (record { line = n; process = p; call = c }) own) in
       subst (λ (l : List ℕ). Takes (left old) n l (left mid)) (sym (line_goes line (items.Call p c) says own)) (items.Comment, hash, same)
   call_taken old mid n line p c says adds false other =
-      let more = ap left adds.2 ∙ ap (λ (calls : List CallLine). record { session = old.session; calls = calls }) (call_stays old.calls (record { line = n; process = p; call = c }) other) in
+      let more = ap left adds.2 ∙ ap (λ (calls : List CallLine). record { accounts = old.accounts; calls = calls }) (call_stays old.calls (record { line = n; process = p; call = c }) other) in
       stays old mid n line (items.Call p c) says other (adds.0, adds.1, more)
 
   -- a line that is taken is taken as it is left
-  taken : (old mid : Reading) (n : ℕ) (line : List ℕ) → Takes old n line mid → Takes (left old) n (line_without job line) (left mid)
+  taken : (old mid : ScriptModel) (n : ℕ) (line : List ℕ) → Takes old n line mid → Takes (left old) n (line_without job line) (left mid)
   taken old mid n line (items.Comment, says, adds) = stays old mid n line items.Comment says refl (ap left adds)
   taken old mid n line (items.User u, says, adds) = stays old mid n line (items.User u) says refl (ap (without job) adds.0, adds.1, adds.2, adds.3, ap left adds.4)
   taken old mid n line (items.Group g, says, adds) = stays old mid n line (items.Group g) says refl (ap (without job) adds.0, adds.1, adds.2, adds.3, adds.4, ap left adds.5)
   taken old mid n line (items.Call p c, says, adds) = call_taken old mid n line p c says adds (under_process job p) refl
 
   -- and so are all lines
-  all_taken : (old new : Reading) (n : ℕ) (lines : List (List ℕ)) → TakesLines old n lines new → TakesLines (left old) n (map (line_without job) lines) (left new)
+  all_taken : (old new : ScriptModel) (n : ℕ) (lines : List (List ℕ)) → TakesLines old n lines new → TakesLines (left old) n (map (line_without job) lines) (left new)
   all_taken old new n [] e = ap left e
   all_taken old new n (line ∷ lines) (mid, takes, rest) = (left mid, taken old mid (n + 1) line takes, all_taken mid new (n + 1) lines rest)
 

@@ -11,7 +11,7 @@ use Rattle.std.proofs.lemmas.List.Sums.{AllPass-from_list_all, list_all-from_All
 use Rattle.std.proofs.lemmas.Map.Made.{AllPairs-from_IsDistinct, IsDistinct-from_AllPairs}
 use Rattle.histar_flat.specs.declared.calls.User.{User}
 use Rattle.histar_flat.specs.Words.{Name}
-use Rattle.histar_flat.specs.Sessions.{has}
+use Rattle.histar_flat.specs.Accounts.{has}
 use Rattle.histar_script.specs.Script.{IsUserOf}
 use Rattle.histar_script.specs.Reading.{has_user, are_users, are_distinct}
 

@@ -5,12 +5,12 @@ use Rattle.histar_flat.specs.declared.calls.User.{User}
 use Rattle.histar_flat.specs.declared.calls.UnixCall.{UnixCall}
 use Rattle.histar_flat.specs.Words.{is_user_name, is_password, is_process}
 use Rattle.histar_flat.specs.Texts.{process_text}
-use Rattle.histar_flat.specs.Sessions.{Group, most_users, most_groups, most_members, with_user, with_group}
+use Rattle.histar_flat.specs.Accounts.{Group, most_users, most_groups, most_members, with_user, with_group}
 use Rattle.histar_script.specs.declared.items.Item.{Item}
 use Rattle.histar_script.specs.declared.items.Item.TheVariants as items
 use Rattle.histar_script.specs.Lines.{lines_of, is_plain, ◌space◌}
 use Rattle.histar_script.specs.CallForms.{Value, Spells, CallForm, alone, one, two, call_forms}
-use Rattle.histar_script.specs.Script.{Reading, IsMembership, nothing_read, is_declared_call}
+use Rattle.histar_script.specs.Script.{ScriptModel, IsMembership, nothing_read, is_declared_call}
 
 -- `user NAME PASSWORD`, the name being one that a user may have
 pub record IsUserText (text : List ℕ) (u : User) : Type 0 where
@@ -55,41 +55,41 @@ Says line item = ((line ≡ []) × (item ≡ items.Comment)) ⊎ (IsTrue (is_pla
 -- a user line comes before the groups and the calls, is one of at most 16, and has a new name; a group line comes before the calls, is
 -- one of at most 8, and has a name that is no user's and no group's, and users as its members; a call line comes after some user line,
 -- and names no group that is not declared
-abbrev pub Adds : Reading → ℕ → Item → Reading → Type 0
+abbrev pub Adds : ScriptModel → ℕ → Item → ScriptModel → Type 0
 Adds old n items.Comment new = new ≡ old
 Adds old n (items.User u) new =
-    (old.calls ≡ []) × (old.session.groups ≡ []) × (length old.session.users < most_users) × All (λ v. v.name ≢ u.name) old.session.users
-    × (new ≡ record { session = with_user old.session u; calls = old.calls })
+    (old.calls ≡ []) × (old.accounts.groups ≡ []) × (length old.accounts.users < most_users) × All (λ v. v.name ≢ u.name) old.accounts.users
+    × (new ≡ record { accounts = with_user old.accounts u; calls = old.calls })
 Adds old n (items.Group g) new =
-    (old.calls ≡ []) × (length old.session.groups < most_groups) × All (λ u. u.name ≢ g.name) old.session.users × All (λ h. h.name ≢ g.name) old.session.groups
-    × IsMembership old.session.users g × (new ≡ record { session = with_group old.session g; calls = old.calls })
-Adds old n (items.Call p c) new = (0 < length old.session.users) × IsTrue (is_declared_call old.session c) × (new ≡ record { session = old.session; calls = old.calls ++ (record { line = n; process = p; call = c }) ∷ [] })
+    (old.calls ≡ []) × (length old.accounts.groups < most_groups) × All (λ u. u.name ≢ g.name) old.accounts.users × All (λ h. h.name ≢ g.name) old.accounts.groups
+    × IsMembership old.accounts.users g × (new ≡ record { accounts = with_group old.accounts g; calls = old.calls })
+Adds old n (items.Call p c) new = (0 < length old.accounts.users) × IsTrue (is_declared_call old.accounts c) × (new ≡ record { accounts = old.accounts; calls = old.calls ++ (record { line = n; process = p; call = c }) ∷ [] })
 
 -- line n says an item that adds to what was read
-abbrev pub Takes : Reading → ℕ → List ℕ → Reading → Type 0
+abbrev pub Takes : ScriptModel → ℕ → List ℕ → ScriptModel → Type 0
 Takes old n line new = (item : Item) × Says line item × Adds old n item new
 
 -- the lines after the first n, one after another
-abbrev pub TakesLines : Reading → ℕ → List (List ℕ) → Reading → Type 0
+abbrev pub TakesLines : ScriptModel → ℕ → List (List ℕ) → ScriptModel → Type 0
 TakesLines old n [] new = new ≡ old
-TakesLines old n (line ∷ lines) new = (mid : Reading) × Takes old (n + 1) line mid × TakesLines mid (n + 1) lines new
+TakesLines old n (line ∷ lines) new = (mid : ScriptModel) × Takes old (n + 1) line mid × TakesLines mid (n + 1) lines new
 
 -- the text is this script: all its lines are taken, and there is a user
-abbrev pub IsScript : List ℕ → Reading → Type 0
-IsScript text script = TakesLines nothing_read 0 (lines_of text) script × (0 < length script.session.users)
+abbrev pub IsScript : List ℕ → ScriptModel → Type 0
+IsScript text script = TakesLines nothing_read 0 (lines_of text) script × (0 < length script.accounts.users)
 
 -- no script begins with the first n lines of this text
 abbrev pub BeginsNone : List ℕ → ℕ → Type 0
-BeginsNone text n = (other : List ℕ) (script : Reading) → take n (lines_of other) ≡ take n (lines_of text) → IsScript other script → ⊥
+BeginsNone text n = (other : List ℕ) (script : ScriptModel) → take n (lines_of other) ≡ take n (lines_of text) → IsScript other script → ⊥
 
 -- some script begins with these lines
 abbrev pub BeginsSome : List (List ℕ) → Type 0
-BeginsSome lines = (other : List ℕ) × (script : Reading) × (take (length lines) (lines_of other) ≡ lines) × IsScript other script
+BeginsSome lines = (other : List ℕ) × (script : ScriptModel) × (take (length lines) (lines_of other) ≡ lines) × IsScript other script
 
 -- Line n is the first bad one: no script begins with the lines up to it, and some script with those before it.
 -- A text of which no line is bad lacks a user, and is bad at its number of lines plus one.
 pub record IsFirstBad (text : List ℕ) (n : ℕ) : Type 0 where
   pub none : n ≤ length (lines_of text) → BeginsNone text n
   pub some : BeginsSome (take (n - 1) (lines_of text))
-  pub before : (read : Reading) × TakesLines nothing_read 0 (take (n - 1) (lines_of text)) read × (length (lines_of text) < n → read.session.users ≡ [])
+  pub before : (read : ScriptModel) × TakesLines nothing_read 0 (take (n - 1) (lines_of text)) read × (length (lines_of text) < n → read.accounts.users ≡ [])
   pub close : (0 < n) × (n ≤ length (lines_of text) + 1)

@@ -7,7 +7,7 @@ use Rattle.histar_script.specs.declared.items.Item.{Item}
 use Rattle.histar_script.specs.declared.items.Item.TheVariants as items
 use Rattle.histar_script.specs.declared.fault.Fault.TheVariants.{BadScript}
 use Rattle.histar_script.specs.CallForms.{Value, CallForm, alone, one, two, call_forms}
-use Rattle.histar_script.specs.Script.{Reading, without_job}
+use Rattle.histar_script.specs.Script.{ScriptModel, without_job}
 use Rattle.histar_script.specs.Lines.{lines_of}
 use Rattle.histar_script.specs.Reading.{item_of, reading}
 use Rattle.histar_script.specs.Grammar.{IsScript, IsFirstBad}
@@ -24,7 +24,7 @@ EachCallHasForm = (call : UnixCall) → Any (Makes call) call_forms
 
 -- a text is read as a script exactly where it is this script by the grammar
 abbrev pub ReadingIsGrammar : Type 0
-ReadingIsGrammar = (text : List ℕ) (s : Reading) → (reading text ≡ Ok s) ↔ IsScript text s
+ReadingIsGrammar = (text : List ℕ) (s : ScriptModel) → (reading text ≡ Ok s) ↔ IsScript text s
 
 -- line n is answered as the bad one exactly where it is the first bad line by the grammar
 abbrev pub BadLineIsFirst : Type 0
@@ -32,11 +32,11 @@ BadLineIsFirst = (text : List ℕ) (n : ℕ) → (reading text ≡ Err (BadScrip
 
 -- each text is a script of the grammar or has a first bad line
 abbrev pub ScriptOrBadLine : Type 0
-ScriptOrBadLine = (text : List ℕ) → ((s : Reading) × IsScript text s) ⊎ ((n : ℕ) × IsFirstBad text n)
+ScriptOrBadLine = (text : List ℕ) → ((s : ScriptModel) × IsScript text s) ⊎ ((n : ℕ) × IsFirstBad text n)
 
 -- a text is one script at most
 abbrev pub OneReading : Type 0
-OneReading = (text : List ℕ) (a b : Reading) → IsScript text a → IsScript text b → a ≡ b
+OneReading = (text : List ℕ) (a b : ScriptModel) → IsScript text a → IsScript text b → a ≡ b
 
 -- what a line says is a call of the job: of its first process, or of one below that
 abbrev pub is_job_item : ProcName → Option Item → Bool
@@ -52,4 +52,4 @@ line_without job line = if is_job_item job (item_of line) then codes "#" else li
 
 -- a script in which each line of a job is made the comment `#` is the script without the job's calls
 abbrev pub CommentsLeaveOut : Type 0
-CommentsLeaveOut = (job : ProcName) (text other : List ℕ) (s : Reading) → IsScript text s → lines_of other ≡ map (line_without job) (lines_of text) → IsScript other (without_job job s)
+CommentsLeaveOut = (job : ProcName) (text other : List ℕ) (s : ScriptModel) → IsScript text s → lines_of other ≡ map (line_without job) (lines_of text) → IsScript other (without_job job s)

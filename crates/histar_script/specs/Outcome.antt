@@ -2,9 +2,9 @@
 use Rattle.std.specs.Prelude.{◌≡◌, ℕ, Option, Some, None, Result, Ok, Err}
 use Rattle.histar_script.specs.declared.fault.Fault.{Fault}
 use Rattle.histar_script.specs.declared.fault.Fault.TheVariants.{BadScript, TooLong, OutOfMemory, ReadFailed, WriteFailed}
-use Rattle.histar_devices.specs.declared.input.InputError.{InputError}
-use Rattle.histar_devices.specs.declared.input.InputError.TheVariants as input
-use Rattle.histar_script.specs.Script.{Reading}
+use Rattle.histar_io.specs.declared.input.InputError.{InputError}
+use Rattle.histar_io.specs.declared.input.InputError.TheVariants as input
+use Rattle.histar_script.specs.Script.{ScriptModel}
 
 -- the fault that an error of the input is
 abbrev pub input_fault : InputError → Fault
@@ -21,7 +21,7 @@ Gives (Err ReadFailed) read = ⊥
 Gives (Err WriteFailed) read = ⊥
 
 -- a step leaves what is read next, or finds line n bad, unless memory ran out
-abbrev pub GivesNext : {A : Type 0} → ℕ → Result A Fault → Reading → Option Reading → Type 0
+abbrev pub GivesNext : {A : Type 0} → ℕ → Result A Fault → ScriptModel → Option ScriptModel → Type 0
 GivesNext n (Ok u) new next = next ≡ Some new
 GivesNext n (Err (BadScript k)) new next = (k ≡ n) × (next ≡ None)
 GivesNext n (Err OutOfMemory) new next = Unit {0}

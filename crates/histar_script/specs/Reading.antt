@@ -6,14 +6,14 @@ use Rattle.histar_flat.specs.declared.calls.User.{User}
 use Rattle.histar_flat.specs.declared.calls.UnixCall.{UnixCall}
 use Rattle.histar_flat.specs.Words.{Name, name_of, user_name_of, password_of, path_of, process_of, number_of}
 use Rattle.histar_flat.specs.Modes.{mode_of}
-use Rattle.histar_flat.specs.Sessions.{Session, Group, most_users, most_groups, most_members, with_user, with_group, has, is_group}
+use Rattle.histar_flat.specs.Accounts.{Accounts, Group, most_users, most_groups, most_members, with_user, with_group, has, is_group}
 use Rattle.histar_script.specs.declared.fault.Fault.{Fault}
 use Rattle.histar_script.specs.declared.fault.Fault.TheVariants.{BadScript, TooLong}
 use Rattle.histar_script.specs.declared.items.Item.{Item}
 use Rattle.histar_script.specs.declared.items.Item.TheVariants as items
 use Rattle.histar_script.specs.Lines.{lines_of, is_too_long, is_plain, split_word}
 use Rattle.histar_script.specs.CallForms.{Argument, a_path, a_mode, any_bytes, a_name, a_password, a_process, a_number, Value, CallForm, alone, one, two, call_forms}
-use Rattle.histar_script.specs.Script.{Reading, nothing_read, is_declared_call}
+use Rattle.histar_script.specs.Script.{ScriptModel, nothing_read, is_declared_call}
 
 -- with what is there, go on
 infixl 10 ◌>>=◌
@@ -131,8 +131,8 @@ abbrev pub is_empty : {X : Type 0} → List X → Bool
 is_empty xs = length xs == 0
 
 -- a line that declares this user may stand here
-abbrev pub takes_user : Reading → User → Bool
-takes_user s u = is_empty s.session.groups && is_empty s.calls && nat_lt (length s.session.users) most_users && not (has_user s.session.users u.name)
+abbrev pub takes_user : ScriptModel → User → Bool
+takes_user s u = is_empty s.accounts.groups && is_empty s.calls && nat_lt (length s.accounts.users) most_users && not (has_user s.accounts.users u.name)
 
 -- each name is a user's
 abbrev pub are_users : List User → List Name → Bool
@@ -144,37 +144,37 @@ are_distinct [] = true
 are_distinct (name ∷ names) = not (has names name) && are_distinct names
 
 -- no user and no group has the name
-abbrev pub is_new_name : Session → Name → Bool
-is_new_name session name = not (has_user session.users name) && not (is_group session name)
+abbrev pub is_new_name : Accounts → Name → Bool
+is_new_name accounts name = not (has_user accounts.users name) && not (is_group accounts name)
 
 -- a line that declares this group may stand here
-abbrev pub takes_group : Reading → Group → Bool
-takes_group s g = is_empty s.calls && nat_lt (length s.session.groups) most_groups && is_new_name s.session g.name && are_users s.session.users g.members && are_distinct g.members
+abbrev pub takes_group : ScriptModel → Group → Bool
+takes_group s g = is_empty s.calls && nat_lt (length s.accounts.groups) most_groups && is_new_name s.accounts g.name && are_users s.accounts.users g.members && are_distinct g.members
 
 -- a line with this call may stand here
-abbrev pub takes_call : Reading → UnixCall → Bool
-takes_call s c = not (is_empty s.session.users) && is_declared_call s.session c
+abbrev pub takes_call : ScriptModel → UnixCall → Bool
+takes_call s c = not (is_empty s.accounts.users) && is_declared_call s.accounts c
 
 -- what is read after a line that says this, unless it may not stand here
-unfoldable pub with_item : Reading → ℕ → Item → Option Reading
+unfoldable pub with_item : ScriptModel → ℕ → Item → Option ScriptModel
 with_item s n items.Comment = Some s
-with_item s n (items.User u) = if takes_user s u then Some (record { session = with_user s.session u; calls = s.calls }) else None
-with_item s n (items.Group g) = if takes_group s g then Some (record { session = with_group s.session g; calls = s.calls }) else None
-with_item s n (items.Call p c) = if takes_call s c then Some (record { session = s.session; calls = s.calls ++ (record { line = n; process = p; call = c }) ∷ [] }) else None
+with_item s n (items.User u) = if takes_user s u then Some (record { accounts = with_user s.accounts u; calls = s.calls }) else None
+with_item s n (items.Group g) = if takes_group s g then Some (record { accounts = with_group s.accounts g; calls = s.calls }) else None
+with_item s n (items.Call p c) = if takes_call s c then Some (record { accounts = s.accounts; calls = s.calls ++ (record { line = n; process = p; call = c }) ∷ [] }) else None
 
 -- what is read after line n
-unfoldable pub with_line : Reading → ℕ → List ℕ → Option Reading
+unfoldable pub with_line : ScriptModel → ℕ → List ℕ → Option ScriptModel
 with_line s n line = item_of line >>= λ i. with_item s n i
 
 -- what is read after these lines, which follow n others, or the fault in them
-unfoldable pub with_lines : Reading → ℕ → List (List ℕ) → Result Reading Fault
-with_lines s n [] = if is_empty s.session.users then Err (BadScript (n + 1)) else Ok s
+unfoldable pub with_lines : ScriptModel → ℕ → List (List ℕ) → Result ScriptModel Fault
+with_lines s n [] = if is_empty s.accounts.users then Err (BadScript (n + 1)) else Ok s
 with_lines s n (line ∷ lines) = elim (with_line s (n + 1) line) [ None ↦ Err (BadScript (n + 1)) | Some t ↦ with_lines t (n + 1) lines ]
 
 -- the script that a text is whose length is right, or the fault in it
-unfoldable pub reading : List ℕ → Result Reading Fault
+unfoldable pub reading : List ℕ → Result ScriptModel Fault
 reading text = with_lines nothing_read 0 (lines_of text)
 
 -- the script that a text is, or the fault in it
-abbrev pub script_of : List ℕ → Result Reading Fault
+abbrev pub script_of : List ℕ → Result ScriptModel Fault
 script_of text = if is_too_long text then Err TooLong else reading text

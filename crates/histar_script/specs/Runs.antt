@@ -1,7 +1,7 @@
 -- What a run of a text takes of its input, answers and writes, whatever the text is a script of.
 use Rattle.std.specs.Prelude.{◌≡◌, ℕ, ◌⊎◌, Bool, true, false, List, Option, Result, Err}
 use Rattle.std.specs.Io.KnownBytes.{Keeps}
-use Rattle.histar_devices.specs.Input.{TakesAll, TakesSome}
+use Rattle.histar_io.specs.Input.{TakesAll, TakesSome}
 use Rattle.histar_script.specs.declared.fault.Fault.{Fault}
 use Rattle.histar_script.specs.declared.fault.Fault.TheVariants.{OutOfMemory, ReadFailed, WriteFailed}
 

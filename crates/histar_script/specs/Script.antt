@@ -7,20 +7,20 @@ use Rattle.histar_flat.specs.declared.calls.UnixCall.TheVariants.{Create, Mkdir}
 use Rattle.histar_flat.specs.declared.calls.CallLine.{CallLine}
 use Rattle.histar_flat.specs.Words.{Name, ProcName, is_user_name}
 use Rattle.histar_flat.specs.Meaning.{without}
-use Rattle.histar_flat.specs.Sessions.{Session, Group, most_users, most_groups, most_members, no_session, is_declared_mode}
+use Rattle.histar_flat.specs.Accounts.{Accounts, Group, most_users, most_groups, most_members, no_accounts, is_declared_mode}
 
 -- the users and the groups in their order, and the calls with the numbers of their lines
-pub record Reading : Type 0 where
-  pub session : Session
+pub record ScriptModel : Type 0 where
+  pub accounts : Accounts
   pub calls : List CallLine
 
 -- what was read before the first line
-abbrev pub nothing_read : Reading
-nothing_read = record { session = no_session; calls = [] }
+abbrev pub nothing_read : ScriptModel
+nothing_read = record { accounts = no_accounts; calls = [] }
 
 -- the script without the calls of a job: of its first process, and of processes below that
-abbrev pub without_job : ProcName → Reading → Reading
-without_job job script = record { session = script.session; calls = without job script.calls }
+abbrev pub without_job : ProcName → ScriptModel → ScriptModel
+without_job job script = record { accounts = script.accounts; calls = without job script.calls }
 
 -- the users of a script: 1 to 16, each with a name that a user may have and that no other one has
 pub record IsUserList (users : List User) : Type 0 where
@@ -41,23 +41,23 @@ pub record IsMembership (users : List User) (group : Group) : Type 0 where
   pub distinct : AllPairs (λ a b. a ≢ b) group.members
 
 -- the groups of a script: at most 8, each with users as its members and a name of the form of a user's that no user and no other group has
-pub record AreGroups (session : Session) : Type 0 where
-  pub few : length session.groups ≤ most_groups
-  pub named : All (λ g. IsTrue (is_user_name g.name)) session.groups
-  pub no_users : All (λ g. All (λ u. u.name ≢ g.name) session.users) session.groups
-  pub distinct : AllPairs (λ g h. g.name ≢ h.name) session.groups
-  pub members : All (IsMembership session.users) session.groups
+pub record AreGroups (accounts : Accounts) : Type 0 where
+  pub few : length accounts.groups ≤ most_groups
+  pub named : All (λ g. IsTrue (is_user_name g.name)) accounts.groups
+  pub no_users : All (λ g. All (λ u. u.name ≢ g.name) accounts.users) accounts.groups
+  pub distinct : AllPairs (λ g h. g.name ≢ h.name) accounts.groups
+  pub members : All (IsMembership accounts.users) accounts.groups
 
 -- the users and the groups are those of a script
-pub record IsDeclared (session : Session) : Type 0 where
-  pub users : IsUserList session.users
-  pub groups : AreGroups session
+pub record IsDeclared (accounts : Accounts) : Type 0 where
+  pub users : IsUserList accounts.users
+  pub groups : AreGroups accounts
 
 -- the mode that a call names, if it names one, is for a user or for a group that is declared
-abbrev pub is_declared_call : Session → UnixCall → Bool
-is_declared_call session (Create path mode) = is_declared_mode session mode
-is_declared_call session (Mkdir path mode) = is_declared_mode session mode
-is_declared_call session call = true
+abbrev pub is_declared_call : Accounts → UnixCall → Bool
+is_declared_call accounts (Create path mode) = is_declared_mode accounts mode
+is_declared_call accounts (Mkdir path mode) = is_declared_mode accounts mode
+is_declared_call accounts call = true
 
 -- the calls of a script of so many lines: their numbers rise, and are numbers of lines
 pub record IsNumbered (lines : ℕ) (calls : List CallLine) : Type 0 where

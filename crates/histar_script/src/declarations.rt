@@ -1,10 +1,10 @@
 //! What is asked of the users and the groups that are declared before a line.
 ghost use Rattle.std.specs.Prelude.{◌≡◌};
-ghost use Rattle.histar_flat.specs.Sessions.{has as list_has, is_declared_mode as declared_mode};
+ghost use Rattle.histar_flat.specs.Accounts.{has as list_has, is_declared_mode as declared_mode};
 ghost use Rattle.histar_script.specs.Script.{is_declared_call as declared_call};
 ghost use Rattle.histar_script.specs.Reading.{has_user as user_known, are_users as users_named, are_distinct as distinct, is_new_name as new_name};
 
-use histar_flat::{Mode, Name, Session, UnixCall, User};
+use histar_flat::{Accounts, Mode, Name, UnixCall, User};
 
 /// Whether a user has this name.
 pub fn has_user(users: &[User], name: Name) -> bool
@@ -14,10 +14,10 @@ pub fn has_user(users: &[User], name: Name) -> bool
 }
 
 /// Whether no user and no group has this name.
-pub fn is_new_name(session: &Session, name: Name) -> bool
-    ensures { result ≡ new_name session.now name }
+pub fn is_new_name(accounts: &Accounts, name: Name) -> bool
+    ensures { result ≡ new_name accounts.now name }
 {
-    !has_user(session.users(), name) && !session.has_group(name)
+    !has_user(accounts.users(), name) && !accounts.has_group(name)
 }
 
 /// Whether each name is a user's.
@@ -48,20 +48,20 @@ fn has(names: &[Name], name: Name) -> bool
 }
 
 /// Whether the mode that a call names, if it names one, is for a user or for a group that is declared.
-pub fn is_declared_call(session: &Session, call: &UnixCall) -> bool
-    ensures { result ≡ declared_call session.now call.now }
+pub fn is_declared_call(accounts: &Accounts, call: &UnixCall) -> bool
+    ensures { result ≡ declared_call accounts.now call.now }
 {
     match call {
-        UnixCall::Create(_, mode) | UnixCall::Mkdir(_, mode) => is_declared_mode(session, *mode),
+        UnixCall::Create(_, mode) | UnixCall::Mkdir(_, mode) => is_declared_mode(accounts, *mode),
         _ => true,
     }
 }
 
-fn is_declared_mode(session: &Session, mode: Mode) -> bool
-    ensures { result ≡ declared_mode session.now mode }
+fn is_declared_mode(accounts: &Accounts, mode: Mode) -> bool
+    ensures { result ≡ declared_mode accounts.now mode }
 {
     match mode {
-        Mode::Group(name) => session.has_group(name),
+        Mode::Group(name) => accounts.has_group(name),
         _ => true,
     }
 }

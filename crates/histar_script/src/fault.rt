@@ -3,7 +3,7 @@ ghost use Rattle.std.specs.Prelude.{◌≡◌};
 ghost use Rattle.histar_script.specs.declared.fault.Fault.TheVariants.{OutOfMemory, WriteFailed};
 ghost use Rattle.histar_script.specs.Outcome.{input_fault};
 
-use histar_devices::{InputError, WriteFailed};
+use histar_io::{InputError, WriteFailed};
 use std::alloc::{AllocError, AllocFailed};
 use thiserror::Error;
 

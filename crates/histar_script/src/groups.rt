@@ -1,6 +1,6 @@
 //! Reading what a line declares as a group. Names are put into a list, so memory may run out; `Ok(None)` is a bad line.
 ghost use Rattle.std.specs.Prelude.{◌≡◌, ◌≤◌, length, option_map, IfOk, IfSome};
-ghost use Rattle.histar_flat.specs.Sessions.{most_members};
+ghost use Rattle.histar_flat.specs.Accounts.{most_members};
 ghost use Rattle.histar_script.specs.Reading.{group_of, members_of};
 
 use crate::lines::split_word;

@@ -1,7 +1,7 @@
 //! Reading a whole script.
 ghost use Rattle.std.specs.Prelude.{ℕ, IfOk, false, ◌≡◌, ◌≤◌, length, IsTrue, IsErrOf, Ok, Err};
 ghost use Rattle.histar_script.specs.Lines.{lines_of, most_script_bytes, is_too_long as too_long};
-ghost use Rattle.histar_script.specs.Script.{Reading, IsDeclared, IsNumbered, nothing_read, without_job};
+ghost use Rattle.histar_script.specs.Script.{ScriptModel, IsDeclared, IsNumbered, nothing_read, without_job};
 ghost use Rattle.histar_script.specs.Grammar.{IsScript, IsFirstBad};
 ghost use Rattle.histar_script.specs.Reading.{reading, script_of, with_item};
 ghost use Rattle.histar_script.specs.Outcome.{Gives, GivesNext};
@@ -11,7 +11,7 @@ use crate::declarations::{are_distinct, are_users, has_user, is_declared_call, i
 use crate::fault::Fault;
 use crate::items::Item;
 use crate::lines::{count_lines, split_line};
-use histar_flat::{CallLine, Group, ProcName, Session, UnixCall, User};
+use histar_flat::{Accounts, CallLine, Group, ProcName, UnixCall, User};
 use std::alloc::Global;
 use std::marker::Model;
 
@@ -30,41 +30,44 @@ const MOST_GROUPS: usize = 8;
 /// The session that a script declares, and its calls.
 #[derive(Drop)]
 pub struct Script {
-    session: Session,
+    accounts: Accounts,
     calls: Vec<CallLine>,
 }
 
 impl Model for Script {
-    ghost use Rattle.histar_script.specs.Script.{Reading};
+    ghost use Rattle.histar_script.specs.Script.{ScriptModel};
 
-    ghost Value = { Reading };
+    ghost Value = { ScriptModel };
 
-    ghost view = { λ s. record { session = s.session; calls = s.calls.items } };
+    ghost view = { λ s. record { accounts = s.accounts; calls = s.calls.items } };
 }
 
 impl Script {
     /// The users and the groups, each in the order of their lines.
-    pub fn session(&self) -> &Session
-        ensures { result.now ≡ self.now.session }
+    pub fn accounts(&self) -> &Accounts
+        ensures { result.now ≡ self.now.accounts }
     {
-        &self.session
+        &self.accounts
     }
 
     /// The session, and the calls, to be taken one by one.
-    pub fn into_parts(self) -> (Session, Vec<CallLine>)
-        ensures session { result.0 ≡ self.session }
+    pub fn into_parts(self) -> (Accounts, Vec<CallLine>)
+        ensures accounts { result.0 ≡ self.accounts }
         ensures calls { result.1.items ≡ self.calls }
     {
-        (self.session, self.calls)
+        (self.accounts, self.calls)
     }
 
     /// The script in which each line of a job, of its first process or of one below it, is a comment.
     pub fn without(self, job: &ProcName) -> Script
         ensures { result ≡ without_job job.now self }
     {
-        let Script { session, mut calls } = self;
+        let Script {
+            accounts,
+            mut calls,
+        } = self;
         calls.retain(|call| !call.process.is_at_or_below(job));
-        Script { session, calls }
+        Script { accounts, calls }
     }
 
     /// Returns what is read before the first line: nothing.
@@ -72,13 +75,13 @@ impl Script {
         ensures { result ≡ nothing_read }
     {
         Script {
-            session: Session::new(alloc),
+            accounts: Accounts::new(alloc),
             calls: Vec::new(alloc),
         }
     }
 
     /// Takes line `line`, which says `item`.
-    #[tactic(auto, unfolding(crate::specs::Reading::with_item))]
+    #[tactic(auto, unfolding(crate::specs::ScriptModel::with_item))]
     pub fn add(&mut self, line: u32, item: Item) -> Result<(), Fault>
         ensures { GivesNext line result self.new (with_item self.old line item) }
     {
@@ -90,42 +93,42 @@ impl Script {
         }
     }
 
-    #[tactic(auto, unfolding(crate::specs::Reading::with_item))]
+    #[tactic(auto, unfolding(crate::specs::ScriptModel::with_item))]
     fn add_user(&mut self, line: u32, user: User) -> Result<(), Fault>
         ensures { GivesNext line result self.new (with_item self.old line (Item.User user)) }
     {
-        let is_right = self.session.groups().is_empty()
+        let is_right = self.accounts.groups().is_empty()
             && self.calls.is_empty()
-            && self.session.users().len() < MOST_USERS
-            && !has_user(self.session.users(), user.name);
+            && self.accounts.users().len() < MOST_USERS
+            && !has_user(self.accounts.users(), user.name);
         if !is_right {
             return Err(Fault::BadScript(line));
         }
-        self.session.add_user(user)?;
+        self.accounts.add_user(user)?;
         Ok(())
     }
 
-    #[tactic(auto, unfolding(crate::specs::Reading::with_item))]
+    #[tactic(auto, unfolding(crate::specs::ScriptModel::with_item))]
     fn add_group(&mut self, line: u32, group: Group) -> Result<(), Fault>
         ensures { GivesNext line result self.new (with_item self.old line (Item.Group group)) }
     {
         let is_right = self.calls.is_empty()
-            && self.session.groups().len() < MOST_GROUPS
-            && is_new_name(&self.session, group.name())
-            && are_users(self.session.users(), group.members())
+            && self.accounts.groups().len() < MOST_GROUPS
+            && is_new_name(&self.accounts, group.name())
+            && are_users(self.accounts.users(), group.members())
             && are_distinct(group.members());
         if !is_right {
             return Err(Fault::BadScript(line));
         }
-        self.session.add_group(group)?;
+        self.accounts.add_group(group)?;
         Ok(())
     }
 
-    #[tactic(auto, unfolding(crate::specs::Reading::with_item))]
+    #[tactic(auto, unfolding(crate::specs::ScriptModel::with_item))]
     fn add_call(&mut self, line: u32, process: ProcName, call: UnixCall) -> Result<(), Fault>
         ensures { GivesNext line result self.new (with_item self.old line (Item.Call process call)) }
     {
-        let is_right = !self.session.users().is_empty() && is_declared_call(&self.session, &call);
+        let is_right = !self.accounts.users().is_empty() && is_declared_call(&self.accounts, &call);
         if !is_right {
             return Err(Fault::BadScript(line));
         }
@@ -155,10 +158,10 @@ pub fn read_script(alloc: Global, text: &[u8]) -> Result<Script, Fault>
     // What is read is a script of the grammar.
     ensures found { IfOk result (IsScript text.now) }
     // A script of the grammar within the limits is read, unless memory runs out.
-    ensures only { (script : Reading) → too_long text.now ≡ false → IsScript text.now script
+    ensures only { (script : ScriptModel) → too_long text.now ≡ false → IsScript text.now script
         → Gives result (Ok script) }
     // The users and the groups are those of a script.
-    ensures declared { IfOk result (λ script. IsDeclared script.session) }
+    ensures declared { IfOk result (λ script. IsDeclared script.accounts) }
     // The numbers of the calls rise, and are numbers of lines.
     ensures numbered { IfOk result (λ script. IsNumbered (length (lines_of text.now)) script.calls) }
     // The bad line is the first one.
@@ -170,7 +173,7 @@ pub fn read_script(alloc: Global, text: &[u8]) -> Result<Script, Fault>
     read_lines(alloc, text)
 }
 
-#[tactic(auto, unfolding(crate::specs::Reading::with_lines, crate::specs::Reading::with_line, crate::specs::Reading::reading))]
+#[tactic(auto, unfolding(crate::specs::ScriptModel::with_lines, crate::specs::ScriptModel::with_line, crate::specs::ScriptModel::reading))]
 fn read_lines(alloc: Global, text: &[u8]) -> Result<Script, Fault>
     requires { length text.now ≤ most_script_bytes }
     ensures { Gives result (reading text.now) }
@@ -187,7 +190,7 @@ fn read_lines(alloc: Global, text: &[u8]) -> Result<Script, Fault>
         script.add(count, item)?;
         rest = after;
     }
-    if script.session().users().is_empty() {
+    if script.accounts().users().is_empty() {
         return Err(Fault::BadScript(count + 1));
     }
     Ok(script)

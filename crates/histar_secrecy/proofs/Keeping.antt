@@ -7,7 +7,7 @@ use Rattle.histar_flat.specs.declared.calls.CallLine.{CallLine}
 use Rattle.histar_flat.specs.declared.calls.UnixCall.{UnixCall}
 use Rattle.histar_flat.specs.Words.{Name, Path, ProcName}
 use Rattle.histar_flat.specs.PathOrder.{same, under_path, under_process}
-use Rattle.histar_flat.specs.Sessions.{Session, has}
+use Rattle.histar_flat.specs.Accounts.{Accounts, has}
 use Rattle.histar_flat.specs.Files.{get}
 use Rattle.histar_flat.specs.Classes.{Process, carries, is_free, knows, may_write}
 use Rattle.histar_flat.specs.Classes.Class.{Scratch}
@@ -23,20 +23,20 @@ use Rattle.histar_flat.proofs.Renaming.{get_renamed, stays}
 use Rattle.histar_flat.proofs.Trees.{nothing_below, paths_are_a_tree, tree_after}
 use Rattle.histar_flat.proofs.Under.{under_child, under_itself}
 use Rattle.histar_flat.proofs.WrappedJobs.{has_last}
-use Rattle.histar_isolation.proofs.TestLemmas.{under_all}
+use Rattle.histar_noninterference.proofs.TestLemmas.{under_all}
 use Rattle.histar_secrecy.specs.Logins.{logged_in}
 use Rattle.histar_secrecy.specs.Changers.{OthersChangeNothing, changers_are_silent, is_changer, logs_in_as_changer, may_change, no_changer_logs_in}
 use Rattle.histar_secrecy.proofs.Names.{IsQuiet, by_quiet_line, child_of, grown, login_of, runs_kept, runs_put, starter_of}
 use Rattle.histar_secrecy.proofs.WriteRights.{HasNoMore, no_more_by_class, no_more_changes, writes_it_or_above, writes_no_more, writes_not}
 
-module _ (session : Session) (f : Flat) (path : Path) where
+module _ (accounts : Accounts) (f : Flat) (path : Path) where
   -- what is on the way to the path is there in this state too
   abbrev pub IsWayKept : Flat → Type 0
   IsWayKept s = (r : Path) → under_path r path ≡ true → get s.files r ≡ get f.files r
 
   -- who runs and is no changer by its name may not change what is there
   abbrev pub OthersMayNot : Flat → Type 0
-  OthersMayNot s = (x : ProcName) (p : Process) → running s x ≡ Some p → is_changer session f path x ≡ false → may_change session f p path ≡ false
+  OthersMayNot s = (x : ProcName) (p : Process) → running s x ≡ Some p → is_changer accounts f path x ≡ false → may_change accounts f p path ≡ false
 
   -- a later state
   pub record IsKept (s : Flat) : Type 0 where
@@ -45,26 +45,26 @@ module _ (session : Session) (f : Flat) (path : Path) where
     pub way : IsWayKept s
     pub others : OthersMayNot s
 
-module _ {session : Session} {f : Flat} {path : Path} (names : NamesAreGiven f) where
-  module _ (s : Flat) (kept : IsKept session f path s) (me : ProcName) (p : Process) (runs : running s me ≡ Some p)
-      (silent : is_changer session f path me ≡ false) where
+module _ {accounts : Accounts} {f : Flat} {path : Path} (names : NamesAreGiven f) where
+  module _ (s : Flat) (kept : IsKept accounts f path s) (me : ProcName) (p : Process) (runs : running s me ≡ Some p)
+      (silent : is_changer accounts f path me ≡ false) where
     here : s.processes me ≡ Some p
     here = runs_is_there (s.processes me) p runs
 
-    mine : may_change session f p path ≡ false
+    mine : may_change accounts f p path ≡ false
     mine = kept.others me p runs silent
 
     -- what p writes is not on the way
-    not_written : (r : Path) → writes session s p r ≡ true → under_path r path ≡ false
+    not_written : (r : Path) → writes accounts s p r ≡ true → under_path r path ≡ false
     not_written r w = elim (cases_Bool (under_path r path)) [
       | inl u ↦
-          let there = sym (ap (λ o. is_some_and o (λ n. may_write session p n.class)) (kept.way r u)) ∙ w in
-          absurd (true≢false (sym (writes_it_or_above session f p r path u there) ∙ mine))
+          let there = sym (ap (λ o. is_some_and o (λ n. may_write accounts p n.class)) (kept.way r u)) ∙ w in
+          absurd (true≢false (sym (writes_it_or_above accounts f p r path u there) ∙ mine))
       | inr u ↦ u
     ]
 
     -- and neither is what lies in it
-    not_in_written : (n : Name) (d : Path) → writes session s p d ≡ true → (r : Path) → under_path r path ≡ true → under_path (n ∷ d) r ≡ false
+    not_in_written : (n : Name) (d : Path) → writes accounts s p d ≡ true → (r : Path) → under_path r path ≡ true → under_path (n ∷ d) r ≡ false
     not_in_written n d w r u = elim (cases_Bool (under_path (n ∷ d) r)) [
       | inl v ↦
           let below = under_child same same_path_found d d n (under_itself same same_path_found d) in
@@ -78,13 +78,13 @@ module _ {session : Session} {f : Flat} {path : Path} (names : NamesAreGiven f) 
     put_elsewhere q x r u out =
         get_other s.files q x r (λ e. true≢false (sym (under_itself same same_path_found q) ∙ ap (under_path q) (sym e) ∙ out)) ∙ kept.way r u
 
-    written_elsewhere : (q : Path) → writes session s p q ≡ true → (r : Path) → under_path r path ≡ true → under_path q r ≡ false
+    written_elsewhere : (q : Path) → writes accounts s p q ≡ true → (r : Path) → under_path r path ≡ true → under_path q r ≡ false
     written_elsewhere q w r u = elim (cases_Bool (under_path q r)) [
       | inl v ↦ absurd (true≢false (sym (under_all same same_path_found q r path v u) ∙ not_written q w))
       | inr v ↦ v
     ]
 
-    way_changes : (call : UnixCall) → EachChange session s me p call (IsWayKept session f path)
+    way_changes : (call : UnixCall) → EachChange accounts s me p call (IsWayKept accounts f path)
     way_changes call = record {
       stays = kept.way;
       makes = λ n d x walked free w own mode made_is r u. put_elsewhere (n ∷ d) x r u (not_in_written n d w r u);
@@ -110,30 +110,30 @@ module _ {session : Session} {f : Flat} {path : Path} (names : NamesAreGiven f) 
     not_carried r node at c =
         true≢false (sym (kept.given (next_child me p) (names.of_carried_jobs r node (next_child me p) at c)) ∙ next_is_new s me p here)
 
-    put_still : (q : Process) → HasNoMore session f path q p → OthersMayNot session f path (with_process s me q)
+    put_still : (q : Process) → HasNoMore accounts f path q p → OthersMayNot accounts f path (with_process s me q)
     put_still q less x y e c = elim (runs_put s me q x y e) [
-      | inl t ↦ subst (λ z. may_change session f z path ≡ false) t.1 (no_more_changes session f q p path less mine)
+      | inl t ↦ subst (λ z. may_change accounts f z path ≡ false) t.1 (no_more_changes accounts f q p path less mine)
       | inr t ↦ kept.others x y t c
     ]
 
-    birth_still : (q child : Process) → HasNoMore session f path q p → HasNoMore session f path child p
-        → OthersMayNot session f path (with_process (with_process s me q) (next_child me p) child)
+    birth_still : (q child : Process) → HasNoMore accounts f path q p → HasNoMore accounts f path child p
+        → OthersMayNot accounts f path (with_process (with_process s me q) (next_child me p) child)
     birth_still q child less less_child x y e c = elim (runs_put (with_process s me q) (next_child me p) child x y e) [
-      | inl t ↦ subst (λ z. may_change session f z path ≡ false) t.1 (no_more_changes session f child p path less_child mine)
+      | inl t ↦ subst (λ z. may_change accounts f z path ≡ false) t.1 (no_more_changes accounts f child p path less_child mine)
       | inr t ↦ put_still q less x y t c
     ]
 
     same_rights : (q : Process) → q.user ≡ p.user → q.chain ≡ p.chain → ((job : ProcName) → knows q job ≡ true → knows p job ≡ true)
-        → HasNoMore session f path q p
+        → HasNoMore accounts f path q p
     same_rights q user chain more =
-        no_more_by_class session f path q p (λ r node at w. writes_no_more session q p node.class user chain (λ job c k. more job k) w)
+        no_more_by_class accounts f path q p (λ r node at w. writes_no_more accounts q p node.class user chain (λ job c k. more job k) w)
 
-    login_still : (name : Name) → is_free p ≡ true → may_change session f (logged_in name) path ≡ false
-        → OthersMayNot session f path (with_process s me (login_of p name))
+    login_still : (name : Name) → is_free p ≡ true → may_change accounts f (logged_in name) path ≡ false
+        → OthersMayNot accounts f path (with_process s me (login_of p name))
     login_still name free away x y e c = elim (runs_put s me (login_of p name) x y e) [
-      | inl t ↦ subst (λ z. may_change session f z path ≡ false) t.1 (no_more_changes session f (login_of p name) (logged_in name) path
-          (no_more_by_class session f path (login_of p name) (logged_in name) (λ r node at w.
-          writes_no_more session (login_of p name) (logged_in name) node.class refl (no_jobs p.chain free)
+      | inl t ↦ subst (λ z. may_change accounts f z path ≡ false) t.1 (no_more_changes accounts f (login_of p name) (logged_in name) path
+          (no_more_by_class accounts f path (login_of p name) (logged_in name) (λ r node at w.
+          writes_no_more accounts (login_of p name) (logged_in name) node.class refl (no_jobs p.chain free)
           (λ job h k. absurd (true≢false (sym k ∙ ap (λ jobs. has jobs job || false) (no_jobs p.chain free)))) w)) away)
       | inr t ↦ kept.others x y t c
     ]
@@ -142,13 +142,13 @@ module _ {session : Session} {f : Flat} {path : Path} (names : NamesAreGiven f) 
         no_jobs [] h = refl
         no_jobs (k ∷ ks) h = absurd (true≢false (sym h))
 
-    wrap_still : OthersMayNot session f path (with_process (with_process s me (starter_of me p)) (next_child me p)
+    wrap_still : OthersMayNot accounts f path (with_process (with_process s me (starter_of me p)) (next_child me p)
         (child_of p (inner_chain me p)))
     wrap_still = birth_still (starter_of me p) (child_of p (inner_chain me p))
-        (no_more_by_class session f path (starter_of me p) p
-        (λ r node at w. writes_no_more session (starter_of me p) p node.class refl refl (λ job c k. held r node at job c k) w))
-        (no_more_by_class session f path (child_of p (inner_chain me p)) p
-        (λ r node at w. absurd (writes_not session (child_of p (inner_chain me p)) node.class (next_child me p)
+        (no_more_by_class accounts f path (starter_of me p) p
+        (λ r node at w. writes_no_more accounts (starter_of me p) p node.class refl refl (λ job c k. held r node at job c k) w))
+        (no_more_by_class accounts f path (child_of p (inner_chain me p)) p
+        (λ r node at w. absurd (writes_not accounts (child_of p (inner_chain me p)) node.class (next_child me p)
         (has_last p.chain (next_child me p)) (out r node at) w)))
       where
         out : (r : Path) (node : Node) → get f.files r ≡ Some node → carries (next_child me p) node.class ≡ false
@@ -167,8 +167,8 @@ module _ {session : Session} {f : Flat} {path : Path} (names : NamesAreGiven f) 
           ]
         ]
 
-    others_changes : (call : UnixCall) → IsQuiet (λ q. may_change session f q path) (Unit {0}) call
-        → EachChange session s me p call (OthersMayNot session f path)
+    others_changes : (call : UnixCall) → IsQuiet (λ q. may_change accounts f q path) (Unit {0}) call
+        → EachChange accounts s me p call (OthersMayNot accounts f path)
     unfolding put_still birth_still login_still wrap_still
     others_changes call quiet = record {
       stays = kept.others;
@@ -188,37 +188,37 @@ module _ {session : Session} {f : Flat} {path : Path} (names : NamesAreGiven f) 
       wraps = λ n d is walked free w named. wrap_still;
     }
 
-  kept_after : (s : Flat) → IsKept session f path s → (me : ProcName) (call : UnixCall) → is_changer session f path me ≡ false
-      → logs_in_as_changer session f path call ≡ false → IsKept session f path (flat_after session s me call)
+  kept_after : (s : Flat) → IsKept accounts f path s → (me : ProcName) (call : UnixCall) → is_changer accounts f path me ≡ false
+      → logs_in_as_changer accounts f path call ≡ false → IsKept accounts f path (flat_after accounts s me call)
   kept_after s kept me call silent quiet = record {
-    tree = tree_after s kept.tree session me call;
-    given = λ x h. given_stays session s me call x (kept.given x h);
-    way = by_line session s me call (IsWayKept session f path) kept.way (λ p runs. way_changes s kept me p runs silent call);
-    others = by_quiet_line {test = λ q. may_change session f q path} (record { quiet = λ so. quiet }) s me (OthersMayNot session f path) kept.others
+    tree = tree_after s kept.tree accounts me call;
+    given = λ x h. given_stays accounts s me call x (kept.given x h);
+    way = by_line accounts s me call (IsWayKept accounts f path) kept.way (λ p runs. way_changes s kept me p runs silent call);
+    others = by_quiet_line {test = λ q. may_change accounts f q path} (record { quiet = λ so. quiet }) s me (OthersMayNot accounts f path) kept.others
         (λ p runs unchanging. others_changes s kept me p runs silent call unchanging);
   }
 
-  kept_at_end : (calls : List CallLine) (s : Flat) → IsKept session f path s → changers_are_silent session f path calls ≡ true
-      → no_changer_logs_in session f path calls ≡ true → IsKept session f path (flat_end session s calls)
+  kept_at_end : (calls : List CallLine) (s : Flat) → IsKept accounts f path s → changers_are_silent accounts f path calls ≡ true
+      → no_changer_logs_in accounts f path calls ≡ true → IsKept accounts f path (flat_end accounts s calls)
   kept_at_end [] s kept silent quiet = kept
   kept_at_end (c ∷ calls) s kept silent quiet =
-      let one = and_parts (not (is_changer session f path c.process)) (changers_are_silent session f path calls) silent in
-      let two = and_parts (not (logs_in_as_changer session f path c.call)) (no_changer_logs_in session f path calls) quiet in
-      let silent_line = not-true (is_changer session f path c.process) one.0 in
-      let quiet_line = not-true (logs_in_as_changer session f path c.call) two.0 in
-      kept_at_end calls (flat_after session s c.process c.call) (kept_after s kept c.process c.call silent_line quiet_line) one.1 two.1
+      let one = and_parts (not (is_changer accounts f path c.process)) (changers_are_silent accounts f path calls) silent in
+      let two = and_parts (not (logs_in_as_changer accounts f path c.call)) (no_changer_logs_in accounts f path calls) quiet in
+      let silent_line = not-true (is_changer accounts f path c.process) one.0 in
+      let quiet_line = not-true (logs_in_as_changer accounts f path c.call) two.0 in
+      kept_at_end calls (flat_after accounts s c.process c.call) (kept_after s kept c.process c.call silent_line quiet_line) one.1 two.1
 
-  kept_itself : IsTree f → IsKept session f path f
+  kept_itself : IsTree f → IsKept accounts f path f
   kept_itself tree = record {
     tree = tree;
     given = λ x h. h;
     way = λ r u. refl;
-    others = λ x p runs c. sym (ap (λ o. is_some_and o (λ q. may_change session f q path)) runs) ∙ c;
+    others = λ x p runs c. sym (ap (λ o. is_some_and o (λ q. may_change accounts f q path)) runs) ∙ c;
   }
 
 -- What is at the path stays while none who may change it calls anything.
 pub others_change_nothing : OthersChangeNothing
-others_change_nothing session f reached path node at calls silent quiet =
-    let names = subst NamesAreGiven reached.1 (names_are_given_once.old session reached.0) in
-    let kept = kept_at_end names calls f (kept_itself names (subst IsTree reached.1 (paths_are_a_tree session reached.0))) silent quiet in
+others_change_nothing accounts f reached path node at calls silent quiet =
+    let names = subst NamesAreGiven reached.1 (names_are_given_once.old accounts reached.0) in
+    let kept = kept_at_end names calls f (kept_itself names (subst IsTree reached.1 (paths_are_a_tree accounts reached.0))) silent quiet in
     kept.way path (under_itself same same_path_found path) ∙ at

@@ -7,7 +7,7 @@ use Rattle.histar_flat.specs.declared.calls.CallLine.{CallLine}
 use Rattle.histar_flat.specs.declared.calls.UnixCall.{UnixCall}
 use Rattle.histar_flat.specs.Words.{Name, Path, ProcName}
 use Rattle.histar_flat.specs.PathOrder.{under_process}
-use Rattle.histar_flat.specs.Sessions.{Session, has}
+use Rattle.histar_flat.specs.Accounts.{Accounts, has}
 use Rattle.histar_flat.specs.Classes.{Process, is_free, knows}
 use Rattle.histar_flat.specs.declared.calls.UnixCall.TheVariants.{Wrap}
 use Rattle.histar_flat.specs.FlatState.{Flat, IsTree, is_given, with_child, with_process}
@@ -18,9 +18,9 @@ use Rattle.histar_flat.proofs.Changes.{EachChange, by_line, runs_is_there}
 use Rattle.histar_flat.proofs.Choices.{left}
 use Rattle.histar_flat.proofs.GivenNames.{given_after, longer_has, names_are_given_once, next_is_new}
 use Rattle.histar_flat.proofs.Trees.{tree_after, tree_at_start}
-use Rattle.histar_isolation.proofs.Isolated.{started_now}
-use Rattle.histar_isolation.proofs.Kept.{born_cases, put_cases, started_after}
-use Rattle.histar_isolation.proofs.Relation.{IsStarted}
+use Rattle.histar_noninterference.proofs.Isolated.{started_now}
+use Rattle.histar_noninterference.proofs.Kept.{born_cases, put_cases, started_after}
+use Rattle.histar_noninterference.proofs.Relation.{IsStarted}
 use Rattle.histar_secrecy.proofs.Readers.{in_chain}
 use Rattle.histar_secrecy.proofs.Names.{child_of, grown, login_of, starter_of}
 
@@ -51,7 +51,7 @@ free_knows_none : (chain : List ProcName) (job : ProcName) → (let b : Bool = e
 free_knows_none [] job h = refl
 free_knows_none (k ∷ ks) job h = absurd (true≢false (sym h))
 
-module _ (session : Session) (f : Flat) (names : NamesAreGiven f) (me : ProcName) (p : Process) (here : f.processes me ≡ Some p) where
+module _ (accounts : Accounts) (f : Flat) (names : NamesAreGiven f) (me : ProcName) (p : Process) (here : f.processes me ≡ Some p) where
   -- a job that p knows
   by_caller : (y : Process) (job : ProcName) → p.user ≡ y.user → knows p job ≡ true → IsKnown f job y.user
   by_caller y job user k = record { name = me; process = p; there = here; known = k; of_user = user }
@@ -89,9 +89,9 @@ module _ (session : Session) (f : Flat) (names : NamesAreGiven f) (me : ProcName
   ]
 
   -- where a job was started
-  module _ (n : Name) (d : Path) (started : IsStarted (next_child me p) (changed session f me p (Wrap (n ∷ d)))) where
+  module _ (n : Name) (d : Path) (started : IsStarted (next_child me p) (changed accounts f me p (Wrap (n ∷ d)))) where
     abbrev Found : Process → ProcName → Type 0
-    Found y job = IsKnown f job y.user ⊎ IsNew f (changed session f me p (Wrap (n ∷ d))) me job y.user
+    Found y job = IsKnown f job y.user ⊎ IsNew f (changed accounts f me p (Wrap (n ∷ d))) me job y.user
 
     -- a list of jobs with the new one
     longer : (jobs : List ProcName) (y : Process) (job : ProcName) → p.user ≡ y.user → (has jobs job ≡ true → knows p job ≡ true)
@@ -103,11 +103,11 @@ module _ (session : Session) (f : Flat) (names : NamesAreGiven f) (me : ProcName
         there = here;
         named = t;
         of_user = user;
-        started = subst (λ z. IsStarted z (changed session f me p (Wrap (n ∷ d)))) (sym t) started;
+        started = subst (λ z. IsStarted z (changed accounts f me p (Wrap (n ∷ d)))) (sym t) started;
       })
     ]
 
-    wrapped_now : (x : ProcName) (y : Process) (job : ProcName) → (changed session f me p (Wrap (n ∷ d))).processes x ≡ Some y → knows y job ≡ true
+    wrapped_now : (x : ProcName) (y : Process) (job : ProcName) → (changed accounts f me p (Wrap (n ∷ d))).processes x ≡ Some y → knows y job ≡ true
         → Found y job
     wrapped_now x y job there k =
         elim (born_cases f me (starter_of me p) (next_child me p)
@@ -122,7 +122,7 @@ module _ (session : Session) (f : Flat) (names : NamesAreGiven f) (me : ProcName
           ]
         ]
 
-  known_changes : (call : UnixCall) → EachChange session f me p call (KnowsWhatItKnew f me)
+  known_changes : (call : UnixCall) → EachChange accounts f me p call (KnowsWhatItKnew f me)
   unfolding one_changed logged_in spawned wrapped_now
   known_changes call = record {
     stays = λ tree given x y job there k. inl (by_old x y job there k);
@@ -134,7 +134,7 @@ module _ (session : Session) (f : Flat) (names : NamesAreGiven f) (me : ProcName
     exits = λ n is. one_changed (record p { exited = Some n }) refl (λ job k. k);
     logs_in = λ name is known free. logged_in name free;
     kills = λ n tree given x y job there k. inl (by_old x y job (left (under_process (n ∷ me) x) (f.processes x) y there) k);
-    wraps = λ n d is walked free w named tree given. wrapped_now n d (started_now session f names me p here n d tree given);
+    wraps = λ n d is walked free w named tree given. wrapped_now n d (started_now accounts f names me p here n d tree given);
   }
 
 -- what holds of the jobs of each state that calls lead to
@@ -155,69 +155,69 @@ pub record IsKnower (f : Flat) (name : ProcName) (process : Process) (job : Proc
   pub known : knows process job ≡ true
 
 -- Who knows a job after a line knew it before, or is of a job that was started.
-pub known_after : (session : Session) {f : Flat} → AreJobs f → (me : ProcName) (call : UnixCall) {x : ProcName} {y : Process} {job : ProcName}
-    → IsKnower (flat_after session f me call) x y job → IsKnown f job y.user ⊎ IsNew f (flat_after session f me call) me job y.user
-known_after session {f} h me call {x} {y} {job} knower =
-    by_line session f me call (KnowsWhatItKnew f me)
+pub known_after : (accounts : Accounts) {f : Flat} → AreJobs f → (me : ProcName) (call : UnixCall) {x : ProcName} {y : Process} {job : ProcName}
+    → IsKnower (flat_after accounts f me call) x y job → IsKnown f job y.user ⊎ IsNew f (flat_after accounts f me call) me job y.user
+known_after accounts {f} h me call {x} {y} {job} knower =
+    by_line accounts f me call (KnowsWhatItKnew f me)
     (λ tree given x y job there k. inl (record { name = x; process = y; there = there; known = k; of_user = refl }))
-    (λ p runs. known_changes session f h.names me p (runs_is_there (f.processes me) p runs) call)
-    (tree_after f h.tree session me call) (given_after session f me call h.tree h.names) x y job knower.there knower.known
+    (λ p runs. known_changes accounts f h.names me p (runs_is_there (f.processes me) p runs) call)
+    (tree_after f h.tree accounts me call) (given_after accounts f me call h.tree h.names) x y job knower.there knower.known
 
 -- a job that is known was given, and so is not new
 pub not_new : (f g : Flat) (me : ProcName) (job : ProcName) (user : Name) → is_given f.processes job ≡ true → IsNew f g me job user → ⊥
 not_new f g me job user given new = true≢false (sym given ∙ ap (is_given f.processes) new.named ∙ next_is_new f me new.process new.there)
 
 -- What holds of the jobs holds after each line.
-pub jobs_after : (session : Session) (f : Flat) → AreJobs f → (me : ProcName) (call : UnixCall) → AreJobs (flat_after session f me call)
-jobs_after session f h me call = record {
-  tree = tree_after f h.tree session me call;
-  names = given_after session f me call h.tree h.names;
-  started = λ x y job there k. elim (known_after session h me call (record { there = there; known = k })) [
-    | inl t ↦ started_after job session f me call (h.started t.name t.process job t.there t.known)
+pub jobs_after : (accounts : Accounts) (f : Flat) → AreJobs f → (me : ProcName) (call : UnixCall) → AreJobs (flat_after accounts f me call)
+jobs_after accounts f h me call = record {
+  tree = tree_after f h.tree accounts me call;
+  names = given_after accounts f me call h.tree h.names;
+  started = λ x y job there k. elim (known_after accounts h me call (record { there = there; known = k })) [
+    | inl t ↦ started_after job accounts f me call (h.started t.name t.process job t.there t.known)
     | inr t ↦ t.started
   ];
   one_user = λ x x' y y' job there k there' k'.
-      users y y' job (known_after session h me call (record { there = there; known = k }))
-      (known_after session h me call (record { there = there'; known = k' }));
-  child = λ x y job there k. elim (known_after session h me call (record { there = there; known = k })) [
+      users y y' job (known_after accounts h me call (record { there = there; known = k }))
+      (known_after accounts h me call (record { there = there'; known = k' }));
+  child = λ x y job there k. elim (known_after accounts h me call (record { there = there; known = k })) [
     | inl t ↦ h.child t.name t.process job t.there t.known
     | inr t ↦ λ e. let no : next_child me t.process ≡ [] = sym t.named ∙ e in cc
   ];
 }
   where
-    users : (y y' : Process) (job : ProcName) → IsKnown f job y.user ⊎ IsNew f (flat_after session f me call) me job y.user
-        → IsKnown f job y'.user ⊎ IsNew f (flat_after session f me call) me job y'.user → y.user ≡ y'.user
+    users : (y y' : Process) (job : ProcName) → IsKnown f job y.user ⊎ IsNew f (flat_after accounts f me call) me job y.user
+        → IsKnown f job y'.user ⊎ IsNew f (flat_after accounts f me call) me job y'.user → y.user ≡ y'.user
     users y y' job (inl t) (inl u) = sym t.of_user ∙ h.one_user t.name u.name t.process u.process job t.there t.known u.there u.known ∙ u.of_user
     users y y' job (inl t) (inr u) =
-        absurd (not_new f (flat_after session f me call) me job y'.user (h.names.of_known_jobs t.name t.process job t.there t.known) u)
+        absurd (not_new f (flat_after accounts f me call) me job y'.user (h.names.of_known_jobs t.name t.process job t.there t.known) u)
     users y y' job (inr t) (inl u) =
-        absurd (not_new f (flat_after session f me call) me job y.user (h.names.of_known_jobs u.name u.process job u.there u.known) t)
+        absurd (not_new f (flat_after accounts f me call) me job y.user (h.names.of_known_jobs u.name u.process job u.there u.known) t)
     users y y' job (inr t) (inr u) =
         let e : Some t.process ≡ Some u.process = sym t.there ∙ u.there in
         let one : t.process ≡ u.process = cc in
         sym t.of_user ∙ ap (λ z. z.user) one ∙ u.of_user
 
 -- at the start nobody knows a job
-knows_none : (session : Session) (x : ProcName) (y : Process) (job : ProcName) → (boot session).processes x ≡ Some y → knows y job ≡ true → ⊥
-knows_none session [] y job e k =
+knows_none : (accounts : Accounts) (x : ProcName) (y : Process) (job : ProcName) → (boot accounts).processes x ≡ Some y → knows y job ≡ true → ⊥
+knows_none accounts [] y job e k =
     let found : Some first_process ≡ Some y = e in
     let one : first_process ≡ y = cc in
     true≢false (sym k ∙ ap (λ z. knows z job) (sym one))
-knows_none session (n ∷ x) y job e k = let gone : None ≡ Some y = e in absurd (cc)
+knows_none accounts (n ∷ x) y job e k = let gone : None ≡ Some y = e in absurd (cc)
 
-pub jobs_at_start : (session : Session) → AreJobs (boot session)
-jobs_at_start session = record {
-  tree = tree_at_start session;
-  names = names_are_given_once.old session [];
-  started = λ x y job there k. absurd (knows_none session x y job there k);
-  one_user = λ x x' y y' job there k there' k'. absurd (knows_none session x y job there k);
-  child = λ x y job there k. absurd (knows_none session x y job there k);
+pub jobs_at_start : (accounts : Accounts) → AreJobs (boot accounts)
+jobs_at_start accounts = record {
+  tree = tree_at_start accounts;
+  names = names_are_given_once.old accounts [];
+  started = λ x y job there k. absurd (knows_none accounts x y job there k);
+  one_user = λ x x' y y' job there k there' k'. absurd (knows_none accounts x y job there k);
+  child = λ x y job there k. absurd (knows_none accounts x y job there k);
 }
 
 -- and so in each state that calls lead to
-pub jobs_at_end : (session : Session) (calls : List CallLine) → AreJobs (flat_end session (boot session) calls)
-jobs_at_end session calls = from calls (boot session) (jobs_at_start session)
+pub jobs_at_end : (accounts : Accounts) (calls : List CallLine) → AreJobs (flat_end accounts (boot accounts) calls)
+jobs_at_end accounts calls = from calls (boot accounts) (jobs_at_start accounts)
   where
-    from : (calls : List CallLine) (f : Flat) → AreJobs f → AreJobs (flat_end session f calls)
+    from : (calls : List CallLine) (f : Flat) → AreJobs f → AreJobs (flat_end accounts f calls)
     from [] f h = h
-    from (c ∷ calls) f h = from calls (flat_after session f c.process c.call) (jobs_after session f h c.process c.call)
+    from (c ∷ calls) f h = from calls (flat_after accounts f c.process c.call) (jobs_after accounts f h c.process c.call)

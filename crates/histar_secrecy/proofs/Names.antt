@@ -8,7 +8,7 @@ use Rattle.histar_flat.specs.declared.calls.UnixCall.TheVariants.{Login}
 use Rattle.histar_flat.specs.declared.replies.Errno.{Errno}
 use Rattle.histar_flat.specs.declared.replies.Errno.TheVariants.{EACCES, EAUTH, ENOENT}
 use Rattle.histar_flat.specs.Words.{Name, Password, ProcName}
-use Rattle.histar_flat.specs.Sessions.{Session, user_named}
+use Rattle.histar_flat.specs.Accounts.{Accounts, user_named}
 use Rattle.histar_flat.specs.Classes.{Process, is_free}
 use Rattle.histar_flat.specs.FlatState.{Flat, is_given, is_some_and, with_process}
 use Rattle.histar_flat.specs.FlatCalls.{changed, flat_after, flat_by, flat_or, if_running, next_child, running}
@@ -67,19 +67,19 @@ new_name f names s given me p here = by (f.processes (next_child me p)) refl
     by (Some q) e = absurd (true≢false (sym (given (next_child me p) (names.of_processes (next_child me p) q e)) ∙ next_is_new s me p here))
 
 -- a login with another password changes nothing
-wrong_password : (session : Session) (s : Flat) (me : ProcName) (name : Name) (password : Password) → is_password_of session name password ≡ false
-    → (o : Option Process) → flat_by session s me o (Login name password) ≡ s
-wrong_password session s me name password wrong None = refl
-wrong_password session s me name password wrong (Some p) =
-    ap (λ b. flat_or (no_user orelse in_job orelse unless b EAUTH) s (changed session s me p (Login name password))) wrong ∙ by no_user in_job
+wrong_password : (accounts : Accounts) (s : Flat) (me : ProcName) (name : Name) (password : Password) → is_password_of accounts name password ≡ false
+    → (o : Option Process) → flat_by accounts s me o (Login name password) ≡ s
+wrong_password accounts s me name password wrong None = refl
+wrong_password accounts s me name password wrong (Some p) =
+    ap (λ b. flat_or (no_user orelse in_job orelse unless b EAUTH) s (changed accounts s me p (Login name password))) wrong ∙ by no_user in_job
   where
     no_user : Option Errno
-    no_user = unless (is_some (user_named session.users name)) ENOENT
+    no_user = unless (is_some (user_named accounts.users name)) ENOENT
 
     in_job : Option Errno
     in_job = unless (is_free p) EACCES
 
-    by : (a b : Option Errno) → flat_or (a orelse b orelse Some EAUTH) s (changed session s me p (Login name password)) ≡ s
+    by : (a b : Option Errno) → flat_or (a orelse b orelse Some EAUTH) s (changed accounts s me p (Login name password)) ≡ s
     by None None = refl
     by None (Some e) = refl
     by (Some e) b = refl
@@ -94,22 +94,22 @@ abbrev pub IsQuiet : (Process → Bool) → Type 0 → UnixCall → Type 0
 IsQuiet test If call = (name : Name) → (rule call).effect ≡ LogsIn name → If → test (logged_in name) ≡ false
 
 -- where this is so, the call is no login, with the right password, as a user who passes the test
-pub record IsQuietLine (session : Session) (test : Process → Bool) (If : Type 0) (call : UnixCall) : Type 0 where
-  pub quiet : If → logs_in_as session test call ≡ false
+pub record IsQuietLine (accounts : Accounts) (test : Process → Bool) (If : Type 0) (call : UnixCall) : Type 0 where
+  pub quiet : If → logs_in_as accounts test call ≡ false
 
 -- A line changes nothing, or is a call of a process that runs, and logs in nobody who passes the test.
-pub by_quiet_line : {session : Session} {test : Process → Bool} {If : Type 0} {call : UnixCall} → IsQuietLine session test If call
+pub by_quiet_line : {accounts : Accounts} {test : Process → Bool} {If : Type 0} {call : UnixCall} → IsQuietLine accounts test If call
     → (s : Flat) (me : ProcName) (P : Flat → Type 0) → P s
-    → ((p : Process) → running s me ≡ Some p → IsQuiet test If call → EachChange session s me p call P) → P (flat_after session s me call)
-by_quiet_line {session} {test} {If} {call} line s me P still moves = by call line.quiet moves
+    → ((p : Process) → running s me ≡ Some p → IsQuiet test If call → EachChange accounts s me p call P) → P (flat_after accounts s me call)
+by_quiet_line {accounts} {test} {If} {call} line s me P still moves = by call line.quiet moves
   where
-    by : (call : UnixCall) → (If → logs_in_as session test call ≡ false)
-        → ((p : Process) → running s me ≡ Some p → IsQuiet test If call → EachChange session s me p call P) → P (flat_after session s me call)
-    by (Login name password) quiet moves = elim (cases_Bool (is_password_of session name password)) [
-      | inl right ↦ by_line session s me (Login name password) P still (λ p runs. moves p runs (λ n e so.
+    by : (call : UnixCall) → (If → logs_in_as accounts test call ≡ false)
+        → ((p : Process) → running s me ≡ Some p → IsQuiet test If call → EachChange accounts s me p call P) → P (flat_after accounts s me call)
+    by (Login name password) quiet moves = elim (cases_Bool (is_password_of accounts name password)) [
+      | inl right ↦ by_line accounts s me (Login name password) P still (λ p runs. moves p runs (λ n e so.
           let logs_in : LogsIn name ≡ LogsIn n = e in
           let one : name ≡ n = cc in
-          subst (λ x. test (logged_in x) ≡ false) one (other_fails (test (logged_in name)) (is_password_of session name password) (quiet so) right)))
-      | inr wrong ↦ subst P (sym (wrong_password session s me name password wrong (running s me))) still
+          subst (λ x. test (logged_in x) ≡ false) one (other_fails (test (logged_in name)) (is_password_of accounts name password) (quiet so) right)))
+      | inr wrong ↦ subst P (sym (wrong_password accounts s me name password wrong (running s me))) still
     ]
-    by call quiet moves = by_line session s me call P still (λ p runs. moves p runs (λ n e so. absurd (cc)))
+    by call quiet moves = by_line accounts s me call P still (λ p runs. moves p runs (λ n e so. absurd (cc)))

@@ -4,12 +4,12 @@ use Rattle.std.specs.List.{list_all, list_any}
 use Rattle.std.proofs.Common.{ap, sym, ◌∙◌, inl, inr}
 use Rattle.histar_flat.specs.Words.{Name, ProcName}
 use Rattle.histar_flat.specs.PathOrder.{same}
-use Rattle.histar_flat.specs.Sessions.{Session, has, is_member}
+use Rattle.histar_flat.specs.Accounts.{Accounts, has, is_member}
 use Rattle.histar_flat.specs.Classes.{Class, Process, is_free, knows, may_read, may_write}
 use Rattle.histar_flat.specs.Classes.Class.{Private, Readable, Open, Scratch, Grouped}
 use Rattle.histar_flat.proofs.FileLemmas.{same_itself, same_name_found}
-use Rattle.histar_secrecy.specs.Standings.{holding_none, is_bound}
-use Rattle.histar_secrecy.specs.ShownStandings.{AreNumbered, job_numbered, class_by_number, jobs_by_number, of_groups, with_rights}
+use Rattle.histar_secrecy.specs.Roles.{holding_none, is_bound}
+use Rattle.histar_secrecy.specs.ShownRoles.{AreNumbered, job_numbered, class_by_number, jobs_by_number, of_groups, with_rights}
 
 -- a number is one of these where the job that it names is
 has_number : (jobs : List ℕ) (job : ℕ) → list_any (nat_eq job) jobs ≡ has (map job_numbered jobs) (job_numbered job)
@@ -27,11 +27,11 @@ has_numbers jobs [] = refl
 has_numbers jobs (k ∷ others) = λ i. has_number jobs k i && has_numbers jobs others i
 
 -- a process writes what is scratch where it may read it, and is in no other jobs
-pub writes_scratch : (session : Session) (user owner : Name) (jobs held of : List ℕ)
-    → (may_read session (with_rights user jobs held) (Scratch owner (map job_numbered of))
-    && list_all (λ other. list_any (nat_eq other) of) jobs) ≡ may_write session (with_rights user jobs held) (Scratch owner (map job_numbered of))
-writes_scratch session user owner jobs held of =
-    ap (λ b. may_read session (with_rights user jobs held) (Scratch owner (map job_numbered of)) && b) (has_numbers of jobs)
+pub writes_scratch : (accounts : Accounts) (user owner : Name) (jobs held of : List ℕ)
+    → (may_read accounts (with_rights user jobs held) (Scratch owner (map job_numbered of))
+    && list_all (λ other. list_any (nat_eq other) of) jobs) ≡ may_write accounts (with_rights user jobs held) (Scratch owner (map job_numbered of))
+writes_scratch accounts user owner jobs held of =
+    ap (λ b. may_read accounts (with_rights user jobs held) (Scratch owner (map job_numbered of)) && b) (has_numbers of jobs)
 
 -- a process knows all jobs of these numbers
 pub knows_numbers : (user : Name) (jobs held of : List ℕ) → list_all (λ job. list_any (nat_eq job) jobs || list_any (nat_eq job) held) of
@@ -81,23 +81,23 @@ module _ (number : ProcName → ℕ) (one : AreNumbered number) where
   knows_by_number p jobs = all_numbers jobs (knows (named p)) (knows p) (λ job i. has_named p.chain job i || has_named p.held job i)
 
   -- Rights are the same.
-  pub reads_by_number : (session : Session) (p : Process) (class : Class)
-      → may_read (of_groups session.groups) (named p) (class_by_number number class) ≡ may_read session p class
-  reads_by_number session p (Private owner) = refl
-  reads_by_number session p (Readable owner) = refl
-  reads_by_number session p Open = refl
-  reads_by_number session p (Scratch owner jobs) = ap (λ b. same p.user owner && b) (knows_by_number p jobs)
-  reads_by_number session p (Grouped group) = refl
+  pub reads_by_number : (accounts : Accounts) (p : Process) (class : Class)
+      → may_read (of_groups accounts.groups) (named p) (class_by_number number class) ≡ may_read accounts p class
+  reads_by_number accounts p (Private owner) = refl
+  reads_by_number accounts p (Readable owner) = refl
+  reads_by_number accounts p Open = refl
+  reads_by_number accounts p (Scratch owner jobs) = ap (λ b. same p.user owner && b) (knows_by_number p jobs)
+  reads_by_number accounts p (Grouped group) = refl
 
-  pub writes_by_number : (session : Session) (p : Process) (class : Class)
-      → may_write (of_groups session.groups) (named p) (class_by_number number class) ≡ may_write session p class
-  writes_by_number session p (Private owner) = ap (λ b. same p.user owner && b) (free_by_number p)
-  writes_by_number session p (Readable owner) = ap (λ b. same p.user owner && b) (free_by_number p)
-  writes_by_number session p Open = free_by_number p
-  writes_by_number session p (Scratch owner jobs) =
+  pub writes_by_number : (accounts : Accounts) (p : Process) (class : Class)
+      → may_write (of_groups accounts.groups) (named p) (class_by_number number class) ≡ may_write accounts p class
+  writes_by_number accounts p (Private owner) = ap (λ b. same p.user owner && b) (free_by_number p)
+  writes_by_number accounts p (Readable owner) = ap (λ b. same p.user owner && b) (free_by_number p)
+  writes_by_number accounts p Open = free_by_number p
+  writes_by_number accounts p (Scratch owner jobs) =
       λ i. same p.user owner && knows_by_number p jobs i && all_numbers p.chain (has (jobs_by_number number jobs)) (has jobs) (has_named jobs) i
-  writes_by_number session p (Grouped group) = ap (λ b. is_member session p.user group && b) (free_by_number p)
+  writes_by_number accounts p (Grouped group) = ap (λ b. is_member accounts p.user group && b) (free_by_number p)
 
-  pub bound_by_number : (session : Session) (class : Class) (p : Process)
-      → is_bound (of_groups session.groups) (class_by_number number class) (named p) ≡ is_bound session class p
-  bound_by_number session class p = λ i. not (free_by_number p i) && reads_by_number session (holding_none p) class i
+  pub bound_by_number : (accounts : Accounts) (class : Class) (p : Process)
+      → is_bound (of_groups accounts.groups) (class_by_number number class) (named p) ≡ is_bound accounts class p
+  bound_by_number accounts class p = λ i. not (free_by_number p i) && reads_by_number accounts (holding_none p) class i

@@ -5,44 +5,44 @@ use Rattle.std.proofs.Common.{ap, sym, ◌∙◌, inl, inr}
 use Rattle.std.proofs.lemmas.Bool.{true≢false, and_parts, not-true, or_cases, cases_Bool}
 use Rattle.histar_flat.specs.Words.{Path, ProcName}
 use Rattle.histar_flat.specs.PathOrder.{same, same_path}
-use Rattle.histar_flat.specs.Sessions.{Session, has, is_member}
+use Rattle.histar_flat.specs.Accounts.{Accounts, has, is_member}
 use Rattle.histar_flat.specs.Classes.{Class, Process, carries, is_free, knows, may_read, may_write}
 use Rattle.histar_flat.specs.Classes.Class.{Private, Readable, Open, Scratch, Grouped}
 use Rattle.histar_flat.proofs.FileLemmas.{same_itself, same_path_found}
 use Rattle.histar_flat.proofs.Secrecy.{AreKept}
 use Rattle.histar_flat.proofs.Warrants.{writable_is_readable}
-use Rattle.histar_isolation.proofs.TestLemmas.{all_of, is_same, is_same_path}
-use Rattle.histar_secrecy.specs.Standings.{holding_none, is_bound}
+use Rattle.histar_noninterference.proofs.TestLemmas.{all_of, is_same, is_same_path}
+use Rattle.histar_secrecy.specs.Roles.{holding_none, is_bound}
 use Rattle.histar_secrecy.specs.Noninterference.{BoundWriteForReaders}
 use Rattle.histar_secrecy.proofs.WriteRights.{all_more}
 
 -- who is of the same user, and knows the jobs of a class that the other knows, may read what the other may read of it
-pub reads_as : (session : Session) (a b : Process) (class : Class) → a.user ≡ b.user
+pub reads_as : (accounts : Accounts) (a b : Process) (class : Class) → a.user ≡ b.user
     → ((job : ProcName) → carries job class ≡ true → knows a job ≡ true → knows b job ≡ true)
-    → may_read session a class ≡ true → may_read session b class ≡ true
-reads_as session a b (Private owner) user more h = sym (ap (λ u. same u owner) user) ∙ h
-reads_as session a b (Readable owner) user more h = refl
-reads_as session a b Open user more h = refl
-reads_as session a b (Scratch owner jobs) user more h =
+    → may_read accounts a class ≡ true → may_read accounts b class ≡ true
+reads_as accounts a b (Private owner) user more h = sym (ap (λ u. same u owner) user) ∙ h
+reads_as accounts a b (Readable owner) user more h = refl
+reads_as accounts a b Open user more h = refl
+reads_as accounts a b (Scratch owner jobs) user more h =
     let parts = and_parts (same a.user owner) (list_all (knows a) jobs) h in
     λ i. (sym (ap (λ u. same u owner) user) ∙ parts.0) i && all_more jobs (knows a) (knows b) more parts.1 i
-reads_as session a b (Grouped group) user more h = sym (ap (λ u. is_member session u group) user) ∙ h
+reads_as accounts a b (Grouped group) user more h = sym (ap (λ u. is_member accounts u group) user) ∙ h
 
 -- a list of jobs, or of none
 pub in_chain : (jobs : List ProcName) (job : ProcName) → (has jobs job || false) ≡ true → has jobs job ≡ true
 in_chain jobs job h = elim (or_cases (has jobs job) false h) [ inl t ↦ t | inr t ↦ absurd (true≢false (sym t)) ]
 
 -- where it is in the jobs of a process that holds none
-pub reads_inside : (session : Session) (a b : Process) (class : Class) → a.user ≡ b.user
+pub reads_inside : (accounts : Accounts) (a b : Process) (class : Class) → a.user ≡ b.user
     → ((job : ProcName) → has a.chain job ≡ true → has b.chain job ≡ true)
-    → may_read session (holding_none a) class ≡ true → may_read session (holding_none b) class ≡ true
-reads_inside session a b class user more h =
-    reads_as session (holding_none a) (holding_none b) class user (λ job c k. ap (λ x. x || false) (more job (in_chain a.chain job k))) h
+    → may_read accounts (holding_none a) class ≡ true → may_read accounts (holding_none b) class ≡ true
+reads_inside accounts a b class user more h =
+    reads_as accounts (holding_none a) (holding_none b) class user (λ job c k. ap (λ x. x || false) (more job (in_chain a.chain job k))) h
 
 -- what it may read holding none it may read
-pub reads_holding : (session : Session) (a : Process) (class : Class) → may_read session (holding_none a) class ≡ true
-    → may_read session a class ≡ true
-reads_holding session a class h = reads_as session (holding_none a) a class refl (λ job c k. ap (λ x. x || has a.held job) (in_chain a.chain job k)) h
+pub reads_holding : (accounts : Accounts) (a : Process) (class : Class) → may_read accounts (holding_none a) class ≡ true
+    → may_read accounts a class ≡ true
+reads_holding accounts a class h = reads_as accounts (holding_none a) a class refl (λ job c k. ap (λ x. x || has a.held job) (in_chain a.chain job k)) h
 
 -- the first job of a process that is in some
 pub first_job : (p : Process) → is_free p ≡ false → (job : ProcName) × (has p.chain job ≡ true)
@@ -61,24 +61,24 @@ in_a_job p job = by p.chain
     by (k ∷ ks) h = refl
 
 -- what being bound says
-pub bound_parts : (session : Session) (class : Class) (p : Process) → is_bound session class p ≡ true
-    → (is_free p ≡ false) × (may_read session (holding_none p) class ≡ true)
-bound_parts session class p h =
-    let parts = and_parts (not (is_free p)) (may_read session (holding_none p) class) h in (not-true (is_free p) parts.0, parts.1)
+pub bound_parts : (accounts : Accounts) (class : Class) (p : Process) → is_bound accounts class p ≡ true
+    → (is_free p ≡ false) × (may_read accounts (holding_none p) class ≡ true)
+bound_parts accounts class p h =
+    let parts = and_parts (not (is_free p)) (may_read accounts (holding_none p) class) h in (not-true (is_free p) parts.0, parts.1)
 
 -- who is in a job, and may read by the jobs that it is in, is bound
-pub is_bound_by : (session : Session) (class : Class) (p : Process) → is_free p ≡ false → may_read session (holding_none p) class ≡ true
-    → is_bound session class p ≡ true
-is_bound_by session class p busy reads = λ i. not (busy i) && reads i
+pub is_bound_by : (accounts : Accounts) (class : Class) (p : Process) → is_free p ≡ false → may_read accounts (holding_none p) class ≡ true
+    → is_bound accounts class p ≡ true
+is_bound_by accounts class p busy reads = λ i. not (busy i) && reads i
 
 -- who is of the same user, and in the jobs of who is bound, is bound
-pub bound_inside : (session : Session) (class : Class) (a b : Process) → a.user ≡ b.user
+pub bound_inside : (accounts : Accounts) (class : Class) (a b : Process) → a.user ≡ b.user
     → ((job : ProcName) → has a.chain job ≡ true → has b.chain job ≡ true)
-    → is_bound session class a ≡ true → is_bound session class b ≡ true
-bound_inside session class a b user more h =
-    let parts = bound_parts session class a h in
+    → is_bound accounts class a ≡ true → is_bound accounts class b ≡ true
+bound_inside accounts class a b user more h =
+    let parts = bound_parts accounts class a h in
     let job = first_job a parts.0 in
-    is_bound_by session class b (in_a_job b job.0 (more job.0 job.1)) (reads_inside session a b class user more parts.1)
+    is_bound_by accounts class b (in_a_job b job.0 (more job.0 job.1)) (reads_inside accounts a b class user more parts.1)
 
 -- the same class
 abbrev pub same_class : Class → Class → Bool
@@ -111,41 +111,41 @@ same_class_itself (Scratch u jobs) = λ i. same_itself u i && same_path_itself j
 same_class_itself (Grouped g) = same_itself g
 
 -- what is of the class is kept from who may not read it
-pub class_is_kept : (session : Session) (class : Class) → AreKept session (same_class class) (λ p. may_read session p class)
-class_is_kept session class = record {
+pub class_is_kept : (accounts : Accounts) (class : Class) → AreKept accounts (same_class class) (λ p. may_read accounts p class)
+class_is_kept accounts class = record {
   unread = λ p c other h. by p c other h;
-  unwritten = λ p c other h. by p c other (writable_is_readable session p c h);
+  unwritten = λ p c other h. by p c other (writable_is_readable accounts p c h);
 }
   where
-    by : (p : Process) (c : Class) → may_read session p class ≡ false → may_read session p c ≡ true → not (same_class class c) ≡ true
+    by : (p : Process) (c : Class) → may_read accounts p class ≡ false → may_read accounts p c ≡ true → not (same_class class c) ≡ true
     by p c other h = elim (cases_Bool (same_class class c)) [
-      | inl t ↦ absurd (true≢false (sym h ∙ ap (may_read session p) (sym (is_same_class class c t)) ∙ other))
+      | inl t ↦ absurd (true≢false (sym h ∙ ap (may_read accounts p) (sym (is_same_class class c t)) ∙ other))
       | inr t ↦ ap not t
     ]
 
 -- What who is bound may write only those may read who may read the class.
 pub bound_write_for_readers : BoundWriteForReaders
-bound_write_for_readers session class written p reader bound writes reads = by class written (parts.1) (written_scratch written writes) reads
+bound_write_for_readers accounts class written p reader bound writes reads = by class written (parts.1) (written_scratch written writes) reads
   where
-    parts : (is_free p ≡ false) × (may_read session (holding_none p) class ≡ true)
-    parts = bound_parts session class p bound
+    parts : (is_free p ≡ false) × (may_read accounts (holding_none p) class ≡ true)
+    parts = bound_parts accounts class p bound
 
     -- it writes scratch of its user and of all its jobs
     IsWritten : Class → Type 0
     IsWritten (Scratch owner jobs) = (same p.user owner ≡ true) × (list_all (has jobs) p.chain ≡ true)
     IsWritten _ = ⊥
 
-    written_scratch : (c : Class) → may_write session p c ≡ true → IsWritten c
+    written_scratch : (c : Class) → may_write accounts p c ≡ true → IsWritten c
     written_scratch (Private owner) w = true≢false (sym ((and_parts (same p.user owner) (is_free p) w).1) ∙ parts.0)
     written_scratch (Readable owner) w = true≢false (sym ((and_parts (same p.user owner) (is_free p) w).1) ∙ parts.0)
     written_scratch Open w = true≢false (sym w ∙ parts.0)
-    written_scratch (Grouped group) w = true≢false (sym ((and_parts (is_member session p.user group) (is_free p) w).1) ∙ parts.0)
+    written_scratch (Grouped group) w = true≢false (sym ((and_parts (is_member accounts p.user group) (is_free p) w).1) ∙ parts.0)
     written_scratch (Scratch owner jobs) w =
         let both = and_parts (same p.user owner && list_all (knows p) jobs) (list_all (has jobs) p.chain) w in
         ((and_parts (same p.user owner) (list_all (knows p) jobs) both.0).0, both.1)
 
-    by : (c w : Class) → may_read session (holding_none p) c ≡ true → IsWritten w → may_read session reader w ≡ true
-        → may_read session reader c ≡ true
+    by : (c w : Class) → may_read accounts (holding_none p) c ≡ true → IsWritten w → may_read accounts reader w ≡ true
+        → may_read accounts reader c ≡ true
     by c (Private owner) r x h = absurd x
     by c (Readable owner) r x h = absurd x
     by c Open r x h = absurd x
@@ -153,5 +153,5 @@ bound_write_for_readers session class written p reader bound writes reads = by c
     by c (Scratch owner jobs) r x h =
         let both = and_parts (same reader.user owner) (list_all (knows reader) jobs) h in
         let user : p.user ≡ reader.user = is_same p.user owner x.0 ∙ sym (is_same reader.user owner both.0) in
-        reads_as session (holding_none p) reader c user
+        reads_as accounts (holding_none p) reader c user
         (λ job carried k. all_of (knows reader) jobs job both.1 (all_of (has jobs) p.chain job x.1 (in_chain p.chain job k))) r

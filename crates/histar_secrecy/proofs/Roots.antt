@@ -11,7 +11,7 @@ use Rattle.histar_flat.specs.declared.calls.UnixCall.{UnixCall}
 use Rattle.histar_flat.specs.declared.calls.UnixCall.TheVariants.{Wrap}
 use Rattle.histar_flat.specs.Words.{Name, Path, ProcName}
 use Rattle.histar_flat.specs.PathOrder.{same, under_path, under_process}
-use Rattle.histar_flat.specs.Sessions.{Session, has, is_member}
+use Rattle.histar_flat.specs.Accounts.{Accounts, has, is_member}
 use Rattle.histar_flat.specs.Files.{get, insert}
 use Rattle.histar_flat.specs.Classes.{Class, Process, carries, class_made, free_class, is_free, knows, may_read, nobody}
 use Rattle.histar_flat.specs.Classes.Class.{Private, Readable, Scratch, Grouped}
@@ -28,8 +28,8 @@ use Rattle.histar_flat.proofs.GivenNames.{given_after, given_stays, longer_has, 
 use Rattle.histar_flat.proofs.Renaming.{get_renamed}
 use Rattle.histar_flat.proofs.Trees.{nothing_below}
 use Rattle.histar_flat.proofs.WrappedJobs.{has_last}
-use Rattle.histar_isolation.proofs.Kept.{born_cases, put_cases}
-use Rattle.histar_secrecy.specs.Standings.{holding_none}
+use Rattle.histar_noninterference.proofs.Kept.{born_cases, put_cases}
+use Rattle.histar_secrecy.specs.Roles.{holding_none}
 use Rattle.histar_secrecy.proofs.Knowing.{AreJobs, jobs_after, jobs_at_start}
 use Rattle.histar_secrecy.proofs.Readers.{in_a_job, reads_as, reads_holding, reads_inside}
 use Rattle.histar_secrecy.proofs.Names.{child_of, grown, login_of, starter_of}
@@ -49,44 +49,44 @@ all_if (k ∷ jobs) test each =
     λ i. each k (ap (λ b. b || has jobs k) (same_itself k)) i
     && all_if jobs test (λ job h. each job (ap (λ b. same job k || b) h ∙ or-true (same job k))) i
 
-module _ (session : Session) (class : Class) (job : ProcName) where
+module _ (accounts : Accounts) (class : Class) (job : ProcName) where
   -- Who is in the job may read what is of the class by the jobs that it is in, and who holds the job may read it.
   pub record AreReaders (s : Flat) : Type 0 where
-    pub inside : (x : ProcName) (y : Process) → s.processes x ≡ Some y → has y.chain job ≡ true → may_read session (holding_none y) class ≡ true
-    pub holding : (x : ProcName) (y : Process) → s.processes x ≡ Some y → has y.held job ≡ true → may_read session y class ≡ true
+    pub inside : (x : ProcName) (y : Process) → s.processes x ≡ Some y → has y.chain job ≡ true → may_read accounts (holding_none y) class ≡ true
+    pub holding : (x : ProcName) (y : Process) → s.processes x ≡ Some y → has y.held job ≡ true → may_read accounts y class ≡ true
 
-module _ {session : Session} {class : Class} {job : ProcName} {s : Flat} (h : AreReaders session class job s) where
+module _ {accounts : Accounts} {class : Class} {job : ProcName} {s : Flat} (h : AreReaders accounts class job s) where
   -- so all that know it may read it
-  pub knowers_read : (x : ProcName) (y : Process) → s.processes x ≡ Some y → knows y job ≡ true → may_read session y class ≡ true
+  pub knowers_read : (x : ProcName) (y : Process) → s.processes x ≡ Some y → knows y job ≡ true → may_read accounts y class ≡ true
   knowers_read x y there k = elim (or_cases (has y.chain job) (has y.held job) k) [
-    | inl t ↦ reads_holding session y class (h.inside x y there t)
+    | inl t ↦ reads_holding accounts y class (h.inside x y there t)
     | inr t ↦ h.holding x y there t
   ]
 
 -- one process more, or another
-readers_put : {session : Session} {class : Class} {job : ProcName} {s : Flat} → AreReaders session class job s → (me : ProcName) (q : Process)
-    → (has q.chain job ≡ true → may_read session (holding_none q) class ≡ true) → (has q.held job ≡ true → may_read session q class ≡ true)
-    → AreReaders session class job (with_process s me q)
-readers_put {session} {class} {job} {s} h me q inside holding = record {
+readers_put : {accounts : Accounts} {class : Class} {job : ProcName} {s : Flat} → AreReaders accounts class job s → (me : ProcName) (q : Process)
+    → (has q.chain job ≡ true → may_read accounts (holding_none q) class ≡ true) → (has q.held job ≡ true → may_read accounts q class ≡ true)
+    → AreReaders accounts class job (with_process s me q)
+readers_put {accounts} {class} {job} {s} h me q inside holding = record {
   inside = λ x y there i. elim (put_cases s me q x y there) [
-    | inl t ↦ subst (λ z. may_read session (holding_none z) class ≡ true) t.1 (inside (ap (λ z. has z.chain job) t.1 ∙ i))
+    | inl t ↦ subst (λ z. may_read accounts (holding_none z) class ≡ true) t.1 (inside (ap (λ z. has z.chain job) t.1 ∙ i))
     | inr t ↦ h.inside x y t i
   ];
   holding = λ x y there i. elim (put_cases s me q x y there) [
-    | inl t ↦ subst (λ z. may_read session z class ≡ true) t.1 (holding (ap (λ z. has z.held job) t.1 ∙ i))
+    | inl t ↦ subst (λ z. may_read accounts z class ≡ true) t.1 (holding (ap (λ z. has z.held job) t.1 ∙ i))
     | inr t ↦ h.holding x y t i
   ];
 }
 
-module _ {session : Session} {class : Class} {job : ProcName} {s : Flat} (h : AreReaders session class job s)
+module _ {accounts : Accounts} {class : Class} {job : ProcName} {s : Flat} (h : AreReaders accounts class job s)
     (given : is_given s.processes job ≡ true) (me : ProcName) (p : Process) (here : s.processes me ≡ Some p) where
   not_next : job ≢ next_child me p
   not_next e = true≢false (sym given ∙ ap (is_given s.processes) e ∙ next_is_new s me p here)
 
   -- in the same jobs
-  alike : (q : Process) → p.user ≡ q.user → p.chain ≡ q.chain → has q.chain job ≡ true → may_read session (holding_none q) class ≡ true
+  alike : (q : Process) → p.user ≡ q.user → p.chain ≡ q.chain → has q.chain job ≡ true → may_read accounts (holding_none q) class ≡ true
   alike q user chain i =
-      reads_inside session p q class user (λ k u. ap (λ c. has c k) (sym chain) ∙ u) (h.inside me p here (ap (λ c. has c job) chain ∙ i))
+      reads_inside accounts p q class user (λ k u. ap (λ c. has c k) (sym chain) ∙ u) (h.inside me p here (ap (λ c. has c job) chain ∙ i))
 
   abbrev wrapper : Process
   wrapper = starter_of me p
@@ -95,26 +95,26 @@ module _ {session : Session} {class : Class} {job : ProcName} {s : Flat} (h : Ar
   first = child_of p (inner_chain me p)
 
   -- a job was started
-  readers_wrapped : AreReaders session class job (with_process (with_process s me wrapper) (next_child me p) first)
+  readers_wrapped : AreReaders accounts class job (with_process (with_process s me wrapper) (next_child me p) first)
   readers_wrapped =
       readers_put (readers_put h me wrapper (alike wrapper refl refl) holds) (next_child me p) first in_it (λ i. absurd (true≢false (sym i)))
     where
-      holds : has (p.held ++ next_child me p ∷ []) job ≡ true → may_read session wrapper class ≡ true
+      holds : has (p.held ++ next_child me p ∷ []) job ≡ true → may_read accounts wrapper class ≡ true
       holds i = elim (longer_has p.held (next_child me p) job i) [
-        | inl t ↦ reads_as session p wrapper class refl (λ k c u. elim (or_cases (has p.chain k) (has p.held k) u) [
+        | inl t ↦ reads_as accounts p wrapper class refl (λ k c u. elim (or_cases (has p.chain k) (has p.held k) u) [
           | inl v ↦ ap (λ b. b || has (p.held ++ next_child me p ∷ []) k) v
           | inr v ↦ ap (λ b. has p.chain k || b) (longer_keeps p.held (next_child me p) k v) ∙ or-true (has p.chain k)
         ]) (h.holding me p here t)
         | inr t ↦ absurd (not_next t)
       ]
 
-      in_it : has (inner_chain me p) job ≡ true → may_read session (holding_none first) class ≡ true
+      in_it : has (inner_chain me p) job ≡ true → may_read accounts (holding_none first) class ≡ true
       in_it i = elim (longer_has p.chain (next_child me p) job i) [
-        | inl t ↦ reads_inside session p first class refl (λ k u. longer_keeps p.chain (next_child me p) k u) (h.inside me p here t)
+        | inl t ↦ reads_inside accounts p first class refl (λ k u. longer_keeps p.chain (next_child me p) k u) (h.inside me p here t)
         | inr t ↦ absurd (not_next t)
       ]
 
-  readers_changes : (call : UnixCall) → EachChange session s me p call (AreReaders session class job)
+  readers_changes : (call : UnixCall) → EachChange accounts s me p call (AreReaders accounts class job)
   unfolding readers_wrapped
   readers_changes call = record {
     stays = h;
@@ -123,12 +123,12 @@ module _ {session : Session} {class : Class} {job : ProcName} {s : Flat} (h : Ar
     cuts = λ n d takes w. record { inside = h.inside; holding = h.holding };
     renames = λ n k d takes ne free w. record { inside = h.inside; holding = h.holding };
     spawns = λ is. readers_put
-        (readers_put h me (grown p) (alike (grown p) refl refl) (λ i. reads_as session p (grown p) class refl (λ k c u. u) (h.holding me p here i)))
+        (readers_put h me (grown p) (alike (grown p) refl refl) (λ i. reads_as accounts p (grown p) class refl (λ k c u. u) (h.holding me p here i)))
         (next_child me p) (child_of p p.chain)
         (alike (child_of p p.chain) refl refl) (λ i. absurd (true≢false (sym i)));
     exits = λ n is.
         readers_put h me (record p { exited = Some n }) (alike (record p { exited = Some n }) refl refl)
-        (λ i. reads_as session p (record p { exited = Some n }) class refl (λ k c u. u) (h.holding me p here i));
+        (λ i. reads_as accounts p (record p { exited = Some n }) class refl (λ k c u. u) (h.holding me p here i));
     logs_in = λ name is known free.
         readers_put h me (login_of p name) (λ i. absurd (true≢false (sym free ∙ in_a_job p job i))) (λ i. absurd (true≢false (sym i)));
     kills = λ n. record {
@@ -139,50 +139,50 @@ module _ {session : Session} {class : Class} {job : ProcName} {s : Flat} (h : Ar
   }
 
 -- So it is after each line.
-pub readers_after : {session : Session} {class : Class} {job : ProcName} {s : Flat} → AreReaders session class job s → is_given s.processes job ≡ true
-    → (me : ProcName) (call : UnixCall) → AreReaders session class job (flat_after session s me call)
-readers_after {session} {class} {job} {s} h given me call =
-    by_line session s me call (AreReaders session class job) h (λ p runs. readers_changes h given me p (runs_is_there (s.processes me) p runs) call)
+pub readers_after : {accounts : Accounts} {class : Class} {job : ProcName} {s : Flat} → AreReaders accounts class job s → is_given s.processes job ≡ true
+    → (me : ProcName) (call : UnixCall) → AreReaders accounts class job (flat_after accounts s me call)
+readers_after {accounts} {class} {job} {s} h given me call =
+    by_line accounts s me call (AreReaders accounts class job) h (λ p runs. readers_changes h given me p (runs_is_there (s.processes me) p runs) call)
 
 -- a job that what is of the class is of, such that all that know it may read that
-pub record HasRoot (session : Session) (s : Flat) (class : Class) : Type 0 where
+pub record HasRoot (accounts : Accounts) (s : Flat) (class : Class) : Type 0 where
   pub job : ProcName
   pub carried : carries job class ≡ true
   pub given : is_given s.processes job ≡ true
-  pub readers : AreReaders session class job s
+  pub readers : AreReaders accounts class job s
 
 -- a root stays one
-pub root_after : (session : Session) (class : Class) (s : Flat) → HasRoot session s class → (me : ProcName) (call : UnixCall)
-    → HasRoot session (flat_after session s me call) class
-root_after session class s h me call = record {
+pub root_after : (accounts : Accounts) (class : Class) (s : Flat) → HasRoot accounts s class → (me : ProcName) (call : UnixCall)
+    → HasRoot accounts (flat_after accounts s me call) class
+root_after accounts class s h me call = record {
   job = h.job;
   carried = h.carried;
-  given = given_stays session s me call h.job h.given;
+  given = given_stays accounts s me call h.job h.given;
   readers = readers_after h.readers h.given me call;
 }
 
 -- each scratch class of what is there has a root, and so has what each process in a job makes
-pub record AreRooted (session : Session) (s : Flat) : Type 0 where
-  pub classes : (q : Path) (n : Node) → get s.files q ≡ Some n → is_scratch n.class ≡ true → HasRoot session s n.class
-  pub chains : (x : ProcName) (y : Process) → s.processes x ≡ Some y → is_free y ≡ false → HasRoot session s (Scratch y.user y.chain)
+pub record AreRooted (accounts : Accounts) (s : Flat) : Type 0 where
+  pub classes : (q : Path) (n : Node) → get s.files q ≡ Some n → is_scratch n.class ≡ true → HasRoot accounts s n.class
+  pub chains : (x : ProcName) (y : Process) → s.processes x ≡ Some y → is_free y ≡ false → HasRoot accounts s (Scratch y.user y.chain)
 
 -- the same, where some of these roots were roots before
-record AreRootedFrom (session : Session) (s g : Flat) : Type 0 where
-  classes : (q : Path) (n : Node) → get g.files q ≡ Some n → is_scratch n.class ≡ true → HasRoot session s n.class ⊎ HasRoot session g n.class
+record AreRootedFrom (accounts : Accounts) (s g : Flat) : Type 0 where
+  classes : (q : Path) (n : Node) → get g.files q ≡ Some n → is_scratch n.class ≡ true → HasRoot accounts s n.class ⊎ HasRoot accounts g n.class
   chains : (x : ProcName) (y : Process) → g.processes x ≡ Some y → is_free y ≡ false
-      → HasRoot session s (Scratch y.user y.chain) ⊎ HasRoot session g (Scratch y.user y.chain)
+      → HasRoot accounts s (Scratch y.user y.chain) ⊎ HasRoot accounts g (Scratch y.user y.chain)
 
-module _ (session : Session) (s : Flat) (h : AreRooted session s) (jobs : AreJobs s) (me : ProcName) (p : Process)
+module _ (accounts : Accounts) (s : Flat) (h : AreRooted accounts s) (jobs : AreJobs s) (me : ProcName) (p : Process)
     (here : s.processes me ≡ Some p) where
   -- what is made, if it is scratch, is that of a process in jobs
-  made_root : (mode : Mode) → is_scratch (class_or_open (class_made session p mode)) ≡ true
-      → HasRoot session s (class_or_open (class_made session p mode))
+  made_root : (mode : Mode) → is_scratch (class_or_open (class_made accounts p mode)) ≡ true
+      → HasRoot accounts s (class_or_open (class_made accounts p mode))
   made_root mode scratch = elim (cases_Bool (is_free p)) [
     | inl free ↦
-        let made = ap (λ b. is_scratch (class_or_open (if b then free_class session p mode else Some (Scratch p.user p.chain)))) free in
+        let made = ap (λ b. is_scratch (class_or_open (if b then free_class accounts p mode else Some (Scratch p.user p.chain)))) free in
         absurd (true≢false (sym scratch ∙ made ∙ plain mode))
     | inr busy ↦
-        subst (HasRoot session s) (sym (ap (λ b. class_or_open (if b then free_class session p mode else Some (Scratch p.user p.chain))) busy))
+        subst (HasRoot accounts s) (sym (ap (λ b. class_or_open (if b then free_class accounts p mode else Some (Scratch p.user p.chain))) busy))
         (h.chains me p here busy)
   ]
     where
@@ -191,71 +191,71 @@ module _ (session : Session) (s : Flat) (h : AreRooted session s) (jobs : AreJob
       by true c d u v = u
       by false c d u v = v
 
-      plain : (m : Mode) → is_scratch (class_or_open (free_class session p m)) ≡ false
+      plain : (m : Mode) → is_scratch (class_or_open (free_class accounts p m)) ≡ false
       plain modes.Open = refl
       plain modes.Private = by (same p.user nobody) None (Some (Private p.user)) refl refl
       plain modes.Readable = by (same p.user nobody) None (Some (Readable p.user)) refl refl
-      plain (modes.Group group) = by (is_member session p.user group) (Some (Grouped group)) None refl refl
+      plain (modes.Group group) = by (is_member accounts p.user group) (Some (Grouped group)) None refl refl
 
   -- where files alone change
   rooted_files : (g : Flat) → g.processes ≡ s.processes
-      → ((q : Path) (n : Node) → get g.files q ≡ Some n → is_scratch n.class ≡ true → HasRoot session s n.class) → AreRootedFrom session s g
+      → ((q : Path) (n : Node) → get g.files q ≡ Some n → is_scratch n.class ≡ true → HasRoot accounts s n.class) → AreRootedFrom accounts s g
   rooted_files g still each = record {
     classes = λ q n at scratch. inl (each q n at scratch);
     chains = λ x y there busy. inl (h.chains x y (sym (ap (λ ps. ps x) still) ∙ there) busy);
   }
 
-  rooted_put : (q : Path) (x : Node) → (is_scratch x.class ≡ true → HasRoot session s x.class) → (r : Path) (n : Node)
-      → get (insert s.files q x) r ≡ Some n → is_scratch n.class ≡ true → HasRoot session s n.class
+  rooted_put : (q : Path) (x : Node) → (is_scratch x.class ≡ true → HasRoot accounts s x.class) → (r : Path) (n : Node)
+      → get (insert s.files q x) r ≡ Some n → is_scratch n.class ≡ true → HasRoot accounts s n.class
   rooted_put q x root r n at scratch = elim (same_path_found r q) [
     | inl t ↦
         let found : Some x ≡ Some n = sym (get_new s.files q x) ∙ ap (get (insert s.files q x)) (sym t.1) ∙ at in
         let one : x ≡ n = cc in
-        subst (λ (z : Node). HasRoot session s z.class) one (root (ap (λ (z : Node). is_scratch z.class) one ∙ scratch))
+        subst (λ (z : Node). HasRoot accounts s z.class) one (root (ap (λ (z : Node). is_scratch z.class) one ∙ scratch))
     | inr t ↦ h.classes r n (sym (get_other s.files q x r t.1) ∙ at) scratch
   ]
 
   -- a file that is written stays of its class
-  written_root : (q : Path) (o : Option Node) → get s.files q ≡ o → is_scratch (class_of o) ≡ true → HasRoot session s (class_of o)
+  written_root : (q : Path) (o : Option Node) → get s.files q ≡ o → is_scratch (class_of o) ≡ true → HasRoot accounts s (class_of o)
   written_root q None at scratch = absurd (true≢false (sym scratch))
   written_root q (Some n) at scratch = h.classes q n at scratch
 
   -- where processes alone change, and each is of a user and in jobs as one was
   alike_root : (y z : Process) → y.user ≡ z.user → y.chain ≡ z.chain → (x : ProcName) → s.processes x ≡ Some y → is_free z ≡ false
-      → HasRoot session s (Scratch z.user z.chain)
+      → HasRoot accounts s (Scratch z.user z.chain)
   alike_root y z user chain x there busy =
-      subst (HasRoot session s) (λ i. Scratch (user i) (chain i))
+      subst (HasRoot accounts s) (λ i. Scratch (user i) (chain i))
       (h.chains x y there (ap (λ c. let b : Bool = elim c [ [] ↦ true | k ∷ ks ↦ false ] in b) chain ∙ busy))
 
   -- where one process changed
-  rooted_one : (q : Process) → (is_free q ≡ false → HasRoot session s (Scratch q.user q.chain)) → AreRootedFrom session s (with_process s me q)
+  rooted_one : (q : Process) → (is_free q ≡ false → HasRoot accounts s (Scratch q.user q.chain)) → AreRootedFrom accounts s (with_process s me q)
   rooted_one q root = record {
     classes = λ r n at scratch. inl (h.classes r n at scratch);
     chains = λ x y there busy. elim (put_cases s me q x y there) [
-      | inl t ↦ inl (subst (λ z. HasRoot session s (Scratch z.user z.chain)) t.1 (root (ap is_free t.1 ∙ busy)))
+      | inl t ↦ inl (subst (λ z. HasRoot accounts s (Scratch z.user z.chain)) t.1 (root (ap is_free t.1 ∙ busy)))
       | inr t ↦ inl (h.chains x y t busy)
     ];
   }
 
   -- where a child was born
   rooted_birth : (q child : Process) → p.user ≡ q.user → p.chain ≡ q.chain
-      → (is_free child ≡ false → HasRoot session s (Scratch child.user child.chain))
-      → AreRootedFrom session s (with_process (with_process s me q) (next_child me p) child)
+      → (is_free child ≡ false → HasRoot accounts s (Scratch child.user child.chain))
+      → AreRootedFrom accounts s (with_process (with_process s me q) (next_child me p) child)
   rooted_birth q child user chain root = record {
     classes = λ r n at scratch. inl (h.classes r n at scratch);
     chains = λ x y there busy. elim (born_cases s me q (next_child me p) child x y there) [
-      | inl t ↦ inl (subst (λ z. HasRoot session s (Scratch z.user z.chain)) t.1 (root (ap is_free t.1 ∙ busy)))
+      | inl t ↦ inl (subst (λ z. HasRoot accounts s (Scratch z.user z.chain)) t.1 (root (ap is_free t.1 ∙ busy)))
       | inr v ↦ elim v [
-        | inl t ↦ inl (subst (λ z. HasRoot session s (Scratch z.user z.chain)) t.1 (alike_root p q user chain me here (ap is_free t.1 ∙ busy)))
+        | inl t ↦ inl (subst (λ z. HasRoot accounts s (Scratch z.user z.chain)) t.1 (alike_root p q user chain me here (ap is_free t.1 ∙ busy)))
         | inr t ↦ inl (h.chains x y t busy)
       ]
     ];
   }
 
   -- a job that was started keeps what it makes
-  module _ (n : Name) (d : Path) (names : NamesAreGiven (changed session s me p (Wrap (n ∷ d)))) where
+  module _ (n : Name) (d : Path) (names : NamesAreGiven (changed accounts s me p (Wrap (n ∷ d)))) where
     abbrev after : Flat
-    after = changed session s me p (Wrap (n ∷ d))
+    after = changed accounts s me p (Wrap (n ∷ d))
 
     abbrev starter : Process
     starter = starter_of me p
@@ -268,10 +268,10 @@ module _ (session : Session) (s : Flat) (h : AreRooted session s) (jobs : AreJob
     unknown x y there k = true≢false (sym (jobs.names.of_known_jobs x y (next_child me p) there k) ∙ next_is_new s me p here)
 
     reads_its_own : (y : Process) → p.user ≡ y.user → ((job : ProcName) → has (inner_chain me p) job ≡ true → knows y job ≡ true)
-        → may_read session y (Scratch p.user (inner_chain me p)) ≡ true
+        → may_read accounts y (Scratch p.user (inner_chain me p)) ≡ true
     reads_its_own y user all = λ i. (ap (λ u. same u p.user) (sym user) ∙ same_itself p.user) i && all_if (inner_chain me p) (knows y) all i
 
-    new_root : HasRoot session after (Scratch p.user (inner_chain me p))
+    new_root : HasRoot accounts after (Scratch p.user (inner_chain me p))
     new_root = record {
       job = next_child me p;
       carried = has_last p.chain (next_child me p);
@@ -280,7 +280,7 @@ module _ (session : Session) (s : Flat) (h : AreRooted session s) (jobs : AreJob
           names.of_processes (next_child me p) newborn (ap (λ b. cond b (Some newborn) before) (same_itself (next_child me p)));
       readers = record {
         inside = λ x y there i. elim (born_cases s me starter (next_child me p) newborn x y there) [
-          | inl t ↦ subst (λ z. may_read session (holding_none z) (Scratch p.user (inner_chain me p)) ≡ true) t.1
+          | inl t ↦ subst (λ z. may_read accounts (holding_none z) (Scratch p.user (inner_chain me p)) ≡ true) t.1
               (reads_its_own (holding_none newborn) refl (λ job u. ap (λ b. b || false) u))
           | inr v ↦ elim v [
             | inl t ↦ absurd (unknown me p here (ap (λ b. b || has p.held (next_child me p)) (ap (λ z. has z.chain (next_child me p)) t.1 ∙ i)))
@@ -290,7 +290,7 @@ module _ (session : Session) (s : Flat) (h : AreRooted session s) (jobs : AreJob
         holding = λ x y there i. elim (born_cases s me starter (next_child me p) newborn x y there) [
           | inl t ↦ absurd (true≢false (sym (ap (λ z. has z.held (next_child me p)) t.1 ∙ i)))
           | inr v ↦ elim v [
-            | inl t ↦ subst (λ z. may_read session z (Scratch p.user (inner_chain me p)) ≡ true) t.1 (reads_its_own starter refl knows_all)
+            | inl t ↦ subst (λ z. may_read accounts z (Scratch p.user (inner_chain me p)) ≡ true) t.1 (reads_its_own starter refl knows_all)
             | inr t ↦ absurd (unknown x y t (ap (λ b. has y.chain (next_child me p) || b) i ∙ or-true (has y.chain (next_child me p))))
           ]
         ];
@@ -305,19 +305,19 @@ module _ (session : Session) (s : Flat) (h : AreRooted session s) (jobs : AreJob
               ∙ or-true (has p.chain job)
         ]
 
-    rooted_wrap : AreRootedFrom session s after
+    rooted_wrap : AreRootedFrom accounts s after
     rooted_wrap = record {
       classes = λ q x at scratch. elim (same_path_found q (n ∷ d)) [
         | inl t ↦
             let found : Some dir ≡ Some x = sym (get_new s.files (n ∷ d) dir) ∙ ap (get (insert s.files (n ∷ d) dir)) (sym t.1) ∙ at in
             let one : dir ≡ x = cc in
-            inr (subst (λ (z : Node). HasRoot session after z.class) one new_root)
+            inr (subst (λ (z : Node). HasRoot accounts after z.class) one new_root)
         | inr t ↦ inl (h.classes q x (sym (get_other s.files (n ∷ d) dir q t.1) ∙ at) scratch)
       ];
       chains = λ x y there busy. elim (born_cases s me starter (next_child me p) newborn x y there) [
-        | inl t ↦ inr (subst (λ z. HasRoot session after (Scratch z.user z.chain)) t.1 new_root)
+        | inl t ↦ inr (subst (λ z. HasRoot accounts after (Scratch z.user z.chain)) t.1 new_root)
         | inr v ↦ elim v [
-          | inl t ↦ inl (subst (λ z. HasRoot session s (Scratch z.user z.chain)) t.1 (alike_root p starter refl refl me here (ap is_free t.1 ∙ busy)))
+          | inl t ↦ inl (subst (λ z. HasRoot accounts s (Scratch z.user z.chain)) t.1 (alike_root p starter refl refl me here (ap is_free t.1 ∙ busy)))
           | inr t ↦ inl (h.chains x y t busy)
         ]
       ];
@@ -326,12 +326,12 @@ module _ (session : Session) (s : Flat) (h : AreRooted session s) (jobs : AreJob
         dir : Node
         dir = record { class = Scratch p.user (inner_chain me p); content = Dir }
 
-  rooted_changes : (call : UnixCall) → EachChange session s me p call (λ g. NamesAreGiven g → AreRootedFrom session s g)
+  rooted_changes : (call : UnixCall) → EachChange accounts s me p call (λ g. NamesAreGiven g → AreRootedFrom accounts s g)
   unfolding rooted_wrap
   rooted_changes call = record {
     stays = λ names. rooted_files s refl h.classes;
     makes = λ n d x walked free w own mode made_is names. rooted_files (with_node s (n ∷ d) x.class x.content) refl
-        (rooted_put (n ∷ d) x (λ scratch. subst (HasRoot session s) (sym made_is) (made_root mode (sym (ap is_scratch made_is) ∙ scratch))));
+        (rooted_put (n ∷ d) x (λ scratch. subst (HasRoot accounts s) (sym made_is) (made_root mode (sym (ap is_scratch made_is) ∙ scratch))));
     overwrites = λ n d bytes file w names. rooted_files _ refl
         (rooted_put (n ∷ d) (record { class = class_of (get s.files (n ∷ d)); content = File bytes })
         (written_root (n ∷ d) (get s.files (n ∷ d)) refl));
@@ -351,42 +351,42 @@ module _ (session : Session) (s : Flat) (h : AreRooted session s) (jobs : AreJob
   }
 
 -- So it is after each line.
-rooted_after : (session : Session) (s : Flat) → AreRooted session s → AreJobs s → (me : ProcName) (call : UnixCall)
-    → AreRooted session (flat_after session s me call)
-rooted_after session s h jobs me call = record {
+rooted_after : (accounts : Accounts) (s : Flat) → AreRooted accounts s → AreJobs s → (me : ProcName) (call : UnixCall)
+    → AreRooted accounts (flat_after accounts s me call)
+rooted_after accounts s h jobs me call = record {
   classes = λ q n at scratch. elim (from.classes q n at scratch) [
-    | inl t ↦ root_after session n.class s t me call
+    | inl t ↦ root_after accounts n.class s t me call
     | inr t ↦ t
   ];
   chains = λ x y there busy. elim (from.chains x y there busy) [
-    | inl t ↦ root_after session (Scratch y.user y.chain) s t me call
+    | inl t ↦ root_after accounts (Scratch y.user y.chain) s t me call
     | inr t ↦ t
   ];
 }
   where
-    from : AreRootedFrom session s (flat_after session s me call)
-    from = by_line session s me call (λ g. NamesAreGiven g → AreRootedFrom session s g)
+    from : AreRootedFrom accounts s (flat_after accounts s me call)
+    from = by_line accounts s me call (λ g. NamesAreGiven g → AreRootedFrom accounts s g)
         (λ names. record { classes = λ q n at scratch. inl (h.classes q n at scratch); chains = λ x y there busy. inl (h.chains x y there busy) })
-        (λ p runs. rooted_changes session s h jobs me p (runs_is_there (s.processes me) p runs) call)
-        (given_after session s me call jobs.tree jobs.names)
+        (λ p runs. rooted_changes accounts s h jobs me p (runs_is_there (s.processes me) p runs) call)
+        (given_after accounts s me call jobs.tree jobs.names)
 
 -- At the start nothing is scratch, and nobody is in a job.
-rooted_at_start : (session : Session) → AreRooted session (boot session)
-rooted_at_start session = record { classes = none; chains = free }
+rooted_at_start : (accounts : Accounts) → AreRooted accounts (boot accounts)
+rooted_at_start accounts = record { classes = none; chains = free }
   where
     slash : Node
-    slash = record { class = Readable (first_user session.users); content = Dir }
+    slash = record { class = Readable (first_user accounts.users); content = Dir }
 
-    none : (q : Path) (n : Node) → get (boot session).files q ≡ Some n → is_scratch n.class ≡ true → HasRoot session (boot session) n.class
+    none : (q : Path) (n : Node) → get (boot accounts).files q ≡ Some n → is_scratch n.class ≡ true → HasRoot accounts (boot accounts) n.class
     none [] n at scratch =
-        let found : Some (record { class = Readable (first_user session.users); content = Dir }) ≡ Some n = at in
-        let one : record { class = Readable (first_user session.users); content = Dir } ≡ n = cc in
+        let found : Some (record { class = Readable (first_user accounts.users); content = Dir }) ≡ Some n = at in
+        let one : record { class = Readable (first_user accounts.users); content = Dir } ≡ n = cc in
         absurd (true≢false (sym scratch ∙ ap (λ (z : Node). is_scratch z.class) (sym one)))
     none (m ∷ d) n at scratch =
         let gone : None ≡ Some n = sym (get_other Rattle.histar_flat.specs.Files.empty [] slash (m ∷ d) (λ e. cc)) ∙ at in absurd (cc)
 
-    free : (x : ProcName) (y : Process) → (boot session).processes x ≡ Some y → is_free y ≡ false
-        → HasRoot session (boot session) (Scratch y.user y.chain)
+    free : (x : ProcName) (y : Process) → (boot accounts).processes x ≡ Some y → is_free y ≡ false
+        → HasRoot accounts (boot accounts) (Scratch y.user y.chain)
     free [] y at busy =
         let found : Some first_process ≡ Some y = at in
         let one : first_process ≡ y = cc in
@@ -394,10 +394,10 @@ rooted_at_start session = record { classes = none; chains = free }
     free (m ∷ x) y at busy = let gone : None ≡ Some y = at in absurd (cc)
 
 -- In each state that calls lead to each scratch class has a root.
-pub rooted_at_end : (session : Session) (calls : List CallLine) → AreRooted session (flat_end session (boot session) calls)
-rooted_at_end session calls = go calls (boot session) (jobs_at_start session) (rooted_at_start session)
+pub rooted_at_end : (accounts : Accounts) (calls : List CallLine) → AreRooted accounts (flat_end accounts (boot accounts) calls)
+rooted_at_end accounts calls = go calls (boot accounts) (jobs_at_start accounts) (rooted_at_start accounts)
   where
-    go : (calls : List CallLine) (s : Flat) → AreJobs s → AreRooted session s → AreRooted session (flat_end session s calls)
+    go : (calls : List CallLine) (s : Flat) → AreJobs s → AreRooted accounts s → AreRooted accounts (flat_end accounts s calls)
     go [] s jobs h = h
     go (c ∷ calls) s jobs h =
-        go calls (flat_after session s c.process c.call) (jobs_after session s jobs c.process c.call) (rooted_after session s h jobs c.process c.call)
+        go calls (flat_after accounts s c.process c.call) (jobs_after accounts s jobs c.process c.call) (rooted_after accounts s h jobs c.process c.call)

@@ -4,39 +4,39 @@ use Rattle.std.specs.List.{list_any}
 use Rattle.std.proofs.Common.{ap, sym, ◌∙◌}
 use Rattle.std.proofs.lemmas.Bool.{true≢false}
 use Rattle.histar_flat.specs.Words.{Path, ProcName}
-use Rattle.histar_flat.specs.Sessions.{Session}
+use Rattle.histar_flat.specs.Accounts.{Accounts}
 use Rattle.histar_flat.specs.Files.{get}
 use Rattle.histar_flat.specs.Classes.{Class, Process, may_read, may_write}
 use Rattle.histar_flat.specs.FlatState.{Flat, Node, is_some_and}
 use Rattle.histar_secrecy.specs.declared.file_class.FileClass.{FileClass}
-use Rattle.histar_secrecy.specs.declared.standing.Member.{Member}
-use Rattle.histar_secrecy.specs.declared.standing.Standing.{Standing}
-use Rattle.histar_secrecy.specs.declared.standing.Standing.TheVariants.{Trusted, Confined, Outside}
+use Rattle.histar_secrecy.specs.declared.role.Member.{Member}
+use Rattle.histar_secrecy.specs.declared.role.Role.{Role}
+use Rattle.histar_secrecy.specs.declared.role.Role.TheVariants.{Trusted, Confined, Outside}
 use Rattle.histar_secrecy.specs.Logins.{logged_in}
-use Rattle.histar_secrecy.specs.Standings.{is_bound, is_confined, is_trusted}
-use Rattle.histar_secrecy.specs.Noninterference.{ShowsStanding}
+use Rattle.histar_secrecy.specs.Roles.{is_bound, is_confined, is_trusted}
+use Rattle.histar_secrecy.specs.Noninterference.{ShowsRole}
 use Rattle.histar_secrecy.specs.Changers.{may_change}
-use Rattle.histar_secrecy.specs.ShownStandings.{AreClassesTo, AreNumbered, IsOfClass, IsShownProcess, ShownIsSo, changes_one, flat_class, job_numbered, class_by_number, of_groups, member_standing, standing_in, standing_of, with_rights}
-use Rattle.histar_secrecy.proofs.Learning.{standings_are_shown}
+use Rattle.histar_secrecy.specs.ShownRoles.{AreClassesTo, AreNumbered, IsOfClass, IsShownProcess, ShownIsSo, changes_one, flat_class, job_numbered, class_by_number, of_groups, member_role, role_in, role_of, with_rights}
+use Rattle.histar_secrecy.proofs.Learning.{roles_are_shown}
 use Rattle.histar_secrecy.proofs.NumberedJobs.{bound_by_number, in_two_steps, named, reads_by_number, writes_by_number}
 use Rattle.histar_secrecy.proofs.Readers.{bound_parts, reads_holding}
 
 -- standings by two tests
 by_tests : (reads bound trusted confined : Bool) → trusted ≡ (reads && not bound) → confined ≡ bound → (bound ≡ true → reads ≡ true)
-    → (let s : Standing = if reads then (if bound then Confined else Trusted) else Outside in s)
-    ≡ (let s : Standing = if trusted then Trusted else if confined then Confined else Outside in s)
+    → (let s : Role = if reads then (if bound then Confined else Trusted) else Outside in s)
+    ≡ (let s : Role = if trusted then Trusted else if confined then Confined else Outside in s)
 by_tests reads bound trusted confined t c h =
     by reads bound h ∙ sym (λ i. if t i then Trusted else if c i then Confined else Outside)
   where
     by : (reads bound : Bool) → (bound ≡ true → reads ≡ true)
-        → (let s : Standing = if reads then (if bound then Confined else Trusted) else Outside in s)
-        ≡ (let s : Standing = if (reads && not bound) then Trusted else if bound then Confined else Outside in s)
+        → (let s : Role = if reads then (if bound then Confined else Trusted) else Outside in s)
+        ≡ (let s : Role = if (reads && not bound) then Trusted else if bound then Confined else Outside in s)
     by true true h = refl
     by true false h = refl
     by false true h = absurd (true≢false (sym (h refl)))
     by false false h = refl
 
-module _ (number : ProcName → ℕ) (one : AreNumbered number) (session : Session) (f : Flat) where
+module _ (number : ProcName → ℕ) (one : AreNumbered number) (accounts : Accounts) (f : Flat) where
   -- the process that is shown is the one that runs, with its jobs known by their numbers
   shown_is : {m : Member} {p : Process} → IsShownProcess number f m p → with_rights m.user m.jobs.items m.held.items ≡ named number one p
   shown_is {m} {p} is = sym (λ i. record {
@@ -49,41 +49,41 @@ module _ (number : ProcName → ℕ) (one : AreNumbered number) (session : Sessi
 
   -- a process writes what is there where it may write what is of the class
   writes_is : (p : Process) (o : Option Node) (class : FileClass) → IsOfClass number o class
-      → may_write (of_groups session.groups) (named number one p) (flat_class class) ≡ is_some_and o (λ n. may_write session p n.class)
+      → may_write (of_groups accounts.groups) (named number one p) (flat_class class) ≡ is_some_and o (λ n. may_write accounts p n.class)
   writes_is p None class e = absurd (cc)
   writes_is p (Some n) class e =
       let of_class : class_by_number number n.class ≡ flat_class class = cc in
-      ap (may_write (of_groups session.groups) (named number one p)) (sym of_class) ∙ writes_by_number number one session p n.class
+      ap (may_write (of_groups accounts.groups) (named number one p)) (sym of_class) ∙ writes_by_number number one accounts p n.class
 
   changes_is : (p : Process) (path : Path) (classes : List FileClass) → AreClassesTo number f path classes
-      → changes_one session.groups (named number one p) classes ≡ may_change session f p path
+      → changes_one accounts.groups (named number one p) classes ≡ may_change accounts f p path
   changes_is p path [] h = absurd h
   changes_is p [] (c ∷ classes) h =
       λ i. writes_is p (get f.files []) c h.0 i
-      || list_any (λ class. may_write (of_groups session.groups) (named number one p) (flat_class class)) (h.1 i)
+      || list_any (λ class. may_write (of_groups accounts.groups) (named number one p) (flat_class class)) (h.1 i)
   changes_is p (n ∷ d) (c ∷ classes) h = λ i. writes_is p (get f.files (n ∷ d)) c h.0 i || changes_is p d classes h.1 i
 
 -- a process that is shown has the standing of the one that runs
-standing_is : {number : ProcName → ℕ} (one : AreNumbered number) {session : Session} {f : Flat} {c : Class} (class : FileClass)
-    → class_by_number number c ≡ flat_class class → {m : Member} {p : Process} → IsShownProcess number f m p → ShowsStanding session c f m.name p
-    → member_standing session.groups (flat_class class) m ≡ standing_in session c f m.name
-standing_is {number} one {session} {f} {c} class of_class {m} {p} is shown =
-    (λ i. standing_of session.groups (sym of_class i) (shown_is number one session f is i))
+role_is : {number : ProcName → ℕ} (one : AreNumbered number) {accounts : Accounts} {f : Flat} {c : Class} (class : FileClass)
+    → class_by_number number c ≡ flat_class class → {m : Member} {p : Process} → IsShownProcess number f m p → ShowsRole accounts c f m.name p
+    → member_role accounts.groups (flat_class class) m ≡ role_in accounts c f m.name
+role_is {number} one {accounts} {f} {c} class of_class {m} {p} is shown =
+    (λ i. role_of accounts.groups (sym of_class i) (shown_is number one accounts f is i))
     ∙
-    (λ i. if reads_by_number number one session p c i then (if bound_by_number number one session c p i then Confined else Trusted) else Outside)
-    ∙ by_tests (may_read session p c) (is_bound session c p) (is_trusted session c f m.name)
-    (is_confined session c f m.name) shown.trusted shown.confined
-    (λ b. reads_holding session p c (bound_parts session c p b).1)
+    (λ i. if reads_by_number number one accounts p c i then (if bound_by_number number one accounts c p i then Confined else Trusted) else Outside)
+    ∙ by_tests (may_read accounts p c) (is_bound accounts c p) (is_trusted accounts c f m.name)
+    (is_confined accounts c f m.name) shown.trusted shown.confined
+    (λ b. reads_holding accounts p c (bound_parts accounts c p b).1)
 
 pub shown_is_so : ShownIsSo
-unfolding shown_is standing_is changes_is
-shown_is_so session f number one = record {
-  standing = λ reached path node class at of_class m p is.
-      standing_is one class of_class is (standings_are_shown session f reached path node at m.name p is.runs);
+unfolding shown_is role_is changes_is
+shown_is_so accounts f number one = record {
+  role = λ reached path node class at of_class m p is.
+      role_is one class of_class is (roles_are_shown accounts f reached path node at m.name p is.runs);
   changer = λ path classes to m p is.
-      ap (λ q. changes_one session.groups q classes) (shown_is number one session f is) ∙ changes_is number one session f p path classes to
-      ∙ sym (ap (λ o. is_some_and o (λ q. may_change session f q path)) is.runs);
+      ap (λ q. changes_one accounts.groups q classes) (shown_is number one accounts f is) ∙ changes_is number one accounts f p path classes to
+      ∙ sym (ap (λ o. is_some_and o (λ q. may_change accounts f q path)) is.runs);
   reader_login = λ of_class class is user.
-      ap (may_read (of_groups session.groups) (logged_in user)) (sym is) ∙ reads_by_number number one session (logged_in user) of_class;
-  changer_login = λ path classes to user. changes_is number one session f (logged_in user) path classes to;
+      ap (may_read (of_groups accounts.groups) (logged_in user)) (sym is) ∙ reads_by_number number one accounts (logged_in user) of_class;
+  changer_login = λ path classes to user. changes_is number one accounts f (logged_in user) path classes to;
 }

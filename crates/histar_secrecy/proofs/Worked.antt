@@ -13,12 +13,12 @@ use Rattle.histar_flat.specs.FlatState.{Flat, with_bytes}
 use Rattle.histar_flat.specs.FlatState.Content.{File}
 use Rattle.histar_flat.specs.Meaning.{boot, flat_end}
 use Rattle.histar_flat.proofs.WorkedScripts.{line_of, three_users, tmp_made}
-use Rattle.histar_secrecy.specs.Standings.{is_confined, is_outsider, is_trusted}
+use Rattle.histar_secrecy.specs.Roles.{is_confined, is_outsider, is_trusted}
 use Rattle.histar_secrecy.specs.Noninterference.{no_reader_logs_in, outside_replies, trusted_are_silent}
 use Rattle.histar_secrecy.specs.declared.file_class.FileClass.{FileClass}
 use Rattle.histar_secrecy.specs.declared.file_class.FileClass.TheVariants as classes
-use Rattle.histar_secrecy.specs.declared.standing.Standing.TheVariants.{Trusted, Confined, Outside}
-use Rattle.histar_secrecy.specs.ShownStandings.{changes_one, is_login_changer, is_login_reader, job_numbered, standing_in, standing_of, with_rights}
+use Rattle.histar_secrecy.specs.declared.role.Role.TheVariants.{Trusted, Confined, Outside}
+use Rattle.histar_secrecy.specs.ShownRoles.{changes_one, is_login_changer, is_login_reader, job_numbered, role_in, role_of, with_rights}
 use Rattle.histar_secrecy.specs.Changers.{changers_are_silent, is_changer}
 use Rattle.histar_secrecy.proofs.Learning.{outsiders_learn_nothing}
 
@@ -157,10 +157,10 @@ it_is_scratch : get with_scratch.files in_the_job ≡ Some (record { class = scr
 unfolding with_scratch before in_the_job scratch
 it_is_scratch = refl
 
-standings : map (standing_in three_users scratch with_scratch) ((1 ∷ []) ∷ (1 ∷ 1 ∷ []) ∷ (3 ∷ []) ∷ (2 ∷ []) ∷ [])
+roles : map (role_in three_users scratch with_scratch) ((1 ∷ []) ∷ (1 ∷ 1 ∷ []) ∷ (3 ∷ []) ∷ (2 ∷ []) ∷ [])
     ≡ Trusted ∷ Confined ∷ Outside ∷ Outside ∷ []
 unfolding with_scratch before scratch
-standings = refl
+roles = refl
 
 -- a login as alice shows nothing of it
 no_login_reads_it : no_reader_logs_in three_users scratch with_scratch (line_of 16 (2 ∷ []) (Login (codes "alice") (codes "aa")) ∷ []) ≡ true
@@ -186,16 +186,16 @@ it_is_of_the_inner_job : get with_inner.files inner_file ≡ Some (record { clas
 unfolding with_inner before inner_file inner
 it_is_of_the_inner_job = refl
 
-inner_standings : map (standing_in three_users inner with_inner) ((1 ∷ []) ∷ (1 ∷ 1 ∷ []) ∷ (1 ∷ 1 ∷ 1 ∷ []) ∷ []) ≡ Outside ∷ Trusted ∷ Confined ∷ []
+inner_roles : map (role_in three_users inner with_inner) ((1 ∷ []) ∷ (1 ∷ 1 ∷ []) ∷ (1 ∷ 1 ∷ 1 ∷ []) ∷ []) ≡ Outside ∷ Trusted ∷ Confined ∷ []
 unfolding with_inner before inner
-inner_standings = refl
+inner_roles = refl
 
 -- ---- what is shown of the letter, where the job has the number 7: of 0.1, which holds it, of its first process, and of 0.2
 
 three : List Process
 three = with_rights (codes "alice") [] (7 ∷ []) ∷ with_rights (codes "alice") (7 ∷ []) [] ∷ with_rights (codes "bob") [] [] ∷ []
 
-shown : map (standing_of [] mine) three ≡ Trusted ∷ Confined ∷ Outside ∷ []
+shown : map (role_of [] mine) three ≡ Trusted ∷ Confined ∷ Outside ∷ []
 unfolding mine three
 shown = refl
 
@@ -204,7 +204,7 @@ unfolding mine
 readers = refl
 
 -- of a file that the job makes its number is shown: another job's process is an outsider
-shown_scratch : map (standing_of [] (Scratch (codes "alice") (map job_numbered (7 ∷ []))))
+shown_scratch : map (role_of [] (Scratch (codes "alice") (map job_numbered (7 ∷ []))))
     (with_rights (codes "alice") [] (7 ∷ []) ∷ with_rights (codes "alice") (7 ∷ 9 ∷ []) [] ∷ with_rights (codes "alice") (8 ∷ []) [] ∷ [])
     ≡ Trusted ∷ Confined ∷ Outside ∷ []
 shown_scratch = refl

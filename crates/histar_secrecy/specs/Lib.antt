@@ -1,5 +1,5 @@
 pub mod Logins
-pub mod Standings
+pub mod Roles
 pub mod Noninterference
 pub mod Changers
-pub mod ShownStandings
+pub mod ShownRoles

@@ -7,67 +7,67 @@ use Rattle.histar_flat.specs.declared.calls.UnixCall.TheVariants.{Write}
 use Rattle.histar_flat.specs.declared.replies.Reply.{Reply}
 use Rattle.histar_flat.specs.declared.replies.Reply.TheVariants.{Done}
 use Rattle.histar_flat.specs.Words.{Path, ProcName}
-use Rattle.histar_flat.specs.Sessions.{Session}
+use Rattle.histar_flat.specs.Accounts.{Accounts}
 use Rattle.histar_flat.specs.Files.{get}
 use Rattle.histar_flat.specs.Classes.{Class, Process, may_read, may_write}
 use Rattle.histar_flat.specs.FlatState.{Flat, Node, with_bytes}
 use Rattle.histar_flat.specs.FlatState.Content.{File}
 use Rattle.histar_flat.specs.FlatCalls.{flat_after, reply_to, running}
-use Rattle.histar_flat.specs.Meaning.{Answered, answered_from, boot, flat_end}
-use Rattle.histar_secrecy.specs.Standings.{is_bound, is_confined, is_outsider, is_trusted, logs_in_as_reader}
+use Rattle.histar_flat.specs.Meaning.{RepliedCall, answered_from, boot, flat_end}
+use Rattle.histar_secrecy.specs.Roles.{is_bound, is_confined, is_outsider, is_trusted, logs_in_as_reader}
 
 -- calls lead to this state
-abbrev pub IsReached : Session → Flat → Type 0
-IsReached session f = (calls : List CallLine) × (flat_end session (boot session) calls ≡ f)
+abbrev pub IsReached : Accounts → Flat → Type 0
+IsReached accounts f = (calls : List CallLine) × (flat_end accounts (boot accounts) calls ≡ f)
 
 -- a file of this class is at the path
 abbrev pub HasFile : Flat → Path → Class → Type 0
 HasFile f path class = (bytes : List ℕ) × (get f.files path ≡ Some (record { class = class; content = File bytes }))
 
 -- the trusted are silent: no call is one of theirs
-abbrev pub trusted_are_silent : Session → Class → Flat → List CallLine → Bool
-trusted_are_silent session class f calls = list_all (λ (c : CallLine). not (is_trusted session class f c.process)) calls
+abbrev pub trusted_are_silent : Accounts → Class → Flat → List CallLine → Bool
+trusted_are_silent accounts class f calls = list_all (λ (c : CallLine). not (is_trusted accounts class f c.process)) calls
 
 -- what outsiders call: which process, and which call
-abbrev pub outside_calls : Session → Class → Flat → List CallLine → List (ProcName × UnixCall)
-outside_calls session class f calls =
-    map (λ (c : CallLine). (c.process, c.call)) (filter (λ (c : CallLine). is_outsider session class f c.process) calls)
+abbrev pub outside_calls : Accounts → Class → Flat → List CallLine → List (ProcName × UnixCall)
+outside_calls accounts class f calls =
+    map (λ (c : CallLine). (c.process, c.call)) (filter (λ (c : CallLine). is_outsider accounts class f c.process) calls)
 
 -- no outsider logs in as a reader
-abbrev pub no_reader_logs_in : Session → Class → Flat → List CallLine → Bool
-no_reader_logs_in session class f calls =
-    list_all (λ (c : ProcName × UnixCall). not (logs_in_as_reader session class c.1)) (outside_calls session class f calls)
+abbrev pub no_reader_logs_in : Accounts → Class → Flat → List CallLine → Bool
+no_reader_logs_in accounts class f calls =
+    list_all (λ (c : ProcName × UnixCall). not (logs_in_as_reader accounts class c.1)) (outside_calls accounts class f calls)
 
 -- the replies to those who are outsiders in f, where calls are made from the state s on
-abbrev pub outside_replies : Session → Class → Flat → Flat → List CallLine → List Reply
-outside_replies session class f s calls =
-    map (λ (a : Answered). a.reply) (filter (λ (a : Answered). is_outsider session class f a.call.process) (answered_from session s calls))
+abbrev pub outside_replies : Accounts → Class → Flat → Flat → List CallLine → List Reply
+outside_replies accounts class f s calls =
+    map (λ (a : RepliedCall). a.reply) (filter (λ (a : RepliedCall). is_outsider accounts class f a.call.process) (answered_from accounts s calls))
 
 -- In two lists of calls the trusted are silent, and outsiders call the same, and log in as no reader. What the confined call is left open.
-pub record OutsidersCallTheSame (session : Session) (class : Class) (f : Flat) (calls others : List CallLine) : Type 0 where
-  pub silent : trusted_are_silent session class f calls ≡ true
-  pub others_silent : trusted_are_silent session class f others ≡ true
-  pub alike : outside_calls session class f calls ≡ outside_calls session class f others
-  pub no_login : no_reader_logs_in session class f calls ≡ true
+pub record OutsidersCallTheSame (accounts : Accounts) (class : Class) (f : Flat) (calls others : List CallLine) : Type 0 where
+  pub silent : trusted_are_silent accounts class f calls ≡ true
+  pub others_silent : trusted_are_silent accounts class f others ≡ true
+  pub alike : outside_calls accounts class f calls ≡ outside_calls accounts class f others
+  pub no_login : no_reader_logs_in accounts class f calls ≡ true
 
 -- Two runs go on from a state that has the file, at first with any two strings of bytes in it. Where the trusted are silent, and
 -- outsiders call the same in both, and log in as no reader, outsiders have the same replies, whatever the confined call in each.
 abbrev pub OutsidersLearnNothing : Type 0
-OutsidersLearnNothing = (session : Session) (f : Flat) → IsReached session f → (path : Path) (class : Class) → HasFile f path class
-    → (one other : List ℕ) (calls others : List CallLine) → OutsidersCallTheSame session class f calls others
-    → outside_replies session class f (with_bytes f path one) calls ≡ outside_replies session class f (with_bytes f path other) others
+OutsidersLearnNothing = (accounts : Accounts) (f : Flat) → IsReached accounts f → (path : Path) (class : Class) → HasFile f path class
+    → (one other : List ℕ) (calls others : List CallLine) → OutsidersCallTheSame accounts class f calls others
+    → outside_replies accounts class f (with_bytes f path one) calls ≡ outside_replies accounts class f (with_bytes f path other) others
 
 -- the process writes these bytes to the file, and has the reply that it is done
-abbrev pub Writes : Session → Flat → ProcName → Path → List ℕ → Type 0
-Writes session f writer path bytes = reply_to session f writer (Write path bytes) ≡ Done
+abbrev pub Writes : Accounts → Flat → ProcName → Path → List ℕ → Type 0
+Writes accounts f writer path bytes = reply_to accounts f writer (Write path bytes) ≡ Done
 
 -- So it is for what is written: in the same state a process writes one string of bytes to the file in one run, and another in the other.
 abbrev pub WhatIsWrittenStaysSecret : Type 0
-WhatIsWrittenStaysSecret = (session : Session) (f : Flat) → IsReached session f → (path : Path) (class : Class) → HasFile f path class
-    → (writer : ProcName) (one other : List ℕ) → Writes session f writer path one → Writes session f writer path other
-    → (calls others : List CallLine) → OutsidersCallTheSame session class f calls others
-    → outside_replies session class f (flat_after session f writer (Write path one)) calls
-    ≡ outside_replies session class f (flat_after session f writer (Write path other)) others
+WhatIsWrittenStaysSecret = (accounts : Accounts) (f : Flat) → IsReached accounts f → (path : Path) (class : Class) → HasFile f path class
+    → (writer : ProcName) (one other : List ℕ) → Writes accounts f writer path one → Writes accounts f writer path other
+    → (calls others : List CallLine) → OutsidersCallTheSame accounts class f calls others
+    → outside_replies accounts class f (flat_after accounts f writer (Write path one)) calls
+    ≡ outside_replies accounts class f (flat_after accounts f writer (Write path other)) others
 
 -- What all outsiders together do as a program: by the replies so far, the latest first, which process calls next, and what.
 abbrev pub OutsideProgram : Type 0
@@ -80,34 +80,34 @@ Follows program before (c ∷ calls) [] = Unit {0}
 Follows program before (c ∷ calls) (r ∷ replies) = (c ≡ program before) × Follows program (r ∷ before) calls replies
 
 -- In the calls from the state s on the trusted are silent, and outsiders follow the program, and log in as no reader.
-pub record OutsidersFollow (session : Session) (class : Class) (f s : Flat) (program : OutsideProgram) (calls : List CallLine) : Type 0 where
-  pub silent : trusted_are_silent session class f calls ≡ true
-  pub no_login : no_reader_logs_in session class f calls ≡ true
-  pub follows : Follows program [] (outside_calls session class f calls) (outside_replies session class f s calls)
+pub record OutsidersFollow (accounts : Accounts) (class : Class) (f s : Flat) (program : OutsideProgram) (calls : List CallLine) : Type 0 where
+  pub silent : trusted_are_silent accounts class f calls ≡ true
+  pub no_login : no_reader_logs_in accounts class f calls ≡ true
+  pub follows : Follows program [] (outside_calls accounts class f calls) (outside_replies accounts class f s calls)
 
 -- So it is for programs, that decide by the replies: where outsiders follow the same program in two such runs, and come equally far, they
 -- call the same, and have the same replies.
 abbrev pub ProgramsLearnNothing : Type 0
-ProgramsLearnNothing = (session : Session) (f : Flat) → IsReached session f → (path : Path) (class : Class) → HasFile f path class
+ProgramsLearnNothing = (accounts : Accounts) (f : Flat) → IsReached accounts f → (path : Path) (class : Class) → HasFile f path class
     → (one other : List ℕ) (calls others : List CallLine) (program : OutsideProgram)
-    → OutsidersFollow session class f (with_bytes f path one) program calls → OutsidersFollow session class f (with_bytes f path other) program others
-    → length (outside_calls session class f calls) ≡ length (outside_calls session class f others)
-    → (outside_calls session class f calls ≡ outside_calls session class f others)
-    × (outside_replies session class f (with_bytes f path one) calls ≡ outside_replies session class f (with_bytes f path other) others)
+    → OutsidersFollow accounts class f (with_bytes f path one) program calls → OutsidersFollow accounts class f (with_bytes f path other) program others
+    → length (outside_calls accounts class f calls) ≡ length (outside_calls accounts class f others)
+    → (outside_calls accounts class f calls ≡ outside_calls accounts class f others)
+    × (outside_replies accounts class f (with_bytes f path one) calls ≡ outside_replies accounts class f (with_bytes f path other) others)
 
 -- Why a process that is bound is confined: what it may write only those may read who may read what is of the class.
 abbrev pub BoundWriteForReaders : Type 0
-BoundWriteForReaders = (session : Session) (class written : Class) (p reader : Process)
-    → is_bound session class p ≡ true → may_write session p written ≡ true → may_read session reader written ≡ true
-    → may_read session reader class ≡ true
+BoundWriteForReaders = (accounts : Accounts) (class written : Class) (p reader : Process)
+    → is_bound accounts class p ≡ true → may_write accounts p written ≡ true → may_read accounts reader written ≡ true
+    → may_read accounts reader class ≡ true
 
 -- a process that runs is confined exactly where it is bound, and an outsider exactly where it may not read what is of the class
-pub record ShowsStanding (session : Session) (class : Class) (f : Flat) (me : ProcName) (p : Process) : Type 0 where
-  pub trusted : is_trusted session class f me ≡ (may_read session p class && not (is_bound session class p))
-  pub confined : is_confined session class f me ≡ is_bound session class p
-  pub outside : is_outsider session class f me ≡ not (may_read session p class)
+pub record ShowsRole (accounts : Accounts) (class : Class) (f : Flat) (me : ProcName) (p : Process) : Type 0 where
+  pub trusted : is_trusted accounts class f me ≡ (may_read accounts p class && not (is_bound accounts class p))
+  pub confined : is_confined accounts class f me ≡ is_bound accounts class p
+  pub outside : is_outsider accounts class f me ≡ not (may_read accounts p class)
 
 -- In each state that calls lead to, each process that runs shows by itself whether it is trusted, confined or an outsider.
 abbrev pub StandingsAreShown : Type 0
-StandingsAreShown = (session : Session) (f : Flat) → IsReached session f → (path : Path) (node : Node) → get f.files path ≡ Some node
-    → (me : ProcName) (p : Process) → running f me ≡ Some p → ShowsStanding session node.class f me p
+StandingsAreShown = (accounts : Accounts) (f : Flat) → IsReached accounts f → (path : Path) (node : Node) → get f.files path ≡ Some node
+    → (me : ProcName) (p : Process) → running f me ≡ Some p → ShowsRole accounts node.class f me p

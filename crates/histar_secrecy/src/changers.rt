@@ -1,10 +1,10 @@
 //! Who may change what is at a path.
 ghost use Rattle.std.specs.Prelude.{◌≡◌, IfOk, filter, map};
-ghost use Rattle.histar_secrecy.specs.ShownStandings.{changes_one, is_login_changer, is_shown_changer, with_rights, with_user};
+ghost use Rattle.histar_secrecy.specs.ShownRoles.{changes_one, is_login_changer, is_shown_changer, with_rights, with_user};
 
 use crate::file_class::FileClass;
 use crate::rights::may_write;
-use crate::standing::Member;
+use crate::role::Member;
 use histar_flat::{Group, Name, ProcName};
 use std::alloc::{AllocError, Global};
 

@@ -4,10 +4,10 @@
 mod changers;
 mod file_class;
 mod rights;
+mod role;
 pub mod secrecy_laws;
-mod standing;
 
 pub use changers::{changers_of, login_changers};
 pub use file_class::FileClass;
 pub use rights::{may_read, may_write};
-pub use standing::{Member, Standing, login_readers, with_standing};
+pub use role::{Member, Role, login_readers, with_role};

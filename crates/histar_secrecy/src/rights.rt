@@ -1,9 +1,9 @@
 //! Who may read and write what is of a class.
 ghost use Rattle.std.specs.Prelude.{◌≡◌, ◌||◌, nat_eq};
 ghost use Rattle.std.specs.List.{list_all, list_any};
-ghost use Rattle.histar_flat.specs.Sessions.{is_member};
+ghost use Rattle.histar_flat.specs.Accounts.{is_member};
 ghost use Rattle.histar_flat.specs.Classes.{may_read, may_write};
-ghost use Rattle.histar_secrecy.specs.ShownStandings.{flat_class, of_groups, with_rights};
+ghost use Rattle.histar_secrecy.specs.ShownRoles.{flat_class, of_groups, with_rights};
 
 use crate::file_class::FileClass;
 use histar_flat::{Group, Name};

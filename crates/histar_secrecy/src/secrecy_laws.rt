@@ -2,7 +2,7 @@
 //! that does nothing.
 ghost use Rattle.histar_secrecy.specs.Changers.{OthersChangeNothing};
 ghost use Rattle.histar_secrecy.specs.Noninterference.{BoundWriteForReaders, OutsidersLearnNothing, ProgramsLearnNothing, StandingsAreShown, WhatIsWrittenStaysSecret};
-ghost use Rattle.histar_secrecy.specs.ShownStandings.{ShownIsSo};
+ghost use Rattle.histar_secrecy.specs.ShownRoles.{ShownIsSo};
 
 /// The secret in a file depends on the processes alone that are trusted with it: while these call nothing,
 /// and no outsider logs in as a reader, outsiders have the same replies, whatever bytes are in the file,
@@ -27,7 +27,7 @@ pub fn bound_processes_write_for_readers()
 {}
 
 /// Each process that runs shows by itself whether it is trusted with a file, confined or an outsider.
-pub fn standings_are_shown()
+pub fn roles_are_shown()
     ensures { StandingsAreShown }
 {}
 

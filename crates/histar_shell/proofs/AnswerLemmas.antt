@@ -5,12 +5,12 @@ use Rattle.std.proofs.lemmas.List.{map-append, drop_more}
 use Rattle.std.proofs.lemmas.Grind.{flat_map-append}
 use Rattle.std.proofs.KnownBytes.{Appends-nil, Appends-kept, Appends-trans, Keeps-refl}
 use Rattle.std.specs.Io.KnownBytes.{Appends, Keeps}
-use Rattle.histar_calls.specs.declared.ending.Stopped.{Stopped}
+use Rattle.histar_calls.specs.declared.call_error.Stopped.{Stopped}
 use Rattle.histar_flat.specs.declared.replies.Reply.{Reply}
 use Rattle.histar_flat.specs.declared.calls.CallLine.{CallLine}
-use Rattle.histar_devices.specs.Writing.{AppendsFront}
-use Rattle.histar_devices.proofs.WritingLemmas.{sent_none, whole_front}
-use Rattle.histar_flat.specs.Meaning.{Answered}
+use Rattle.histar_io.specs.Writing.{AppendsFront}
+use Rattle.histar_io.proofs.WritingLemmas.{sent_none, whole_front}
+use Rattle.histar_flat.specs.Meaning.{RepliedCall}
 use Rattle.histar_shell.specs.Answers.{answer_text, answers_text, calls_of, line_text}
 use Rattle.histar_shell.specs.Machine.{MachineModel, AnswersLine}
 use Rattle.histar_shell.specs.AnsweredCalls.{AnswersInTurn, AnswersCall, AnswersCalls, BeginsAnswer, BeginsAnswers}
@@ -27,17 +27,17 @@ front_after a b c text next rest whole begun = (
 )
 
 -- one more call line
-pub in_turn_more : (first mid last : MachineModel) (answers : List Answered) (a : Answered) → AnswersInTurn first answers mid → AnswersLine mid last a.call.line a.call.process a.call.call (Ok a.reply) → AnswersInTurn first (answers ++ a ∷ []) last
+pub in_turn_more : (first mid last : MachineModel) (answers : List RepliedCall) (a : RepliedCall) → AnswersInTurn first answers mid → AnswersLine mid last a.call.line a.call.process a.call.call (Ok a.reply) → AnswersInTurn first (answers ++ a ∷ []) last
 in_turn_more first mid last [] a same one = (last, subst (λ (m : MachineModel). AnswersLine m last a.call.line a.call.process a.call.call (Ok a.reply)) same one, refl)
 in_turn_more first mid last (b ∷ answers) a done one = (done.0, done.1, in_turn_more done.0 mid last answers a done.2 one)
 
 -- the text of one more answer
-text_more : (answers : List Answered) (a : Answered) → answers_text (answers ++ a ∷ []) ≡ answers_text answers ++ answer_text a
+text_more : (answers : List RepliedCall) (a : RepliedCall) → answers_text (answers ++ a ∷ []) ≡ answers_text answers ++ answer_text a
 text_more answers a = flat_map-append answer_text answers (a ∷ []) ∙ ap (λ (l : List ℕ). answers_text answers ++ l) (append-nil (answer_text a))
 
 -- the call line of one more answer
-pub calls_more : (answers : List Answered) (a : Answered) → calls_of (answers ++ a ∷ []) ≡ calls_of answers ++ a.call ∷ []
-calls_more answers a = map-append (λ (x : Answered). x.call) answers (a ∷ [])
+pub calls_more : (answers : List RepliedCall) (a : RepliedCall) → calls_of (answers ++ a ∷ []) ≡ calls_of answers ++ a.call ∷ []
+calls_more answers a = map-append (λ (x : RepliedCall). x.call) answers (a ∷ [])
 
 -- before the first call line nothing is written
 pub answers_none : (m : MachineModel) (a : Option (List ℕ)) → AnswersCalls m m a a []
@@ -46,7 +46,7 @@ answers_none m a = record { answers = []; each = refl; in_turn = refl; written =
 -- one more call line is answered
 pub answers_more : (first mid last : MachineModel) (a b c : Option (List ℕ)) (calls : List CallLine) (call : CallLine) → AnswersCalls first mid a b calls → AnswersCall mid last b c call → AnswersCalls first last a c (calls ++ call ∷ [])
 answers_more first mid last a b c calls call done one =
-    let next : Answered = record { call = call; reply = one.reply } in record {
+    let next : RepliedCall = record { call = call; reply = one.reply } in record {
       answers = done.answers ++ next ∷ [];
       each = calls_more done.answers next ∙ ap (λ (l : List CallLine). l ++ call ∷ []) done.each;
       in_turn = in_turn_more first mid last done.answers next done.in_turn one.answered;
@@ -67,7 +67,7 @@ begins_stopped first mid a b c calls front rest parts done keeps = record {
 -- where it answered, a beginning of the next line makes a beginning of all
 begins_next : (first mid last : MachineModel) (a b c : Option (List ℕ)) (calls front rest : List CallLine) (call : CallLine) (reply : Reply) → calls ≡ front ++ call ∷ rest → AnswersCalls first mid a b front → AnswersLine mid last call.line call.process call.call (Ok reply) → AppendsFront b c (line_text call.line reply) → BeginsAnswers first a c calls
 begins_next first mid last a b c calls front rest call reply parts done answered begun =
-    let next : Answered = record { call = call; reply = reply } in
+    let next : RepliedCall = record { call = call; reply = reply } in
     let each : calls_of (done.answers ++ next ∷ []) ≡ front ++ call ∷ [] = calls_more done.answers next ∙ ap (λ (l : List CallLine). l ++ call ∷ []) done.each in
     let text : answers_text (done.answers ++ next ∷ []) ≡ answers_text done.answers ++ (answer_text next ++ []) = flat_map-append answer_text done.answers (next ∷ []) in record {
       answers = done.answers ++ next ∷ [];

@@ -6,11 +6,11 @@ use Rattle.std.proofs.KnownBytes.{Appends-trans}
 use Rattle.std.specs.List.{flat_map}
 use Rattle.std.specs.Io.KnownBytes.{Appends}
 use Rattle.histar_object.specs.State.{State}
-use Rattle.histar_devices.specs.Writing.{AppendsFront}
-use Rattle.histar_devices.proofs.WritingLemmas.{sent_none}
+use Rattle.histar_io.specs.Writing.{AppendsFront}
+use Rattle.histar_io.proofs.WritingLemmas.{sent_none}
 use Rattle.histar_syscall.specs.KernelModel.{state}
-use Rattle.histar_tree.specs.declared.tree.TreeNode.{TreeNode}
-use Rattle.histar_tree.specs.TreeLines.{line_at, lines_at}
+use Rattle.histar_readout.specs.declared.tree.TreeNode.{TreeNode}
+use Rattle.histar_readout.specs.TreeLines.{line_at, lines_at}
 use Rattle.histar_shell.specs.declared.session.Options.{Options}
 use Rattle.histar_shell.specs.Machine.{MachineModel}
 use Rattle.histar_shell.specs.TreeText.{tree_line_text, tree_text}
@@ -75,9 +75,9 @@ pub ending_written : (options : Options) (m : MachineModel) (old mid new : Optio
 ending_written options m old mid new trace same tree whole = (tree.0 ++ trace, record { tree = tree.0; prints = tree.1; parts = ap (λ (t : List ℕ). tree.0 ++ t) same }, Appends-trans old mid new tree.0 trace tree.2 whole)
 
 -- where the tree is asked for, the text of the machine's tree is the one that is
-pub tree_told : (b : Bool) (m : MachineModel) (tree : List TreeNode) → b ≡ true → IsTreeIn m tree → IsAsked b (PrintsTree m) (tree_text (lines_at (state m.kernel) tree))
-tree_told b m tree asked is = subst (λ (x : Bool). IsAsked x (PrintsTree m) (tree_text (lines_at (state m.kernel) tree))) (sym asked) (tree, is, refl)
+pub tree_revealed : (b : Bool) (m : MachineModel) (tree : List TreeNode) → b ≡ true → IsTreeIn m tree → IsAsked b (PrintsTree m) (tree_text (lines_at (state m.kernel) tree))
+tree_revealed b m tree asked is = subst (λ (x : Bool). IsAsked x (PrintsTree m) (tree_text (lines_at (state m.kernel) tree))) (sym asked) (tree, is, refl)
 
 -- nothing of the tree was written yet
 pub tree_unwritten : (options : Options) (m : MachineModel) (a : Option (List ℕ)) → options.tree ≡ true → HasTree m → BeginsTree options m a a
-tree_unwritten options m a asked has = let text = tree_text (lines_at (state m.kernel) has.0) in (text, tree_told options.tree m has.0 asked has.1, (text, sent_none a text))
+tree_unwritten options m a asked has = let text = tree_text (lines_at (state m.kernel) has.0) in (text, tree_revealed options.tree m has.0 asked has.1, (text, sent_none a text))

@@ -4,9 +4,9 @@ pub mod RunLemmas
 pub mod Lines
 pub mod Users
 pub mod SmallFiles
-pub mod RowRuns
+pub mod RefinedRuns
 pub mod TraceRuns
-pub mod CallRows
+pub mod CallRefinements
 pub mod SameUsers
 pub mod SamePrograms
 pub mod LineMeanings

@@ -7,7 +7,7 @@ use Rattle.histar_flat.specs.declared.calls.UnixCall.{UnixCall}
 use Rattle.histar_flat.specs.declared.replies.Reply.{Reply}
 use Rattle.histar_flat.specs.declared.replies.Reply.TheVariants.{Gone}
 use Rattle.histar_flat.specs.Words.{ProcName}
-use Rattle.histar_flat.specs.Sessions.{Session}
+use Rattle.histar_flat.specs.Accounts.{Accounts}
 use Rattle.histar_flat.specs.Classes.{Process}
 use Rattle.histar_flat.specs.FlatState.{Flat}
 use Rattle.histar_flat.specs.FlatCalls.{running, reply_to, flat_after}
@@ -16,16 +16,16 @@ use Rattle.histar_object.specs.State.{State}
 use Rattle.histar_syscall.specs.declared.trace.TraceEntry.{TraceEntry}
 use Rattle.histar_syscall.specs.KernelModel.{KernelModel, state}
 use Rattle.histar_syscall.specs.Runs.{IsBy}
-use Rattle.histar_calls.specs.declared.places.Places.{Places}
-use Rattle.histar_calls.specs.declared.ending.Stopped.{Stopped}
+use Rattle.histar_calls.specs.declared.roots.Roots.{Roots}
+use Rattle.histar_calls.specs.declared.call_error.Stopped.{Stopped}
 use Rattle.histar_calls.specs.Programs.{Program, Runs}
 use Rattle.histar_process.specs.declared.caller.Caller.{Caller}
 use Rattle.histar_process.specs.Caller.{caller_at}
-use Rattle.histar_login.specs.Start.{places_of}
+use Rattle.histar_login.specs.Start.{roots_of}
 use Rattle.histar_refinement.specs.Represents.{Represents}
 use Rattle.histar_refinement.specs.Laws.{IsCallerOf}
 use Rattle.histar_refinement.specs.Lines.{IsThreadOf}
-use Rattle.histar_refinement.specs.Sessions.{IsSession}
+use Rattle.histar_refinement.specs.Accounts.{AreAccounts}
 use Rattle.histar_refinement.proofs.CallerFound.{caller_found, caller_there}
 use Rattle.histar_refinement.proofs.Renaming.{nothing_under}
 use Rattle.histar_refinement.proofs.StatusFound.{thread_led}
@@ -35,102 +35,102 @@ use Rattle.histar_sim.specs.Reads.{HasReads}
 use Rattle.histar_sim.proofs.FirstFree.{first_free_after}
 use Rattle.histar_shell.specs.Machine.{MachineModel, on_line, program_of, Makes, HasMade, AnswersFound, AnswersRunning, AnswersIf, AnswersLine}
 use Rattle.histar_shell.specs.Meaning.{Shows, EndsAsMeant, FollowsMeaning}
-use Rattle.histar_shell.proofs.CallRows.{CallsRefine}
+use Rattle.histar_shell.proofs.CallRefinements.{CallsRefine}
 use Rattle.histar_shell.proofs.SamePrograms.{same_program}
-use Rattle.histar_tree.specs.Laws.{AreShallow}
+use Rattle.histar_readout.specs.Laws.{AreShallow}
 use Rattle.histar_shell.proofs.SmallFiles.{small_after}
 use Rattle.histar_shell.proofs.ShallowPaths.{shallow_after}
-use Rattle.histar_shell.proofs.Users.{is_session}
+use Rattle.histar_shell.proofs.Users.{is_accounts}
 
 -- what is not there is nothing
 none_of : {A : Type 0} (o : Option A) → is_some o ≡ false → o ≡ None
 none_of None e = refl
 none_of (Some x) e = absurd (true≢false e)
 
-module _ (rows : CallsRefine) (session : Session) (old new : MachineModel) (f : Flat) (shows : Shows session old f) where
-  ok : IsSession session
-  ok = is_session session shows.declared
+module _ (refinements : CallsRefine) (accounts : Accounts) (old new : MachineModel) (f : Flat) (shows : Shows accounts old f) where
+  ok : AreAccounts accounts
+  ok = is_accounts accounts shows.declared
 
-  module _ (me : ProcName) (caller : Caller) (found : caller_at (state old.kernel) (places_of (length session.users)).home me ≡ Some caller) where
+  module _ (me : ProcName) (caller : Caller) (found : caller_at (state old.kernel) (roots_of (length accounts.users)).home me ≡ Some caller) where
     -- the process is found where it runs
-    running_as : (p : Process) × IsCallerOf session (state old.kernel) f shows.represents.laid me p caller
-    running_as = caller_found session (state old.kernel) f shows.represents.laid me caller found
+    running_as : (p : Process) × IsCallerOf accounts (state old.kernel) f shows.represents.matched me p caller
+    running_as = caller_found accounts (state old.kernel) f shows.represents.matched me caller found
 
-    ready : IsReady session (state old.kernel) f me caller.thread
+    ready : IsReady accounts (state old.kernel) f me caller.thread
     ready =
         let p = running_as.0 in
         let runs = running_as.1 in
         record {
           represents = shows.represents;
-          caller = record { process = p; stands = runs.runs.0; runs = runs.runs.1 };
+          caller = record { process = p; agrees = runs.runs.0; runs = runs.runs.1 };
           first = shows.first;
           small = shows.small;
-          thread = thread_led session (state old.kernel) f shows.represents.laid me p caller.thread runs.runs.0 runs.runs.1 runs.runs.2;
+          thread = thread_led accounts (state old.kernel) f shows.represents.matched me p caller.thread runs.runs.0 runs.runs.1 runs.runs.2;
         }
 
     -- a call of the process is its row
-    made_row : (k : KernelModel) → state k ≡ state old.kernel → (call : UnixCall) (result : Result Reply Stopped) → IsCall call
-        → Makes session (places_of (length session.users)) me caller k new.kernel call result → FollowsRule session f me call k new.kernel caller.thread result
-    made_row k same call result can made =
-        let there : IsReady session (state k) f me caller.thread = subst (λ (s : State). IsReady session s f me caller.thread) (sym same) ready in
-        let at : caller_at (state k) (places_of (length session.users)).home me ≡ Some caller =
-        ap (λ (s : State). caller_at s (places_of (length session.users)).home me) same ∙ found in
-        rows session ok call can me caller k new.kernel f result there at made
+    made_refined : (k : KernelModel) → state k ≡ state old.kernel → (call : UnixCall) (result : Result Reply Stopped) → IsCall call
+        → Makes accounts (roots_of (length accounts.users)) me caller k new.kernel call result → FollowsRule accounts f me call k new.kernel caller.thread result
+    made_refined k same call result can made =
+        let there : IsReady accounts (state k) f me caller.thread = subst (λ (s : State). IsReady accounts s f me caller.thread) (sym same) ready in
+        let at : caller_at (state k) (roots_of (length accounts.users)).home me ≡ Some caller =
+        ap (λ (s : State). caller_at s (roots_of (length accounts.users)).home me) same ∙ found in
+        refinements accounts ok call can me caller k new.kernel f result there at made
 
     -- its program reads no password
-    made_of : (k : KernelModel) (call : UnixCall) (result : Result Reply Stopped) → Makes old.users (places_of (length session.users)) me caller k new.kernel call result → Makes session (places_of (length session.users)) me caller k new.kernel call result
+    made_of : (k : KernelModel) (call : UnixCall) (result : Result Reply Stopped) → Makes old.users (roots_of (length accounts.users)) me caller k new.kernel call result → Makes accounts (roots_of (length accounts.users)) me caller k new.kernel call result
     made_of k call result made =
-        let places = places_of (length session.users) in
-        subst (λ (p : Program). Runs p k new.kernel caller.thread result) (ap (λ (users : Session). program_of users places me caller call) shows.users ∙ same_program session places me caller call) made
+        let roots = roots_of (length accounts.users) in
+        subst (λ (p : Program). Runs p k new.kernel caller.thread result) (ap (λ (users : Accounts). program_of users roots me caller call) shows.users ∙ same_program accounts roots me caller call) made
 
     -- at the places that boot told the machine
-    row_of_made : (line : ℕ) (call : UnixCall) (result : Result Reply Stopped) → IsCall call → HasMade old new line me caller call result
-        → FollowsRule session f me call (on_line line old.kernel) new.kernel caller.thread result
-    row_of_made line call result can h =
-        made_row (on_line line old.kernel) refl call result can
-        (made_of (on_line line old.kernel) call result (subst (λ (places : Places). Makes old.users places me caller (on_line line old.kernel) new.kernel call result) shows.places h.made))
+    refined_of_made : (line : ℕ) (call : UnixCall) (result : Result Reply Stopped) → IsCall call → HasMade old new line me caller call result
+        → FollowsRule accounts f me call (on_line line old.kernel) new.kernel caller.thread result
+    refined_of_made line call result can h =
+        made_refined (on_line line old.kernel) refl call result can
+        (made_of (on_line line old.kernel) call result (subst (λ (roots : Roots). Makes old.users roots me caller (on_line line old.kernel) new.kernel call result) shows.roots h.made))
 
     -- the machine after it shows what its kernel represents
-    still_shows : (line : ℕ) (call : UnixCall) (result : Result Reply Stopped) (g : Flat) → HasMade old new line me caller call result → Represents session (state new.kernel) g → IsFirstFree g → AreFilesSmall g → AreShallow g
-        → Shows session new g
-    still_shows line call result g h lays first small shallow = record {
+    still_shows : (line : ℕ) (call : UnixCall) (result : Result Reply Stopped) (g : Flat) → HasMade old new line me caller call result → Represents accounts (state new.kernel) g → IsFirstFree g → AreFilesSmall g → AreShallow g
+        → Shows accounts new g
+    still_shows line call result g h represented first small shallow = record {
       declared = shows.declared;
       users = h.users ∙ shows.users;
-      places = h.places ∙ shows.places;
-      represents = lays;
+      roots = h.roots ∙ shows.roots;
+      represents = represented;
       first = first;
       small = small;
       shallow = shallow;
     }
 
     -- each raw call is by the process's thread
-    own_thread : (line : ℕ) (entries : List TraceEntry) → AllByRecursion (IsBy line caller.thread) entries → AllByRecursion (λ (e : TraceEntry). (e.line ≡ line) × IsThreadOf session (state old.kernel) me e.thread) entries
+    own_thread : (line : ℕ) (entries : List TraceEntry) → AllByRecursion (IsBy line caller.thread) entries → AllByRecursion (λ (e : TraceEntry). (e.line ≡ line) × IsThreadOf accounts (state old.kernel) me e.thread) entries
     own_thread line [] own = tt
-    own_thread line (e ∷ entries) own = ((own.0.0, subst (IsThreadOf session (state old.kernel) me) (sym own.0.1) ready.thread), own_thread line entries own.1)
+    own_thread line (e ∷ entries) own = ((own.0.0, subst (IsThreadOf accounts (state old.kernel) me) (sym own.0.1) ready.thread), own_thread line entries own.1)
 
     -- the call ends as is meant
-    made_ends : (line : ℕ) (call : UnixCall) (result : Result Reply Stopped) → IsCall call → HasMade old new line me caller call result → EndsAsMeant session old new f (record { line = line; process = me; call = call }) result
+    made_ends : (line : ℕ) (call : UnixCall) (result : Result Reply Stopped) → IsCall call → HasMade old new line me caller call result → EndsAsMeant accounts old new f (record { line = line; process = me; call = call }) result
     made_ends line call (Ok reply) can h =
-        let row = row_of_made line call (Ok reply) can h in
+        let refined = refined_of_made line call (Ok reply) can h in
         record {
-          is_reply = row.0;
-          entries = row.1.entries;
-          trace = row.1.trace;
-          row = row.1.row;
-          shows = still_shows line call (Ok reply) (flat_after session f me call) h row.1.row.represents
-              (first_free_after session f shows.first me call)
-              (small_after f shows.small session me (nothing_under session (state old.kernel) f shows.represents.laid) call)
-              (shallow_after f shows.shallow session me (nothing_under session (state old.kernel) f shows.represents.laid) call can);
+          is_reply = refined.0;
+          entries = refined.1.entries;
+          trace = refined.1.trace;
+          refined = refined.1.refined;
+          shows = still_shows line call (Ok reply) (flat_after accounts f me call) h refined.1.refined.represents
+              (first_free_after accounts f shows.first me call)
+              (small_after f shows.small accounts me (nothing_under accounts (state old.kernel) f shows.represents.matched) call)
+              (shallow_after f shows.shallow accounts me (nothing_under accounts (state old.kernel) f shows.represents.matched) call can);
         }
     made_ends line call (Err stopped) can h =
-        let out = row_of_made line call (Err stopped) can h in
+        let out = refined_of_made line call (Err stopped) can h in
         record { entries = out.entries; trace = out.trace; run = out.run; own = own_thread line out.entries out.own }
 
   -- a line of a process that doesn't run is answered `gone`, and makes no raw call
-  gone_ends : (line : ℕ) (me : ProcName) (call : UnixCall) → running f me ≡ None → EndsAsMeant session old old f (record { line = line; process = me; call = call }) (Ok Gone)
+  gone_ends : (line : ℕ) (me : ProcName) (call : UnixCall) → running f me ≡ None → EndsAsMeant accounts old old f (record { line = line; process = me; call = call }) (Ok Gone)
   gone_ends line me call none =
-      let still = not_running_is_gone session f me call none in
-      let is_line : IsLine session (state old.kernel) line me Gone [] (state old.kernel) = record {
+      let still = not_running_is_gone accounts f me call none in
+      let is_line : IsLine accounts (state old.kernel) line me Gone [] (state old.kernel) = record {
         run = refl;
         own = tt;
         access = refl;
@@ -144,30 +144,30 @@ module _ (rows : CallsRefine) (session : Session) (old new : MachineModel) (f : 
         is_reply = sym still.0;
         entries = [];
         trace = sym (append-nil old.kernel.trace);
-        row = record {
-          line = subst (λ (r : Reply). IsLine session (state old.kernel) line me r [] (state old.kernel)) (sym still.0) is_line;
-          reads = subst (λ (o : Option Process). HasReads session (state old.kernel) f o call (reply_to session f me call) []) (sym none) tt;
-          represents = subst (Represents session (state old.kernel)) (sym still.1) shows.represents;
+        refined = record {
+          line = subst (λ (r : Reply). IsLine accounts (state old.kernel) line me r [] (state old.kernel)) (sym still.0) is_line;
+          reads = subst (λ (o : Option Process). HasReads accounts (state old.kernel) f o call (reply_to accounts f me call) []) (sym none) tt;
+          represents = subst (Represents accounts (state old.kernel)) (sym still.1) shows.represents;
         };
-        shows = subst (Shows session old) (sym still.1) shows;
+        shows = subst (Shows accounts old) (sym still.1) shows;
       }
 
   -- who is not found doesn't run
-  lost_is_gone : (me : ProcName) → caller_at (state old.kernel) (places_of (length session.users)).home me ≡ None → running f me ≡ None
-  lost_is_gone me lost = none_of (running f me) (sym (caller_there session (state old.kernel) f shows.represents.laid me) ∙ ap is_some lost)
+  lost_is_gone : (me : ProcName) → caller_at (state old.kernel) (roots_of (length accounts.users)).home me ≡ None → running f me ≡ None
+  lost_is_gone me lost = none_of (running f me) (sym (caller_there accounts (state old.kernel) f shows.represents.matched me) ∙ ap is_some lost)
 
-  runs_end : (line : ℕ) (me : ProcName) (call : UnixCall) (result : Result Reply Stopped) → IsCall call → AnswersRunning old new line me call result → EndsAsMeant session old new f (record { line = line; process = me; call = call }) result
-  runs_end line me call result can h = by (caller_at (state old.kernel) (places_of (length session.users)).home me) refl
-      (subst (λ (places : Places). AnswersFound (caller_at (state old.kernel) places.home me) old new line me call result) shows.places h)
+  runs_end : (line : ℕ) (me : ProcName) (call : UnixCall) (result : Result Reply Stopped) → IsCall call → AnswersRunning old new line me call result → EndsAsMeant accounts old new f (record { line = line; process = me; call = call }) result
+  runs_end line me call result can h = by (caller_at (state old.kernel) (roots_of (length accounts.users)).home me) refl
+      (subst (λ (roots : Roots). AnswersFound (caller_at (state old.kernel) roots.home me) old new line me call result) shows.roots h)
     where
-      by : (o : Option Caller) → caller_at (state old.kernel) (places_of (length session.users)).home me ≡ o → AnswersFound o old new line me call result → EndsAsMeant session old new f (record { line = line; process = me; call = call }) result
+      by : (o : Option Caller) → caller_at (state old.kernel) (roots_of (length accounts.users)).home me ≡ o → AnswersFound o old new line me call result → EndsAsMeant accounts old new f (record { line = line; process = me; call = call }) result
       by None lost k =
-          subst (λ (m : MachineModel). EndsAsMeant session old m f (record { line = line; process = me; call = call }) result) (sym k.1)
-          (subst (EndsAsMeant session old old f (record { line = line; process = me; call = call })) (sym k.0) (gone_ends line me call (lost_is_gone me lost)))
+          subst (λ (m : MachineModel). EndsAsMeant accounts old m f (record { line = line; process = me; call = call }) result) (sym k.1)
+          (subst (EndsAsMeant accounts old old f (record { line = line; process = me; call = call })) (sym k.0) (gone_ends line me call (lost_is_gone me lost)))
       by (Some caller) found made = made_ends me caller found line call result can made
 
   -- a machine that had stopped makes no raw call
-  stopped_ends : (line : ℕ) (process : ProcName) (call : UnixCall) (result : Result Reply Stopped) → AnswersIf true old new line process call result → EndsAsMeant session old new f (record { line = line; process = process; call = call }) result
+  stopped_ends : (line : ℕ) (process : ProcName) (call : UnixCall) (result : Result Reply Stopped) → AnswersIf true old new line process call result → EndsAsMeant accounts old new f (record { line = line; process = process; call = call }) result
   stopped_ends line process call (Ok reply) h = absurd cc
   stopped_ends line process call (Err stopped) h = record {
     entries = [];
@@ -176,14 +176,14 @@ module _ (rows : CallsRefine) (session : Session) (old new : MachineModel) (f : 
     own = tt;
   }
 
-  line_ends : (line : ℕ) (process : ProcName) (call : UnixCall) (result : Result Reply Stopped) → IsCall call → AnswersLine old new line process call result → EndsAsMeant session old new f (record { line = line; process = process; call = call }) result
+  line_ends : (line : ℕ) (process : ProcName) (call : UnixCall) (result : Result Reply Stopped) → IsCall call → AnswersLine old new line process call result → EndsAsMeant accounts old new f (record { line = line; process = process; call = call }) result
   line_ends line process call result can h = by old.is_stopped h
     where
-      by : (b : Bool) → AnswersIf b old new line process call result → EndsAsMeant session old new f (record { line = line; process = process; call = call }) result
+      by : (b : Bool) → AnswersIf b old new line process call result → EndsAsMeant accounts old new f (record { line = line; process = process; call = call }) result
       by true k = stopped_ends line process call result k
       by false k = runs_end line process call result can k
 
 -- a line follows the meaning
-pub line_follows : (rows : CallsRefine) (old new : MachineModel) (line : ℕ) (process : ProcName) (call : UnixCall) (result : Result Reply Stopped) → IsCall call
+pub line_follows : (refinements : CallsRefine) (old new : MachineModel) (line : ℕ) (process : ProcName) (call : UnixCall) (result : Result Reply Stopped) → IsCall call
     → AnswersLine old new line process call result → FollowsMeaning old new line process call result
-line_follows rows old new line process call result can h session f shows = line_ends rows session old new f shows line process call result can h
+line_follows refinements old new line process call result can h accounts f shows = line_ends refinements accounts old new f shows line process call result can h

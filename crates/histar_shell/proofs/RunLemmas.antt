@@ -7,16 +7,16 @@ use Rattle.std.proofs.lemmas.List.{length-append}
 use Rattle.std.proofs.KnownBytes.{Keeps-refl, Consumes-nil}
 use Rattle.histar_script.specs.declared.fault.Fault.{Fault}
 use Rattle.histar_script.specs.declared.fault.Fault.TheVariants.{BadScript, TooLong, OutOfMemory, ReadFailed, WriteFailed}
-use Rattle.histar_script.specs.Script.{Reading}
-use Rattle.histar_devices.specs.declared.input.InputError.{InputError}
-use Rattle.histar_devices.specs.declared.input.InputError.TheVariants as input
+use Rattle.histar_script.specs.Script.{ScriptModel}
+use Rattle.histar_io.specs.declared.input.InputError.{InputError}
+use Rattle.histar_io.specs.declared.input.InputError.TheVariants as input
 use Rattle.histar_script.specs.Outcome.{Gives, input_fault}
 use Rattle.histar_script.specs.Lines.{most_script_bytes}
 use Rattle.histar_script.specs.Reading.{script_of}
 use Rattle.histar_script.specs.Runs.{IsOutputFault, StopsReading, LeavesSink, is_read_failed, RunsTaken, RunsInput}
-use Rattle.histar_devices.specs.Device.{CountsFailure}
-use Rattle.histar_devices.specs.Input.{most_taken, TakesAll, TakesSome}
-use Rattle.histar_flat.specs.Sessions.{Session}
+use Rattle.histar_io.specs.Device.{CountsFailure}
+use Rattle.histar_io.specs.Input.{most_taken, TakesAll, TakesSome}
+use Rattle.histar_flat.specs.Accounts.{Accounts}
 use Rattle.histar_shell.specs.declared.session.Options.{Options}
 use Rattle.histar_shell.specs.Ending.{AppendsEnding, BeginsTheEnding}
 use Rattle.histar_shell.specs.Outcome.{IsFaultAt, AgreesWith, AnswersScript, BeginsScript, WritesAtFault, WritesAnswers}
@@ -26,7 +26,7 @@ use Rattle.histar_shell.specs.Machine.{MachineModel, IsStart}
 use Rattle.histar_shell.specs.AnsweredCalls.{AnswersCalls, BeginsAnswers}
 use Rattle.histar_syscall.specs.declared.trace.TraceEntry.{TraceEntry}
 use Rattle.histar_flat.specs.declared.calls.CallLine.{CallLine}
-use Rattle.histar_shell.proofs.CallRows.{CallsRefine}
+use Rattle.histar_shell.proofs.CallRefinements.{CallsRefine}
 use Rattle.histar_shell.proofs.SessionMeanings.{meant_run}
 
 -- what a run answers
@@ -49,11 +49,11 @@ module _ (options : Options) where
   -- ---- a text that is run
 
   -- its answers are those of its meaning
-  pub runs_text : (rows : CallsRefine) (text : List ℕ) (old new : Option (List ℕ)) (result : Answer) → AgreesWith (script_of text) result → WritesAnswers options old new (script_of text) result → RunsText options text old new result
-  runs_text rows text old new result agrees answers = record { faults = agrees; answers = answers; means = meant_run rows options old new text result answers }
+  pub runs_text : (refinements : CallsRefine) (text : List ℕ) (old new : Option (List ℕ)) (result : Answer) → AgreesWith (script_of text) result → WritesAnswers options old new (script_of text) result → RunsText options text old new result
+  runs_text refinements text old new result agrees answers = record { faults = agrees; answers = answers; means = meant_run refinements options old new text result answers }
 
   -- what reading the script answers is the fault in it, or out of memory
-  script_fault_agrees : (f : Fault) (read : Result Reading Fault) → Gives (Err f) read → IsFaultAt read f
+  script_fault_agrees : (f : Fault) (read : Result ScriptModel Fault) → Gives (Err f) read → IsFaultAt read f
   script_fault_agrees (BadScript n) read given = given
   script_fault_agrees TooLong read given = given
   script_fault_agrees OutOfMemory read given = tt
@@ -61,7 +61,7 @@ module _ (options : Options) where
   script_fault_agrees WriteFailed read given = absurd given
 
   -- and nothing was written then
-  script_fault_writes : (f : Fault) (w : Option (List ℕ)) (read : Result Reading Fault) → Gives (Err f) read → WritesAtFault options w w read f
+  script_fault_writes : (f : Fault) (w : Option (List ℕ)) (read : Result ScriptModel Fault) → Gives (Err f) read → WritesAtFault options w w read f
   script_fault_writes (BadScript n) w read given = Keeps-refl w
   script_fault_writes TooLong w read given = Keeps-refl w
   script_fault_writes OutOfMemory w read given = inl (Keeps-refl w)
@@ -69,15 +69,15 @@ module _ (options : Options) where
   script_fault_writes WriteFailed w read given = absurd given
 
   -- a text in which reading finds a fault
-  pub faulty_text : (rows : CallsRefine) (text : List ℕ) (w : Option (List ℕ)) (f : Fault) → Gives (Err f) (script_of text) → RunsText options text w w (Err f)
-  faulty_text rows text w f given = runs_text rows text w w (Err f) (script_fault_agrees f (script_of text) given) (script_fault_writes f w (script_of text) given)
+  pub faulty_text : (refinements : CallsRefine) (text : List ℕ) (w : Option (List ℕ)) (f : Fault) → Gives (Err f) (script_of text) → RunsText options text w w (Err f)
+  faulty_text refinements text w f given = runs_text refinements text w w (Err f) (script_fault_agrees f (script_of text) given) (script_fault_writes f w (script_of text) given)
 
   -- a text for which no machine was booted
-  pub unbooted_text : (rows : CallsRefine) (text : List ℕ) (w : Option (List ℕ)) → RunsText options text w w (Err OutOfMemory)
-  unbooted_text rows text w = runs_text rows text w w (Err OutOfMemory) tt (inl (Keeps-refl w))
+  pub unbooted_text : (refinements : CallsRefine) (text : List ℕ) (w : Option (List ℕ)) → RunsText options text w w (Err OutOfMemory)
+  unbooted_text refinements text w = runs_text refinements text w w (Err OutOfMemory) tt (inl (Keeps-refl w))
 
   -- answering the calls fails by no fault of a script
-  answer_fault_agrees : (f : Fault) (read : Result Reading Fault) → IsOutputFault f → IsOk read → IsFaultAt read f
+  answer_fault_agrees : (f : Fault) (read : Result ScriptModel Fault) → IsOutputFault f → IsOk read → IsFaultAt read f
   answer_fault_agrees (BadScript n) read h right = absurd h
   answer_fault_agrees TooLong read h right = absurd h
   answer_fault_agrees OutOfMemory read h right = tt
@@ -85,7 +85,7 @@ module _ (options : Options) where
   answer_fault_agrees WriteFailed read h right = right
 
   -- and a beginning of the answers was written then
-  answer_fault_writes : (f : Fault) (old new : Option (List ℕ)) (read : Result Reading Fault) → IsOutputFault f → BeginsScript options old new read → WritesAtFault options old new read f
+  answer_fault_writes : (f : Fault) (old new : Option (List ℕ)) (read : Result ScriptModel Fault) → IsOutputFault f → BeginsScript options old new read → WritesAtFault options old new read f
   answer_fault_writes (BadScript n) old new read h begun = absurd h
   answer_fault_writes TooLong old new read h begun = absurd h
   answer_fault_writes OutOfMemory old new read h begun = inr begun
@@ -93,15 +93,15 @@ module _ (options : Options) where
   answer_fault_writes WriteFailed old new read h begun = begun
 
   -- the machine was booted with the users and groups that the script has
-  pub starts_with : (m : MachineModel) (script : Reading) (session : Session) → session ≡ script.session → IsStart session m → IsStart script.session m
-  starts_with m script session same starts = subst (λ (declared : Session). IsStart declared m) same starts
+  pub starts_with : (m : MachineModel) (script : ScriptModel) (accounts : Accounts) → accounts ≡ script.accounts → IsStart accounts m → IsStart script.accounts m
+  starts_with m script accounts same starts = subst (λ (declared : Accounts). IsStart declared m) same starts
 
   -- a beginning of the calls of the script was answered
-  pub begins_script : (old new : Option (List ℕ)) (script : Reading) (start : MachineModel) (calls : List CallLine) → IsStart script.session start → calls ≡ script.calls → BeginsAnswers start old new calls → (read : Result Reading Fault) → read ≡ Ok script → BeginsScript options old new read
+  pub begins_script : (old new : Option (List ℕ)) (script : ScriptModel) (start : MachineModel) (calls : List CallLine) → IsStart script.accounts start → calls ≡ script.calls → BeginsAnswers start old new calls → (read : Result ScriptModel Fault) → read ≡ Ok script → BeginsScript options old new read
   begins_script old new script start calls starts listed begun read is_read = record { script = script; is_read = is_read; start = start; starts = starts; begun = inl (subst (λ (l : List CallLine). BeginsAnswers start old new l) listed begun) }
 
   -- the calls of the script were answered, and a beginning of what stands behind the replies was written
-  pub begins_ending : (old replied new : Option (List ℕ)) (script : Reading) (start end : MachineModel) (calls : List CallLine) → IsStart script.session start → calls ≡ script.calls → AnswersCalls start end old replied calls → BeginsTheEnding options end replied new → (read : Result Reading Fault) → read ≡ Ok script → BeginsScript options old new read
+  pub begins_ending : (old replied new : Option (List ℕ)) (script : ScriptModel) (start end : MachineModel) (calls : List CallLine) → IsStart script.accounts start → calls ≡ script.calls → AnswersCalls start end old replied calls → BeginsTheEnding options end replied new → (read : Result ScriptModel Fault) → read ≡ Ok script → BeginsScript options old new read
   begins_ending old replied new script start end calls starts listed answered begun read is_read = record {
     script = script;
     is_read = is_read;
@@ -111,7 +111,7 @@ module _ (options : Options) where
   }
 
   -- the calls of the script were answered, what stands behind the replies was written, and the trace is that of the machine at the end
-  pub answers_script : (old replied new : Option (List ℕ)) (script : Reading) (start end : MachineModel) (calls : List CallLine) (trace : List TraceEntry) → IsStart script.session start → calls ≡ script.calls → AnswersCalls start end old replied calls → AppendsEnding options end replied new → trace ≡ end.kernel.trace → (read : Result Reading Fault) → read ≡ Ok script
+  pub answers_script : (old replied new : Option (List ℕ)) (script : ScriptModel) (start end : MachineModel) (calls : List CallLine) (trace : List TraceEntry) → IsStart script.accounts start → calls ≡ script.calls → AnswersCalls start end old replied calls → AppendsEnding options end replied new → trace ≡ end.kernel.trace → (read : Result ScriptModel Fault) → read ≡ Ok script
       → AnswersScript options old new read trace
   answers_script old replied new script start end calls trace starts listed answered whole recorded read is_read = record {
     script = script;
@@ -128,13 +128,13 @@ module _ (options : Options) where
   }
 
   -- a text of which a beginning of the calls was answered
-  pub begun_text : (rows : CallsRefine) (text : List ℕ) (old new : Option (List ℕ)) (f : Fault) (script : Reading) → script_of text ≡ Ok script → IsOutputFault f → BeginsScript options old new (script_of text) → RunsText options text old new (Err f)
-  begun_text rows text old new f script given h begun =
-      runs_text rows text old new (Err f) (answer_fault_agrees f (script_of text) h (ap is_ok given)) (answer_fault_writes f old new (script_of text) h begun)
+  pub begun_text : (refinements : CallsRefine) (text : List ℕ) (old new : Option (List ℕ)) (f : Fault) (script : ScriptModel) → script_of text ≡ Ok script → IsOutputFault f → BeginsScript options old new (script_of text) → RunsText options text old new (Err f)
+  begun_text refinements text old new f script given h begun =
+      runs_text refinements text old new (Err f) (answer_fault_agrees f (script_of text) h (ap is_ok given)) (answer_fault_writes f old new (script_of text) h begun)
 
   -- a text of which all calls were answered
-  pub answered_text : (rows : CallsRefine) (text : List ℕ) (old new : Option (List ℕ)) (trace : List TraceEntry) (script : Reading) → script_of text ≡ Ok script → AnswersScript options old new (script_of text) trace → RunsText options text old new (Ok trace)
-  answered_text rows text old new trace script given answers = runs_text rows text old new (Ok trace) (ap is_ok given) answers
+  pub answered_text : (refinements : CallsRefine) (text : List ℕ) (old new : Option (List ℕ)) (trace : List TraceEntry) (script : ScriptModel) → script_of text ≡ Ok script → AnswersScript options old new (script_of text) trace → RunsText options text old new (Ok trace)
+  answered_text refinements text old new trace script given answers = runs_text refinements text old new (Ok trace) (ap is_ok given) answers
 
   -- ---- an input that is taken
 
@@ -176,9 +176,9 @@ module _ (options : Options) where
   -- what was run is the script of the whole input
   same_run : (input taken : List ℕ) (old new : Option (List ℕ)) (result : Answer) → script_of taken ≡ script_of input → RunsText options taken old new result → RunsText options input old new result
   same_run input taken old new result same runs = record {
-    faults = subst (λ (read : Result Reading Fault). AgreesWith read result) same runs.faults;
-    answers = subst (λ (read : Result Reading Fault). WritesAnswers options old new read result) same runs.answers;
-    means = subst (λ (read : Result Reading Fault). RunsAsMeant options old new read result) same runs.means;
+    faults = subst (λ (read : Result ScriptModel Fault). AgreesWith read result) same runs.faults;
+    answers = subst (λ (read : Result ScriptModel Fault). WritesAnswers options old new read result) same runs.answers;
+    means = subst (λ (read : Result ScriptModel Fault). RunsAsMeant options old new read result) same runs.means;
   }
 
   -- a known input that was taken was run

@@ -5,14 +5,14 @@ use Rattle.histar_flat.specs.declared.calls.Mode.{Mode}
 use Rattle.histar_flat.specs.declared.calls.UnixCall.{UnixCall}
 use Rattle.histar_flat.specs.declared.calls.UnixCall.TheVariants.{Create, Mkdir, Stat, Spawn, Whoami, Login, Wrap}
 use Rattle.histar_flat.specs.declared.replies.Reply.TheVariants as replies
-use Rattle.histar_flat.specs.Sessions.{Session}
+use Rattle.histar_flat.specs.Accounts.{Accounts}
 use Rattle.histar_flat.specs.Words.{Name, Path, ProcName}
 use Rattle.histar_label.specs.Levels.{Levels}
 use Rattle.histar_layout.specs.declared.entry.Target.TheVariants.{File, Directory}
 use Rattle.histar_rules.specs.declared.raw.RawCall.TheVariants.{LabelOf, MakeCategory, MakeContainer, MakeSegment, OwnLabel, SetClearance, SetLabel}
 use Rattle.histar_layout.specs.declared.shown.ShownClass.{ShownClass}
-use Rattle.histar_calls.specs.declared.places.Home.{Home}
-use Rattle.histar_calls.specs.declared.places.Places.{Places}
+use Rattle.histar_calls.specs.declared.roots.Home.{Home}
+use Rattle.histar_calls.specs.declared.roots.Roots.{Roots}
 use Rattle.histar_calls.specs.Create.{create_program}
 use Rattle.histar_layout.specs.Jobs.{jobs_in, is_empty}
 use Rattle.histar_calls.specs.Mkdir.{mkdir_program}
@@ -34,26 +34,26 @@ use Rattle.histar_shell.proofs.SameUsers.{same_class, same_directory_label, same
 
 -- ---- the programs, by what they read of the users and groups
 
-abbrev create_by : Places → Path → (Levels → Levels) → Program
-create_by places path label_made = do
-  room ← find_room places path
+abbrev create_by : Roots → Path → (Levels → Levels) → Program
+create_by roots path label_made = do
+  room ← find_room roots path
   own ← ask OwnLabel
   file ← ask (MakeSegment room.place.container (label_made own.0) [])
   write_entries room.place (map.insert room.entries room.name (File file))
   Answers replies.Done
 
-abbrev mkdir_by : Places → Path → (Levels → Levels) → Program
-mkdir_by places path label_made = do
-  room ← find_room places path
+abbrev mkdir_by : Roots → Path → (Levels → Levels) → Program
+mkdir_by roots path label_made = do
+  room ← find_room roots path
   own ← ask OwnLabel
   container ← ask (MakeContainer room.place.container (label_made own.0))
   listing ← ask (MakeSegment container (label_made own.0) [])
   write_entries room.place (map.insert room.entries room.name (Directory container listing))
   Answers replies.Done
 
-abbrev stat_by : Places → Path → (Levels → Option ShownClass) → Program
-stat_by places path class_of = do
-  object ← find_object places path
+abbrev stat_by : Roots → Path → (Levels → Option ShownClass) → Program
+stat_by roots path class_of = do
+  object ← find_object roots path
   label ← ask (LabelOf object.container object.object)
   class_reply object.is_directory (class_of label)
 
@@ -71,10 +71,10 @@ whoami_by user_name = do
   own ← ask OwnLabel
   Answers (replies.User (user_name own.0) (not (is_empty (jobs_in own.0))))
 
-abbrev wrap_by : Places → ProcName → Home → Path → (Levels → ℕ → Levels) → (Levels → ℕ → Kin) → Program
-wrap_by places name me path directory_label kin_in = do
+abbrev wrap_by : Roots → ProcName → Home → Path → (Levels → ℕ → Levels) → (Levels → ℕ → Kin) → Program
+wrap_by roots name me path directory_label kin_in = do
   status ← room_for_child name me
-  room ← find_room places path
+  room ← find_room roots path
   own ← ask OwnLabel
   job ← ask MakeCategory
   make_scratch own (directory_label own.0 job) room
@@ -84,45 +84,45 @@ wrap_by places name me path directory_label kin_in = do
 
 -- ---- they read no password
 
-module _ (session : Session) where
-  same_create : (places : Places) (path : Path) (mode : Mode) → create_program (without_passwords session) places path mode ≡ create_program session places path mode
+module _ (accounts : Accounts) where
+  same_create : (roots : Roots) (path : Path) (mode : Mode) → create_program (without_passwords accounts) roots path mode ≡ create_program accounts roots path mode
   unfolding create_program
-  same_create places path mode = λ i. create_by places path (λ own. same_label session own mode i)
+  same_create roots path mode = λ i. create_by roots path (λ own. same_label accounts own mode i)
 
-  same_mkdir : (places : Places) (path : Path) (mode : Mode) → mkdir_program (without_passwords session) places path mode ≡ mkdir_program session places path mode
+  same_mkdir : (roots : Roots) (path : Path) (mode : Mode) → mkdir_program (without_passwords accounts) roots path mode ≡ mkdir_program accounts roots path mode
   unfolding mkdir_program
-  same_mkdir places path mode = λ i. mkdir_by places path (λ own. same_label session own mode i)
+  same_mkdir roots path mode = λ i. mkdir_by roots path (λ own. same_label accounts own mode i)
 
-  same_stat : (places : Places) (path : Path) → stat_program (without_passwords session) places path ≡ stat_program session places path
+  same_stat : (roots : Roots) (path : Path) → stat_program (without_passwords accounts) roots path ≡ stat_program accounts roots path
   unfolding stat_program
-  same_stat places path = λ i. stat_by places path (λ label. same_class session label i)
+  same_stat roots path = λ i. stat_by roots path (λ label. same_class accounts label i)
 
-  same_spawn : (name : ProcName) (me : Home) → spawn_program (without_passwords session) name me ≡ spawn_program session name me
+  same_spawn : (name : ProcName) (me : Home) → spawn_program (without_passwords accounts) name me ≡ spawn_program accounts name me
   unfolding spawn_program
-  same_spawn name me = λ i. spawn_by name me (λ own. same_kin session own i)
+  same_spawn name me = λ i. spawn_by name me (λ own. same_kin accounts own i)
 
-  same_whoami : whoami_program (without_passwords session) ≡ whoami_program session
+  same_whoami : whoami_program (without_passwords accounts) ≡ whoami_program accounts
   unfolding whoami_program
-  same_whoami = λ i. whoami_by (λ own. same_user session own i)
+  same_whoami = λ i. whoami_by (λ own. same_user accounts own i)
 
-  same_login : (caller : Caller) (name : Name) (password : List ℕ) → login_program (without_passwords session) caller name password ≡ login_program session caller name password
-  same_login caller name password = at_place (place_of (without_passwords session).users name) ∙ ap (login_at session caller name password) (same_place session.users name)
+  same_login : (caller : Caller) (name : Name) (password : List ℕ) → login_program (without_passwords accounts) caller name password ≡ login_program accounts caller name password
+  same_login caller name password = at_place (place_of (without_passwords accounts).users name) ∙ ap (login_at accounts caller name password) (same_place accounts.users name)
     where
-      at_place : (place : Option ℕ) → login_at (without_passwords session) caller name password place ≡ login_at session caller name password place
+      at_place : (place : Option ℕ) → login_at (without_passwords accounts) caller name password place ≡ login_at accounts caller name password place
       at_place None = refl
-      at_place (Some place) = ap (λ (owners : List ℕ). login_as_program caller (place + 1) owners password) (same_owners session (place + 1) name)
+      at_place (Some place) = ap (λ (owners : List ℕ). login_as_program caller (place + 1) owners password) (same_owners accounts (place + 1) name)
 
-  same_wrap : (places : Places) (name : ProcName) (me : Home) (path : Path) → wrap_program (without_passwords session) places name me path ≡ wrap_program session places name me path
+  same_wrap : (roots : Roots) (name : ProcName) (me : Home) (path : Path) → wrap_program (without_passwords accounts) roots name me path ≡ wrap_program accounts roots name me path
   unfolding wrap_program
-  same_wrap places name me path = λ i. wrap_by places name me path (λ own job. same_directory_label session own job i) (λ own job. same_kin_in session own job i)
+  same_wrap roots name me path = λ i. wrap_by roots name me path (λ own job. same_directory_label accounts own job i) (λ own job. same_kin_in accounts own job i)
 
   -- so a call has the program that it has by the users with no passwords
-  pub same_program : (places : Places) (me : ProcName) (caller : Caller) (call : UnixCall) → program_of (without_passwords session) places me caller call ≡ program_of session places me caller call
-  same_program places me caller (Create path mode) = same_create places path mode
-  same_program places me caller (Mkdir path mode) = same_mkdir places path mode
-  same_program places me caller (Stat path) = same_stat places path
-  same_program places me caller Spawn = same_spawn me caller.home
-  same_program places me caller Whoami = same_whoami
-  same_program places me caller (Login name password) = same_login caller name password
-  same_program places me caller (Wrap path) = same_wrap places me caller.home path
-  same_program places me caller _ = refl
+  pub same_program : (roots : Roots) (me : ProcName) (caller : Caller) (call : UnixCall) → program_of (without_passwords accounts) roots me caller call ≡ program_of accounts roots me caller call
+  same_program roots me caller (Create path mode) = same_create roots path mode
+  same_program roots me caller (Mkdir path mode) = same_mkdir roots path mode
+  same_program roots me caller (Stat path) = same_stat roots path
+  same_program roots me caller Spawn = same_spawn me caller.home
+  same_program roots me caller Whoami = same_whoami
+  same_program roots me caller (Login name password) = same_login caller name password
+  same_program roots me caller (Wrap path) = same_wrap roots me caller.home path
+  same_program roots me caller _ = refl

@@ -8,7 +8,7 @@ use Rattle.std.proofs.lemmas.List.{length-map}
 use Rattle.histar_flat.specs.declared.calls.User.{User}
 use Rattle.histar_flat.specs.declared.calls.Mode.{Mode}
 use Rattle.histar_flat.specs.declared.calls.Mode.TheVariants as modes
-use Rattle.histar_flat.specs.Sessions.{Group, Session, user_number, group_number}
+use Rattle.histar_flat.specs.Accounts.{Group, Accounts, user_number, group_number}
 use Rattle.histar_flat.specs.Words.{Name, Path}
 use Rattle.histar_label.specs.Levels.{Levels, level_of}
 use Rattle.histar_object.specs.State.{State}
@@ -18,7 +18,7 @@ use Rattle.histar_layout.specs.declared.shown.ShownClass.{ShownClass}
 use Rattle.histar_layout.specs.declared.class.Class.{Class}
 use Rattle.histar_layout.specs.declared.class.Class.TheVariants.{Private, Readable, Open, Scratch, Group as Grouped}
 use Rattle.histar_layout.specs.ClassLabels.{IsRisingFrom, owned_label, class_label, HasJobs}
-use Rattle.histar_calls.specs.declared.places.Places.{Places}
+use Rattle.histar_calls.specs.declared.roots.Roots.{Roots}
 use Rattle.histar_layout.specs.Jobs.{jobs_in, is_empty}
 use Rattle.histar_layout.specs.Labelling.{secret_of, written_by}
 use Rattle.histar_layout.specs.Categories.{read_category, write_category, group_owner, owner_of_group, owners_among, owners_of, user_of, file_label, scratch_label, label_made}
@@ -27,8 +27,8 @@ use Rattle.histar_layout.specs.UserTable.{without_password, without_passwords}
 use Rattle.histar_process.specs.Kin.{categories_of, kin_of, owned_by, user_name}
 use Rattle.histar_wrap.specs.Scratch.{directory_label, jobs_with, kin_in}
 use Rattle.histar_login.specs.Login.{place_of}
-use Rattle.histar_tree.specs.declared.tree.TreeNode.{TreeNode}
-use Rattle.histar_tree.specs.Tree.{Listed, AreListed, IsBelow, IsNodeAt, IsTreeAt, IsTreeOf, levels_at}
+use Rattle.histar_readout.specs.declared.tree.TreeNode.{TreeNode}
+use Rattle.histar_readout.specs.Tree.{Listed, AreListed, IsBelow, IsNodeAt, IsTreeAt, IsTreeOf, levels_at}
 
 -- ---- the users
 
@@ -58,75 +58,75 @@ class_from_same label groups [] k = refl
 class_from_same label groups (user ∷ users) k =
     ap (λ (rest : Option ShownClass). if is_unnamed label k then rest else class_at user.name (level_of label (read_category k)) (level_of label (write_category k))) (class_from_same label groups users (k + 1))
 
-module _ (session : Session) where
+module _ (accounts : Accounts) where
   -- how many there are
-  count : length (without_passwords session).users ≡ length session.users
-  count = as_many session.users
+  count : length (without_passwords accounts).users ≡ length accounts.users
+  count = as_many accounts.users
 
-  pub same_class : (label : Levels) → class_shown (without_passwords session) label ≡ class_shown session label
+  pub same_class : (label : Levels) → class_shown (without_passwords accounts) label ≡ class_shown accounts label
   unfolding class_shown
-  same_class label = class_from_same label session.groups session.users 1
+  same_class label = class_from_same label accounts.groups accounts.users 1
 
   -- ---- the labels of files
 
-  same_owner : (group : Name) → owner_of_group (without_passwords session) group ≡ owner_of_group session group
-  same_owner group = λ i. elim (group_number session group) [ None ↦ 0 | Some k ↦ group_owner (count i) k ]
+  same_owner : (group : Name) → owner_of_group (without_passwords accounts) group ≡ owner_of_group accounts group
+  same_owner group = λ i. elim (group_number accounts group) [ None ↦ 0 | Some k ↦ group_owner (count i) k ]
 
-  same_file_label : (mode : Mode) (user : ℕ) → file_label (without_passwords session) mode user ≡ file_label session mode user
+  same_file_label : (mode : Mode) (user : ℕ) → file_label (without_passwords accounts) mode user ≡ file_label accounts mode user
   same_file_label modes.Readable user = refl
   same_file_label modes.Private user = refl
   same_file_label modes.Open user = refl
   same_file_label (modes.Group group) user = λ i. secret_of (read_category (same_owner group i)) (write_category (same_owner group i))
 
-  pub same_label : (own : Levels) (mode : Mode) → label_made (without_passwords session) own mode ≡ label_made session own mode
+  pub same_label : (own : Levels) (mode : Mode) → label_made (without_passwords accounts) own mode ≡ label_made accounts own mode
   same_label own mode = λ i. if is_empty (jobs_in own) then same_file_label mode (user_of own (count i)) i else scratch_label (user_of own (count i)) (jobs_in own)
 
-  pub same_directory_label : (own : Levels) (job : ℕ) → directory_label (without_passwords session) own job ≡ directory_label session own job
+  pub same_directory_label : (own : Levels) (job : ℕ) → directory_label (without_passwords accounts) own job ≡ directory_label accounts own job
   same_directory_label own job = λ i. scratch_label (user_of own (count i)) (jobs_with own job)
 
   -- ---- what a process owns
 
-  pub same_owners : (number : ℕ) (name : Name) → owners_of (without_passwords session) number name ≡ owners_of session number name
-  same_owners number name = λ i. owners_among (count i) session.groups number name
+  pub same_owners : (number : ℕ) (name : Name) → owners_of (without_passwords accounts) number name ≡ owners_of accounts number name
+  same_owners number name = λ i. owners_among (count i) accounts.groups number name
 
-  same_owned : (user : ℕ) (free : Bool) → owned_by (without_passwords session) user free ≡ owned_by session user free
+  same_owned : (user : ℕ) (free : Bool) → owned_by (without_passwords accounts) user free ≡ owned_by accounts user free
   same_owned zero free = refl
-  same_owned (suc k) free = λ i. categories_of (owners_among (count i) session.groups (suc k) (same_name session.users (suc k) i)) free
+  same_owned (suc k) free = λ i. categories_of (owners_among (count i) accounts.groups (suc k) (same_name accounts.users (suc k) i)) free
 
-  pub same_user : (own : Levels) → user_name (without_passwords session).users (user_of own (length (without_passwords session).users)) ≡ user_name session.users (user_of own (length session.users))
-  same_user own = λ i. same_name session.users (user_of own (count i)) i
+  pub same_user : (own : Levels) → user_name (without_passwords accounts).users (user_of own (length (without_passwords accounts).users)) ≡ user_name accounts.users (user_of own (length accounts.users))
+  same_user own = λ i. same_name accounts.users (user_of own (count i)) i
 
-  pub same_kin : (own : Levels) → kin_of (without_passwords session) own ≡ kin_of session own
+  pub same_kin : (own : Levels) → kin_of (without_passwords accounts) own ≡ kin_of accounts own
   same_kin own = λ i. record { owned = same_owned (user_of own (count i)) (is_empty (jobs_in own)) i; jobs = jobs_in own }
 
-  pub same_kin_in : (own : Levels) (job : ℕ) → kin_in (without_passwords session) own job ≡ kin_in session own job
+  pub same_kin_in : (own : Levels) (job : ℕ) → kin_in (without_passwords accounts) own job ≡ kin_in accounts own job
   same_kin_in own job = λ i. record { owned = same_owned (user_of own (count i)) false i; jobs = jobs_with own job }
 
   -- ---- the tree
 
   -- users and groups have the numbers that they had
-  same_user_number : (name : Name) → user_number (without_passwords session) name ≡ user_number session name
-  same_user_number name = ap (option_map (λ place. place + 1)) (same_place session.users name)
+  same_user_number : (name : Name) → user_number (without_passwords accounts) name ≡ user_number accounts name
+  same_user_number name = ap (option_map (λ place. place + 1)) (same_place accounts.users name)
 
   -- a class has the label that it had
-  same_class_label : (class : Class) → class_label (without_passwords session) class ≡ class_label session class
+  same_class_label : (class : Class) → class_label (without_passwords accounts) class ≡ class_label accounts class
   same_class_label (Private owner) = ap (option_map owned_label) (same_user_number owner)
   same_class_label (Readable owner) = ap (option_map (λ user. written_by (write_category user))) (same_user_number owner)
   same_class_label Open = refl
   same_class_label (Scratch owner jobs) = ap (option_map (λ user. scratch_label user jobs)) (same_user_number owner)
-  same_class_label (Grouped group) = λ i. option_map (λ number. owned_label (group_owner (count i) number)) (group_number session group)
+  same_class_label (Grouped group) = λ i. option_map (λ number. owned_label (group_owner (count i) number)) (group_number accounts group)
 
   -- and jobs stand behind as many users and groups
-  jobs_still : (class : Class) → HasJobs session class → HasJobs (without_passwords session) class
+  jobs_still : (class : Class) → HasJobs accounts class → HasJobs (without_passwords accounts) class
   jobs_still (Private owner) has = tt
   jobs_still (Readable owner) has = tt
   jobs_still Open has = tt
-  jobs_still (Scratch owner jobs) has = subst (λ (users : ℕ). IsRisingFrom (4 + 2 * (users + length session.groups)) jobs) (sym count) has
+  jobs_still (Scratch owner jobs) has = subst (λ (users : ℕ). IsRisingFrom (4 + 2 * (users + length accounts.groups)) jobs) (sym count) has
   jobs_still (Grouped group) has = tt
 
   module _ (s : State) where
     -- what stands at a path is of the same class
-    node_still : (q : Path) (target : Target) (node : TreeNode) → IsNodeAt session s q target node → IsNodeAt (without_passwords session) s q target node
+    node_still : (q : Path) (target : Target) (node : TreeNode) → IsNodeAt accounts s q target node → IsNodeAt (without_passwords accounts) s q target node
     node_still q target node is = record {
       path_is = is.path_is;
       target_is = is.target_is;
@@ -147,12 +147,12 @@ module _ (session : Session) where
     below_still is_tree still each q (File file) trees is = is
     below_still is_tree still each q (Directory container listing) trees is = (is.0, is.1, listed_still is_tree still each q (maps.entries is.0) trees is.2)
 
-    tree_still : (levels : ℕ) → IsStill (IsTreeAt levels session s) (IsTreeAt levels (without_passwords session) s)
+    tree_still : (levels : ℕ) → IsStill (IsTreeAt levels accounts s) (IsTreeAt levels (without_passwords accounts) s)
     tree_still zero q target tree is = is
     tree_still (suc levels) q target tree is =
-        (is.0, is.1, node_still q target is.0 is.2, below_still (IsTreeAt levels session s) (IsTreeAt levels (without_passwords session) s) (tree_still levels) q target is.1 is.3, is.4)
+        (is.0, is.1, node_still q target is.0 is.2, below_still (IsTreeAt levels accounts s) (IsTreeAt levels (without_passwords accounts) s) (tree_still levels) q target is.1 is.3, is.4)
 
     -- the tree of a session is that of its users with no passwords
-    pub tree_unproved : (places : Places) (tree : List TreeNode) → IsTreeOf session s places tree → IsTreeOf (without_passwords session) s places tree
+    pub tree_unproved : (roots : Roots) (tree : List TreeNode) → IsTreeOf accounts s roots tree → IsTreeOf (without_passwords accounts) s roots tree
     unfolding IsTreeOf
-    tree_unproved places tree is = tree_still (levels_at []) [] (Directory places.slash.container places.slash.listing) tree is
+    tree_unproved roots tree is = tree_still (levels_at []) [] (Directory roots.slash.container roots.slash.listing) tree is

@@ -4,13 +4,13 @@ use Rattle.std.specs.List.{AllByRecursion}
 use Rattle.std.specs.Io.KnownBytes.{Appends}
 use Rattle.std.proofs.KnownBytes.{Appends-trans}
 use Rattle.std.proofs.lemmas.Grind.{flat_map-append}
-use Rattle.histar_flat.specs.Sessions.{Session}
+use Rattle.histar_flat.specs.Accounts.{Accounts}
 use Rattle.histar_flat.specs.FlatState.{Flat}
 use Rattle.histar_flat.specs.FlatCalls.{flat_after}
-use Rattle.histar_flat.specs.Meaning.{boot, answered_from, flat_end, meaning, Answered}
+use Rattle.histar_flat.specs.Meaning.{boot, answered_from, flat_end, meaning, RepliedCall}
 use Rattle.histar_flat.proofs.Laws.{replies_go_on}
 use Rattle.histar_object.specs.State.{State, empty_state}
-use Rattle.histar_script.specs.Script.{Reading, IsDeclared}
+use Rattle.histar_script.specs.Script.{ScriptModel, IsDeclared}
 use Rattle.histar_script.specs.declared.fault.Fault.{Fault}
 use Rattle.histar_script.specs.declared.fault.Fault.TheVariants.{BadScript, TooLong, OutOfMemory, ReadFailed, WriteFailed}
 use Rattle.histar_flat.specs.declared.calls.CallLine.{CallLine}
@@ -20,10 +20,10 @@ use Rattle.histar_syscall.specs.KernelModel.{KernelModel, state}
 use Rattle.histar_syscall.specs.Runs.{IsBy, IsRun}
 use Rattle.histar_login.specs.Boot.{boot_thread_number, boot_calls, IsBooted}
 use Rattle.histar_refinement.specs.Represents.{Represents}
-use Rattle.histar_shell.proofs.CallRows.{CallsRefine}
+use Rattle.histar_shell.proofs.CallRefinements.{CallsRefine}
 use Rattle.histar_sim.specs.Simulation.{SimulatesLines}
 use Rattle.histar_sim.proofs.Chains.{entries_of, chain_run, chain_own, granted_run}
-use Rattle.histar_devices.specs.Writing.{AppendsFront}
+use Rattle.histar_io.specs.Writing.{AppendsFront}
 use Rattle.histar_shell.specs.Answers.{answer_text, answers_text, calls_of}
 use Rattle.histar_shell.specs.Machine.{MachineModel, IsStart, IsTraced}
 use Rattle.histar_shell.specs.AnsweredCalls.{AnswersInTurn, AnswersCalls, BeginsAnswers}
@@ -35,65 +35,65 @@ use Rattle.histar_shell.proofs.Users.{AreScriptable, script_says}
 use Rattle.histar_shell.proofs.AnswerLemmas.{front_after}
 use Rattle.histar_shell.proofs.ShownTrees.{shown_tree, tree_asked}
 use Rattle.histar_shell.proofs.LineMeanings.{line_follows}
-use Rattle.histar_shell.proofs.RowRuns.{run_after, rows_run}
-use Rattle.histar_shell.proofs.Starts.{start_is_laid, start_shows}
+use Rattle.histar_shell.proofs.RefinedRuns.{run_after, refinements_run}
+use Rattle.histar_shell.proofs.Starts.{start_is_matched, start_shows}
 
 -- What the lines of a session have done, from a machine that shows a flat state on.
-pub record IsMeantSession (session : Session) (m : MachineModel) (f : Flat) (answers : List Answered) (end : MachineModel) : Type 0 where
-  pub replies : answers ≡ answered_from session f (calls_of answers)
+pub record IsMeantSession (accounts : Accounts) (m : MachineModel) (f : Flat) (answers : List RepliedCall) (end : MachineModel) : Type 0 where
+  pub replies : answers ≡ answered_from accounts f (calls_of answers)
   pub entries : List TraceEntry
   pub trace : end.kernel.trace ≡ m.kernel.trace ++ entries
-  pub rows : SimulatesLines session (state m.kernel) f (calls_of answers) entries (state end.kernel)
-  pub shows : Shows session end (flat_end session f (calls_of answers))
+  pub refinements : SimulatesLines accounts (state m.kernel) f (calls_of answers) entries (state end.kernel)
+  pub shows : Shows accounts end (flat_end accounts f (calls_of answers))
 
-module _ (declared : Session) where
+module _ (declared : Accounts) where
   -- a session of no line
-  session_none : (m : MachineModel) (f : Flat) (end : MachineModel) → end ≡ m → Shows declared m f → IsMeantSession declared m f [] end
-  session_none m f end same shows = record {
+  accounts_none : (m : MachineModel) (f : Flat) (end : MachineModel) → end ≡ m → Shows declared m f → IsMeantSession declared m f [] end
+  accounts_none m f end same shows = record {
     replies = refl;
     entries = [];
     trace = ap (λ (x : MachineModel). x.kernel.trace) same ∙ sym (append-nil m.kernel.trace);
-    rows = (refl, ap (λ (x : MachineModel). state x.kernel) same);
+    refinements = (refl, ap (λ (x : MachineModel). state x.kernel) same);
     shows = subst (λ (x : MachineModel). Shows declared x f) (sym same) shows;
   }
 
   -- a line before a session
-  session_first : (m mid : MachineModel) (f : Flat) (a : Answered) (answers : List Answered) (end : MachineModel) → AnswersAsMeant declared m mid f a.call a.reply
+  accounts_first : (m mid : MachineModel) (f : Flat) (a : RepliedCall) (answers : List RepliedCall) (end : MachineModel) → AnswersAsMeant declared m mid f a.call a.reply
       → IsMeantSession declared mid (flat_after declared f a.call.process a.call.call) answers end → IsMeantSession declared m f (a ∷ answers) end
-  session_first m mid f a answers end line later = record {
+  accounts_first m mid f a answers end line later = record {
     replies = λ i. record { call = a.call; reply = line.is_reply i } ∷ later.replies i;
     entries = line.entries ++ later.entries;
     trace = later.trace ∙ ap (λ (es : List TraceEntry). es ++ later.entries) line.trace ∙ append_assoc m.kernel.trace line.entries later.entries;
-    rows = (line.entries, later.entries, state mid.kernel, refl, line.row, later.rows);
+    refinements = (line.entries, later.entries, state mid.kernel, refl, line.refined, later.refinements);
     shows = later.shows;
   }
 
   -- a session of lines that a script can have
-  pub session_means : (rows : CallsRefine) (m : MachineModel) (f : Flat) (answers : List Answered) (end : MachineModel) → AnswersInTurn m answers end → Shows declared m f → AreScriptable (calls_of answers) → IsMeantSession declared m f answers end
-  session_means rows m f [] end session shows can = session_none m f end session shows
-  session_means rows m f (a ∷ answers) end session shows can =
-      let line = line_follows rows m session.0 a.call.line a.call.process a.call.call (Ok a.reply) can.0 session.1 declared f shows in
-      session_first m session.0 f a answers end line
-      (session_means rows session.0 (flat_after declared f a.call.process a.call.call) answers end session.2 line.shows can.1)
+  pub accounts_means : (refinements : CallsRefine) (m : MachineModel) (f : Flat) (answers : List RepliedCall) (end : MachineModel) → AnswersInTurn m answers end → Shows declared m f → AreScriptable (calls_of answers) → IsMeantSession declared m f answers end
+  accounts_means refinements m f [] end accounts shows can = accounts_none m f end accounts shows
+  accounts_means refinements m f (a ∷ answers) end accounts shows can =
+      let line = line_follows refinements m accounts.0 a.call.line a.call.process a.call.call (Ok a.reply) can.0 accounts.1 declared f shows in
+      accounts_first m accounts.0 f a answers end line
+      (accounts_means refinements accounts.0 (flat_after declared f a.call.process a.call.call) answers end accounts.2 line.shows can.1)
 
 -- the raw calls of boot
-pub record IsBootTrace (session : Session) (m : MachineModel) : Type 0 where
+pub record IsBootTrace (accounts : Accounts) (m : MachineModel) : Type 0 where
   pub entries : List TraceEntry
   pub trace : m.kernel.trace ≡ entries
   pub run : IsRun empty_state entries (state m.kernel)
   pub own : AllByRecursion (IsBy 0 boot_thread_number) entries
 
 -- a machine that was booted by its raw calls alone has a trace of them
-pub booted_traced : (session : Session) (kernel : KernelModel) → IsBooted session kernel → IsTraced kernel
-booted_traced session kernel booted =
-    let granted = granted_run boot_thread_number booted.first kernel (boot_calls session) booted.made in
+pub booted_traced : (accounts : Accounts) (kernel : KernelModel) → IsBooted accounts kernel → IsTraced kernel
+booted_traced accounts kernel booted =
+    let granted = granted_run boot_thread_number booted.first kernel (boot_calls accounts) booted.made in
     let part = chain_run boot_thread_number booted.first kernel granted.0 granted.1 in
     let entries = entries_of booted.first.line boot_thread_number granted.0 in
     subst (λ (es : List TraceEntry). IsRun empty_state es (state kernel)) (sym (part.trace ∙ ap (λ (es : List TraceEntry). es ++ entries) booted.no_trace)) (subst (λ (s : State). IsRun s entries (state kernel)) booted.empty part.run)
 
-pub boot_trace : (session : Session) (m : MachineModel) → IsBooted session m.kernel → IsBootTrace session m
-boot_trace session m booted =
-    let granted = granted_run boot_thread_number booted.first m.kernel (boot_calls session) booted.made in
+pub boot_trace : (accounts : Accounts) (m : MachineModel) → IsBooted accounts m.kernel → IsBootTrace accounts m
+boot_trace accounts m booted =
+    let granted = granted_run boot_thread_number booted.first m.kernel (boot_calls accounts) booted.made in
     let part = chain_run boot_thread_number booted.first m.kernel granted.0 granted.1 in
     let entries = entries_of booted.first.line boot_thread_number granted.0 in
     record {
@@ -103,60 +103,60 @@ boot_trace session m booted =
       own = subst (λ (line : ℕ). AllByRecursion (IsBy line boot_thread_number) entries) booted.line (chain_own boot_thread_number booted.first.line granted.0);
     }
 
-module _ (rows : CallsRefine) (script : Reading) (declared : IsDeclared script.session) (can : AreScriptable script.calls) (start : MachineModel) (starts : IsStart script.session start) where
+module _ (refinements : CallsRefine) (script : ScriptModel) (declared : IsDeclared script.accounts) (can : AreScriptable script.calls) (start : MachineModel) (starts : IsStart script.accounts start) where
   -- the session from the start on
-  from_start : (answers : List Answered) (end : MachineModel) → AreScriptable (calls_of answers) → AnswersInTurn start answers end → IsMeantSession script.session start (boot script.session) answers end
-  from_start answers end these session = session_means script.session rows start (boot script.session) answers end session (start_shows script.session declared start starts) these
+  from_start : (answers : List RepliedCall) (end : MachineModel) → AreScriptable (calls_of answers) → AnswersInTurn start answers end → IsMeantSession script.accounts start (boot script.accounts) answers end
+  from_start answers end these accounts = accounts_means script.accounts refinements start (boot script.accounts) answers end accounts (start_shows script.accounts declared start starts) these
 
   -- the replies to the lines that were answered
-  replies_to : (answers : List Answered) (end : MachineModel) → AreScriptable (calls_of answers) → AnswersInTurn start answers end → answers ≡ meaning script.session (calls_of answers)
-  replies_to answers end these session = (from_start answers end these session).replies
+  replies_to : (answers : List RepliedCall) (end : MachineModel) → AreScriptable (calls_of answers) → AnswersInTurn start answers end → answers ≡ meaning script.accounts (calls_of answers)
+  replies_to answers end these accounts = (from_start answers end these accounts).replies
 
   -- the flat state after all lines
   abbrev last : Flat
   last = last_state script
 
   -- which the machine shows
-  pub shows_end : (end : MachineModel) (answers : List Answered) → calls_of answers ≡ script.calls → AnswersInTurn start answers end → Shows script.session end last
+  pub shows_end : (end : MachineModel) (answers : List RepliedCall) → calls_of answers ≡ script.calls → AnswersInTurn start answers end → Shows script.accounts end last
   shows_end end answers each in_turn =
       let these : AreScriptable (calls_of answers) = subst AreScriptable (sym each) can in
-      subst (λ (calls : List CallLine). Shows script.session end (flat_end script.session (boot script.session) calls)) each (from_start answers end these in_turn).shows
+      subst (λ (calls : List CallLine). Shows script.accounts end (flat_end script.accounts (boot script.accounts) calls)) each (from_start answers end these in_turn).shows
 
   -- also where the replies were written
-  pub shows_last : (old replied : Option (List ℕ)) (end : MachineModel) → AnswersCalls start end old replied script.calls → Shows script.session end last
+  pub shows_last : (old replied : Option (List ℕ)) (end : MachineModel) → AnswersCalls start end old replied script.calls → Shows script.accounts end last
   shows_last old replied end answered = shows_end end answered.answers answered.each answered.in_turn
 
   -- the replies to all lines
-  pub all_replies : (end : MachineModel) (answers : List Answered) → calls_of answers ≡ script.calls → AnswersInTurn start answers end → answers ≡ meaning script.session script.calls
+  pub all_replies : (end : MachineModel) (answers : List RepliedCall) → calls_of answers ≡ script.calls → AnswersInTurn start answers end → answers ≡ meaning script.accounts script.calls
   all_replies end answers each in_turn =
       let these : AreScriptable (calls_of answers) = subst AreScriptable (sym each) can in
-      replies_to answers end these in_turn ∙ ap (meaning script.session) each
+      replies_to answers end these in_turn ∙ ap (meaning script.accounts) each
 
   -- their text
-  replies_are : (old replied : Option (List ℕ)) (end : MachineModel) (answered : AnswersCalls start end old replied script.calls) → answers_text answered.answers ≡ answers_text (meaning script.session script.calls)
+  replies_are : (old replied : Option (List ℕ)) (end : MachineModel) (answered : AnswersCalls start end old replied script.calls) → answers_text answered.answers ≡ answers_text (meaning script.accounts script.calls)
   replies_are old replied end answered = ap answers_text (all_replies end answered.answers answered.each answered.in_turn)
 
   -- the trace of all lines
   trace_is : (old replied : Option (List ℕ)) (end : MachineModel) → AnswersCalls start end old replied script.calls → (trace : List TraceEntry) → trace ≡ end.kernel.trace → IsMeantTrace script trace
   trace_is old replied end answered trace recorded =
       let these : AreScriptable (calls_of answered.answers) = subst AreScriptable (sym answered.each) can in
-      let session = from_start answered.answers end these answered.in_turn in
-      let of_boot = boot_trace script.session start starts.booted in
-      let parts = recorded ∙ session.trace ∙ ap (λ (es : List TraceEntry). es ++ session.entries) of_boot.trace in
-      let of_lines = subst (λ (calls : List CallLine). SimulatesLines script.session (state start.kernel) (boot script.session) calls session.entries (state end.kernel)) answered.each session.rows in
+      let accounts = from_start answered.answers end these answered.in_turn in
+      let of_boot = boot_trace script.accounts start starts.booted in
+      let parts = recorded ∙ accounts.trace ∙ ap (λ (es : List TraceEntry). es ++ accounts.entries) of_boot.trace in
+      let of_lines = subst (λ (calls : List CallLine). SimulatesLines script.accounts (state start.kernel) (boot script.accounts) calls accounts.entries (state end.kernel)) answered.each accounts.refinements in
       record {
         of_boot = of_boot.entries;
-        of_lines = session.entries;
+        of_lines = accounts.entries;
         parts = parts;
         start = state start.kernel;
         boot_run = of_boot.run;
         boot_own = of_boot.own;
-        boot_represents = subst (λ (s : State). Represents script.session s (boot script.session)) (sym starts.state) (start_is_laid script.session declared);
+        boot_represents = subst (λ (s : State). Represents script.accounts s (boot script.accounts)) (sym starts.state) (start_is_matched script.accounts declared);
         end = state end.kernel;
-        rows = of_lines;
+        refinements = of_lines;
         run = subst (λ (es : List TraceEntry). IsRun empty_state es (state end.kernel)) (sym parts)
-            (run_after empty_state (state start.kernel) (state end.kernel) of_boot.entries session.entries of_boot.run
-            (rows_run script.session (state start.kernel) (boot script.session) script.calls session.entries (state end.kernel) of_lines));
+            (run_after empty_state (state start.kernel) (state end.kernel) of_boot.entries accounts.entries of_boot.run
+            (refinements_run script.accounts (state start.kernel) (boot script.accounts) script.calls accounts.entries (state end.kernel) of_lines));
       }
 
   module _ (options : Options) where
@@ -166,17 +166,17 @@ module _ (rows : CallsRefine) (script : Reading) (declared : IsDeclared script.s
     whole_is old replied end answered ending ends trace recorded =
         let of_trace = asked_trace options trace in
         (λ i. replies_are old replied end answered i ++ ends.parts i)
-        ∙ (λ i. answers_text (meaning script.session script.calls) ++ (tree_asked script.session end last (shows_last old replied end answered) options.tree ends.tree ends.prints i ++ asked_trace options (sym recorded i)))
-        ∙ sym (append_assoc (answers_text (meaning script.session script.calls)) (asked_tree options last) of_trace)
+        ∙ (λ i. answers_text (meaning script.accounts script.calls) ++ (tree_asked script.accounts end last (shows_last old replied end answered) options.tree ends.tree ends.prints i ++ asked_trace options (sym recorded i)))
+        ∙ sym (append_assoc (answers_text (meaning script.accounts script.calls)) (asked_tree options last) of_trace)
 
     -- all lines were answered
-    pub writes_meaning : (old replied new : Option (List ℕ)) (read : Result Reading Fault) → read ≡ Ok script → (trace : List TraceEntry) (end : MachineModel) → AnswersCalls start end old replied script.calls → (ending : List ℕ) → IsEnding options end ending → Appends replied new ending → trace ≡ end.kernel.trace
+    pub writes_meaning : (old replied new : Option (List ℕ)) (read : Result ScriptModel Fault) → read ≡ Ok script → (trace : List TraceEntry) (end : MachineModel) → AnswersCalls start end old replied script.calls → (ending : List ℕ) → IsEnding options end ending → Appends replied new ending → trace ≡ end.kernel.trace
         → WritesMeaning options old new read trace
-    writes_meaning old replied new read is_read trace end answered ending ends told recorded = record {
+    writes_meaning old replied new read is_read trace end answered ending ends revealed recorded = record {
       script = script;
       is_read = is_read;
       recorded = trace_is old replied end answered trace recorded;
-      written = subst (Appends old new) (whole_is old replied end answered ending ends trace recorded) (Appends-trans old replied new (answers_text answered.answers) ending answered.written told);
+      written = subst (Appends old new) (whole_is old replied end answered ending ends trace recorded) (Appends-trans old replied new (answers_text answered.answers) ending answered.written revealed);
     }
 
     -- they were, and then a beginning of what stands behind the replies was written
@@ -203,41 +203,41 @@ module _ (rows : CallsRefine) (script : Reading) (declared : IsDeclared script.s
         let front = calls_of begun.answers in
         let these : AreScriptable front = front_can front begun.rest (subst AreScriptable begun.parts can) in
         let text = ap answers_text (replies_to begun.answers begun.end these begun.in_turn) in
-        let rest_text = answers_text (answered_from script.session (flat_end script.session (boot script.session) front) begun.rest) in
-        let replies : answers_text (meaning script.session script.calls) ≡ answers_text begun.answers ++ rest_text =
-        ap (λ (calls : List CallLine). answers_text (meaning script.session calls)) begun.parts
-        ∙ ap answers_text (replies_go_on script.session (boot script.session) front begun.rest)
-        ∙ flat_map-append answer_text (meaning script.session front) (answered_from script.session (flat_end script.session (boot script.session) front) begun.rest)
+        let rest_text = answers_text (answered_from script.accounts (flat_end script.accounts (boot script.accounts) front) begun.rest) in
+        let replies : answers_text (meaning script.accounts script.calls) ≡ answers_text begun.answers ++ rest_text =
+        ap (λ (calls : List CallLine). answers_text (meaning script.accounts calls)) begun.parts
+        ∙ ap answers_text (replies_go_on script.accounts (boot script.accounts) front begun.rest)
+        ∙ flat_map-append answer_text (meaning script.accounts front) (answered_from script.accounts (flat_end script.accounts (boot script.accounts) front) begun.rest)
         ∙ ap (λ (t : List ℕ). t ++ rest_text) (sym text) in
-        longer_front old new (answers_text (meaning script.session script.calls)) (asked_tree options last)
+        longer_front old new (answers_text (meaning script.accounts script.calls)) (asked_tree options last)
         (subst (AppendsFront old new) (sym replies) (longer_front old new (answers_text begun.answers) rest_text begun.written))
 
-    pub begins_meaning : (old new : Option (List ℕ)) (read : Result Reading Fault) → read ≡ Ok script → BeginsAnswers start old new script.calls ⊎ BeginsEnding options start old new script.calls → BeginsMeaning options old new read
+    pub begins_meaning : (old new : Option (List ℕ)) (read : Result ScriptModel Fault) → read ≡ Ok script → BeginsAnswers start old new script.calls ⊎ BeginsEnding options start old new script.calls → BeginsMeaning options old new read
     begins_meaning old new read is_read (inl begun) = record { script = script; is_read = is_read; written = inl (answers_begin old new begun) }
     begins_meaning old new read is_read (inr begun) = record { script = script; is_read = is_read; written = inr (ends_meaning old new begun) }
 
 -- the beginning of a script's answers is one of its meaning
-begun_script : (rows : CallsRefine) (options : Options) (old new : Option (List ℕ)) (text : List ℕ) → BeginsScript options old new (script_of text) → BeginsMeaning options old new (script_of text)
-begun_script rows options old new text h = let says = script_says text h.script h.is_read in begins_meaning rows h.script says.0 says.1 h.start h.starts options old new (script_of text) h.is_read h.begun
+begun_script : (refinements : CallsRefine) (options : Options) (old new : Option (List ℕ)) (text : List ℕ) → BeginsScript options old new (script_of text) → BeginsMeaning options old new (script_of text)
+begun_script refinements options old new text h = let says = script_says text h.script h.is_read in begins_meaning refinements h.script says.0 says.1 h.start h.starts options old new (script_of text) h.is_read h.begun
 
 -- at a fault
-meant_at_fault : (rows : CallsRefine) (options : Options) (old new : Option (List ℕ)) (text : List ℕ) (fault : Fault) → WritesAtFault options old new (script_of text) fault → WritesMeaningAtFault options old new (script_of text) fault
-meant_at_fault rows options old new text (BadScript n) h = h
-meant_at_fault rows options old new text TooLong h = h
-meant_at_fault rows options old new text OutOfMemory (inl h) = inl h
-meant_at_fault rows options old new text OutOfMemory (inr h) = inr (begun_script rows options old new text h)
-meant_at_fault rows options old new text ReadFailed h = h
-meant_at_fault rows options old new text WriteFailed h = begun_script rows options old new text h
+meant_at_fault : (refinements : CallsRefine) (options : Options) (old new : Option (List ℕ)) (text : List ℕ) (fault : Fault) → WritesAtFault options old new (script_of text) fault → WritesMeaningAtFault options old new (script_of text) fault
+meant_at_fault refinements options old new text (BadScript n) h = h
+meant_at_fault refinements options old new text TooLong h = h
+meant_at_fault refinements options old new text OutOfMemory (inl h) = inl h
+meant_at_fault refinements options old new text OutOfMemory (inr h) = inr (begun_script refinements options old new text h)
+meant_at_fault refinements options old new text ReadFailed h = h
+meant_at_fault refinements options old new text WriteFailed h = begun_script refinements options old new text h
 
 -- what a run answers is as its script means
-pub meant_run : (rows : CallsRefine) (options : Options) (old new : Option (List ℕ)) (text : List ℕ) (result : Result (List TraceEntry) Fault) → WritesAnswers options old new (script_of text) result → RunsAsMeant options old new (script_of text) result
-meant_run rows options old new text (Ok trace) h =
+pub meant_run : (refinements : CallsRefine) (options : Options) (old new : Option (List ℕ)) (text : List ℕ) (result : Result (List TraceEntry) Fault) → WritesAnswers options old new (script_of text) result → RunsAsMeant options old new (script_of text) result
+meant_run refinements options old new text (Ok trace) h =
     let says = script_says text h.script h.is_read in
-    writes_meaning rows h.script says.0 says.1 h.start h.starts options old h.replied new (script_of text) h.is_read trace h.end h.answered h.ending h.ends h.appended h.recorded
-meant_run rows options old new text (Err fault) h = meant_at_fault rows options old new text fault h
+    writes_meaning refinements h.script says.0 says.1 h.start h.starts options old h.replied new (script_of text) h.is_read trace h.end h.answered h.ending h.ends h.appended h.recorded
+meant_run refinements options old new text (Err fault) h = meant_at_fault refinements options old new text fault h
 
 -- a machine that answered all lines of a script has a tree
-pub tree_at_last : (rows : CallsRefine) (text : List ℕ) (script : Reading) → script_of text ≡ Ok script → (start end : MachineModel) → IsStart script.session start → (calls : List CallLine) → calls ≡ script.calls → (old replied : Option (List ℕ)) → AnswersCalls start end old replied calls → HasTree end
-tree_at_last rows text script is_read start end starts calls listed old replied answered =
+pub tree_at_last : (refinements : CallsRefine) (text : List ℕ) (script : ScriptModel) → script_of text ≡ Ok script → (start end : MachineModel) → IsStart script.accounts start → (calls : List CallLine) → calls ≡ script.calls → (old replied : Option (List ℕ)) → AnswersCalls start end old replied calls → HasTree end
+tree_at_last refinements text script is_read start end starts calls listed old replied answered =
     let says = script_says text script is_read in
-    shown_tree script.session end (last_state script) (shows_last rows script says.0 says.1 start starts old replied end (subst (λ (l : List CallLine). AnswersCalls start end old replied l) listed answered))
+    shown_tree script.accounts end (last_state script) (shows_last refinements script says.0 says.1 start starts old replied end (subst (λ (l : List CallLine). AnswersCalls start end old replied l) listed answered))

@@ -7,7 +7,7 @@ use mathlib.Core.Bool.{true≢false}
 use Rattle.histar_flat.specs.declared.calls.UnixCall.{UnixCall}
 use Rattle.histar_flat.specs.Words.{Name, Path, ProcName, most_names, is_name, is_path}
 use Rattle.histar_flat.specs.PathOrder.{under_path}
-use Rattle.histar_flat.specs.Sessions.{Session}
+use Rattle.histar_flat.specs.Accounts.{Accounts}
 use Rattle.histar_flat.specs.Files.{get, empty}
 use Rattle.histar_flat.specs.Classes.{Class, Process}
 use Rattle.histar_flat.specs.Classes.Class.{Readable}
@@ -23,7 +23,7 @@ use Rattle.histar_flat.proofs.FileLemmas.{same_path_found, get_other, get-keep}
 use Rattle.histar_flat.proofs.Renaming.{get_renamed}
 use Rattle.histar_flat.proofs.Changes.{another_name, by_rule}
 use Rattle.histar_flat.specs.Calls.{CanBeNamed, IsCall}
-use Rattle.histar_tree.specs.Laws.{AreShallow}
+use Rattle.histar_readout.specs.Laws.{AreShallow}
 
 -- a path that can be named has no more names
 short_path : (q : Path) → IsTrue (is_path q) → length q ≤ most_names
@@ -66,9 +66,9 @@ module _ (f : Flat) (shallow : AreShallow f) where
       by true e = absurd (true≢false (sym e))
       by false e = subst (λ (l : ℕ). l ≤ most_names) (same_length (k ∷ d) (n ∷ d) refl r) (shallow (moved (k ∷ d) (n ∷ d) r) e)
 
-  module _ (session : Session) (me : ProcName) (below : (top : Path) → get f.files top ≡ None → (r : Path) → under_path top r ≡ true → get f.files r ≡ None) where
+  module _ (accounts : Accounts) (me : ProcName) (below : (top : Path) → get f.files top ≡ None → (r : Path) → under_path top r ≡ true → get f.files r ≡ None) where
     -- an effect that has its warrant, of a call that a line can make
-    shallow_effect : (p : Process) (q : Path) (effect : Effect) → Warrant session f me p q effect → CanBeNamed q effect → AreShallow (apply session f me p q effect)
+    shallow_effect : (p : Process) (q : Path) (effect : Effect) → Warrant accounts f me p q effect → CanBeNamed q effect → AreShallow (apply accounts f me p q effect)
     shallow_effect p q (Makes content mode) may can = shallow_put q _ (content) (short_path q can)
     shallow_effect p q (Stores new) may can = shallow_put q _ (File (new (bytes_at f q))) (short_path q can)
     shallow_effect p q Removes may can = shallow_cut q
@@ -78,10 +78,10 @@ module _ (f : Flat) (shallow : AreShallow f) where
     shallow_effect p q _ may can = shallow
 
     -- and so after each line
-    pub shallow_after : (call : UnixCall) → IsCall call → AreShallow (flat_after session f me call)
-    shallow_after call can = by_rule session f me call AreShallow shallow (λ p there may. shallow_effect p (path_of call) (rule call).effect may can)
+    pub shallow_after : (call : UnixCall) → IsCall call → AreShallow (flat_after accounts f me call)
+    shallow_after call can = by_rule accounts f me call AreShallow shallow (λ p there may. shallow_effect p (path_of call) (rule call).effect may can)
 
 -- at the start there is `/` alone
-pub shallow_at_start : (session : Session) → AreShallow (boot session)
-shallow_at_start session =
-    shallow_put (record { files = empty; processes = (boot session).processes }) (λ q at. absurd (true≢false (sym at))) [] (Readable (first_user session.users)) Dir (omega arith)
+pub shallow_at_start : (accounts : Accounts) → AreShallow (boot accounts)
+shallow_at_start accounts =
+    shallow_put (record { files = empty; processes = (boot accounts).processes }) (λ q at. absurd (true≢false (sym at))) [] (Readable (first_user accounts.users)) Dir (omega arith)

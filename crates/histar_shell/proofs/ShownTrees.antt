@@ -2,35 +2,35 @@
 use Rattle.std.proofs.Common.{◌≡◌, ℕ, Bool, true, false, List, [], sym, ap, ◌∙◌, subst}
 use Rattle.std.specs.Prelude.{if◌then◌else◌}
 use Rattle.histar_flat.specs.FlatState.{Flat}
-use Rattle.histar_flat.specs.Sessions.{Session}
+use Rattle.histar_flat.specs.Accounts.{Accounts}
 use Rattle.histar_syscall.specs.KernelModel.{state}
-use Rattle.histar_calls.specs.declared.places.Places.{Places}
-use Rattle.histar_tree.specs.declared.tree.TreeNode.{TreeNode}
-use Rattle.histar_tree.specs.Tree.{IsTreeOf}
-use Rattle.histar_tree.specs.TreeLines.{flat_lines, lines_at}
-use Rattle.histar_tree.specs.Laws.{HasTreeOf}
-use Rattle.histar_tree.proofs.OneTree.{states_have_one_tree}
-use Rattle.histar_tree.proofs.TreeLaid.{flat_states_have_their_trees}
+use Rattle.histar_calls.specs.declared.roots.Roots.{Roots}
+use Rattle.histar_readout.specs.declared.tree.TreeNode.{TreeNode}
+use Rattle.histar_readout.specs.Tree.{IsTreeOf}
+use Rattle.histar_readout.specs.TreeLines.{flat_lines, lines_at}
+use Rattle.histar_readout.specs.Laws.{HasTreeOf}
+use Rattle.histar_readout.proofs.OneTree.{states_have_one_tree}
+use Rattle.histar_readout.proofs.TreeMatched.{flat_states_have_their_trees}
 use Rattle.histar_shell.specs.Machine.{MachineModel}
 use Rattle.histar_shell.specs.TreeText.{tree_text}
 use Rattle.histar_shell.specs.Ending.{IsTreeIn, HasTree, PrintsTree, IsAsked}
 use Rattle.histar_shell.specs.Meaning.{Shows}
 use Rattle.histar_shell.proofs.SameUsers.{tree_unproved}
 
-module _ (session : Session) (m : MachineModel) (f : Flat) (shows : Shows session m f) where
+module _ (accounts : Accounts) (m : MachineModel) (f : Flat) (shows : Shows accounts m f) where
   -- its kernel has the tree of the flat state
-  has_tree : HasTreeOf session (state m.kernel) f shows.represents.laid.category
-  has_tree = flat_states_have_their_trees session (state m.kernel) f shows.represents shows.shallow
+  has_tree : HasTreeOf accounts (state m.kernel) f shows.represents.matched.category
+  has_tree = flat_states_have_their_trees accounts (state m.kernel) f shows.represents shows.shallow
 
   -- also at the places that the machine knows
-  tree_there : IsTreeOf session (state m.kernel) m.places has_tree.tree
-  tree_there = subst (λ (places : Places). IsTreeOf session (state m.kernel) places has_tree.tree) (sym shows.places) has_tree.is_tree
+  tree_there : IsTreeOf accounts (state m.kernel) m.roots has_tree.tree
+  tree_there = subst (λ (roots : Roots). IsTreeOf accounts (state m.kernel) roots has_tree.tree) (sym shows.roots) has_tree.is_tree
 
   -- and of the users that it has, with no passwords
   tree_here : IsTreeIn m has_tree.tree
   tree_here =
-      subst (λ (users : Session). IsTreeOf users (state m.kernel) m.places has_tree.tree) (sym shows.users)
-      (tree_unproved session (state m.kernel) m.places has_tree.tree tree_there)
+      subst (λ (users : Accounts). IsTreeOf users (state m.kernel) m.roots has_tree.tree) (sym shows.users)
+      (tree_unproved accounts (state m.kernel) m.roots has_tree.tree tree_there)
 
   -- so it has a tree
   pub shown_tree : HasTree m
@@ -38,7 +38,7 @@ module _ (session : Session) (m : MachineModel) (f : Flat) (shows : Shows sessio
 
   -- each tree that it has is told as the flat state is
   pub same_lines : (tree : List TreeNode) → IsTreeIn m tree → lines_at (state m.kernel) tree ≡ flat_lines f
-  same_lines tree is = ap (lines_at (state m.kernel)) (states_have_one_tree m.users (state m.kernel) m.places tree has_tree.tree is tree_here) ∙ has_tree.lines
+  same_lines tree is = ap (lines_at (state m.kernel)) (states_have_one_tree m.users (state m.kernel) m.roots tree has_tree.tree is tree_here) ∙ has_tree.lines
 
   -- so where the tree is asked for, the text that tells it is that of the flat state
   pub tree_asked : (b : Bool) (text : List ℕ) → IsAsked b (PrintsTree m) text → text ≡ (if b then tree_text (flat_lines f) else [])

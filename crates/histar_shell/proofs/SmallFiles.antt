@@ -7,7 +7,7 @@ use mathlib.Core.Bool.{true≢false}
 use Rattle.histar_flat.specs.declared.calls.UnixCall.{UnixCall}
 use Rattle.histar_flat.specs.Words.{Name, Path, ProcName}
 use Rattle.histar_flat.specs.PathOrder.{under_path}
-use Rattle.histar_flat.specs.Sessions.{Session}
+use Rattle.histar_flat.specs.Accounts.{Accounts}
 use Rattle.histar_flat.specs.Files.{get, insert, empty}
 use Rattle.histar_flat.specs.Classes.{Class, Process}
 use Rattle.histar_flat.specs.Classes.Class.{Readable}
@@ -65,12 +65,12 @@ module _ (f : Flat) (small : AreFilesSmall f) where
       by true e = absurd cc
       by false e = small (moved (k ∷ d) (n ∷ d) r) class bytes e
 
-  module _ (session : Session) (me : ProcName) (below : (top : Path) → get f.files top ≡ None → (r : Path) → under_path top r ≡ true → get f.files r ≡ None) where
+  module _ (accounts : Accounts) (me : ProcName) (below : (top : Path) → get f.files top ≡ None → (r : Path) → under_path top r ≡ true → get f.files r ≡ None) where
     fits_test : (n : ℕ) → nat_le n most_bytes ≡ true → n ≤ most_bytes
     fits_test n e = grind (arith, nat_tests, e)
 
     -- an effect that has its warrant
-    small_effect : (p : Process) (q : Path) (effect : Effect) → Warrant session f me p q effect → AreFilesSmall (apply session f me p q effect)
+    small_effect : (p : Process) (q : Path) (effect : Effect) → Warrant accounts f me p q effect → AreFilesSmall (apply accounts f me p q effect)
     small_effect p q (Makes content mode) may = small_put q _ content (blank_is_small content may.4)
     small_effect p q (Stores new) may = small_put q _ (File (new (bytes_at f q))) (fits_test (length (new (bytes_at f q))) may.5)
     small_effect p q Removes may = small_cut q
@@ -80,14 +80,14 @@ module _ (f : Flat) (small : AreFilesSmall f) where
     small_effect p q _ may = small
 
     -- and so after each line
-    pub small_after : (call : UnixCall) → AreFilesSmall (flat_after session f me call)
-    small_after call = by_rule session f me call AreFilesSmall small (λ p there may. small_effect p (path_of call) (rule call).effect may)
+    pub small_after : (call : UnixCall) → AreFilesSmall (flat_after accounts f me call)
+    small_after call = by_rule accounts f me call AreFilesSmall small (λ p there may. small_effect p (path_of call) (rule call).effect may)
 
 -- nothing is no file
-nothing_here : {Told : Type 0} (node : Node) → None ≡ Some node → Told
+nothing_here : {Revealed : Type 0} (node : Node) → None ≡ Some node → Revealed
 nothing_here node e = absurd cc
 
 -- at the start there is no file
-pub small_at_start : (session : Session) → AreFilesSmall (boot session)
-small_at_start session =
-    small_put (record { files = empty; processes = (boot session).processes }) (λ q class bytes at. nothing_here (record { class = class; content = File bytes }) at) [] (Readable (first_user session.users)) Dir tt
+pub small_at_start : (accounts : Accounts) → AreFilesSmall (boot accounts)
+small_at_start accounts =
+    small_put (record { files = empty; processes = (boot accounts).processes }) (λ q class bytes at. nothing_here (record { class = class; content = File bytes }) at) [] (Readable (first_user accounts.users)) Dir tt

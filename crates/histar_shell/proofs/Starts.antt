@@ -1,6 +1,6 @@
 -- A machine that was booted shows the flat start.
 use Rattle.std.proofs.Common.{◌≤◌, sym, subst, arith}
-use Rattle.histar_flat.specs.Sessions.{Session}
+use Rattle.histar_flat.specs.Accounts.{Accounts}
 use Rattle.histar_flat.specs.Meaning.{boot}
 use Rattle.histar_object.specs.State.{State}
 use Rattle.histar_script.specs.Script.{IsDeclared}
@@ -14,25 +14,25 @@ use Rattle.histar_shell.specs.Machine.{MachineModel, IsStart}
 use Rattle.histar_shell.specs.Meaning.{Shows}
 use Rattle.histar_shell.proofs.SmallFiles.{small_at_start}
 use Rattle.histar_shell.proofs.ShallowPaths.{shallow_at_start}
-use Rattle.histar_shell.proofs.Users.{is_session}
+use Rattle.histar_shell.proofs.Users.{is_accounts}
 
-module _ (session : Session) (declared : IsDeclared session) where
+module _ (accounts : Accounts) (declared : IsDeclared accounts) where
   -- the objects of boot have numbers
-  room : (start_state session).next_object ≤ greatest
-  room = omega (arith, length_start session, declared.users.most)
+  room : (start_state accounts).next_object ≤ greatest
+  room = omega (arith, length_start accounts, declared.users.most)
 
   -- the start state represents the flat start
-  pub start_is_laid : Represents session (start_state session) (boot session)
-  start_is_laid = start_represents session declared.users.some (is_session session declared).no_one room
+  pub start_is_matched : Represents accounts (start_state accounts) (boot accounts)
+  start_is_matched = start_represents accounts declared.users.some (is_accounts accounts declared).no_one room
 
   -- a machine that was booted shows the flat start
-  pub start_shows : (m : MachineModel) → IsStart session m → Shows session m (boot session)
+  pub start_shows : (m : MachineModel) → IsStart accounts m → Shows accounts m (boot accounts)
   start_shows m start = record {
     declared = declared;
     users = start.users;
-    places = start.places;
-    represents = subst (λ (s : State). Represents session s (boot session)) (sym start.state) start_is_laid;
-    first = first_free_at_start session;
-    small = small_at_start session;
-    shallow = shallow_at_start session;
+    roots = start.roots;
+    represents = subst (λ (s : State). Represents accounts s (boot accounts)) (sym start.state) start_is_matched;
+    first = first_free_at_start accounts;
+    small = small_at_start accounts;
+    shallow = shallow_at_start accounts;
   }

@@ -1,7 +1,7 @@
 -- Whoever runs a program has made a run of the kernel, which is the new end of its trace.
 use Rattle.std.proofs.Common.{◌≡◌, ℕ, List, [], ◌∷◌, ◌++◌, Option, Some, None, Result, Ok, Err, inl, inr, sym, ap, ◌∙◌, subst, append_assoc}
 use Rattle.std.proofs.lemmas.List.{append-nil}
-use Rattle.histar_flat.specs.Sessions.{Session}
+use Rattle.histar_flat.specs.Accounts.{Accounts}
 use Rattle.histar_flat.specs.declared.calls.UnixCall.{UnixCall}
 use Rattle.histar_flat.specs.declared.replies.Reply.{Reply}
 use Rattle.histar_flat.specs.Words.{ProcName}
@@ -12,13 +12,13 @@ use Rattle.histar_syscall.specs.declared.trace.TraceEntry.{TraceEntry}
 use Rattle.histar_syscall.specs.KernelModel.{KernelModel, state, Called, IsUnchanged}
 use Rattle.histar_syscall.specs.Runs.{IsRun}
 use Rattle.histar_syscall.proofs.Runs.{entry_of}
-use Rattle.histar_calls.specs.declared.ending.Stopped.{Stopped}
-use Rattle.histar_calls.specs.declared.places.Places.{Places}
+use Rattle.histar_calls.specs.declared.call_error.Stopped.{Stopped}
+use Rattle.histar_calls.specs.declared.roots.Roots.{Roots}
 use Rattle.histar_calls.specs.Programs.{Outcome, Program, Asked, Completes, Begins, Runs}
 use Rattle.histar_calls.specs.Programs.Program.{Answers, Asks, Lists, Stops}
 use Rattle.histar_process.specs.declared.caller.Caller.{Caller}
 use Rattle.histar_shell.specs.Machine.{IsTraced, Makes}
-use Rattle.histar_shell.proofs.RowRuns.{run_after}
+use Rattle.histar_shell.proofs.RefinedRuns.{run_after}
 
 -- the kernel came from the old to the new by a run, which is the new end of its trace
 pub record GoesBy (old new : KernelModel) : Type 0 where
@@ -63,7 +63,7 @@ by_program p old new t (Ok reply) runs = completed p old new t reply runs
 by_program p old new t (Err stopped) runs = begun p old new t runs
 
 -- so the trace stays a run from the empty kernel
-pub traced_on : (session : Session) (places : Places) (me : ProcName) (caller : Caller) (old new : KernelModel) (call : UnixCall) (result : Result Reply Stopped) → IsTraced old → Makes session places me caller old new call result → IsTraced new
-traced_on session places me caller old new call result traced made =
+pub traced_on : (accounts : Accounts) (roots : Roots) (me : ProcName) (caller : Caller) (old new : KernelModel) (call : UnixCall) (result : Result Reply Stopped) → IsTraced old → Makes accounts roots me caller old new call result → IsTraced new
+traced_on accounts roots me caller old new call result traced made =
     let goes = by_program _ old new caller.thread result made in
     subst (λ (es : List TraceEntry). IsRun empty_state es (state new)) (sym goes.trace) (run_after empty_state (state old) (state new) old.trace goes.entries traced goes.run)

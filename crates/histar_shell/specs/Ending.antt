@@ -1,20 +1,20 @@
 -- What is written behind the replies: where it is asked for the tree, and then where it is asked for the trace.
 use Rattle.std.specs.Prelude.{◌≡◌, ℕ, Bool, true, false, List, [], ◌++◌, Option, if◌then◌else◌}
 use Rattle.std.specs.Io.KnownBytes.{Appends}
-use Rattle.histar_devices.specs.Writing.{AppendsFront}
+use Rattle.histar_io.specs.Writing.{AppendsFront}
 use Rattle.histar_syscall.specs.declared.trace.TraceEntry.{TraceEntry}
 use Rattle.histar_syscall.specs.KernelModel.{state}
 use Rattle.histar_rawtext.specs.RawText.{trace_text}
-use Rattle.histar_tree.specs.declared.tree.TreeNode.{TreeNode}
-use Rattle.histar_tree.specs.Tree.{IsTreeOf}
-use Rattle.histar_tree.specs.TreeLines.{lines_at}
+use Rattle.histar_readout.specs.declared.tree.TreeNode.{TreeNode}
+use Rattle.histar_readout.specs.Tree.{IsTreeOf}
+use Rattle.histar_readout.specs.TreeLines.{lines_at}
 use Rattle.histar_shell.specs.declared.session.Options.{Options}
 use Rattle.histar_shell.specs.Machine.{MachineModel}
 use Rattle.histar_shell.specs.TreeText.{tree_text}
 
 -- the objects of a machine's kernel list this tree from `/` on
 abbrev pub IsTreeIn : MachineModel → List TreeNode → Type 0
-IsTreeIn m tree = IsTreeOf m.users (state m.kernel) m.places tree
+IsTreeIn m tree = IsTreeOf m.users (state m.kernel) m.roots tree
 
 -- they list a tree
 abbrev pub HasTree : MachineModel → Type 0

@@ -5,14 +5,14 @@ use Rattle.histar_flat.specs.declared.calls.UnixCall.{UnixCall}
 use Rattle.histar_flat.specs.declared.calls.UnixCall.TheVariants.{Create, Mkdir, Write, Append, Read, List as ListCall, Stat, Unlink, Rmdir, Rmtree, Rename, Spawn, Exit, Status, Kill, Whoami, Login, Wrap}
 use Rattle.histar_flat.specs.declared.replies.Reply.{Reply}
 use Rattle.histar_flat.specs.declared.replies.Reply.TheVariants.{Gone}
-use Rattle.histar_flat.specs.Sessions.{Session}
-use Rattle.histar_flat.specs.contracts.sessions.Session as sessions
+use Rattle.histar_flat.specs.Accounts.{Accounts}
+use Rattle.histar_flat.specs.contracts.accounts.Accounts as sessions
 use Rattle.histar_flat.specs.Words.{ProcName}
 use Rattle.histar_object.specs.State.{empty_state}
 use Rattle.histar_syscall.specs.KernelModel.{KernelModel, coded_kernel_model, state}
 use Rattle.histar_syscall.specs.Runs.{IsRun}
-use Rattle.histar_calls.specs.declared.places.Places.{Places}
-use Rattle.histar_calls.specs.contracts.places.Places as where_is
+use Rattle.histar_calls.specs.declared.roots.Roots.{Roots}
+use Rattle.histar_calls.specs.contracts.roots.Roots as where_is
 use Rattle.histar_calls.specs.Programs.{Program, Runs}
 use Rattle.histar_layout.specs.UserTable.{without_passwords}
 use Rattle.histar_calls.specs.Create.{create_program}
@@ -36,20 +36,20 @@ use Rattle.histar_process.specs.ExitCall.{exit_program}
 use Rattle.histar_process.specs.StatusCall.{status_program}
 use Rattle.histar_process.specs.KillCall.{kill_program}
 use Rattle.histar_process.specs.Whoami.{whoami_program}
-use Rattle.histar_login.specs.Start.{places_of, start_state}
-use Rattle.histar_calls.specs.declared.ending.Stopped.{Stopped}
+use Rattle.histar_login.specs.Start.{roots_of, start_state}
+use Rattle.histar_calls.specs.declared.call_error.Stopped.{Stopped}
 
 -- the kernel of a machine, the places of `/` and process 0, its users and groups with no passwords, and whether a call of it has ended
 -- without a reply
 pub record MachineModel : Type 0 where
   pub kernel : KernelModel
-  pub places : Places
-  pub users : Session
+  pub roots : Roots
+  pub users : Accounts
   pub is_stopped : Bool
 
 -- stored as the tuple of its parts
 abbrev pub coded_machine_model : Coded MachineModel
-coded_machine_model = code_by (KernelModel × (Places × (Session × Bool))) (coded× coded_kernel_model (coded× where_is.the_row.coded (coded× sessions.the_row.coded coded_bool))) (λ m. (m.kernel, (m.places, (m.users, m.is_stopped)))) (λ p. record { kernel = p.0; places = p.1.0; users = p.1.1.0; is_stopped = p.1.1.1 }) (λ _. refl)
+coded_machine_model = code_by (KernelModel × (Roots × (Accounts × Bool))) (coded× coded_kernel_model (coded× where_is.the_row.coded (coded× sessions.the_row.coded coded_bool))) (λ m. (m.kernel, (m.roots, (m.users, m.is_stopped)))) (λ p. record { kernel = p.0; roots = p.1.0; users = p.1.1.0; is_stopped = p.1.1.1 }) (λ _. refl)
 
 -- the trace of the kernel is a run from the empty kernel to its state
 abbrev pub IsTraced : KernelModel → Type 0
@@ -57,9 +57,9 @@ IsTraced k = IsRun empty_state k.trace (state k)
 
 -- a machine that was booted with these users and groups: it keeps no passwords of them, it runs, and no raw call but those of boot was
 -- made
-pub record IsStart (declared : Session) (m : MachineModel) : Type 0 where
+pub record IsStart (declared : Accounts) (m : MachineModel) : Type 0 where
   pub users : m.users ≡ without_passwords declared
-  pub places : m.places ≡ places_of (length declared.users)
+  pub roots : m.roots ≡ roots_of (length declared.users)
   pub state : state m.kernel ≡ start_state declared
   pub booted : IsBooted declared m.kernel
   pub line : m.kernel.line ≡ 0
@@ -70,35 +70,35 @@ abbrev pub on_line : ℕ → KernelModel → KernelModel
 on_line line k = record { kept = k.kept; line = line; trace = k.trace }
 
 -- the program of raw calls that a call of a process runs
-abbrev pub program_of : Session → Places → ProcName → Caller → UnixCall → Program
-program_of session places me caller (Create path mode) = create_program session places path mode
-program_of session places me caller (Mkdir path mode) = mkdir_program session places path mode
-program_of session places me caller (Write path bytes) = write_program places path bytes
-program_of session places me caller (Append path bytes) = append_program places path bytes
-program_of session places me caller (Read path) = read_program places path
-program_of session places me caller (ListCall path) = list_program places path
-program_of session places me caller (Stat path) = stat_program session places path
-program_of session places me caller (Unlink path) = unlink_program places path
-program_of session places me caller (Rmdir path) = rmdir_program places path
-program_of session places me caller (Rmtree path) = rmtree_program places path
-program_of session places me caller (Rename path name) = rename_program places path name
-program_of session places me caller Spawn = spawn_program session me caller.home
-program_of session places me caller (Exit number) = exit_program caller.home number
-program_of session places me caller (Status name) = status_program places name
-program_of session places me caller (Kill name) = kill_program places name
-program_of session places me caller Whoami = whoami_program session
-program_of session places me caller (Login name password) = login_program session caller name password
-program_of session places me caller (Wrap path) = wrap_program session places me caller.home path
+abbrev pub program_of : Accounts → Roots → ProcName → Caller → UnixCall → Program
+program_of accounts roots me caller (Create path mode) = create_program accounts roots path mode
+program_of accounts roots me caller (Mkdir path mode) = mkdir_program accounts roots path mode
+program_of accounts roots me caller (Write path bytes) = write_program roots path bytes
+program_of accounts roots me caller (Append path bytes) = append_program roots path bytes
+program_of accounts roots me caller (Read path) = read_program roots path
+program_of accounts roots me caller (ListCall path) = list_program roots path
+program_of accounts roots me caller (Stat path) = stat_program accounts roots path
+program_of accounts roots me caller (Unlink path) = unlink_program roots path
+program_of accounts roots me caller (Rmdir path) = rmdir_program roots path
+program_of accounts roots me caller (Rmtree path) = rmtree_program roots path
+program_of accounts roots me caller (Rename path name) = rename_program roots path name
+program_of accounts roots me caller Spawn = spawn_program accounts me caller.home
+program_of accounts roots me caller (Exit number) = exit_program caller.home number
+program_of accounts roots me caller (Status name) = status_program roots name
+program_of accounts roots me caller (Kill name) = kill_program roots name
+program_of accounts roots me caller Whoami = whoami_program accounts
+program_of accounts roots me caller (Login name password) = login_program accounts caller name password
+program_of accounts roots me caller (Wrap path) = wrap_program accounts roots me caller.home path
 
 -- a call of a process runs its program, by the process's thread on the line that was begun
-abbrev pub Makes : Session → Places → ProcName → Caller → KernelModel → KernelModel → UnixCall → Result Reply Stopped → Type 0
-Makes session places me caller old new call result = Runs (program_of session places me caller call) old new caller.thread result
+abbrev pub Makes : Accounts → Roots → ProcName → Caller → KernelModel → KernelModel → UnixCall → Result Reply Stopped → Type 0
+Makes accounts roots me caller old new call result = Runs (program_of accounts roots me caller call) old new caller.thread result
 
 -- The call was made by the thread of the process on the line that was begun; the machine has the places, the users and the groups that
 -- it had, and has stopped where the call ended without an answer.
 pub record HasMade (old new : MachineModel) (line : ℕ) (me : ProcName) (caller : Caller) (call : UnixCall) (result : Result Reply Stopped) : Type 0 where
-  pub made : Makes old.users old.places me caller (on_line line old.kernel) new.kernel call result
-  pub places : new.places ≡ old.places
+  pub made : Makes old.users old.roots me caller (on_line line old.kernel) new.kernel call result
+  pub roots : new.roots ≡ old.roots
   pub users : new.users ≡ old.users
   pub stops : new.is_stopped ≡ is_err result
 
@@ -109,7 +109,7 @@ AnswersFound (Some caller) old new line me call result = HasMade old new line me
 
 -- a running machine: the process is looked for in the kernel's own table
 abbrev pub AnswersRunning : MachineModel → MachineModel → ℕ → ProcName → UnixCall → Result Reply Stopped → Type 0
-AnswersRunning old new line me call result = AnswersFound (caller_at (state old.kernel) old.places.home me) old new line me call result
+AnswersRunning old new line me call result = AnswersFound (caller_at (state old.kernel) old.roots.home me) old new line me call result
 
 -- a machine that has stopped does nothing, and answers so
 abbrev pub AnswersIf : Bool → MachineModel → MachineModel → ℕ → ProcName → UnixCall → Result Reply Stopped → Type 0

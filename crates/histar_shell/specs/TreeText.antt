@@ -2,7 +2,7 @@
 use Rattle.std.specs.Prelude.{ℕ, List, [], ◌++◌, codes, if◌then◌else◌}
 use Rattle.std.specs.List.{flat_map}
 use Rattle.histar_flat.specs.Texts.{path_text, stat_text}
-use Rattle.histar_tree.specs.TreeLines.{TreeLine}
+use Rattle.histar_readout.specs.TreeLines.{TreeLine}
 
 -- what a line has behind the mode: of a file its bytes, after an equals sign, also where there are none
 abbrev pub content_text : TreeLine → List ℕ

@@ -1,24 +1,24 @@
 //! Writing what stands behind the replies: the tree and the trace.
 ghost use Rattle.std.specs.Prelude.{◌≡◌, IfErr, OnErr, OnOk};
 ghost use Rattle.std.specs.Io.KnownBytes.{Appends};
-ghost use Rattle.histar_devices.specs.Device.{CountsFailure};
-ghost use Rattle.histar_devices.specs.Writing.{AppendsFront};
+ghost use Rattle.histar_io.specs.Device.{CountsFailure};
+ghost use Rattle.histar_io.specs.Writing.{AppendsFront};
 ghost use Rattle.histar_rawtext.specs.RawText.{trace_text};
 ghost use Rattle.histar_script.specs.Runs.{IsOutputFault, is_write_failed};
 ghost use Rattle.histar_syscall.specs.KernelModel.{state};
-ghost use Rattle.histar_tree.specs.TreeLines.{lines_at};
+ghost use Rattle.histar_readout.specs.TreeLines.{lines_at};
 ghost use Rattle.histar_shell.specs.Ending.{AppendsEnding, AppendsTree, BeginsTheEnding, BeginsTree, HasTree, asked_trace};
 ghost use Rattle.histar_shell.specs.TreeText.{tree_text};
 
 use crate::machine::Machine;
 use crate::output::tree_line;
 use crate::session::Options;
-use histar_devices::{Sink, write_bytes};
+use histar_io::{Sink, write_bytes};
 use histar_label::LabelStore;
 use histar_rawtext::trace_line;
+use histar_readout::TreeNode;
 use histar_script::Fault;
 use histar_syscall::TraceEntry;
-use histar_tree::TreeNode;
 use std::alloc::Global;
 
 /// Writes the tree of a machine and then its trace, each where it is asked for.

@@ -7,7 +7,7 @@ mod output;
 mod session;
 
 pub use ending::write_ending;
-pub use histar_devices::{Counted, Sink, Source};
+pub use histar_io::{Counted, Sink, Source};
 pub use machine::{Machine, Trace};
 pub use output::{node_text, push_path, push_process, push_stat, reply_text};
 pub use session::{Options, answer_call, run, run_with};

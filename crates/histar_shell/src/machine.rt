@@ -5,17 +5,17 @@ ghost use Rattle.histar_shell.specs.Machine.{AnswersLine, IsStart, IsTraced, Mak
 ghost use Rattle.histar_shell.specs.Ending.{HasTree, IsTreeIn};
 ghost use Rattle.histar_shell.specs.Meaning.{FollowsMeaning, ShowsStart};
 ghost use Rattle.histar_syscall.specs.KernelModel.{state};
-ghost use Rattle.histar_tree.specs.TreeEntries.{node_bytes};
+ghost use Rattle.histar_readout.specs.TreeEntries.{node_bytes};
 
-use histar_calls::{Places, Stopped, append, create, list, mkdir, read, stat, write};
-use histar_flat::{ProcName, Reply, Session, UnixCall, each_call_is_right};
+use histar_calls::{Roots, Stopped, append, create, list, mkdir, read, stat, write};
+use histar_flat::{Accounts, ProcName, Reply, UnixCall, each_call_is_right};
 use histar_label::LabelStore;
 use histar_layout::UserTable;
 use histar_login::{boot, login};
 use histar_moves::{rename, rmdir, rmtree, unlink};
 use histar_process::{Caller, exit, find_caller, kill, spawn, status, whoami};
+use histar_readout::{TreeNode, bytes_of, tree_of};
 use histar_syscall::{Kernel, TraceEntry};
-use histar_tree::{TreeNode, bytes_of, tree_of};
 use histar_wrap::wrap;
 use std::alloc::{AllocError, Global};
 use std::marker::Model;
@@ -53,7 +53,7 @@ impl Trace {
 #[derive(Drop)]
 pub struct Machine<S: LabelStore + Drop> {
     kernel: Kernel<S>,
-    places: Places,
+    roots: Roots,
     users: UserTable,
     is_stopped: bool,
 }
@@ -65,7 +65,7 @@ impl<S: LabelStore + Drop> Model for Machine<S> {
 
     ghost coded = { coded_machine_model };
 
-    ghost view = { λ m. record { kernel = m.kernel; places = m.places; users = m.users; is_stopped = m.is_stopped } };
+    ghost view = { λ m. record { kernel = m.kernel; roots = m.roots; users = m.users; is_stopped = m.is_stopped } };
 
     ghost invariant = { λ m. IsTraced m.kernel };
 }
@@ -74,16 +74,16 @@ impl<S: LabelStore + Drop> Machine<S> {
     /// A machine with these users and groups that was booted by its raw calls, before the first call of a
     /// script: `/` is the first user's, readable and empty, and process 0 is nobody's. It keeps the names of
     /// the users and their groups, and none of the passwords.
-    pub fn boot(alloc: Global, store: S, session: Session) -> Result<Self, Stopped>
-        requires { IsDeclared session }
-        ensures starts { IfOk result (IsStart session) }
-        ensures shows { IfOk result (ShowsStart session) }
+    pub fn boot(alloc: Global, store: S, accounts: Accounts) -> Result<Self, Stopped>
+        requires { IsDeclared accounts }
+        ensures starts { IfOk result (IsStart accounts) }
+        ensures shows { IfOk result (ShowsStart accounts) }
     {
-        let users = UserTable::of(alloc, &session)?;
-        let (kernel, places) = boot(alloc, store, &session)?;
+        let users = UserTable::of(alloc, &accounts)?;
+        let (kernel, roots) = boot(alloc, store, &accounts)?;
         Ok(Machine {
             kernel,
-            places,
+            roots,
             users,
             is_stopped: false,
         })
@@ -105,14 +105,14 @@ impl<S: LabelStore + Drop> Machine<S> {
             return Err(Stopped);
         }
         each_call_is_right(&call);
-        let Some(caller) = find_caller(&self.kernel, self.places.home, process) else {
+        let Some(caller) = find_caller(&self.kernel, self.roots.home, process) else {
             return Ok(Reply::Gone);
         };
         self.kernel.begin(line);
         let result = make(
             alloc,
             &mut self.kernel,
-            &self.places,
+            &self.roots,
             &self.users,
             process,
             &caller,
@@ -135,7 +135,7 @@ impl<S: LabelStore + Drop> Machine<S> {
         requires { HasTree self.now }
         ensures { IfOk result (λ tree. IsTreeIn self.now tree.items) }
     {
-        match tree_of(alloc, &self.kernel, &self.places, &self.users)? {
+        match tree_of(alloc, &self.kernel, &self.roots, &self.users)? {
             Some(tree) => Ok(tree),
             None => unreachable!(),
         }
@@ -157,10 +157,10 @@ impl<S: LabelStore + Drop> Machine<S> {
     }
 
     /// Returns where `/` and process 0 are.
-    pub fn places(&self) -> &Places
-        ensures { result.now ≡ self.now.places }
+    pub fn roots(&self) -> &Roots
+        ensures { result.now ≡ self.now.roots }
     {
-        &self.places
+        &self.roots
     }
 
     /// Lends the users and the groups, with no passwords.
@@ -185,20 +185,20 @@ impl<S: LabelStore + Drop> Machine<S> {
 fn make<S: LabelStore + Drop>(
     alloc: Global,
     kernel: &mut Kernel<S>,
-    places: &Places,
+    roots: &Roots,
     users: &UserTable,
     me: &ProcName,
     caller: &Caller,
     call: UnixCall,
 ) -> Result<Reply, Stopped>
-    ensures { Makes users.now places.now me.now caller.now kernel.old kernel.new call result }
+    ensures { Makes users.now roots.now me.now caller.now kernel.old kernel.new call result }
 {
     let thread = caller.thread;
     match call {
         UnixCall::Create(path, mode) => create::create(
             alloc,
             kernel,
-            places,
+            roots,
             users,
             thread,
             path.names(),
@@ -207,17 +207,17 @@ fn make<S: LabelStore + Drop>(
         UnixCall::Mkdir(path, mode) => mkdir::mkdir(
             alloc,
             kernel,
-            places,
+            roots,
             users,
             thread,
             path.names(),
             mode,
         ),
-        UnixCall::Read(path) => read::read(alloc, kernel, places, thread, path.names()),
+        UnixCall::Read(path) => read::read(alloc, kernel, roots, thread, path.names()),
         UnixCall::Write(path, bytes) => write::write(
             alloc,
             kernel,
-            places,
+            roots,
             thread,
             path.names(),
             bytes,
@@ -225,32 +225,32 @@ fn make<S: LabelStore + Drop>(
         UnixCall::Append(path, bytes) => append::append(
             alloc,
             kernel,
-            places,
+            roots,
             thread,
             path.names(),
             bytes,
         ),
-        UnixCall::List(path) => list::list(alloc, kernel, places, thread, path.names()),
-        UnixCall::Stat(path) => stat::stat(kernel, places, users, thread, path.names()),
-        UnixCall::Unlink(path) => unlink::unlink(alloc, kernel, places, thread, path.names()),
-        UnixCall::Rmdir(path) => rmdir::rmdir(alloc, kernel, places, thread, path.names()),
-        UnixCall::Rmtree(path) => rmtree::rmtree(alloc, kernel, places, thread, path.names()),
+        UnixCall::List(path) => list::list(alloc, kernel, roots, thread, path.names()),
+        UnixCall::Stat(path) => stat::stat(kernel, roots, users, thread, path.names()),
+        UnixCall::Unlink(path) => unlink::unlink(alloc, kernel, roots, thread, path.names()),
+        UnixCall::Rmdir(path) => rmdir::rmdir(alloc, kernel, roots, thread, path.names()),
+        UnixCall::Rmtree(path) => rmtree::rmtree(alloc, kernel, roots, thread, path.names()),
         UnixCall::Rename(path, name) => rename::rename(
             alloc,
             kernel,
-            places,
+            roots,
             thread,
             path.names(),
             &name,
         ),
         UnixCall::Spawn => spawn::spawn(alloc, kernel, users, me, caller),
         UnixCall::Exit(number) => exit::exit(alloc, kernel, caller, number),
-        UnixCall::Status(name) => status::status(kernel, places, thread, &name),
-        UnixCall::Kill(name) => kill::kill(alloc, kernel, places, thread, &name),
+        UnixCall::Status(name) => status::status(kernel, roots, thread, &name),
+        UnixCall::Kill(name) => kill::kill(alloc, kernel, roots, thread, &name),
         UnixCall::Whoami => whoami::whoami(kernel, users, thread),
         UnixCall::Login(name, password) => login::login(
             alloc, kernel, users, caller, name, password,
         ),
-        UnixCall::Wrap(path) => wrap::wrap(alloc, kernel, places, users, me, caller, path.names()),
+        UnixCall::Wrap(path) => wrap::wrap(alloc, kernel, roots, users, me, caller, path.names()),
     }
 }

@@ -1,6 +1,6 @@
 //! A run, from bytes to bytes.
 ghost use Rattle.std.specs.Prelude.{◌≡◌, false, IfErr, IfSome, OnOk, OnErr};
-ghost use Rattle.histar_devices.specs.Device.{CountsFailure};
+ghost use Rattle.histar_io.specs.Device.{CountsFailure};
 ghost use Rattle.histar_script.specs.Runs.{IsOutputFault, LeavesSink, is_read_failed, is_write_failed, RunsInput};
 ghost use Rattle.histar_shell.specs.AnsweredCalls.{AnswersCall, AnswersCalls, BeginsAnswer, BeginsAnswers};
 ghost use Rattle.histar_shell.specs.Run.{RunsText};
@@ -8,8 +8,8 @@ ghost use Rattle.histar_shell.specs.Run.{RunsText};
 use crate::ending::write_ending;
 use crate::machine::{Machine, Trace};
 use crate::output::set_reply_line;
-use histar_devices::{Sink, Source, read_input, write_bytes};
 use histar_flat::CallLine;
+use histar_io::{Sink, Source, read_input, write_bytes};
 use histar_label::{InternStore, LabelStore};
 use histar_script::{Fault, read_script};
 use std::alloc::Global;
@@ -93,8 +93,8 @@ fn run_text<S: LabelStore + Drop, W: Sink>(
     ensures runs { RunsText options text.now (W.written writer.old) (W.written writer.new) result }
 {
     let script = read_script(alloc, text)?;
-    let (session, calls) = script.into_parts();
-    let Ok(mut machine) = Machine::boot(alloc, store, session) else {
+    let (accounts, calls) = script.into_parts();
+    let Ok(mut machine) = Machine::boot(alloc, store, accounts) else {
         return Err(Fault::OutOfMemory);
     };
     answer_calls(alloc, &mut machine, calls, writer)?;

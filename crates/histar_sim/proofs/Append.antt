@@ -3,7 +3,7 @@ use Rattle.std.proofs.Common.{ℕ, List, [], ◌∷◌, ◌++◌, refl, ap}
 use Rattle.std.proofs.lemmas.List.{take_all}
 use Rattle.histar_flat.specs.declared.calls.UnixCall.TheVariants as calls
 use Rattle.histar_flat.specs.Words.{Path, ProcName}
-use Rattle.histar_flat.specs.Sessions.{Session}
+use Rattle.histar_flat.specs.Accounts.{Accounts}
 use Rattle.histar_flat.specs.Classes.{Process}
 use Rattle.histar_flat.specs.FlatState.{Flat, bytes_at}
 use Rattle.histar_flat.specs.FlatCalls.{most_bytes}
@@ -12,14 +12,14 @@ use Rattle.histar_sim.specs.Laws.{AppendRefines}
 use Rattle.histar_sim.proofs.Files.{WritesFile, slash_is_no_file, writing_step}
 
 -- the file has the new bytes behind its old ones then
-append_writes : (session : Session) (f : Flat) (me : ProcName) (p : Process) (q : Path) (bytes : List ℕ) → WritesFile session f me p q (calls.Append q bytes) (bytes_at f q ++ bytes)
-append_writes session f me p q bytes = record { reaches = record { refuses = refl; reads = λ s reply entries walk. walk }; changes = refl; answers = refl }
+append_writes : (accounts : Accounts) (f : Flat) (me : ProcName) (p : Process) (q : Path) (bytes : List ℕ) → WritesFile accounts f me p q (calls.Append q bytes) (bytes_at f q ++ bytes)
+append_writes accounts f me p q bytes = record { reaches = record { refuses = refl; reads = λ s reply entries walk. walk }; changes = refl; answers = refl }
 
 -- an append does what its flat rule says
 pub append_refines : AppendRefines
 unfolding append_program
-append_refines session ok [] bytes me old new f t result ready run =
-    slash_is_no_file session old new f me t ready (calls.Append [] bytes) result _ (append_writes session f me ready.caller.process [] bytes).reaches _ run
-append_refines session ok (m ∷ d) bytes me old new f t result ready run =
-    writing_step session ok old new f me t ready m d (calls.Append (m ∷ d) bytes) result most_bytes bytes (bytes_at f (m ∷ d) ++ bytes) (append_writes session f me ready.caller.process (m ∷ d) bytes)
+append_refines accounts ok [] bytes me old new f t result ready run =
+    slash_is_no_file accounts old new f me t ready (calls.Append [] bytes) result _ (append_writes accounts f me ready.caller.process [] bytes).reaches _ run
+append_refines accounts ok (m ∷ d) bytes me old new f t result ready run =
+    writing_step accounts ok old new f me t ready m d (calls.Append (m ∷ d) bytes) result most_bytes bytes (bytes_at f (m ∷ d) ++ bytes) (append_writes accounts f me ready.caller.process (m ∷ d) bytes)
     (λ few. ap (λ (xs : List ℕ). xs ++ bytes) (take_all most_bytes (bytes_at f (m ∷ d)) few)) run

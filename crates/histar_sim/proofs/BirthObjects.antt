@@ -68,19 +68,19 @@ holder_made s d label =
     (set.empty, new_there s.objects s.next_object d (record { label = label; kind = Container set.empty }))
 
 -- the thread T with its label and its clearance, the container C with its label, and the process segment S in it with the same label
-pub record Around (T C S : ℕ) (own most label : Levels) (held : List ℕ) (s : State) : Type 0 where
-  pub thread : s.objects T ≡ object own (Thread most)
+pub record Around (T C S : ℕ) (own own_clearance label : Levels) (held : List ℕ) (s : State) : Type 0 where
+  pub thread : s.objects T ≡ object own (Thread own_clearance)
   pub home : LinksTo label S (s.objects C)
   pub segment : s.objects S ≡ object label (Segment held)
   pub thread_below : T < s.next_object
   pub home_below : C < s.next_object
   pub segment_below : S < s.next_object
 
-module _ (T C S : ℕ) (own most label : Levels) (held : List ℕ) (s : State) (a : Around T C S own most label held s) where
+module _ (T C S : ℕ) (own own_clearance label : Levels) (held : List ℕ) (s : State) (a : Around T C S own own_clearance label held s) where
   -- they stay where an object is made
-  pub around_added : (d : ℕ) (o : Object Levels) → Around T C S own most label held (with_object s d o)
+  pub around_added : (d : ℕ) (o : Object Levels) → Around T C S own own_clearance label held (with_object s d o)
   around_added d o = record {
-    thread = thread_stays s d o T own most a.thread_below a.thread;
+    thread = thread_stays s d o T own own_clearance a.thread_below a.thread;
     home = links_stay s d o C label S a.home_below a.home;
     segment = segment_stays s d o S label held a.segment_below a.segment;
     thread_below = let low = a.thread_below in omega (arith, low);
@@ -96,7 +96,7 @@ module _ (T C S : ℕ) (own most label : Levels) (held : List ℕ) (s : State) (
   segment_apart e = true≢false (sym (ap (λ (q : ℕ). is_thread (s.objects q)) e ∙ ap is_thread a.thread) ∙ ap is_thread a.segment)
 
   -- where the thread makes a category it owns that too
-  pub around_category : Around T C S (with_level own s.next_category Star) (with_level most s.next_category L3) label held (with_category s T)
+  pub around_category : Around T C S (with_level own s.next_category Star) (with_level own_clearance s.next_category L3) label held (with_category s T)
   around_category = record {
     thread = changed_here s.objects T (with_star_at s.next_category) ∙ ap (option_map (with_star_at s.next_category)) a.thread;
     home = subst (LinksTo label S) (sym (changed_other s.objects T (with_star_at s.next_category) C home_apart)) a.home;
@@ -107,9 +107,9 @@ module _ (T C S : ℕ) (own most label : Levels) (held : List ℕ) (s : State) (
   }
 
   -- the thread stays where the segment is written
-  pub thread_written : (bytes : List ℕ) → (with_segment_bytes s S bytes).objects T ≡ object own (Thread most)
-  thread_written bytes = held_thread (T == S) bytes (s.objects T) own most a.thread
+  pub thread_written : (bytes : List ℕ) → (with_segment_bytes s S bytes).objects T ≡ object own (Thread own_clearance)
+  thread_written bytes = held_thread (T == S) bytes (s.objects T) own own_clearance a.thread
 
 -- a thread that takes a label has it
-pub thread_relabelled : (s : State) (T : ℕ) (own most label : Levels) → s.objects T ≡ object own (Thread most) → (with_changed s T (with_label label)).objects T ≡ object label (Thread most)
-thread_relabelled s T own most label is = changed_here s.objects T (with_label label) ∙ ap (option_map (with_label label)) is
+pub thread_relabelled : (s : State) (T : ℕ) (own own_clearance label : Levels) → s.objects T ≡ object own (Thread own_clearance) → (with_changed s T (with_label label)).objects T ≡ object label (Thread own_clearance)
+thread_relabelled s T own own_clearance label is = changed_here s.objects T (with_label label) ∙ ap (option_map (with_label label)) is

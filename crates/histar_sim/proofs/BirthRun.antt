@@ -7,7 +7,7 @@ use Rattle.std.specs.FinSet as set
 use Rattle.histar_flat.specs.declared.calls.UnixCall.{UnixCall}
 use Rattle.histar_flat.specs.declared.replies.Reply.{Reply}
 use Rattle.histar_flat.specs.Words.{ProcName}
-use Rattle.histar_flat.specs.Sessions.{Session}
+use Rattle.histar_flat.specs.Accounts.{Accounts}
 use Rattle.histar_flat.specs.FlatState.{Flat}
 use Rattle.histar_base.specs.Refusals.{unless}
 use Rattle.histar_label.specs.declared.levels.Level.TheVariants.{Star, L3}
@@ -23,8 +23,8 @@ use Rattle.histar_rules.specs.declared.raw.RawCall.TheVariants.{MakeCategory, Se
 use Rattle.histar_rules.specs.Rules.{check, fits_segment, has_number, greatest}
 use Rattle.histar_syscall.specs.KernelModel.{KernelModel, state}
 use Rattle.histar_layout.specs.Status.{ProcessStatus, started, status_bytes, with_child_listed}
-use Rattle.histar_calls.specs.declared.ending.Stopped.{Stopped}
-use Rattle.histar_calls.specs.declared.places.Home.{Home}
+use Rattle.histar_calls.specs.declared.call_error.Stopped.{Stopped}
+use Rattle.histar_calls.specs.declared.roots.Home.{Home}
 use Rattle.histar_calls.specs.Programs.{Program, Runs}
 use Rattle.histar_calls.specs.Programs.Program.{Answers}
 use Rattle.histar_calls.specs.Parts.{ask}
@@ -46,36 +46,36 @@ use Rattle.histar_sim.proofs.BirthSteps.{numbered_step, category_step}
 
 -- What a birth needs of the state before it: the thread has its own labels, and once it has made the child's categories it stands by its
 -- container and its process segment, may hand in what it makes the child of and may have its own labels again; and the bytes are few.
-pub record IsFit (s : State) (t : ℕ) (home : Home) (status : ProcessStatus) (kin : Kin) (own most : Levels) : Type 0 where
-  pub thread : s.objects t ≡ object own (Thread most)
+pub record IsFit (s : State) (t : ℕ) (home : Home) (status : ProcessStatus) (kin : Kin) (own own_clearance : Levels) : Type 0 where
+  pub thread : s.objects t ≡ object own (Thread own_clearance)
   pub owner : Levels
-  pub owner_most : Levels
+  pub owner_clearance : Levels
   pub label : Levels
   pub held : List ℕ
-  pub around : Around t home.container home.segment owner owner_most label held (with_category (with_category s t) t)
+  pub around : Around t home.container home.segment owner owner_clearance label held (with_category (with_category s t) t)
   pub under : is_below owner label ≡ true
   pub seen : is_below_raised label owner ≡ true
-  pub outer : IsModified owner owner_most (outer_label kin (s.next_category + 1)) (s.next_category + 1 + 1)
-  pub inner : IsModified owner owner_most (inner_label kin s.next_category (s.next_category + 1)) (s.next_category + 1 + 1)
-  pub lesser : IsLesser owner owner_most (thread_label kin s.next_category (s.next_category + 1)) (thread_clearance kin s.next_category (s.next_category + 1)) (s.next_category + 1 + 1)
-  pub taken : IsTaken owner owner_most own most (s.next_category + 1 + 1)
+  pub outer : IsModified owner owner_clearance (outer_label kin (s.next_category + 1)) (s.next_category + 1 + 1)
+  pub inner : IsModified owner owner_clearance (inner_label kin s.next_category (s.next_category + 1)) (s.next_category + 1 + 1)
+  pub lesser : IsLesser owner owner_clearance (thread_label kin s.next_category (s.next_category + 1)) (thread_clearance kin s.next_category (s.next_category + 1)) (s.next_category + 1 + 1)
+  pub taken : IsTaken owner owner_clearance own own_clearance (s.next_category + 1 + 1)
   pub child_few : fits_segment (length (status_bytes (started (s.next_object + 1) (s.next_object + 1 + 1)))) ≡ true
   pub own_few : fits_segment (min 0 (length held) + length (status_bytes (with_child_listed s.next_object (s.next_object + 1 + 1 + 1) status))) ≡ true
 
 -- the state after a birth, once the thread has its own labels again
 abbrev pub spawned : State → ℕ → Home → ProcessStatus → Kin → Levels → Levels → State
-spawned s t home status kin own most =
+spawned s t home status kin own own_clearance =
     own_set t (births (with_category (with_category s t) t) home.container home.segment
     (record { label = outer_label kin (s.next_category + 1); kind = Container set.empty })
     (record { label = inner_label kin s.next_category (s.next_category + 1); kind = Container set.empty })
     (thread_of (thread_label kin s.next_category (s.next_category + 1)) (thread_clearance kin s.next_category (s.next_category + 1)))
     (record { label = outer_label kin (s.next_category + 1); kind = Segment (status_bytes (started (s.next_object + 1) (s.next_object + 1 + 1))) })
-    (status_bytes (with_child_listed s.next_object (s.next_object + 1 + 1 + 1) status))) own most
+    (status_bytes (with_child_listed s.next_object (s.next_object + 1 + 1 + 1) status))) own own_clearance
 
-module _ (session : Session) (f : Flat) (me : ProcName) (caller : IsRunning f me) (call : UnixCall) (old new : KernelModel) (t : ℕ) (named : IsThreadOf session (state old) me t) (result : Result Reply Stopped)
-    (s : State) (home : Home) (status : ProcessStatus) (kin : Kin) (own most : Levels) (fit : IsFit s t home status kin own most) (reply : Reply) (wanted : List RawCall) where
-  abbrev Row : Type 0
-  Row = Goal session f me caller call old new t named result
+module _ (accounts : Accounts) (f : Flat) (me : ProcName) (caller : IsRunning f me) (call : UnixCall) (old new : KernelModel) (t : ℕ) (named : IsThreadOf accounts (state old) me t) (result : Result Reply Stopped)
+    (s : State) (home : Home) (status : ProcessStatus) (kin : Kin) (own own_clearance : Levels) (fit : IsFit s t home status kin own own_clearance) (reply : Reply) (wanted : List RawCall) where
+  abbrev Refined : Type 0
+  Refined = Goal accounts f me caller call old new t named result
 
   -- the numbers that the kernel gives
   abbrev read : ℕ
@@ -130,7 +130,7 @@ module _ (session : Session) (f : Flat) (me : ProcName) (caller : IsRunning f me
 
   -- what is left of the program after each raw call, from the last on, by the numbers that the kernel gave
   abbrev after_label : Program
-  after_label = ask (SetClearance most) (λ _. Answers reply)
+  after_label = ask (SetClearance own_clearance) (λ _. Answers reply)
 
   abbrev after_write : Program
   after_write = ask (SetLabel own) (λ _. after_label)
@@ -162,87 +162,87 @@ module _ (session : Session) (f : Flat) (me : ProcName) (caller : IsRunning f me
 
   -- what comes after all of them
   abbrev pub Ends : Type 0
-  Ends = (calls : List RawCall) (later : KernelModel) → AreAmong wanted (entries_of old.line t (all_granted calls)) → Chain old t (all_granted calls) later → state later ≡ spawned s t home status kin own most → s.next_object + 3 < greatest → Runs (Answers reply) later new t result → Goal session f me caller call old new t named result
+  Ends = (calls : List RawCall) (later : KernelModel) → AreAmong wanted (entries_of old.line t (all_granted calls)) → Chain old t (all_granted calls) later → state later ≡ spawned s t home status kin own own_clearance → s.next_object + 3 < greatest → Runs (Answers reply) later new t result → Goal accounts f me caller call old new t named result
 
   module _ (ends : Ends) where
-    clearance_set : s.next_object + 3 < greatest → (calls : List RawCall) (mid : KernelModel) → AreKept calls → Chain old t (all_granted calls) mid → state mid ≡ eighth → Runs after_label mid new t result → Row
+    clearance_set : s.next_object + 3 < greatest → (calls : List RawCall) (mid : KernelModel) → AreKept calls → Chain old t (all_granted calls) mid → state mid ≡ eighth → Runs after_label mid new t result → Refined
     clearance_set few calls mid kept chain at runs =
-        granted_step session f me caller call old new t named result calls mid chain (SetClearance most) (λ _. Answers reply)
-        (ap (λ (x : State). check x t (SetClearance most)) at ∙ checks.set_clearance_said t home.container home.segment fit.owner fit.owner_most fit.label fit.held u fit.around outer inner label clearance own most child_bytes own_bytes fit.under fit.seen fit.outer fit.inner fit.lesser fit.taken) runs
-        (λ later done called right longer goes. ends (calls ++ SetClearance most ∷ []) later (kept_then calls (SetClearance most) kept) longer (called.state ∙ ap (λ (x : State). with_changed x t (with_clearance most)) at) few goes)
+        granted_step accounts f me caller call old new t named result calls mid chain (SetClearance own_clearance) (λ _. Answers reply)
+        (ap (λ (x : State). check x t (SetClearance own_clearance)) at ∙ checks.set_clearance_said t home.container home.segment fit.owner fit.owner_clearance fit.label fit.held u fit.around outer inner label clearance own own_clearance child_bytes own_bytes fit.under fit.seen fit.outer fit.inner fit.lesser fit.taken) runs
+        (λ later done called right longer goes. ends (calls ++ SetClearance own_clearance ∷ []) later (kept_then calls (SetClearance own_clearance) kept) longer (called.state ∙ ap (λ (x : State). with_changed x t (with_clearance own_clearance)) at) few goes)
 
-    label_set : s.next_object + 3 < greatest → (calls : List RawCall) (mid : KernelModel) → AreKept calls → Chain old t (all_granted calls) mid → state mid ≡ seventh → Runs after_write mid new t result → Row
+    label_set : s.next_object + 3 < greatest → (calls : List RawCall) (mid : KernelModel) → AreKept calls → Chain old t (all_granted calls) mid → state mid ≡ seventh → Runs after_write mid new t result → Refined
     label_set few calls mid kept chain at runs =
-        granted_step session f me caller call old new t named result calls mid chain (SetLabel own) (λ _. after_label)
-        (ap (λ (x : State). check x t (SetLabel own)) at ∙ checks.set_label_said t home.container home.segment fit.owner fit.owner_most fit.label fit.held u fit.around outer inner label clearance own most child_bytes own_bytes fit.under fit.seen fit.outer fit.inner fit.lesser fit.taken) runs
+        granted_step accounts f me caller call old new t named result calls mid chain (SetLabel own) (λ _. after_label)
+        (ap (λ (x : State). check x t (SetLabel own)) at ∙ checks.set_label_said t home.container home.segment fit.owner fit.owner_clearance fit.label fit.held u fit.around outer inner label clearance own own_clearance child_bytes own_bytes fit.under fit.seen fit.outer fit.inner fit.lesser fit.taken) runs
         (λ later done called right longer goes. clearance_set few (calls ++ SetLabel own ∷ []) later (kept_then calls (SetLabel own) kept) longer (called.state ∙ ap (λ (x : State). with_changed x t (with_label own)) at) goes)
 
-    segment_written : s.next_object + 3 < greatest → (calls : List RawCall) (mid : KernelModel) → AreKept calls → Chain old t (all_granted calls) mid → state mid ≡ sixth → Runs (after_segment m (m + 1 + 1 + 1)) mid new t result → Row
+    segment_written : s.next_object + 3 < greatest → (calls : List RawCall) (mid : KernelModel) → AreKept calls → Chain old t (all_granted calls) mid → state mid ≡ sixth → Runs (after_segment m (m + 1 + 1 + 1)) mid new t result → Refined
     segment_written few calls mid kept chain at runs =
         let next : RawCall = Write home.container home.segment 0 own_bytes in
-        granted_step session f me caller call old new t named result calls mid chain next (λ _. after_write)
-        (ap (λ (x : State). check x t next) at ∙ checks.write_said t home.container home.segment fit.owner fit.owner_most fit.label fit.held u fit.around outer inner label clearance own most child_bytes own_bytes fit.under fit.seen fit.outer fit.inner fit.lesser fit.taken fit.own_few) runs
+        granted_step accounts f me caller call old new t named result calls mid chain next (λ _. after_write)
+        (ap (λ (x : State). check x t next) at ∙ checks.write_said t home.container home.segment fit.owner fit.owner_clearance fit.label fit.held u fit.around outer inner label clearance own own_clearance child_bytes own_bytes fit.under fit.seen fit.outer fit.inner fit.lesser fit.taken fit.own_few) runs
         (λ later done called right longer goes. label_set few (calls ++ next ∷ []) later (kept_then calls next kept) longer (called.state ∙ ap (λ (x : State). with_segment_bytes x home.segment own_bytes) at) goes)
 
-    segment_made : (calls : List RawCall) (mid : KernelModel) → AreKept calls → Chain old t (all_granted calls) mid → state mid ≡ fifth → Runs (after_thread write m (m + 1) (m + 1 + 1)) mid new t result → Row
+    segment_made : (calls : List RawCall) (mid : KernelModel) → AreKept calls → Chain old t (all_granted calls) mid → state mid ≡ fifth → Runs (after_thread write m (m + 1) (m + 1 + 1)) mid new t result → Refined
     segment_made calls mid kept chain at runs =
         let next : RawCall = MakeSegment m outer child_bytes in
-        numbered_step session f me caller call old new t named result calls mid chain next (after_segment m) refl
-        (subst (λ (x : State). check x t next ≡ unless (has_number x) TooBig) (sym at) (checks.make_segment_said t home.container home.segment fit.owner fit.owner_most fit.label fit.held u fit.around outer inner label clearance own most child_bytes own_bytes fit.under fit.seen fit.outer fit.inner fit.lesser fit.taken fit.child_few)) runs
+        numbered_step accounts f me caller call old new t named result calls mid chain next (after_segment m) refl
+        (subst (λ (x : State). check x t next ≡ unless (has_number x) TooBig) (sym at) (checks.make_segment_said t home.container home.segment fit.owner fit.owner_clearance fit.label fit.held u fit.around outer inner label clearance own own_clearance child_bytes own_bytes fit.under fit.seen fit.outer fit.inner fit.lesser fit.taken fit.child_few)) runs
         (λ more later number called right longer goes.
         let few = ltb-true (m + 1 + 1 + 1) greatest (sym (ap has_number at) ∙ more) in
         segment_written (omega (arith, few)) (calls ++ next ∷ []) later (kept_then calls next kept) longer (called.state ∙ ap (λ (x : State). with_object x m (record { label = outer; kind = Segment child_bytes })) at)
         (subst (λ (q : ℕ). Runs (after_segment m q) later new t result) (right ∙ ap (λ (x : State). x.next_object) at) goes))
 
-    thread_made : (calls : List RawCall) (mid : KernelModel) → AreKept calls → Chain old t (all_granted calls) mid → state mid ≡ fourth → Runs (after_internal read write m (m + 1)) mid new t result → Row
+    thread_made : (calls : List RawCall) (mid : KernelModel) → AreKept calls → Chain old t (all_granted calls) mid → state mid ≡ fourth → Runs (after_internal read write m (m + 1)) mid new t result → Refined
     thread_made calls mid kept chain at runs =
         let next : RawCall = MakeThread (m + 1) label clearance in
-        numbered_step session f me caller call old new t named result calls mid chain next (after_thread write m (m + 1)) refl
-        (subst (λ (x : State). check x t next ≡ unless (has_number x) TooBig) (sym at) (checks.make_thread_said t home.container home.segment fit.owner fit.owner_most fit.label fit.held u fit.around outer inner label clearance own most child_bytes own_bytes fit.under fit.seen fit.outer fit.inner fit.lesser fit.taken)) runs
+        numbered_step accounts f me caller call old new t named result calls mid chain next (after_thread write m (m + 1)) refl
+        (subst (λ (x : State). check x t next ≡ unless (has_number x) TooBig) (sym at) (checks.make_thread_said t home.container home.segment fit.owner fit.owner_clearance fit.label fit.held u fit.around outer inner label clearance own own_clearance child_bytes own_bytes fit.under fit.seen fit.outer fit.inner fit.lesser fit.taken)) runs
         (λ more later number called right longer goes.
         segment_made (calls ++ next ∷ []) later (kept_then calls next kept) longer (called.state ∙ ap (λ (x : State). with_object x (m + 1) (thread_of label clearance)) at)
         (subst (λ (q : ℕ). Runs (after_thread write m (m + 1) q) later new t result) (right ∙ ap (λ (x : State). x.next_object) at) goes))
 
-    internal_made : (calls : List RawCall) (mid : KernelModel) → AreKept calls → Chain old t (all_granted calls) mid → state mid ≡ third → Runs (after_container read write m) mid new t result → Row
+    internal_made : (calls : List RawCall) (mid : KernelModel) → AreKept calls → Chain old t (all_granted calls) mid → state mid ≡ third → Runs (after_container read write m) mid new t result → Refined
     internal_made calls mid kept chain at runs =
         let next : RawCall = MakeContainer m inner in
-        numbered_step session f me caller call old new t named result calls mid chain next (after_internal read write m) refl
-        (subst (λ (x : State). check x t next ≡ unless (has_number x) TooBig) (sym at) (checks.make_internal_said t home.container home.segment fit.owner fit.owner_most fit.label fit.held u fit.around outer inner label clearance own most child_bytes own_bytes fit.under fit.seen fit.outer fit.inner fit.lesser fit.taken)) runs
+        numbered_step accounts f me caller call old new t named result calls mid chain next (after_internal read write m) refl
+        (subst (λ (x : State). check x t next ≡ unless (has_number x) TooBig) (sym at) (checks.make_internal_said t home.container home.segment fit.owner fit.owner_clearance fit.label fit.held u fit.around outer inner label clearance own own_clearance child_bytes own_bytes fit.under fit.seen fit.outer fit.inner fit.lesser fit.taken)) runs
         (λ more later number called right longer goes.
         thread_made (calls ++ next ∷ []) later (kept_then calls next kept) longer (called.state ∙ ap (λ (x : State). with_object x m (record { label = inner; kind = Container set.empty })) at)
         (subst (λ (q : ℕ). Runs (after_internal read write m q) later new t result) (right ∙ ap (λ (x : State). x.next_object) at) goes))
 
-    container_made : (calls : List RawCall) (mid : KernelModel) → AreKept calls → Chain old t (all_granted calls) mid → state mid ≡ u → Runs (after_categories read write) mid new t result → Row
+    container_made : (calls : List RawCall) (mid : KernelModel) → AreKept calls → Chain old t (all_granted calls) mid → state mid ≡ u → Runs (after_categories read write) mid new t result → Refined
     container_made calls mid kept chain at runs =
         let next : RawCall = MakeContainer home.container outer in
-        numbered_step session f me caller call old new t named result calls mid chain next (after_container read write) refl
-        (subst (λ (x : State). check x t next ≡ unless (has_number x) TooBig) (sym at) (checks.make_container_said t home.container home.segment fit.owner fit.owner_most fit.label fit.held u fit.around outer inner label clearance own most child_bytes own_bytes fit.under fit.seen fit.outer fit.inner fit.lesser fit.taken)) runs
+        numbered_step accounts f me caller call old new t named result calls mid chain next (after_container read write) refl
+        (subst (λ (x : State). check x t next ≡ unless (has_number x) TooBig) (sym at) (checks.make_container_said t home.container home.segment fit.owner fit.owner_clearance fit.label fit.held u fit.around outer inner label clearance own own_clearance child_bytes own_bytes fit.under fit.seen fit.outer fit.inner fit.lesser fit.taken)) runs
         (λ more later number called right longer goes.
         internal_made (calls ++ next ∷ []) later (kept_then calls next kept) longer (called.state ∙ ap (λ (x : State). with_object x home.container (record { label = outer; kind = Container set.empty })) at)
         (subst (λ (q : ℕ). Runs (after_container read write q) later new t result) (right ∙ ap (λ (x : State). x.next_object) at) goes))
 
     -- the thread with the first category
-    thread_then : (with_category s t).objects t ≡ object (with_level own s.next_category Star) (Thread (with_level most s.next_category L3))
+    thread_then : (with_category s t).objects t ≡ object (with_level own s.next_category Star) (Thread (with_level own_clearance s.next_category L3))
     thread_then = changed_here s.objects t (with_star_at s.next_category) ∙ ap (option_map (with_star_at s.next_category)) fit.thread
 
-    write_made : (calls : List RawCall) (mid : KernelModel) → AreKept calls → Chain old t (all_granted calls) mid → state mid ≡ with_category s t → Runs (after_category read) mid new t result → Row
+    write_made : (calls : List RawCall) (mid : KernelModel) → AreKept calls → Chain old t (all_granted calls) mid → state mid ≡ with_category s t → Runs (after_category read) mid new t result → Refined
     write_made calls mid kept chain at runs =
-        category_step session f me caller call old new t named result calls mid chain MakeCategory (after_categories read) refl
-        (subst (λ (x : State). check x t MakeCategory ≡ unless (has_category x) TooBig) (sym at) (category_said (with_category s t) t (with_level own s.next_category Star) (with_level most s.next_category L3) thread_then)) runs
+        category_step accounts f me caller call old new t named result calls mid chain MakeCategory (after_categories read) refl
+        (subst (λ (x : State). check x t MakeCategory ≡ unless (has_category x) TooBig) (sym at) (category_said (with_category s t) t (with_level own s.next_category Star) (with_level own_clearance s.next_category L3) thread_then)) runs
         (λ later number called right longer goes.
         container_made (calls ++ MakeCategory ∷ []) later (kept_then calls MakeCategory kept) longer (called.state ∙ ap (λ (x : State). with_category x t) at)
         (subst (λ (q : ℕ). Runs (after_categories read q) later new t result) (right ∙ ap (λ (x : State). x.next_category) at) goes))
 
-    read_made : (calls : List RawCall) (mid : KernelModel) → AreKept calls → Chain old t (all_granted calls) mid → state mid ≡ s → Runs (ask MakeCategory after_category) mid new t result → Row
+    read_made : (calls : List RawCall) (mid : KernelModel) → AreKept calls → Chain old t (all_granted calls) mid → state mid ≡ s → Runs (ask MakeCategory after_category) mid new t result → Refined
     read_made calls mid kept chain at runs =
-        category_step session f me caller call old new t named result calls mid chain MakeCategory after_category refl
-        (subst (λ (x : State). check x t MakeCategory ≡ unless (has_category x) TooBig) (sym at) (category_said s t own most fit.thread)) runs
+        category_step accounts f me caller call old new t named result calls mid chain MakeCategory after_category refl
+        (subst (λ (x : State). check x t MakeCategory ≡ unless (has_category x) TooBig) (sym at) (category_said s t own own_clearance fit.thread)) runs
         (λ later number called right longer goes.
         write_made (calls ++ MakeCategory ∷ []) later (kept_then calls MakeCategory kept) longer (called.state ∙ ap (λ (x : State). with_category x t) at)
         (subst (λ (q : ℕ). Runs (after_category q) later new t result) (right ∙ ap (λ (x : State). x.next_category) at) goes))
 
     -- The birth, and the thread's own labels again.
     pub birth_made : (calls : List RawCall) (mid : KernelModel) → AreAmong wanted (entries_of old.line t (all_granted calls)) → Chain old t (all_granted calls) mid → state mid ≡ s
-        → Runs (birth home status kin (λ _. ask (SetLabel own) (λ _. ask (SetClearance most) (λ _. Answers reply)))) mid new t result → Row
+        → Runs (birth home status kin (λ _. ask (SetLabel own) (λ _. ask (SetClearance own_clearance) (λ _. Answers reply)))) mid new t result → Refined
     unfolding birth
     birth_made calls mid kept chain at runs = read_made calls mid kept chain at runs

@@ -101,7 +101,7 @@ module _ (t : ℕ) where
         → IsReplyOfDenial reply (Some denied) → AllByRecursion (λ (c : RawCall). sets_labels c ≡ true) restoring
         → Chain old t (all_granted calls ++ (last, Some denied) ∷ all_granted restoring) new
         → IsBrokenOff reply (state old) (entries_of line t (all_granted calls ++ (last, Some denied) ∷ all_granted restoring)) (state new)
-    refused_broken_off old new line [] last denied restoring told sets chain =
-        (state chain.0, chain.1.outcome, chain.1.state, inr (told, all_restoring line restoring sets), granted_broken_off chain.0 new line restoring chain.2)
-    refused_broken_off old new line (call ∷ calls) last denied restoring told sets chain =
-        (state chain.0, chain.1.outcome, chain.1.state, tt, refused_broken_off chain.0 new line calls last denied restoring told sets chain.2)
+    refused_broken_off old new line [] last denied restoring revealed sets chain =
+        (state chain.0, chain.1.outcome, chain.1.state, inr (revealed, all_restoring line restoring sets), granted_broken_off chain.0 new line restoring chain.2)
+    refused_broken_off old new line (call ∷ calls) last denied restoring revealed sets chain =
+        (state chain.0, chain.1.outcome, chain.1.state, tt, refused_broken_off chain.0 new line calls last denied restoring revealed sets chain.2)

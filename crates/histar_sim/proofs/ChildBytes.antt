@@ -9,7 +9,7 @@ use Rattle.std.proofs.lemmas.List.{length-map}
 use Rattle.std.proofs.lemmas.List.FromFn.{length-range_with_len}
 use Rattle.std.proofs.lemmas.List.Sums.{length-filter, count_by-le-length}
 use Rattle.histar_flat.specs.Words.{ProcName}
-use Rattle.histar_flat.specs.Sessions.{Session, has, user_number}
+use Rattle.histar_flat.specs.Accounts.{Accounts, has, user_number}
 use Rattle.histar_flat.specs.Classes.{Process}
 use Rattle.histar_flat.specs.FlatState.{Flat}
 use Rattle.histar_label.specs.Levels.{Levels}
@@ -98,58 +98,58 @@ module _ (old new : ℕ → Listed) (test tests : ℕ → Bool) (n : ℕ) (same_
 
 -- ---- the bytes of a spawn
 
-module _ (session : Session) (s : State) (f : Flat) (l : ObjectsMatch session s f) (me : ProcName) (p : Process) (here : f.processes me ≡ Some p) (runs : p.exited ≡ None) (room : p.born < 64)
-    (chain : List ProcName) (chain_used : (job : ProcName) → has chain job ≡ true → IsUsed session f (OfJob job)) (chain_ordered : AreInOrder l.category chain)
-    (chain_free : is_some (user_number session p.user) ≡ false → chain ≡ [])
+module _ (accounts : Accounts) (s : State) (f : Flat) (l : ObjectsMatch accounts s f) (me : ProcName) (p : Process) (here : f.processes me ≡ Some p) (runs : p.exited ≡ None) (room : p.born < 64)
+    (chain : List ProcName) (chain_used : (job : ProcName) → has chain job ≡ true → IsUsed accounts f (OfJob job)) (chain_ordered : AreInOrder l.category chain)
+    (chain_free : is_some (user_number accounts p.user) ≡ false → chain ≡ [])
     (C S : ℕ) (at_home : l.naming.number (home_address me) ≡ Some C) (at_status : l.naming.number (Status ∷ home_address me) ≡ Some S) where
   abbrev child : ProcName
   child = (p.born + 1) ∷ me
 
   abbrev numbers : AddressNumbers
-  numbers = (naming session s f l me p here runs room chain chain_used chain_ordered chain_free C S at_home at_status).number
+  numbers = (naming accounts s f l me p here runs room chain chain_used chain_ordered chain_free C S at_home at_status).number
 
   abbrev m : ℕ
   m = s.next_object
 
   -- what is asked for before the birth, and the labels of what is made
   abbrev asked : Address Step → Found
-  asked = expected session l.category f l.naming.number
+  asked = expected accounts l.category f l.naming.number
 
   abbrev child_outer : Levels
-  child_outer = outer session s f l me p here runs room chain chain_used chain_ordered chain_free C S at_home at_status
+  child_outer = outer accounts s f l me p here runs room chain chain_used chain_ordered chain_free C S at_home at_status
 
   abbrev child_inner : Levels
-  child_inner = inner session s f l me p here runs room chain chain_used chain_ordered chain_free C S at_home at_status
+  child_inner = inner accounts s f l me p here runs room chain chain_used chain_ordered chain_free C S at_home at_status
 
   abbrev child_label : Levels
-  child_label = label session s f l me p here runs room chain chain_used chain_ordered chain_free C S at_home at_status
+  child_label = label accounts s f l me p here runs room chain chain_used chain_ordered chain_free C S at_home at_status
 
   abbrev child_clearance : Levels
-  child_clearance = clearance session s f l me p here runs room chain chain_used chain_ordered chain_free C S at_home at_status
+  child_clearance = clearance accounts s f l me p here runs room chain chain_used chain_ordered chain_free C S at_home at_status
 
   -- the parent's container stands, and nothing of the child's
   holds : is_container (asked (home_address me)) ≡ true
-  holds = holder session s f l me p here runs room chain chain_used chain_ordered chain_free C S at_home at_status
+  holds = holder accounts s f l me p here runs room chain chain_used chain_ordered chain_free C S at_home at_status
 
   no_home_yet : is_present (asked (home_address child)) ≡ false
-  no_home_yet = no_home session s f l me p here runs room chain chain_used chain_ordered chain_free C S at_home at_status
+  no_home_yet = no_home accounts s f l me p here runs room chain chain_used chain_ordered chain_free C S at_home at_status
 
   no_inside_yet : is_present (asked (Inside ∷ home_address child)) ≡ false
-  no_inside_yet = no_inside session s f l me p here runs room chain chain_used chain_ordered chain_free C S at_home at_status
+  no_inside_yet = no_inside accounts s f l me p here runs room chain chain_used chain_ordered chain_free C S at_home at_status
 
   no_runner_yet : is_present (asked (Runner ∷ Inside ∷ home_address child)) ≡ false
-  no_runner_yet = no_runner session s f l me p here runs room chain chain_used chain_ordered chain_free C S at_home at_status
+  no_runner_yet = no_runner accounts s f l me p here runs room chain chain_used chain_ordered chain_free C S at_home at_status
 
   no_status_yet : is_present (asked (Status ∷ home_address child)) ≡ false
-  no_status_yet = no_status session s f l me p here runs room chain chain_used chain_ordered chain_free C S at_home at_status
+  no_status_yet = no_status accounts s f l me p here runs room chain chain_used chain_ordered chain_free C S at_home at_status
 
   -- the child's process segment
-  pub child_bytes_are : status_bytes (started (s.next_object + 1) (s.next_object + 1 + 1)) ≡ child_written session s f l me p here runs room chain chain_used chain_ordered chain_free C S at_home at_status
+  pub child_bytes_are : status_bytes (started (s.next_object + 1) (s.next_object + 1 + 1)) ≡ child_written accounts s f l me p here runs room chain chain_used chain_ordered chain_free C S at_home at_status
   child_bytes_are = λ i. status_bytes (record {
     exited = None;
     born = 0;
-    internal = or_zero (sym (at_new_inside s l.naming asked l.stands me (p.born + 1) C S at_home at_status holds no_home_yet no_inside_yet no_runner_yet no_status_yet child_outer child_inner child_label child_clearance [] []) i);
-    thread = or_zero (sym (at_new_runner s l.naming asked l.stands me (p.born + 1) C S at_home at_status holds no_home_yet no_inside_yet no_runner_yet no_status_yet child_outer child_inner child_label child_clearance [] []) i);
+    internal = or_zero (sym (at_new_inside s l.naming asked l.agrees me (p.born + 1) C S at_home at_status holds no_home_yet no_inside_yet no_runner_yet no_status_yet child_outer child_inner child_label child_clearance [] []) i);
+    thread = or_zero (sym (at_new_runner s l.naming asked l.agrees me (p.born + 1) C S at_home at_status holds no_home_yet no_inside_yet no_runner_yet no_status_yet child_outer child_inner child_label child_clearance [] []) i);
     children = [];
   })
 
@@ -159,28 +159,28 @@ module _ (session : Session) (s : State) (f : Flat) (l : ObjectsMatch session s 
   abbrev same_listed : (j : ℕ) → j < p.born + 1 → listed_by numbers me j ≡ listed_by l.naming.number me j
   same_listed j low = λ i. record {
     number = j;
-    container = or_zero (sym (kept_home session s f l me p here runs room chain chain_used chain_ordered chain_free C S at_home at_status (j ∷ me) (earlier j low)) i);
-    segment = or_zero (sym (kept_status session s f l me p here runs room chain chain_used chain_ordered chain_free C S at_home at_status (j ∷ me) (earlier j low)) i);
+    container = or_zero (sym (kept_home accounts s f l me p here runs room chain chain_used chain_ordered chain_free C S at_home at_status (j ∷ me) (earlier j low)) i);
+    segment = or_zero (sym (kept_status accounts s f l me p here runs room chain chain_used chain_ordered chain_free C S at_home at_status (j ∷ me) (earlier j low)) i);
   }
 
   -- the child is listed behind the others
-  children_are : map (listed_by numbers me) (children (after session s f l me p here runs room chain chain_used chain_ordered chain_free C S at_home at_status).processes me (p.born + 1))
+  children_are : map (listed_by numbers me) (children (after accounts s f l me p here runs room chain chain_used chain_ordered chain_free C S at_home at_status).processes me (p.born + 1))
       ≡ map (listed_by l.naming.number me) (children f.processes me p.born) ++ record { number = p.born + 1; container = m; segment = m + 1 + 1 + 1 } ∷ []
   children_are =
-      listed_grown (listed_by l.naming.number me) (listed_by numbers me) (λ j. is_some (f.processes (j ∷ me))) (λ j. is_some ((after session s f l me p here runs room chain chain_used chain_ordered chain_free C S at_home at_status).processes (j ∷ me))) (p.born + 1)
-      (λ j low. sym (there_alike session s f l me p here runs room chain chain_used chain_ordered chain_free C S at_home at_status (j ∷ me) (earlier j low))) same_listed p.born refl (ap is_some (at_child session s f l me p here runs room chain chain_used chain_ordered chain_free C S at_home at_status))
+      listed_grown (listed_by l.naming.number me) (listed_by numbers me) (λ j. is_some (f.processes (j ∷ me))) (λ j. is_some ((after accounts s f l me p here runs room chain chain_used chain_ordered chain_free C S at_home at_status).processes (j ∷ me))) (p.born + 1)
+      (λ j low. sym (there_alike accounts s f l me p here runs room chain chain_used chain_ordered chain_free C S at_home at_status (j ∷ me) (earlier j low))) same_listed p.born refl (ap is_some (at_child accounts s f l me p here runs room chain chain_used chain_ordered chain_free C S at_home at_status))
       ∙ (λ i. map (listed_by l.naming.number me) (children f.processes me p.born) ++ record {
         number = p.born + 1;
-        container = or_zero (at_new_home s l.naming asked l.stands me (p.born + 1) C S at_home at_status holds no_home_yet no_inside_yet no_runner_yet no_status_yet child_outer child_inner child_label child_clearance [] [] i);
-        segment = or_zero (at_new_status s l.naming asked l.stands me (p.born + 1) C S at_home at_status holds no_home_yet no_inside_yet no_runner_yet no_status_yet child_outer child_inner child_label child_clearance [] [] i);
+        container = or_zero (at_new_home s l.naming asked l.agrees me (p.born + 1) C S at_home at_status holds no_home_yet no_inside_yet no_runner_yet no_status_yet child_outer child_inner child_label child_clearance [] [] i);
+        segment = or_zero (at_new_status s l.naming asked l.agrees me (p.born + 1) C S at_home at_status holds no_home_yet no_inside_yet no_runner_yet no_status_yet child_outer child_inner child_label child_clearance [] [] i);
       } ∷ [])
 
   -- the parent's process segment
-  pub own_bytes_are : status_bytes (with_child_listed s.next_object (s.next_object + 1 + 1 + 1) (status_by f.processes l.naming.number me p)) ≡ own_written session s f l me p here runs room chain chain_used chain_ordered chain_free C S at_home at_status
+  pub own_bytes_are : status_bytes (with_child_listed s.next_object (s.next_object + 1 + 1 + 1) (status_by f.processes l.naming.number me p)) ≡ own_written accounts s f l me p here runs room chain chain_used chain_ordered chain_free C S at_home at_status
   own_bytes_are = λ i. status_bytes (record {
     exited = p.exited;
     born = p.born + 1;
-    internal = or_zero (kept_inside session s f l me p here runs room chain chain_used chain_ordered chain_free C S at_home at_status me (λ e. child_not_me session s f l me p here runs room chain chain_used chain_ordered chain_free C S at_home at_status (sym e)) i);
-    thread = or_zero (kept_runner session s f l me p here runs room chain chain_used chain_ordered chain_free C S at_home at_status me (λ e. child_not_me session s f l me p here runs room chain chain_used chain_ordered chain_free C S at_home at_status (sym e)) i);
+    internal = or_zero (kept_inside accounts s f l me p here runs room chain chain_used chain_ordered chain_free C S at_home at_status me (λ e. child_not_me accounts s f l me p here runs room chain chain_used chain_ordered chain_free C S at_home at_status (sym e)) i);
+    thread = or_zero (kept_runner accounts s f l me p here runs room chain chain_used chain_ordered chain_free C S at_home at_status me (λ e. child_not_me accounts s f l me p here runs room chain chain_used chain_ordered chain_free C S at_home at_status (sym e)) i);
     children = sym children_are i;
   })

@@ -10,7 +10,7 @@ use Rattle.histar_flat.specs.declared.replies.Errno.TheVariants.{EAGAIN}
 use Rattle.histar_flat.specs.declared.replies.Reply.{Reply}
 use Rattle.histar_flat.specs.declared.replies.Reply.TheVariants.{Refused}
 use Rattle.histar_flat.specs.Words.{ProcName, most_children, most_numbers}
-use Rattle.histar_flat.specs.Sessions.{Session}
+use Rattle.histar_flat.specs.Accounts.{Accounts}
 use Rattle.histar_flat.specs.Classes.{Process}
 use Rattle.histar_flat.specs.FlatState.{Flat}
 use Rattle.histar_flat.specs.FlatCalls.{refused}
@@ -25,14 +25,14 @@ use Rattle.histar_rules.specs.Rules.{check}
 use Rattle.histar_syscall.specs.KernelModel.{KernelModel, state}
 use Rattle.histar_syscall.proofs.Runs.{same_kernel}
 use Rattle.histar_layout.specs.Status.{ProcessStatus, status_in}
-use Rattle.histar_calls.specs.declared.ending.Stopped.{Stopped}
+use Rattle.histar_calls.specs.declared.call_error.Stopped.{Stopped}
 use Rattle.histar_calls.specs.Programs.{Program, Runs}
 use Rattle.histar_calls.specs.Parts.{ask, given, if_there}
 use Rattle.histar_process.specs.declared.caller.Caller.{Caller}
 use Rattle.histar_process.specs.Caller.{status_at, caller_at}
 use Rattle.histar_process.specs.Parts.{read_status}
 use Rattle.histar_process.specs.SpawnCall.{must_have_room, room_for_child}
-use Rattle.histar_login.specs.Start.{places_of}
+use Rattle.histar_login.specs.Start.{roots_of}
 use Rattle.histar_refinement.specs.Guards.{guard_label, rights_label, rights_clearance}
 use Rattle.histar_refinement.specs.Labels.{process_guard, thread_rights}
 use Rattle.histar_refinement.specs.Addresses.{home_address}
@@ -53,24 +53,24 @@ use Rattle.histar_sim.proofs.BirthObjects.{Around}
 use Rattle.histar_sim.proofs.BirthRights.{around_before}
 
 -- what the flat rules say of a call that needs room for a child: they refuse it first where there is none, and then it needs no reads
-pub record NeedsChild (session : Session) (f : Flat) (me : ProcName) (p : Process) (call : UnixCall) (behind : Option Errno) : Type 0 where
-  pub refuses : refused session f me p call ≡ (no_child me p orelse behind)
-  pub reads : (steps : List Step) (line t : ℕ) (s : State) → HasReadsByCall session s f p call (Refused EAGAIN) (entries_of line t steps)
+pub record NeedsChild (accounts : Accounts) (f : Flat) (me : ProcName) (p : Process) (call : UnixCall) (behind : Option Errno) : Type 0 where
+  pub refuses : refused accounts f me p call ≡ (no_child me p orelse behind)
+  pub reads : (steps : List Step) (line t : ℕ) (s : State) → HasReadsByCall accounts s f p call (Refused EAGAIN) (entries_of line t steps)
 
-module _ (session : Session) (me : ProcName) (caller : Caller) (old new : KernelModel) (f : Flat) (result : Result Reply Stopped)
-    (ready : IsReady session (state old) f me caller.thread) (found : caller_at (state old) (places_of (length session.users)).home me ≡ Some caller) where
+module _ (accounts : Accounts) (me : ProcName) (caller : Caller) (old new : KernelModel) (f : Flat) (result : Result Reply Stopped)
+    (ready : IsReady accounts (state old) f me caller.thread) (found : caller_at (state old) (roots_of (length accounts.users)).home me ≡ Some caller) where
   abbrev t : ℕ
   t = caller.thread
 
   abbrev p : Process
   p = ready.caller.process
 
-  abbrev l : ObjectsMatch session (state old) f
-  l = ready.represents.laid
+  abbrev l : ObjectsMatch accounts (state old) f
+  l = ready.represents.matched
 
   -- where it is found
-  is_caller : (q : Process) × IsCallerOf session (state old) f l me q caller
-  is_caller = caller_found session (state old) f l me caller found
+  is_caller : (q : Process) × IsCallerOf accounts (state old) f l me q caller
+  is_caller = caller_found accounts (state old) f l me caller found
 
   pub at_home : l.naming.number (home_address me) ≡ Some caller.home.container
   at_home = is_caller.1.home
@@ -79,14 +79,14 @@ module _ (session : Session) (me : ProcName) (caller : Caller) (old new : Kernel
   at_status = is_caller.1.segment
 
   pub at_thread : l.naming.number (Runner ∷ Inside ∷ home_address me) ≡ Some t
-  at_thread = (thread_back session (state old) f l me t ready.thread).3
+  at_thread = (thread_back accounts (state old) f l me t ready.thread).3
 
   -- its thread's own label and clearance, and what its segment tells
   abbrev pub own_of : Levels
-  own_of = rights_label l.category (thread_rights session me p)
+  own_of = rights_label l.category (thread_rights accounts me p)
 
-  abbrev pub most_of : Levels
-  most_of = rights_clearance l.category (thread_rights session me p)
+  abbrev pub own_clearance_of : Levels
+  own_clearance_of = rights_clearance l.category (thread_rights accounts me p)
 
   abbrev home_label : Levels
   home_label = guard_label l.category (process_guard me p)
@@ -102,44 +102,44 @@ module _ (session : Session) (me : ProcName) (caller : Caller) (old new : Kernel
   reads = Read caller.home.container caller.home.segment
 
   -- what stands there
-  pub around : Around t caller.home.container caller.home.segment own_of most_of home_label held (state old)
-  around = around_before session (state old) f l me p ready.caller.stands ready.caller.runs caller.home.container caller.home.segment at_home at_status t at_thread
+  pub around : Around t caller.home.container caller.home.segment own_of own_clearance_of home_label held (state old)
+  around = around_before accounts (state old) f l me p ready.caller.agrees ready.caller.runs caller.home.container caller.home.segment at_home at_status t at_thread
 
   -- it sees its own container
   seen : is_below_raised home_label own_of ≡ true
-  seen = sees_process session me p l.category l.different me p ∙ all_known p
+  seen = sees_process accounts me p l.category l.different me p ∙ all_known p
 
-  status_told : status_in (bytes_in ((state old).objects caller.home.segment)) ≡ Some status_of
-  status_told = ap (λ (q : ℕ). status_at (state old) q) (sym (ap or_zero at_status)) ∙ status_is session (state old) f l me p ready.caller.stands
+  status_revealed : status_in (bytes_in ((state old).objects caller.home.segment)) ≡ Some status_of
+  status_revealed = ap (λ (q : ℕ). status_at (state old) q) (sym (ap or_zero at_status)) ∙ status_is accounts (state old) f l me p ready.caller.agrees
 
   read_said : check (state old) t reads ≡ None
   read_said =
-      read_check (state old) t own_of most_of around.thread caller.home.container home_label around.home.0 around.home.1 seen caller.home.segment around.home.2 home_label held around.segment
+      read_check (state old) t own_of own_clearance_of around.thread caller.home.container home_label around.home.0 around.home.1 seen caller.home.segment around.home.2 home_label held around.segment
       ∙ ap (λ (b : Bool). unless b Observe) seen
 
   -- the thread asks for its own labels
   pub own_label_step : (call : UnixCall) (calls : List RawCall) (mid : KernelModel) → Chain old t (all_granted calls) mid → state mid ≡ state old → (rest : Levels × Levels → Program) → Runs (ask OwnLabel rest) mid new t result
-      → ((after : KernelModel) → Chain old t (all_granted (calls ++ OwnLabel ∷ [])) after → state after ≡ state old → Runs (rest (own_of, most_of)) after new t result → Goal session f me ready.caller call old new t ready.thread result)
-      → Goal session f me ready.caller call old new t ready.thread result
+      → ((after : KernelModel) → Chain old t (all_granted (calls ++ OwnLabel ∷ [])) after → state after ≡ state old → Runs (rest (own_of, own_clearance_of)) after new t result → Goal accounts f me ready.caller call old new t ready.thread result)
+      → Goal accounts f me ready.caller call old new t ready.thread result
   own_label_step call calls mid chain stays rest runs go_on =
-      granted_step session f me ready.caller call old new t ready.thread result calls mid chain OwnLabel rest
+      granted_step accounts f me ready.caller call old new t ready.thread result calls mid chain OwnLabel rest
       (ap (λ (s : State). check s t OwnLabel) stays ∙ λ i. unless (is_thread (around.thread i)) NoThread) runs
-      (λ after told called tells longer goes.
-      let label = tells.0 ∙ ap (λ (s : State). label_there (s.objects t)) stays ∙ ap label_there around.thread in
-      let clearance = tells.1 ∙ ap (λ (s : State). clearance_there (s.objects t)) stays ∙ ap clearance_there around.thread in
-      let told_is : told ≡ (own_of, most_of) = λ i. (same_Some told.0 own_of label i, same_Some told.1 most_of clearance i) in
-      go_on after longer (called.state ∙ stays) (subst (λ (x : Levels × Levels). Runs (rest x) after new t result) told_is goes))
+      (λ after revealed called reveals longer goes.
+      let label = reveals.0 ∙ ap (λ (s : State). label_there (s.objects t)) stays ∙ ap label_there around.thread in
+      let clearance = reveals.1 ∙ ap (λ (s : State). clearance_there (s.objects t)) stays ∙ ap clearance_there around.thread in
+      let revealed_is : revealed ≡ (own_of, own_clearance_of) = λ i. (same_Some revealed.0 own_of label i, same_Some revealed.1 own_clearance_of clearance i) in
+      go_on after longer (called.state ∙ stays) (subst (λ (x : Levels × Levels). Runs (rest x) after new t result) revealed_is goes))
 
-  module _ (call : UnixCall) (behind : Option Errno) (needs : NeedsChild session f me p call behind) (rest : ProcessStatus → Program) where
-    abbrev Row : Type 0
-    Row = Goal session f me ready.caller call old new t ready.thread result
+  module _ (call : UnixCall) (behind : Option Errno) (needs : NeedsChild accounts f me p call behind) (rest : ProcessStatus → Program) where
+    abbrev Refined : Type 0
+    Refined = Goal accounts f me ready.caller call old new t ready.thread result
 
     -- the call goes on with room for a child
     abbrev pub GoesOn : Type 0
-    GoesOn = nat_lt (length me) most_numbers ≡ true → nat_lt p.born most_children ≡ true → (mid : KernelModel) → Chain old t (all_granted (reads ∷ [])) mid → state mid ≡ state old → Runs (rest status_of) mid new t result → Row
+    GoesOn = nat_lt (length me) most_numbers ≡ true → nat_lt p.born most_children ≡ true → (mid : KernelModel) → Chain old t (all_granted (reads ∷ [])) mid → state mid ≡ state old → Runs (rest status_of) mid new t result → Refined
 
     -- what the flat rules refuse
-    refused_is : (born long : Bool) → nat_lt p.born most_children ≡ born → nat_lt (length me) most_numbers ≡ long → refused session f me p call ≡ ((unless born EAGAIN orelse unless long EAGAIN) orelse behind)
+    refused_is : (born long : Bool) → nat_lt p.born most_children ≡ born → nat_lt (length me) most_numbers ≡ long → refused accounts f me p call ≡ ((unless born EAGAIN orelse unless long EAGAIN) orelse behind)
     refused_is born long is_born is_long = needs.refuses ∙ λ i. (unless (is_born i) EAGAIN orelse unless (is_long i) EAGAIN) orelse behind
 
     -- one refusal of two that are the same is the refusal
@@ -148,33 +148,33 @@ module _ (session : Session) (me : ProcName) (caller : Caller) (old new : Kernel
     either_again false = refl
 
     abbrev with_status : ProcessStatus → Program
-    with_status told = given (must_have_room (nat_lt told.born most_children)) (λ _. rest told)
+    with_status revealed = given (must_have_room (nat_lt revealed.born most_children)) (λ _. rest revealed)
 
     -- the process has 64 children, or there is room
-    by_born : (b : Bool) → nat_lt p.born most_children ≡ b → nat_lt (length me) most_numbers ≡ true → (mid : KernelModel) → Chain old t (all_granted (reads ∷ [])) mid → state mid ≡ state old → Runs (given (must_have_room b) (λ _. rest status_of)) mid new t result → GoesOn → Row
+    by_born : (b : Bool) → nat_lt p.born most_children ≡ b → nat_lt (length me) most_numbers ≡ true → (mid : KernelModel) → Chain old t (all_granted (reads ∷ [])) mid → state mid ≡ state old → Runs (given (must_have_room b) (λ _. rest status_of)) mid new t result → GoesOn → Refined
     by_born false is long mid chain stays runs go_on =
-        refused_at_once session f me ready.caller call old new t ready.thread result (reads ∷ []) mid chain stays ready.represents EAGAIN (refused_is false true is long) refl refl (needs.reads (all_granted (reads ∷ [])) old.line t (state old)) runs
+        refused_at_once accounts f me ready.caller call old new t ready.thread result (reads ∷ []) mid chain stays ready.represents EAGAIN (refused_is false true is long) refl refl (needs.reads (all_granted (reads ∷ [])) old.line t (state old)) runs
     by_born true is long mid chain stays runs go_on = go_on long is mid chain stays runs
 
     -- its own segment is read
     abbrev with_bytes : List ℕ → Program
     with_bytes bytes = if_there with_status (status_in bytes)
 
-    read : nat_lt (length me) most_numbers ≡ true → Runs (ask reads with_bytes) old new t result → GoesOn → Row
+    read : nat_lt (length me) most_numbers ≡ true → Runs (ask reads with_bytes) old new t result → GoesOn → Refined
     read long runs go_on =
-        granted_step session f me ready.caller call old new t ready.thread result [] old (same_kernel old) reads with_bytes read_said runs
+        granted_step accounts f me ready.caller call old new t ready.thread result [] old (same_kernel old) reads with_bytes read_said runs
         (λ later bytes called right longer goes.
         by_born (nat_lt p.born most_children) refl long later longer called.state
-        (subst (λ (o : Option ProcessStatus). Runs (if_there with_status o) later new t result) (ap status_in right ∙ status_told) goes) go_on)
+        (subst (λ (o : Option ProcessStatus). Runs (if_there with_status o) later new t result) (ap status_in right ∙ status_revealed) goes) go_on)
 
     -- the name has 8 numbers, or there is room
-    by_length : (b : Bool) → nat_lt (length me) most_numbers ≡ b → Runs (given (must_have_room b) (λ _. read_status caller.home with_status)) old new t result → GoesOn → Row
+    by_length : (b : Bool) → nat_lt (length me) most_numbers ≡ b → Runs (given (must_have_room b) (λ _. read_status caller.home with_status)) old new t result → GoesOn → Refined
     unfolding read_status
     by_length false is runs go_on =
-        refused_at_once session f me ready.caller call old new t ready.thread result [] old (same_kernel old) refl ready.represents EAGAIN
+        refused_at_once accounts f me ready.caller call old new t ready.thread result [] old (same_kernel old) refl ready.represents EAGAIN
         (refused_is (nat_lt p.born most_children) false refl is ∙ either_again (nat_lt p.born most_children)) refl refl (needs.reads [] old.line t (state old)) runs
     by_length true is runs go_on = read is runs go_on
 
     -- There is room for a child, or the call is refused.
-    pub child_room_step : Runs (room_for_child me caller.home rest) old new t result → GoesOn → Row
+    pub child_room_step : Runs (room_for_child me caller.home rest) old new t result → GoesOn → Refined
     child_room_step runs go_on = by_length (nat_lt (length me) most_numbers) refl runs go_on

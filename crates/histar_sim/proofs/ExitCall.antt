@@ -7,7 +7,7 @@ use Rattle.histar_flat.specs.declared.calls.UnixCall.TheVariants as calls
 use Rattle.histar_flat.specs.declared.replies.Reply.{Reply}
 use Rattle.histar_flat.specs.declared.replies.Reply.TheVariants.{Done}
 use Rattle.histar_flat.specs.Words.{ProcName, greatest_status}
-use Rattle.histar_flat.specs.Sessions.{Session}
+use Rattle.histar_flat.specs.Accounts.{Accounts}
 use Rattle.histar_flat.specs.Classes.{Process, sees}
 use Rattle.histar_flat.specs.FlatState.{Flat}
 use Rattle.histar_flat.specs.FlatCalls.{changed}
@@ -23,13 +23,13 @@ use Rattle.histar_rules.specs.Rules.{check}
 use Rattle.histar_syscall.specs.KernelModel.{KernelModel, state}
 use Rattle.histar_syscall.proofs.Runs.{same_kernel}
 use Rattle.histar_layout.specs.Status.{ProcessStatus, once_exited, status_bytes}
-use Rattle.histar_calls.specs.declared.ending.Stopped.{Stopped}
-use Rattle.histar_calls.specs.declared.places.Home.{Home}
+use Rattle.histar_calls.specs.declared.call_error.Stopped.{Stopped}
+use Rattle.histar_calls.specs.declared.roots.Home.{Home}
 use Rattle.histar_calls.specs.Programs.{Program, Runs}
 use Rattle.histar_calls.specs.Programs.Program.{Answers}
 use Rattle.histar_calls.specs.Parts.{ask}
 use Rattle.histar_process.specs.ExitCall.{exit_program}
-use Rattle.histar_refinement.specs.Sessions.{IsSession}
+use Rattle.histar_refinement.specs.Accounts.{AreAccounts}
 use Rattle.histar_refinement.specs.Addresses.{home_address}
 use Rattle.histar_refinement.specs.Addresses.Step.{Status, Inside, Runner}
 use Rattle.histar_refinement.specs.Guards.{guard_label, rights_label, rights_clearance}
@@ -50,78 +50,78 @@ use Rattle.histar_sim.proofs.FoundProcesses.{at_container, at_segment, container
 use Rattle.histar_sim.proofs.OwnSegment.{status_few, listed_few, segment_apart, thread_no_segment, write_granted, unlink_granted}
 use Rattle.histar_sim.proofs.Searches.{runs_as, status_of, read_of, status_step}
 
-module _ (session : Session) (ok : IsSession session) (number : ℕ) (small : number ≤ greatest_status) (old new : KernelModel) (f : Flat) (me : ProcName) (t : ℕ) (ready : IsReady session (state old) f me t) (result : Result Reply Stopped) where
+module _ (accounts : Accounts) (ok : AreAccounts accounts) (number : ℕ) (small : number ≤ greatest_status) (old new : KernelModel) (f : Flat) (me : ProcName) (t : ℕ) (ready : IsReady accounts (state old) f me t) (result : Result Reply Stopped) where
   abbrev call : UnixCall
   call = calls.Exit number
 
   abbrev p : Process
   p = ready.caller.process
 
-  abbrev l : ObjectsMatch session (state old) f
-  l = ready.represents.laid
+  abbrev l : ObjectsMatch accounts (state old) f
+  l = ready.represents.matched
 
   abbrev here : f.processes me ≡ Some ready.caller.process
-  here = ready.caller.stands
+  here = ready.caller.agrees
 
-  abbrev Row : Type 0
-  Row = Goal session f me ready.caller call old new t ready.thread result
+  abbrev Refined : Type 0
+  Refined = Goal accounts f me ready.caller call old new t ready.thread result
 
   -- its container, its process segment and its internal container
   abbrev C : ℕ
-  C = (where_is session (state old) f ready.represents.laid me).container
+  C = (where_is accounts (state old) f ready.represents.matched me).container
 
   abbrev S : ℕ
-  S = (where_is session (state old) f ready.represents.laid me).segment
+  S = (where_is accounts (state old) f ready.represents.matched me).segment
 
   abbrev o : ℕ
-  o = or_zero (ready.represents.laid.naming.number (Inside ∷ home_address me))
+  o = or_zero (ready.represents.matched.naming.number (Inside ∷ home_address me))
 
   at_inside : l.naming.number (Inside ∷ home_address me) ≡ Some o
-  at_inside = zero_there _ o (l.stands.tree.held Runner (Inside ∷ home_address me) (numbered_runner session (state old) f l me p here ready.caller.runs)) refl
+  at_inside = zero_there _ o (l.agrees.tree.held Runner (Inside ∷ home_address me) (numbered_runner accounts (state old) f l me p here ready.caller.runs)) refl
 
   -- the labels of the thread and of both
   abbrev own : Levels
-  own = rights_label ready.represents.laid.category (thread_rights session me ready.caller.process)
+  own = rights_label ready.represents.matched.category (thread_rights accounts me ready.caller.process)
 
-  abbrev most : Levels
-  most = rights_clearance ready.represents.laid.category (thread_rights session me ready.caller.process)
+  abbrev clearance : Levels
+  clearance = rights_clearance ready.represents.matched.category (thread_rights accounts me ready.caller.process)
 
   abbrev due : Levels
-  due = guard_label ready.represents.laid.category (process_guard me ready.caller.process)
+  due = guard_label ready.represents.matched.category (process_guard me ready.caller.process)
 
   abbrev links : Links
-  links = (container_found session (state old) f ready.represents.laid me ready.caller.process ready.caller.stands).0
+  links = (container_found accounts (state old) f ready.represents.matched me ready.caller.process ready.caller.agrees).0
 
   abbrev held : List ℕ
-  held = process_bytes f.processes ready.represents.laid.naming.number me ready.caller.process
+  held = process_bytes f.processes ready.represents.matched.naming.number me ready.caller.process
 
-  thread_is : (state old).objects t ≡ object own (Thread most)
-  thread_is = thread session (state old) f l me p here me p t (runs_as session (state old) f me t ready)
+  thread_is : (state old).objects t ≡ object own (Thread clearance)
+  thread_is = thread accounts (state old) f l me p here me p t (runs_as accounts (state old) f me t ready)
 
   holder_is : (state old).objects C ≡ object due (Container links)
-  holder_is = (container_found session (state old) f l me p here).1
+  holder_is = (container_found accounts (state old) f l me p here).1
 
   segment_is : (state old).objects S ≡ object due (Segment held)
-  segment_is = segment_found session (state old) f l me p here
+  segment_is = segment_found accounts (state old) f l me p here
 
   sees_itself : sees p p ≡ true
   sees_itself = all_known p
 
   seen : is_below_raised due own ≡ true
-  seen = observed session (state old) f l me p here me p ∙ sees_itself
+  seen = observed accounts (state old) f l me p here me p ∙ sees_itself
 
   may : (is_below own due && is_below_raised due own) ≡ true
-  may = modified session (state old) f l me p here me p here sees_itself ∙ equal_tested me me refl
+  may = modified accounts (state old) f l me p here me p here sees_itself ∙ equal_tested me me refl
 
   -- what is written, and the raw calls
-  abbrev told : ProcessStatus
-  told = status_of session (state old) f me t ready me ready.caller.process
+  abbrev revealed : ProcessStatus
+  revealed = status_of accounts (state old) f me t ready me ready.caller.process
 
   abbrev bytes : List ℕ
-  bytes = status_bytes (once_exited number told)
+  bytes = status_bytes (once_exited number revealed)
 
   abbrev read : RawCall
-  read = read_of session (state old) f me t ready me
+  read = read_of accounts (state old) f me t ready me
 
   abbrev writing : RawCall
   writing = raw.Write C S 0 bytes
@@ -129,13 +129,13 @@ module _ (session : Session) (ok : IsSession session) (number : ℕ) (small : nu
   abbrev unlinking : RawCall
   unlinking = raw.Unlink C o
 
-  abbrev ending : Program
-  ending = ask unlinking (λ _. Answers Done)
+  abbrev call_error : Program
+  call_error = ask unlinking (λ _. Answers Done)
 
   write_said : check (state old) t writing ≡ None
   write_said =
-      write_granted (state old) t C S own most due links held thread_is holder_is segment_is seen may (step_below session (state old) f l me p here Status S (at_segment session (state old) f l me p here)) bytes
-      (status_few (once_exited number told) (listed_few f.processes l.naming.number me p.born (l.processes me p here).few))
+      write_granted (state old) t C S own clearance due links held thread_is holder_is segment_is seen may (step_below accounts (state old) f l me p here Status S (at_segment accounts (state old) f l me p here)) bytes
+      (status_few (once_exited number revealed) (listed_few f.processes l.naming.number me p.born (l.processes me p here).few))
 
   -- the state once it is written
   abbrev exited : State
@@ -143,46 +143,46 @@ module _ (session : Session) (ok : IsSession session) (number : ℕ) (small : nu
 
   unlink_said : check exited t unlinking ≡ None
   unlink_said =
-      unlink_granted exited t C S own most due links bytes
-      (changed_other (state old).objects S (holding bytes) t (thread_no_segment (state old) t C S own most due links held thread_is holder_is segment_is) ∙ thread_is)
-      (changed_other (state old).objects S (holding bytes) C (λ e. segment_apart (state old) t C S own most due links held thread_is holder_is segment_is (sym e)) ∙ holder_is)
+      unlink_granted exited t C S own clearance due links bytes
+      (changed_other (state old).objects S (holding bytes) t (thread_no_segment (state old) t C S own clearance due links held thread_is holder_is segment_is) ∙ thread_is)
+      (changed_other (state old).objects S (holding bytes) C (λ e. segment_apart (state old) t C S own clearance due links held thread_is holder_is segment_is (sym e)) ∙ holder_is)
       (changed_here (state old).objects S (holding bytes) ∙ ap (option_map (holding bytes)) segment_is)
-      seen may o (step_below session (state old) f l me p here Inside o at_inside)
+      seen may o (step_below accounts (state old) f l me p here Inside o at_inside)
 
   -- what is written is what the flat state asks for then
-  written_so : written session (state old) f l me p here number small C S o (at_container session (state old) f l me p here) (at_segment session (state old) f l me p here) at_inside ≡ bytes
-  written_so = written_is session (state old) f l me p here number small C S o (at_container session (state old) f l me p here) (at_segment session (state old) f l me p here) at_inside
+  written_so : written accounts (state old) f l me p here number small C S o (at_container accounts (state old) f l me p here) (at_segment accounts (state old) f l me p here) at_inside ≡ bytes
+  written_so = written_is accounts (state old) f l me p here number small C S o (at_container accounts (state old) f l me p here) (at_segment accounts (state old) f l me p here) at_inside
 
-  laid_after : (end : State) → CutsOff exited C o end → Represents session end (changed session f me p call)
-  laid_after end cuts =
-      represents_exited session (state old) f l me p here number small C S o (at_container session (state old) f l me p here) (at_segment session (state old) f l me p here) at_inside end
+  matched_after : (end : State) → CutsOff exited C o end → Represents accounts end (changed accounts f me p call)
+  matched_after end cuts =
+      represents_exited accounts (state old) f l me p here number small C S o (at_container accounts (state old) f l me p here) (at_segment accounts (state old) f l me p here) at_inside end
       (subst (λ (b : List ℕ). CutsOff (with_segment_bytes (state old) S b) C o end) (sym written_so) cuts) ready.represents.jobs_given
 
   module _ (mid : KernelModel) (stays : state mid ≡ state old) (chain : Chain old t (all_granted (read ∷ [])) mid) where
     -- the internal container is taken away, and the call is answered
-    unlinked : (later : KernelModel) → state later ≡ exited → Chain old t (all_granted (read ∷ writing ∷ [])) later → Runs ending later new t result → Row
+    unlinked : (later : KernelModel) → state later ≡ exited → Chain old t (all_granted (read ∷ writing ∷ [])) later → Runs call_error later new t result → Refined
     unlinked later is so_far on =
-        granted_step session f me ready.caller call old new t ready.thread result (read ∷ writing ∷ []) later so_far unlinking (λ _. Answers Done) (ap (λ (s : State). check s t unlinking) is ∙ unlink_said) on
+        granted_step accounts f me ready.caller call old new t ready.thread result (read ∷ writing ∷ []) later so_far unlinking (λ _. Answers Done) (ap (λ (s : State). check s t unlinking) is ∙ unlink_said) on
         (λ end done cut right whole last.
-        answered_step session f me ready.caller call old new t ready.thread result (read ∷ writing ∷ unlinking ∷ []) end whole Done refl refl tt tt
-        (laid_after (state end) (subst (λ (s : State). CutsOff s C o (state end)) is cut.state)) last)
+        answered_step accounts f me ready.caller call old new t ready.thread result (read ∷ writing ∷ unlinking ∷ []) end whole Done refl refl tt tt
+        (matched_after (state end) (subst (λ (s : State). CutsOff s C o (state end)) is cut.state)) last)
 
     -- the segment is written
-    wrote : Runs (ask writing (λ _. ending)) mid new t result → Row
+    wrote : Runs (ask writing (λ _. call_error)) mid new t result → Refined
     wrote on =
-        granted_step session f me ready.caller call old new t ready.thread result (read ∷ []) mid chain writing (λ _. ending) (ap (λ (s : State). check s t writing) stays ∙ write_said) on
+        granted_step accounts f me ready.caller call old new t ready.thread result (read ∷ []) mid chain writing (λ _. call_error) (ap (λ (s : State). check s t writing) stays ∙ write_said) on
         (λ later done called right so_far rest. unlinked later (called.state ∙ ap (λ (s : State). with_segment_bytes s S bytes) stays) so_far rest)
 
-  exit_is_row : Runs (exit_program (where_is session (state old) f l me) number) old new t result → Row
+  exit_is_refined : Runs (exit_program (where_is accounts (state old) f l me) number) old new t result → Refined
   unfolding exit_program
-  exit_is_row run =
-      status_step session ok old new f me t ready call result me p here [] old refl (same_kernel old) (λ status. ask (raw.Write C S 0 (status_bytes (once_exited number status))) (λ _. ask (raw.Unlink C status.internal) (λ _. Answers Done))) run
+  exit_is_refined run =
+      status_step accounts ok old new f me t ready call result me p here [] old refl (same_kernel old) (λ status. ask (raw.Write C S 0 (status_bytes (once_exited number status))) (λ _. ask (raw.Unlink C status.internal) (λ _. Answers Done))) run
       (λ unseen. absurd (true≢false (sym sees_itself ∙ unseen)))
       (λ seen mid stays chain on. wrote mid stays chain on)
 
 -- an exit does what its flat rule says
 pub exit_refines : ExitRefines
-exit_refines session ok number small me caller old new f result ready found run =
-    let is = (caller_found session (state old) f ready.represents.laid me caller found).1 in
-    let home_is : where_is session (state old) f ready.represents.laid me ≡ caller.home = λ i. record { container = or_zero (is.home i); segment = or_zero (is.segment i) } in
-    exit_is_row session ok number small old new f me caller.thread ready result (subst (λ (home : Home). Runs (exit_program home number) old new caller.thread result) (sym home_is) run)
+exit_refines accounts ok number small me caller old new f result ready found run =
+    let is = (caller_found accounts (state old) f ready.represents.matched me caller found).1 in
+    let home_is : where_is accounts (state old) f ready.represents.matched me ≡ caller.home = λ i. record { container = or_zero (is.home i); segment = or_zero (is.segment i) } in
+    exit_is_refined accounts ok number small old new f me caller.thread ready result (subst (λ (home : Home). Runs (exit_program home number) old new caller.thread result) (sym home_is) run)

@@ -4,7 +4,7 @@ use Rattle.std.proofs.lemmas.Option.{none-some, same_Some}
 use Rattle.histar_flat.specs.declared.calls.UnixCall.{UnixCall}
 use Rattle.histar_flat.specs.Words.{Path, ProcName}
 use Rattle.histar_flat.specs.PathOrder.{under_process}
-use Rattle.histar_flat.specs.Sessions.{Session}
+use Rattle.histar_flat.specs.Accounts.{Accounts}
 use Rattle.histar_flat.specs.Classes.{Process}
 use Rattle.histar_flat.specs.Classes.Class.{Scratch}
 use Rattle.histar_flat.specs.FlatState.{Flat, with_node, with_process, with_child, without_process}
@@ -35,20 +35,20 @@ first_free_child : (f : Flat) (me : ProcName) (p : Process) (chain : List ProcNa
 first_free_child f me p chain first none = first_free_with f me (record p { born = p.born + 1 }) first none
 
 -- so it is at the start
-pub first_free_at_start : (session : Session) → IsFirstFree (boot session)
-first_free_at_start session q at = ap (λ (o : Process). o.chain) (sym (same_Some first_process q at))
+pub first_free_at_start : (accounts : Accounts) → IsFirstFree (boot accounts)
+first_free_at_start accounts q at = ap (λ (o : Process). o.chain) (sym (same_Some first_process q at))
 
 -- and after each effect of a process that is in no job where it is process 0
-first_free_effect : (session : Session) (f : Flat) → IsFirstFree f → (me : ProcName) (p : Process) → (me ≡ [] → p.chain ≡ []) → (q : Path) (effect : Effect) → IsFirstFree (apply session f me p q effect)
-first_free_effect session f first me p none q Spawns = first_free_child f me p p.chain first none
-first_free_effect session f first me p none q (Exits n) = first_free_with f me (record p { exited = Some n }) first none
-first_free_effect session f first me p none q (LogsIn name) = first_free_with f me (record p { user = name; held = [] }) first none
-first_free_effect session f first me p none q (Kills name) = first_free_without f name first
-first_free_effect session f first me p none q Wraps =
+first_free_effect : (accounts : Accounts) (f : Flat) → IsFirstFree f → (me : ProcName) (p : Process) → (me ≡ [] → p.chain ≡ []) → (q : Path) (effect : Effect) → IsFirstFree (apply accounts f me p q effect)
+first_free_effect accounts f first me p none q Spawns = first_free_child f me p p.chain first none
+first_free_effect accounts f first me p none q (Exits n) = first_free_with f me (record p { exited = Some n }) first none
+first_free_effect accounts f first me p none q (LogsIn name) = first_free_with f me (record p { user = name; held = [] }) first none
+first_free_effect accounts f first me p none q (Kills name) = first_free_without f name first
+first_free_effect accounts f first me p none q Wraps =
     first_free_child (with_node f q (Scratch p.user (inner_chain me p)) Dir) me (record p { held = p.held ++ next_child me p ∷ [] }) (inner_chain me p) first none
-first_free_effect session f first me p none q _ = first
+first_free_effect accounts f first me p none q _ = first
 
 -- so it is after each call
-pub first_free_after : (session : Session) (f : Flat) → IsFirstFree f → (me : ProcName) (call : UnixCall) → IsFirstFree (flat_after session f me call)
-first_free_after session f first me call = by_rule session f me call IsFirstFree first
-    (λ p there met. first_free_effect session f first me p (λ e. first p (ap f.processes (sym e) ∙ there)) (path_of call) (rule call).effect)
+pub first_free_after : (accounts : Accounts) (f : Flat) → IsFirstFree f → (me : ProcName) (call : UnixCall) → IsFirstFree (flat_after accounts f me call)
+first_free_after accounts f first me call = by_rule accounts f me call IsFirstFree first
+    (λ p there met. first_free_effect accounts f first me p (λ e. first p (ap f.processes (sym e) ∙ there)) (path_of call) (rule call).effect)

@@ -6,7 +6,7 @@ use mathlib.Core.Bool.{true≢false}
 use Rattle.histar_base.specs.Refusals.{◌orelse◌, unless}
 use Rattle.histar_flat.specs.Words.{Name, Path, ProcName}
 use Rattle.histar_flat.specs.PathOrder.{same}
-use Rattle.histar_flat.specs.Sessions.{Session, user_number}
+use Rattle.histar_flat.specs.Accounts.{Accounts, user_number}
 use Rattle.histar_flat.specs.Files.{get}
 use Rattle.histar_flat.specs.Classes.{Class, Process, nobody, may_read, may_write}
 use Rattle.histar_flat.specs.FlatState.{Flat, Node, is_some_and, is_dir_at, bytes_of, bytes_at, reads, writes, into}
@@ -24,7 +24,7 @@ use Rattle.histar_rules.specs.declared.raw.RawCall.TheVariants as raw
 use Rattle.histar_rules.specs.Rules.{check, no_making, has_number, fits_segment}
 use Rattle.histar_layout.specs.Directory.{Entries, spelling}
 use Rattle.histar_calls.specs.Refusals.{errno_of, errno_for}
-use Rattle.histar_refinement.specs.Sessions.{IsSession}
+use Rattle.histar_refinement.specs.Accounts.{AreAccounts}
 use Rattle.histar_refinement.specs.Guards.{Guard, guard_label, rights_label, rights_clearance}
 use Rattle.histar_refinement.specs.Labels.{class_guard, thread_rights}
 use Rattle.histar_refinement.specs.Addresses.{Step, same_step, address_of, home_address}
@@ -37,102 +37,102 @@ use Rattle.histar_refinement.proofs.Steps.{step_tests_equality}
 use Rattle.histar_refinement.proofs.Moving.{number_below}
 use Rattle.histar_refinement.proofs.RawChecks.{object}
 use Rattle.histar_refinement.proofs.FileChecks.{read_file_said, write_file_said, make_segment_said, segment_out_of_range, make_container_said, container_out_of_range}
-use Rattle.histar_refinement.proofs.FileRows.{AreKnown}
+use Rattle.histar_refinement.proofs.ListedFiles.{AreKnown}
 use Rattle.histar_refinement.proofs.MakingRanges.{is_made_within}
 use Rattle.histar_layout.proofs.Declared.{equal_tested}
-use Rattle.histar_refinement.proofs.Standing.{thread_found, guard_at, container_found, listing_found, file_found, step_linked}
+use Rattle.histar_refinement.proofs.Agreeing.{thread_found, guard_at, container_found, listing_found, file_found, step_linked}
 use Rattle.histar_sim.specs.Simulation.{IsReady}
-use Rattle.histar_sim.proofs.Walks.{runs, place_at, stands, at_container, at_listing, dir, seen, file_number}
+use Rattle.histar_sim.proofs.Walks.{runs, place_at, agrees, at_container, at_listing, dir, seen, file_number}
 use Rattle.histar_sim.proofs.NewEntries.{HasSegment, still_there, there_then, making_inside}
 
-module _ (session : Session) (ok : IsSession session) (s : State) (f : Flat) (me : ProcName) (t : ℕ) (ready : IsReady session s f me t) where
+module _ (accounts : Accounts) (ok : AreAccounts accounts) (s : State) (f : Flat) (me : ProcName) (t : ℕ) (ready : IsReady accounts s f me t) where
   abbrev p : Process
   p = ready.caller.process
 
-  abbrev l : ObjectsMatch session s f
-  l = ready.represents.laid
+  abbrev l : ObjectsMatch accounts s f
+  l = ready.represents.matched
 
   abbrev runner : Address Step
   runner = Runner ∷ Inside ∷ home_address me
 
   -- the label and the clearance of the thread
   abbrev pub label : Levels
-  label = rights_label ready.represents.laid.category (thread_rights session me ready.caller.process)
+  label = rights_label ready.represents.matched.category (thread_rights accounts me ready.caller.process)
 
   abbrev pub clearance : Levels
-  clearance = rights_clearance ready.represents.laid.category (thread_rights session me ready.caller.process)
+  clearance = rights_clearance ready.represents.matched.category (thread_rights accounts me ready.caller.process)
 
   pub thread : s.objects t ≡ object label (Thread clearance)
-  thread = thread_found session s f l me p ready.caller.stands ready.caller.runs t (runs session ok s f me t ready).2
+  thread = thread_found accounts s f l me p ready.caller.agrees ready.caller.runs t (runs accounts ok s f me t ready).2
 
   -- a number that is given is below the next one
   pub below : (a : Address Step) (q : ℕ) → l.naming.number a ≡ Some q → q < s.next_object
-  below a q at = number_below same_step step_tests_equality s l.naming (expected session l.category f l.naming.number) l.stands a q at
+  below a q at = number_below same_step step_tests_equality s l.naming (expected accounts l.category f l.naming.number) l.agrees a q at
 
   pub thread_below : t < s.next_object
-  thread_below = below runner t (runs session ok s f me t ready).2
+  thread_below = below runner t (runs accounts ok s f me t ready).2
 
   -- a user that is not declared is nobody
-  pub is_nobody : is_some (user_number session ready.caller.process.user) ≡ false → same ready.caller.process.user nobody ≡ true
-  is_nobody none = elim ((l.processes me p ready.caller.stands).someone ready.caller.runs) [
+  pub is_nobody : is_some (user_number accounts ready.caller.process.user) ≡ false → same ready.caller.process.user nobody ≡ true
+  is_nobody none = elim ((l.processes me p ready.caller.agrees).someone ready.caller.runs) [
     | inl e ↦ equal_tested p.user nobody e
     | inr e ↦ absurd (true≢false (sym e ∙ none))
   ]
 
   module _ (d : Path) where
     abbrev pub container : ℕ
-    container = (place_at session ok s f me t ready d).container
+    container = (place_at accounts ok s f me t ready d).container
 
     abbrev pub listing : ℕ
-    listing = (place_at session ok s f me t ready d).listing
+    listing = (place_at accounts ok s f me t ready d).listing
 
     abbrev pub entries : Entries
-    entries = directory_of f.files ready.represents.laid.naming.number d
+    entries = directory_of f.files ready.represents.matched.naming.number d
 
     -- where the file of a name in it is found
     abbrev pub segment : Name → ℕ
-    segment m = or_zero (ready.represents.laid.naming.number (address_of (m ∷ d)))
+    segment m = or_zero (ready.represents.matched.naming.number (address_of (m ∷ d)))
 
-    module _ (open_so_far : into session f p d ≡ None) where
+    module _ (open_so_far : into accounts f p d ≡ None) where
       pub is_dir : is_dir_at f d ≡ true
-      is_dir = dir session ok s f me t ready d open_so_far
+      is_dir = dir accounts ok s f me t ready d open_so_far
 
       -- the class of the directory
       abbrev pub directory_class : Class
-      directory_class = (stands session ok s f me t ready d (dir session ok s f me t ready d open_so_far)).0
+      directory_class = (agrees accounts ok s f me t ready d (dir accounts ok s f me t ready d open_so_far)).0
 
-      pub directory_stands : get f.files d ≡ Some (record { class = directory_class; content = Dir })
-      directory_stands = (stands session ok s f me t ready d (dir session ok s f me t ready d open_so_far)).1
+      pub directory_agrees : get f.files d ≡ Some (record { class = directory_class; content = Dir })
+      directory_agrees = (agrees accounts ok s f me t ready d (dir accounts ok s f me t ready d open_so_far)).1
 
       pub container_numbered : l.naming.number (address_of d) ≡ Some container
-      container_numbered = at_container session ok s f me t ready d is_dir
+      container_numbered = at_container accounts ok s f me t ready d is_dir
 
       pub listing_numbered : l.naming.number (Listing ∷ address_of d) ≡ Some listing
-      listing_numbered = at_listing session ok s f me t ready d is_dir
+      listing_numbered = at_listing accounts ok s f me t ready d is_dir
 
-      pub may_look : may_read session p directory_class ≡ true
-      may_look = seen session ok s f me t ready d open_so_far
+      pub may_look : may_read accounts p directory_class ≡ true
+      may_look = seen accounts ok s f me t ready d open_so_far
 
-      pub writes_as_class : writes session f p d ≡ may_write session p directory_class
-      writes_as_class = ap (λ (o : Option Node). is_some_and o (λ n. may_write session p n.class)) directory_stands
+      pub writes_as_class : writes accounts f p d ≡ may_write accounts p directory_class
+      writes_as_class = ap (λ (o : Option Node). is_some_and o (λ n. may_write accounts p n.class)) directory_agrees
 
       -- how the directory is guarded
-      pub directory_guard : (g : Guard) × (class_guard session directory_class ≡ Some g)
-      directory_guard = guard_at session s f l d (record { class = directory_class; content = Dir }) directory_stands
+      pub directory_guard : (g : Guard) × (class_guard accounts directory_class ≡ Some g)
+      directory_guard = guard_at accounts s f l d (record { class = directory_class; content = Dir }) directory_agrees
 
       -- the thread, the container of the directory and its directory segment stand in a state as they did
       abbrev pub HasListing : State → Type 0
-      HasListing later = HasSegment later t container listing label clearance (guard_label ready.represents.laid.category directory_guard.0) (spelling entries)
+      HasListing later = HasSegment later t container listing label clearance (guard_label ready.represents.matched.category directory_guard.0) (spelling entries)
 
       pub has_listing : HasListing s
       has_listing =
-          let holder = container_found session s f l d directory_class directory_stands directory_guard.0 directory_guard.1 container container_numbered in
+          let holder = container_found accounts s f l d directory_class directory_agrees directory_guard.0 directory_guard.1 container container_numbered in
           record {
             links = holder.0;
             thread = thread;
             holder = holder.1;
-            segment = listing_found session s f l d directory_class directory_stands directory_guard.0 directory_guard.1 listing listing_numbered;
-            linked = sym (ap (λ (o : Found). set.contains (links_in o) listing) holder.1) ∙ step_linked session s f l Listing (address_of d) container listing container_numbered listing_numbered;
+            segment = listing_found accounts s f l d directory_class directory_agrees directory_guard.0 directory_guard.1 listing listing_numbered;
+            linked = sym (ap (λ (o : Found). set.contains (links_in o) listing) holder.1) ∙ step_linked accounts s f l Listing (address_of d) container listing container_numbered listing_numbered;
           }
 
       -- once an object is added to the directory, and once one more is made in that
@@ -149,53 +149,53 @@ module _ (session : Session) (ok : IsSession session) (s : State) (f : Flat) (me
       -- A raw call that makes an object in the directory with the label that it is handed: its denials are told, and the kernel refuses a label
       -- out of the thread's range, and else only where the directory may not be written or there is no number for the object.
       pub record MakesObject (make : Levels → RawCall) : Type 0 where
-        pub tells : (x : Levels) (denied : Denied) → errno_for (make x) denied ≡ errno_of denied
-        pub outside : (g : Guard) → is_made_within session l.category l.different me p g ≡ false → check s t (make (guard_label l.category g)) ≡ (unless (may_write session p directory_class) Modify orelse Some Range)
-        pub within : (class : Class) → AreKnown session s f l class → (g : Guard) → class_guard session class ≡ Some g
-            → check s t (make (guard_label l.category g)) ≡ (unless (may_write session p directory_class) Modify orelse unless (is_made_within session l.category l.different me p g) Range orelse unless (has_number s) TooBig)
+        pub reveals : (x : Levels) (denied : Denied) → errno_for (make x) denied ≡ errno_of denied
+        pub outside : (g : Guard) → is_made_within accounts l.category l.different me p g ≡ false → check s t (make (guard_label l.category g)) ≡ (unless (may_write accounts p directory_class) Modify orelse Some Range)
+        pub within : (class : Class) → AreKnown accounts s f l class → (g : Guard) → class_guard accounts class ≡ Some g
+            → check s t (make (guard_label l.category g)) ≡ (unless (may_write accounts p directory_class) Modify orelse unless (is_made_within accounts l.category l.different me p g) Range orelse unless (has_number s) TooBig)
 
       -- an empty segment is made so, and a container
       pub segment_made : MakesObject (λ x. raw.MakeSegment container x [])
       segment_made = record {
-        tells = λ x denied. refl;
-        outside = λ g out. segment_out_of_range session s f l ok me p t (runs session ok s f me t ready) d directory_class directory_stands container listing container_numbered listing_numbered may_look g out [];
-        within = λ class known g is. make_segment_said session s f l ok me p t (runs session ok s f me t ready) d directory_class directory_stands container listing container_numbered listing_numbered may_look class known g is;
+        reveals = λ x denied. refl;
+        outside = λ g out. segment_out_of_range accounts s f l ok me p t (runs accounts ok s f me t ready) d directory_class directory_agrees container listing container_numbered listing_numbered may_look g out [];
+        within = λ class known g is. make_segment_said accounts s f l ok me p t (runs accounts ok s f me t ready) d directory_class directory_agrees container listing container_numbered listing_numbered may_look class known g is;
       }
 
       pub container_made : MakesObject (λ x. raw.MakeContainer container x)
       container_made = record {
-        tells = λ x denied. refl;
-        outside = λ g out. container_out_of_range session s f l ok me p t (runs session ok s f me t ready) d directory_class directory_stands container listing container_numbered listing_numbered may_look g out;
-        within = λ class known g is. make_container_said session s f l ok me p t (runs session ok s f me t ready) d directory_class directory_stands container listing container_numbered listing_numbered may_look class known g is;
+        reveals = λ x denied. refl;
+        outside = λ g out. container_out_of_range accounts s f l ok me p t (runs accounts ok s f me t ready) d directory_class directory_agrees container listing container_numbered listing_numbered may_look g out;
+        within = λ class known g is. make_container_said accounts s f l ok me p t (runs accounts ok s f me t ready) d directory_class directory_agrees container listing container_numbered listing_numbered may_look class known g is;
       }
 
       -- a file in it
       module _ (m : Name) (class : Class) (held : List ℕ) (at : get f.files (m ∷ d) ≡ Some (record { class = class; content = File held })) where
         pub file_numbered : l.naming.number (address_of (m ∷ d)) ≡ Some (segment m)
-        file_numbered = file_number session ok s f me t ready m d class held at
+        file_numbered = file_number accounts ok s f me t ready m d class held at
 
         pub holds_bytes : bytes_at f (m ∷ d) ≡ held
         holds_bytes = ap bytes_of at
 
-        pub reads_is : reads session f p (m ∷ d) ≡ may_read session p class
-        reads_is = ap (λ (x : Option Node). is_some_and x (λ n. may_read session p n.class)) at
+        pub reads_is : reads accounts f p (m ∷ d) ≡ may_read accounts p class
+        reads_is = ap (λ (x : Option Node). is_some_and x (λ n. may_read accounts p n.class)) at
 
-        pub writes_is : writes session f p (m ∷ d) ≡ may_write session p class
-        writes_is = ap (λ (x : Option Node). is_some_and x (λ n. may_write session p n.class)) at
+        pub writes_is : writes accounts f p (m ∷ d) ≡ may_write accounts p class
+        writes_is = ap (λ (x : Option Node). is_some_and x (λ n. may_write accounts p n.class)) at
 
         -- its segment holds its bytes
         pub held_there : bytes_in (s.objects (segment m)) ≡ bytes_at f (m ∷ d)
         held_there =
-            let guard = guard_at session s f l (m ∷ d) (record { class = class; content = File held }) at in
-            ap bytes_in (file_found session s f l (m ∷ d) class held at guard.0 guard.1 (segment m) file_numbered) ∙ sym holds_bytes
+            let guard = guard_at accounts s f l (m ∷ d) (record { class = class; content = File held }) at in
+            ap bytes_in (file_found accounts s f l (m ∷ d) class held at guard.0 guard.1 (segment m) file_numbered) ∙ sym holds_bytes
 
         -- and is read and written as the flat rules say
-        pub read_said : check s t (raw.Read container (segment m)) ≡ unless (reads session f p (m ∷ d)) Observe
+        pub read_said : check s t (raw.Read container (segment m)) ≡ unless (reads accounts f p (m ∷ d)) Observe
         read_said =
-            read_file_said session s f l ok me p t (runs session ok s f me t ready) d directory_class directory_stands container listing container_numbered listing_numbered may_look m (segment m) file_numbered class held at
+            read_file_said accounts s f l ok me p t (runs accounts ok s f me t ready) d directory_class directory_agrees container listing container_numbered listing_numbered may_look m (segment m) file_numbered class held at
             ∙ sym (ap (λ (b : Bool). unless b Observe) reads_is)
 
-        pub write_said : (keep : ℕ) (bytes : List ℕ) → check s t (raw.Write container (segment m) keep bytes) ≡ (unless (writes session f p (m ∷ d)) Modify orelse unless (fits_segment (min keep (length (bytes_at f (m ∷ d))) + length bytes)) TooBig)
+        pub write_said : (keep : ℕ) (bytes : List ℕ) → check s t (raw.Write container (segment m) keep bytes) ≡ (unless (writes accounts f p (m ∷ d)) Modify orelse unless (fits_segment (min keep (length (bytes_at f (m ∷ d))) + length bytes)) TooBig)
         write_said keep bytes =
-            write_file_said session s f l ok me p t (runs session ok s f me t ready) d directory_class directory_stands container listing container_numbered listing_numbered may_look m (segment m) file_numbered class held at keep bytes
+            write_file_said accounts s f l ok me p t (runs accounts ok s f me t ready) d directory_class directory_agrees container listing container_numbered listing_numbered may_look m (segment m) file_numbered class held at keep bytes
             ∙ sym (λ i. unless (writes_is i) Modify orelse unless (fits_segment (min keep (length (holds_bytes i)) + length bytes)) TooBig)

@@ -4,7 +4,7 @@ use Rattle.std.specs.Prelude.{is_some}
 use Rattle.std.proofs.lemmas.Bool.{or_left}
 use mathlib.Core.Bool.{true≢false}
 use Rattle.histar_flat.specs.Words.{ProcName}
-use Rattle.histar_flat.specs.Sessions.{Session, has, user_number}
+use Rattle.histar_flat.specs.Accounts.{Accounts, has, user_number}
 use Rattle.histar_flat.specs.Classes.{Process}
 use Rattle.histar_flat.specs.FlatState.{Flat}
 use Rattle.histar_flat.proofs.GivenNames.{longer_has}
@@ -38,11 +38,11 @@ use Rattle.histar_sim.proofs.ScratchLabels.{rights_with_job}
 
 -- The parent of a new job's first process, once the job has its directory: the parent's user is declared, its jobs and the new one are in the
 -- order of their categories, and its container, its process segment and its thread have these numbers.
-pub record JobParent (session : Session) (s : State) (f : Flat) (l : ObjectsMatch session s f) (me : ProcName) (p : Process) : Type 0 where
+pub record JobParent (accounts : Accounts) (s : State) (f : Flat) (l : ObjectsMatch accounts s f) (me : ProcName) (p : Process) : Type 0 where
   pub here : f.processes me ≡ Some p
   pub runs : p.exited ≡ None
   pub room : p.born < 64
-  pub declared : is_some (user_number session p.user) ≡ true
+  pub declared : is_some (user_number accounts p.user) ≡ true
   pub served : IsServed f ((p.born + 1) ∷ me)
   pub jobs_ordered : AreInOrder l.category (p.chain ++ ((p.born + 1) ∷ me) ∷ [])
   pub home : ℕ
@@ -52,7 +52,7 @@ pub record JobParent (session : Session) (s : State) (f : Flat) (l : ObjectsMatc
   pub at_status : l.naming.number (Status ∷ home_address me) ≡ Some segment
   pub at_thread : l.naming.number (Runner ∷ Inside ∷ home_address me) ≡ Some thread
 
-module _ (session : Session) (s : State) (f : Flat) (l : ObjectsMatch session s f) (me : ProcName) (p : Process) (parent : JobParent session s f l me p) where
+module _ (accounts : Accounts) (s : State) (f : Flat) (l : ObjectsMatch accounts s f) (me : ProcName) (p : Process) (parent : JobParent accounts s f l me p) where
   -- its fields by name
   abbrev here : f.processes me ≡ Some p
   here = parent.here
@@ -63,7 +63,7 @@ module _ (session : Session) (s : State) (f : Flat) (l : ObjectsMatch session s 
   abbrev room : p.born < 64
   room = parent.room
 
-  abbrev declared : is_some (user_number session p.user) ≡ true
+  abbrev declared : is_some (user_number accounts p.user) ≡ true
   declared = parent.declared
 
   abbrev served : IsServed f ((p.born + 1) ∷ me)
@@ -98,13 +98,13 @@ module _ (session : Session) (s : State) (f : Flat) (l : ObjectsMatch session s 
   abbrev pub jobs : List ProcName
   jobs = p.chain ++ ((p.born + 1) ∷ me) ∷ []
 
-  pub jobs_used : (job : ProcName) → has jobs job ≡ true → IsUsed session f (OfJob job)
+  pub jobs_used : (job : ProcName) → has jobs job ≡ true → IsUsed accounts f (OfJob job)
   jobs_used job e = elim (longer_has p.chain child job e) [
     | inl k ↦ inl (me, p, here, or_left (has p.chain job) (has p.held job) k)
     | inr is ↦ inr (subst (IsServed f) (sym is) served)
   ]
 
-  pub jobs_free : is_some (user_number session p.user) ≡ false → jobs ≡ []
+  pub jobs_free : is_some (user_number accounts p.user) ≡ false → jobs ≡ []
   jobs_free e = absurd (true≢false (sym declared ∙ e))
 
   -- the next category before
@@ -113,51 +113,51 @@ module _ (session : Session) (s : State) (f : Flat) (l : ObjectsMatch session s 
 
   -- the numbers of categories once both of the child's are made, and once the first is
   abbrev pub names : Categories
-  names = category session s f l me p here runs room jobs jobs_used jobs_ordered jobs_free C S at_home at_status
+  names = category accounts s f l me p here runs room jobs jobs_used jobs_ordered jobs_free C S at_home at_status
 
   pub apart : AreDifferent names
-  apart = different session s f l me p here runs room jobs jobs_used jobs_ordered jobs_free C S at_home at_status
+  apart = different accounts s f l me p here runs room jobs jobs_used jobs_ordered jobs_free C S at_home at_status
 
   abbrev first_names : Categories
-  first_names = with_reads session s f l me p here runs room jobs jobs_used jobs_ordered jobs_free C S at_home at_status
+  first_names = with_reads accounts s f l me p here runs room jobs jobs_used jobs_ordered jobs_free C S at_home at_status
 
   first_apart : AreDifferent first_names
-  first_apart = different_reads session s f l me p here runs room jobs jobs_used jobs_ordered jobs_free C S at_home at_status
+  first_apart = different_reads accounts s f l me p here runs room jobs jobs_used jobs_ordered jobs_free C S at_home at_status
 
   -- the flat state with the child
   abbrev then_flat : Flat
-  then_flat = after session s f l me p here runs room jobs jobs_used jobs_ordered jobs_free C S at_home at_status
+  then_flat = after accounts s f l me p here runs room jobs jobs_used jobs_ordered jobs_free C S at_home at_status
 
   abbrev pub newborn : Process
   newborn = record { user = p.user; chain = jobs; held = []; exited = None; born = 0 }
 
   -- what the thread owns with the job, and with the first of the child's categories
   abbrev mine : Rights
-  mine = rights_with_job session me p
+  mine = rights_with_job accounts me p
 
   abbrev first : Rights
   first = record { owned = ReadsProcess child ∷ mine.owned; tainted = mine.tainted }
 
   abbrev pub owner : Levels
-  owner = rights_label names (grown session names apart me p ((p.born + 1) ∷ me))
+  owner = rights_label names (grown accounts names apart me p ((p.born + 1) ∷ me))
 
-  abbrev pub owner_most : Levels
-  owner_most = rights_clearance names (grown session names apart me p ((p.born + 1) ∷ me))
+  abbrev pub owner_clearance : Levels
+  owner_clearance = rights_clearance names (grown accounts names apart me p ((p.born + 1) ∷ me))
 
   -- ---- its label and its clearance grow by both categories
 
-  used : RightsHave (IsUsed session f) mine
-  used = let own = rights_used session f me p here in (each_head (IsUsed session f) (OfJob child) (thread_rights session me p).owned (inr served) own.0, own.1)
+  used : RightsHave (IsUsed accounts f) mine
+  used = let own = rights_used accounts f me p here in (each_head (IsUsed accounts f) (OfJob child) (thread_rights accounts me p).owned (inr served) own.0, own.1)
 
   -- used names have their numbers still
-  pub kept : (c : CategoryName) → IsUsed session f c → names c ≡ l.category c
-  kept = keeps session s f l me p here runs room jobs jobs_used jobs_ordered jobs_free C S at_home at_status
+  pub kept : (c : CategoryName) → IsUsed accounts f c → names c ≡ l.category c
+  kept = keeps accounts s f l me p here runs room jobs jobs_used jobs_ordered jobs_free C S at_home at_status
 
-  not_reads : (c : CategoryName) → IsUsed session f c → c ≢ ReadsProcess child
-  not_reads c is e = let there : is_some (f.processes child) ≡ true = subst (IsUsed session f) e is in true≢false (sym there ∙ ap is_some (no_child session s f l me p here runs room jobs jobs_used jobs_ordered jobs_free C S at_home at_status))
+  not_reads : (c : CategoryName) → IsUsed accounts f c → c ≢ ReadsProcess child
+  not_reads c is e = let there : is_some (f.processes child) ≡ true = subst (IsUsed accounts f) e is in true≢false (sym there ∙ ap is_some (no_child accounts s f l me p here runs room jobs jobs_used jobs_ordered jobs_free C S at_home at_status))
 
-  not_writes : (c : CategoryName) → IsUsed session f c → c ≢ WritesProcess child
-  not_writes c is e = let there : is_some (f.processes child) ≡ true = subst (IsUsed session f) e is in true≢false (sym there ∙ ap is_some (no_child session s f l me p here runs room jobs jobs_used jobs_ordered jobs_free C S at_home at_status))
+  not_writes : (c : CategoryName) → IsUsed accounts f c → c ≢ WritesProcess child
+  not_writes c is e = let there : is_some (f.processes child) ≡ true = subst (IsUsed accounts f) e is in true≢false (sym there ∙ ap is_some (no_child accounts s f l me p here runs room jobs jobs_used jobs_ordered jobs_free C S at_home at_status))
 
   -- a name that was used is old, for the one category and for the other
   abbrev IsOldFirst : CategoryName → Type 0
@@ -166,12 +166,12 @@ module _ (session : Session) (s : State) (f : Flat) (l : ObjectsMatch session s 
   abbrev IsOldSecond : CategoryName → Type 0
   IsOldSecond = IsOld first_names first_apart (next + 1) (WritesProcess child)
 
-  old_first : (c : CategoryName) → IsUsed session f c → IsOldFirst c
+  old_first : (c : CategoryName) → IsUsed accounts f c → IsOldFirst c
   old_first c is = (not_reads c is, l.made c is)
 
-  old_second : (c : CategoryName) → IsUsed session f c → IsOldSecond c
+  old_second : (c : CategoryName) → IsUsed accounts f c → IsOldSecond c
   old_second c is =
-      let same = keeps_first session s f l me p here runs room jobs jobs_used jobs_ordered jobs_free C S at_home at_status c is in
+      let same = keeps_first accounts s f l me p here runs room jobs jobs_used jobs_ordered jobs_free C S at_home at_status c is in
       let made = l.made c is in
       (not_writes c is, (omega (arith, same, made.0), omega (arith, same, made.1)))
 
@@ -194,7 +194,7 @@ module _ (session : Session) (s : State) (f : Flat) (l : ObjectsMatch session s 
   label_grown = ap (λ (x : Levels). with_level x (next + 1) Star) (made_label l.category l.different next (ReadsProcess child) mine first_has)
       ∙ made_label first_names first_apart (next + 1) (WritesProcess child) first second_has
 
-  clearance_grown : with_level (with_level (rights_clearance l.category mine) next L3) (next + 1) L3 ≡ owner_most
+  clearance_grown : with_level (with_level (rights_clearance l.category mine) next L3) (next + 1) L3 ≡ owner_clearance
   clearance_grown = ap (λ (x : Levels). with_level x (next + 1) L3) (made_clearance l.category l.different next (ReadsProcess child) mine first_has)
       ∙ made_clearance first_names first_apart (next + 1) (WritesProcess child) first second_has
 
@@ -202,70 +202,70 @@ module _ (session : Session) (s : State) (f : Flat) (l : ObjectsMatch session s 
 
   -- In a state with these objects, where the thread has the job and all other objects are as they are.
   module _ (objects : Objects Levels) (others : (q : ℕ) → q ≢ T → objects q ≡ s.objects q)
-      (thread : objects T ≡ object (rights_label l.category (rights_with_job session me p)) (Thread (rights_clearance l.category (rights_with_job session me p)))) where
+      (thread : objects T ≡ object (rights_label l.category (rights_with_job accounts me p)) (Thread (rights_clearance l.category (rights_with_job accounts me p)))) where
     abbrev pub beside_state : State
     beside_state = record { objects = objects; next_object = s.next_object; next_category = s.next_category }
 
     around_beside : Around T C S (rights_label l.category mine) (rights_clearance l.category mine) (guard_label l.category (process_guard me p)) (process_bytes f.processes l.naming.number me p) beside_state
     around_beside =
-        let before = around_before session s f l me p here runs C S at_home at_status T at_thread in
-        let own = rights_label l.category (thread_rights session me p) in
-        let most = rights_clearance l.category (thread_rights session me p) in
+        let before = around_before accounts s f l me p here runs C S at_home at_status T at_thread in
+        let own = rights_label l.category (thread_rights accounts me p) in
+        let clearance = rights_clearance l.category (thread_rights accounts me p) in
         let label = guard_label l.category (process_guard me p) in
         let held = process_bytes f.processes l.naming.number me p in
         record {
           thread = thread;
-          home = subst (LinksTo label S) (sym (others C (home_apart T C S own most label held s before))) before.home;
-          segment = others S (segment_apart T C S own most label held s before) ∙ before.segment;
+          home = subst (LinksTo label S) (sym (others C (home_apart T C S own clearance label held s before))) before.home;
+          segment = others S (segment_apart T C S own clearance label held s before) ∙ before.segment;
           thread_below = before.thread_below;
           home_below = before.home_below;
           segment_below = before.segment_below;
         }
 
     -- once both categories of the child are made
-    pub around_owner : Around T C S owner owner_most (guard_label names (process_guard me p)) (process_bytes f.processes l.naming.number me p) (with_category (with_category beside_state T) T)
+    pub around_owner : Around T C S owner owner_clearance (guard_label names (process_guard me p)) (process_bytes f.processes l.naming.number me p) (with_category (with_category beside_state T) T)
     around_owner =
         let one = around_category T C S (rights_label l.category mine) (rights_clearance l.category mine) (guard_label l.category (process_guard me p)) (process_bytes f.processes l.naming.number me p) beside_state around_beside in
         let two = around_category T C S (with_level (rights_label l.category mine) next Star) (with_level (rights_clearance l.category mine) next L3) (guard_label l.category (process_guard me p)) (process_bytes f.processes l.naming.number me p) (with_category beside_state T) one in
         subst (λ (x : Levels × Levels × Levels). Around T C S x.0 x.1 x.2 (process_bytes f.processes l.naming.number me p) (with_category (with_category beside_state T) T))
-        (λ i. (label_grown i, clearance_grown i, keep_process_label session f l.category names kept me p here i)) two
+        (λ i. (label_grown i, clearance_grown i, keep_process_label accounts f l.category names kept me p here i)) two
 
   -- ---- what it may do
 
-  made : (c : CategoryName) → IsUsed session then_flat c → IsMade (next + 1 + 1) (names c)
-  made c is = let two : next + 2 ≡ next + 1 + 1 = omega arith in subst (λ (n : ℕ). IsMade n (names c)) two (made_then session s f l me p here runs room jobs jobs_used jobs_ordered jobs_free C S at_home at_status c is)
+  made : (c : CategoryName) → IsUsed accounts then_flat c → IsMade (next + 1 + 1) (names c)
+  made c is = let two : next + 2 ≡ next + 1 + 1 = omega arith in subst (λ (n : ℕ). IsMade n (names c)) two (made_then accounts s f l me p here runs room jobs jobs_used jobs_ordered jobs_free C S at_home at_status c is)
 
   -- what was used was made
-  made_before : (c : CategoryName) → IsUsed session f c → IsMade (next + 1 + 1) (names c)
+  made_before : (c : CategoryName) → IsUsed accounts f c → IsMade (next + 1 + 1) (names c)
   made_before c is = let old = l.made c is in let same = kept c is in (omega (arith, old.0, same), omega (arith, old.1, same))
 
   -- it modifies its own container and process segment
   pub home_modified : (is_below owner (guard_label names (process_guard me p)) ≡ true) × (is_below_raised (guard_label names (process_guard me p)) owner ≡ true)
   home_modified =
-      let both = tests.own_modified session names apart me p child in (
+      let both = tests.own_modified accounts names apart me p child in (
         first_of (is_below owner (guard_label names (process_guard me p))) (is_below_raised (guard_label names (process_guard me p)) owner) both,
         second_of (is_below owner (guard_label names (process_guard me p))) (is_below_raised (guard_label names (process_guard me p)) owner) both,
       )
 
   -- it makes the child's container and process segment, and its internal container
-  pub outer_modified : IsModified owner owner_most (guard_label names (process_guard ((p.born + 1) ∷ me) newborn)) (s.next_category + 1 + 1)
+  pub outer_modified : IsModified owner owner_clearance (guard_label names (process_guard ((p.born + 1) ∷ me) newborn)) (s.next_category + 1 + 1)
   outer_modified =
-      let these = process_used session then_flat child newborn (at_child session s f l me p here runs room jobs jobs_used jobs_ordered jobs_free C S at_home at_status) in
+      let these = process_used accounts then_flat child newborn (at_child accounts s f l me p here runs room jobs jobs_used jobs_ordered jobs_free C S at_home at_status) in
       record {
-        above = tests.outer_above session names apart me p child;
-        below = tests.outer_below session names apart me p child;
-        seen = tests.outer_seen session names apart me p child;
+        above = tests.outer_above accounts names apart me p child;
+        below = tests.outer_below accounts names apart me p child;
+        seen = tests.outer_seen accounts names apart me p child;
         made = guard_made (next + 1 + 1) names (process_guard child newborn) (λ c e. made c (these.0 c e)) (λ c e. made c (these.1 c e));
         plain = guard_owns_nothing names (process_guard child newborn);
       }
 
-  pub inner_modified : IsModified owner owner_most (guard_label names (inside_guard ((p.born + 1) ∷ me) newborn)) (s.next_category + 1 + 1)
+  pub inner_modified : IsModified owner owner_clearance (guard_label names (inside_guard ((p.born + 1) ∷ me) newborn)) (s.next_category + 1 + 1)
   inner_modified =
-      let these = inside_used session then_flat child newborn (at_child session s f l me p here runs room jobs jobs_used jobs_ordered jobs_free C S at_home at_status) in
+      let these = inside_used accounts then_flat child newborn (at_child accounts s f l me p here runs room jobs jobs_used jobs_ordered jobs_free C S at_home at_status) in
       record {
-        above = tests.inner_above session names apart me p child;
-        below = tests.inner_below session names apart me p child;
-        seen = tests.inner_seen session names apart me p child;
+        above = tests.inner_above accounts names apart me p child;
+        below = tests.inner_below accounts names apart me p child;
+        seen = tests.inner_seen accounts names apart me p child;
         made = guard_made (next + 1 + 1) names (inside_guard child newborn) (λ c e. made c (these.0 c e)) (λ c e. made c (these.1 c e));
         plain = guard_owns_nothing names (inside_guard child newborn);
       }
@@ -274,15 +274,15 @@ module _ (session : Session) (s : State) (f : Flat) (l : ObjectsMatch session s 
   rights_are_made r has = each_append (λ c. IsMade (next + 1 + 1) (names c)) r.owned r.tainted has.0 has.1
 
   -- and its thread
-  pub thread_lesser : IsLesser owner owner_most (rights_label names (thread_rights session ((p.born + 1) ∷ me) newborn)) (rights_clearance names (thread_rights session ((p.born + 1) ∷ me) newborn)) (s.next_category + 1 + 1)
+  pub thread_lesser : IsLesser owner owner_clearance (rights_label names (thread_rights accounts ((p.born + 1) ∷ me) newborn)) (rights_clearance names (thread_rights accounts ((p.born + 1) ∷ me) newborn)) (s.next_category + 1 + 1)
   thread_lesser =
-      let childs : Rights = thread_rights session child newborn in
-      let these = rights_used session then_flat child newborn (at_child session s f l me p here runs room jobs jobs_used jobs_ordered jobs_free C S at_home at_status) in
+      let childs : Rights = thread_rights accounts child newborn in
+      let these = rights_used accounts then_flat child newborn (at_child accounts s f l me p here runs room jobs jobs_used jobs_ordered jobs_free C S at_home at_status) in
       let are : RightsHave (λ c. IsMade (next + 1 + 1) (names c)) childs = (λ c e. made c (these.0 c e), λ c e. made c (these.1 c e)) in
       record {
-        above = tests.thread_above session names apart me p child;
-        below = tests.thread_below session names apart me p child;
-        within = tests.clearance_below session names apart me p child;
+        above = tests.thread_above accounts names apart me p child;
+        below = tests.thread_below accounts names apart me p child;
+        within = tests.clearance_below accounts names apart me p child;
         made = rights_made (next + 1 + 1) names childs are.0 are.1;
         cleared = clearance_made (next + 1 + 1) names (childs.owned ++ childs.tainted) (rights_are_made childs are);
       }
@@ -290,24 +290,24 @@ module _ (session : Session) (s : State) (f : Flat) (l : ObjectsMatch session s 
   -- ---- the labels that it takes then
 
   -- what it has with the job is what it has as the holder of the job
-  pub own_is : rights_label l.category (rights_with_job session me p) ≡ rights_label names (holding session names apart me p ((p.born + 1) ∷ me))
-  own_is = sym (same_rights_label l.category names mine (λ c e. kept c (used.0 c e), λ c e. kept c (used.1 c e))) ∙ tests.label_holding session names apart me p child
+  pub own_is : rights_label l.category (rights_with_job accounts me p) ≡ rights_label names (holding accounts names apart me p ((p.born + 1) ∷ me))
+  own_is = sym (same_rights_label l.category names mine (λ c e. kept c (used.0 c e), λ c e. kept c (used.1 c e))) ∙ tests.label_holding accounts names apart me p child
 
-  pub most_is : rights_clearance l.category (rights_with_job session me p) ≡ rights_clearance names (holding session names apart me p ((p.born + 1) ∷ me))
-  most_is = sym (same_rights_clearance l.category names mine (λ c e. kept c (used.0 c e), λ c e. kept c (used.1 c e))) ∙ tests.clearance_holding session names apart me p child
+  pub own_clearance_is : rights_clearance l.category (rights_with_job accounts me p) ≡ rights_clearance names (holding accounts names apart me p ((p.born + 1) ∷ me))
+  own_clearance_is = sym (same_rights_clearance l.category names mine (λ c e. kept c (used.0 c e), λ c e. kept c (used.1 c e))) ∙ tests.clearance_holding accounts names apart me p child
 
-  taken_then : IsTaken owner owner_most (rights_label names (holding session names apart me p child)) (rights_clearance names (holding session names apart me p child)) (next + 1 + 1)
+  taken_then : IsTaken owner owner_clearance (rights_label names (holding accounts names apart me p child)) (rights_clearance names (holding accounts names apart me p child)) (next + 1 + 1)
   taken_then =
       let are : RightsHave (λ c. IsMade (next + 1 + 1) (names c)) mine = (λ c e. made_before c (used.0 c e), λ c e. made_before c (used.1 c e)) in
       record {
-        above = (tests.label_kept session names apart me p child).0;
-        below = (tests.label_kept session names apart me p child).1;
-        capped = (tests.clearance_kept session names apart me p child).0;
-        within = (tests.clearance_kept session names apart me p child).1;
-        made = subst (λ (x : Levels). is_made (next + 1 + 1) x ≡ true) (tests.label_holding session names apart me p child) (rights_made (next + 1 + 1) names mine are.0 are.1);
-        cleared = subst (λ (x : Levels). is_made (next + 1 + 1) x ≡ true) (tests.clearance_holding session names apart me p child) (clearance_made (next + 1 + 1) names (mine.owned ++ mine.tainted) (rights_are_made mine are));
+        above = (tests.label_kept accounts names apart me p child).0;
+        below = (tests.label_kept accounts names apart me p child).1;
+        capped = (tests.clearance_kept accounts names apart me p child).0;
+        within = (tests.clearance_kept accounts names apart me p child).1;
+        made = subst (λ (x : Levels). is_made (next + 1 + 1) x ≡ true) (tests.label_holding accounts names apart me p child) (rights_made (next + 1 + 1) names mine are.0 are.1);
+        cleared = subst (λ (x : Levels). is_made (next + 1 + 1) x ≡ true) (tests.clearance_holding accounts names apart me p child) (clearance_made (next + 1 + 1) names (mine.owned ++ mine.tainted) (rights_are_made mine are));
       }
 
   -- it may have its own labels with the job
-  pub own_taken : IsTaken owner owner_most (rights_label l.category (rights_with_job session me p)) (rights_clearance l.category (rights_with_job session me p)) (s.next_category + 1 + 1)
-  own_taken = subst (λ (x : Levels × Levels). IsTaken owner owner_most x.0 x.1 (next + 1 + 1)) (λ i. (sym own_is i, sym most_is i)) taken_then
+  pub own_taken : IsTaken owner owner_clearance (rights_label l.category (rights_with_job accounts me p)) (rights_clearance l.category (rights_with_job accounts me p)) (s.next_category + 1 + 1)
+  own_taken = subst (λ (x : Levels × Levels). IsTaken owner owner_clearance x.0 x.1 (next + 1 + 1)) (λ i. (sym own_is i, sym own_clearance_is i)) taken_then

@@ -13,7 +13,7 @@ use Rattle.histar_flat.specs.declared.replies.Reply.{Reply}
 use Rattle.histar_flat.specs.declared.replies.Reply.TheVariants.{Done}
 use Rattle.histar_flat.specs.PathOrder.{same}
 use Rattle.histar_flat.specs.Words.{ProcName}
-use Rattle.histar_flat.specs.Sessions.{Session, user_number, groups_of}
+use Rattle.histar_flat.specs.Accounts.{Accounts, user_number, groups_of}
 use Rattle.histar_flat.specs.Classes.{Process, is_free, sees}
 use Rattle.histar_flat.specs.FlatState.{Flat, without_process}
 use Rattle.histar_flat.specs.FlatCalls.{not_found, refused}
@@ -32,14 +32,14 @@ use Rattle.histar_rules.specs.Rules.{check}
 use Rattle.histar_rules.specs.Sound.{root_number}
 use Rattle.histar_syscall.specs.KernelModel.{KernelModel, state}
 use Rattle.histar_layout.specs.Status.{child_at, status_bytes, without_child}
-use Rattle.histar_calls.specs.declared.ending.Stopped.{Stopped}
+use Rattle.histar_calls.specs.declared.call_error.Stopped.{Stopped}
 use Rattle.histar_calls.specs.Programs.{Program, Runs}
 use Rattle.histar_calls.specs.Programs.Program.{Answers}
 use Rattle.histar_calls.specs.Parts.{ask, given}
 use Rattle.histar_process.specs.KillCall.{kill_program}
 use Rattle.histar_process.specs.Parts.{find_home, home_of as child_home, must_be_there, read_status}
-use Rattle.histar_login.specs.Start.{places_of}
-use Rattle.histar_refinement.specs.Sessions.{IsSession}
+use Rattle.histar_login.specs.Start.{roots_of}
+use Rattle.histar_refinement.specs.Accounts.{AreAccounts}
 use Rattle.histar_refinement.specs.Addresses.{same_step, home_address, home_number}
 use Rattle.histar_refinement.specs.Addresses.Step.{Home, Child}
 use Rattle.histar_refinement.specs.Categories.{among, booted}
@@ -56,7 +56,7 @@ use Rattle.histar_refinement.proofs.Killing.{represents_left}
 use Rattle.histar_refinement.proofs.LeftObjects.{root_found, root_label}
 use Rattle.histar_refinement.proofs.RawChecks.{object, unlink_check}
 use Rattle.histar_layout.proofs.Declared.{equal_names}
-use Rattle.histar_refinement.proofs.Standing.{thread_found, step_linked}
+use Rattle.histar_refinement.proofs.Agreeing.{thread_found, step_linked}
 use Rattle.histar_refinement.proofs.Steps.{step_tests_equality}
 use Rattle.histar_refinement.proofs.Tested.{below_by_names}
 use Rattle.histar_sim.specs.Simulation.{IsReady}
@@ -79,80 +79,80 @@ same_turned a b = elim (same_name_found a b) [
 -- ---- process 0
 
 -- no process owns the category of boot
-owns_no_boot : (session : Session) (me : ProcName) (p : Process) → among (thread_rights session me p).owned OfBoot ≡ false
-owns_no_boot session me p =
-    among-append (owned_as session p (user_number session p.user)) (map OfJob p.held) OfBoot
-    ∙ (λ i. as_user (user_number session p.user) i || among_none OfJob OfBoot (λ job. refl) p.held i)
+owns_no_boot : (accounts : Accounts) (me : ProcName) (p : Process) → among (thread_rights accounts me p).owned OfBoot ≡ false
+owns_no_boot accounts me p =
+    among-append (owned_as accounts p (user_number accounts p.user)) (map OfJob p.held) OfBoot
+    ∙ (λ i. as_user (user_number accounts p.user) i || among_none OfJob OfBoot (λ job. refl) p.held i)
   where
-    picked : (free : Bool) (i : ℕ) → among (if free then writing session p.user i else []) OfBoot ≡ false
-    picked true i = among_none WritesGroup OfBoot (λ g. refl) (groups_of session p.user)
+    picked : (free : Bool) (i : ℕ) → among (if free then writing accounts p.user i else []) OfBoot ≡ false
+    picked true i = among_none WritesGroup OfBoot (λ g. refl) (groups_of accounts p.user)
     picked false i = refl
 
-    as_user : (number : Option ℕ) → among (owned_as session p number) OfBoot ≡ false
+    as_user : (number : Option ℕ) → among (owned_as accounts p number) OfBoot ≡ false
     as_user None = refl
     as_user (Some i) =
-        among-append (reading session p.user i) (if is_free p then writing session p.user i else []) OfBoot
-        ∙ (λ k. among_none ReadsGroup OfBoot (λ g. refl) (groups_of session p.user) k || picked (is_free p) i k)
+        among-append (reading accounts p.user i) (if is_free p then writing accounts p.user i else []) OfBoot
+        ∙ (λ k. among_none ReadsGroup OfBoot (λ g. refl) (groups_of accounts p.user) k || picked (is_free p) i k)
 
 -- so what the root container links is taken away by none
-module _ (session : Session) (s : State) (f : Flat) (l : ObjectsMatch session s f) (me : ProcName) (p : Process) (t : ℕ) (runs : RunsAs session s f l me p t) where
+module _ (accounts : Accounts) (s : State) (f : Flat) (l : ObjectsMatch accounts s f) (me : ProcName) (p : Process) (t : ℕ) (runs : RunsAs accounts s f l me p t) where
   abbrev own_label : Levels
-  own_label = rights_label l.category (thread_rights session me p)
+  own_label = rights_label l.category (thread_rights accounts me p)
 
   abbrev root_due : Levels
-  root_due = guard_label (booted session) boot_guard
+  root_due = guard_label (booted accounts) boot_guard
 
   abbrev home : ℕ
-  home = home_number (length session.users)
+  home = home_number (length accounts.users)
 
-  root : (links : Links) × (s.objects root_number ≡ object (guard_label (booted session) boot_guard) (Container links))
-  root = root_found session s f l
+  root : (links : Links) × (s.objects root_number ≡ object (guard_label (booted accounts) boot_guard) (Container links))
+  root = root_found accounts s f l
 
   root_seen : is_below_raised root_due own_label ≡ true
-  root_seen = ap (λ (label : Levels). is_below_raised label own_label) (root_label session s f l) ∙ sees_unguarded session me p l.category l.different boot_guard refl
+  root_seen = ap (λ (label : Levels). is_below_raised label own_label) (root_label accounts s f l) ∙ sees_unguarded accounts me p l.category l.different boot_guard refl
 
   root_unwritten : is_below own_label root_due ≡ false
   root_unwritten =
-      ap (is_below own_label) (root_label session s f l)
-      ∙ below_by_names l.category l.different boot_guard (thread_rights session me p) (jobs_apart session me p p.chain (OfBoot ∷ []) (λ job. refl))
-      ∙ (λ i. list_all (among []) (map OfJob p.chain) && (owns_no_boot session me p i && true)) ∙ and-false (list_all (among []) (map OfJob p.chain))
+      ap (is_below own_label) (root_label accounts s f l)
+      ∙ below_by_names l.category l.different boot_guard (thread_rights accounts me p) (jobs_apart accounts me p p.chain (OfBoot ∷ []) (λ job. refl))
+      ∙ (λ i. list_all (among []) (map OfJob p.chain) && (owns_no_boot accounts me p i && true)) ∙ and-false (list_all (among []) (map OfJob p.chain))
 
   home_linked : set.contains root.0 home ≡ true
-  home_linked = sym (ap (λ (found : Found). set.contains (links_in found) home) root.1) ∙ step_linked session s f l Home [] root_number home (l.as_booted [] root_number refl) (l.as_booted (Home ∷ []) home refl)
+  home_linked = sym (ap (λ (found : Found). set.contains (links_in found) home) root.1) ∙ step_linked accounts s f l Home [] root_number home (l.as_booted [] root_number refl) (l.as_booted (Home ∷ []) home refl)
 
-  first_kept : check s t (raw.Unlink root_number (home_number (length session.users))) ≡ Some Modify
+  first_kept : check s t (raw.Unlink root_number (home_number (length accounts.users))) ≡ Some Modify
   first_kept =
-      unlink_check s t own_label (rights_clearance l.category (thread_rights session me p)) (thread_found session s f l me p runs.0 runs.1 t runs.2) root_number root_due root.0 root.1 root_seen home home_linked
+      unlink_check s t own_label (rights_clearance l.category (thread_rights accounts me p)) (thread_found accounts s f l me p runs.0 runs.1 t runs.2) root_number root_due root.0 root.1 root_seen home home_linked
       ∙ ap (λ (b : Bool). unless (b && is_below_raised root_due own_label) Modify) root_unwritten
 
-module _ (session : Session) (ok : IsSession session) (old new : KernelModel) (f : Flat) (me : ProcName) (t : ℕ) (ready : IsReady session (state old) f me t) (result : Result Reply Stopped) where
+module _ (accounts : Accounts) (ok : AreAccounts accounts) (old new : KernelModel) (f : Flat) (me : ProcName) (t : ℕ) (ready : IsReady accounts (state old) f me t) (result : Result Reply Stopped) where
   abbrev p : Process
   p = ready.caller.process
 
-  abbrev l : ObjectsMatch session (state old) f
-  l = ready.represents.laid
+  abbrev l : ObjectsMatch accounts (state old) f
+  l = ready.represents.matched
 
   abbrev calls_to : ProcName → List RawCall
-  calls_to name = search_reads session (state old) f me t ready name
+  calls_to name = search_reads accounts (state old) f me t ready name
 
-  abbrev Row : ProcName → Type 0
-  Row name = Goal session f me ready.caller (calls.Kill name) old new t ready.thread result
+  abbrev Refined : ProcName → Type 0
+  Refined name = Goal accounts f me ready.caller (calls.Kill name) old new t ready.thread result
 
   -- what refuses the search refuses the kill
-  kill_refuses : (name : ProcName) → Refuses session ok old new f me t ready (calls.Kill name) result name
+  kill_refuses : (name : ProcName) → Refuses accounts ok old new f me t ready (calls.Kill name) result name
   kill_refuses [] errno is steps among = absurd cc
-  kill_refuses (n ∷ above) errno is steps among = (ap (λ (o : Option Errno). o orelse unless (same me above) EACCES) is, has_search session (state old) f me t ready (n ∷ above) _ among)
+  kill_refuses (n ∷ above) errno is steps among = (ap (λ (o : Option Errno). o orelse unless (same me above) EACCES) is, has_search accounts (state old) f me t ready (n ∷ above) _ among)
 
   -- process 0 is read, and its container is kept
-  kill_of_first : Runs (kill_program (places_of (length session.users)) []) old new t result → Row []
+  kill_of_first : Runs (kill_program (roots_of (length accounts.users)) []) old new t result → Refined []
   unfolding kill_program find_home
   kill_of_first run =
-      let unlinks : RawCall = raw.Unlink root_number (home_number (length session.users)) in
-      search_step session ok old new f me t ready (calls.Kill []) result [] (λ home status. ask (raw.Unlink root_number (home_number (length session.users))) (λ _. Answers Done)) run (kill_refuses [])
+      let unlinks : RawCall = raw.Unlink root_number (home_number (length accounts.users)) in
+      search_step accounts ok old new f me t ready (calls.Kill []) result [] (λ home status. ask (raw.Unlink root_number (home_number (length accounts.users))) (λ _. Answers Done)) run (kill_refuses [])
       (λ found first here seen mid stays chain on.
-      refused_step session f me ready.caller (calls.Kill []) old new t ready.thread result (calls_to []) mid chain stays ready.represents EACCES refl unlinks (λ _. Answers Done) Modify
-      (ap (λ (s : State). check s t unlinks) stays ∙ first_kept session (state old) f l me p t (runs_as session (state old) f me t ready)) refl
-      (has_search session (state old) f me t ready [] _ (among_also old.line t (calls_to []) (calls_to []) ((unlinks, Some Modify) ∷ []) (among_granted_all old.line t (calls_to [])))) on)
+      refused_step accounts f me ready.caller (calls.Kill []) old new t ready.thread result (calls_to []) mid chain stays ready.represents EACCES refl unlinks (λ _. Answers Done) Modify
+      (ap (λ (s : State). check s t unlinks) stays ∙ first_kept accounts (state old) f l me p t (runs_as accounts (state old) f me t ready)) refl
+      (has_search accounts (state old) f me t ready [] _ (among_also old.line t (calls_to []) (calls_to []) ((unlinks, Some Modify) ∷ []) (among_granted_all old.line t (calls_to [])))) on)
 
   -- ---- another process
 
@@ -165,16 +165,16 @@ module _ (session : Session) (ok : IsSession session) (old new : KernelModel) (f
 
     -- the container and the process segment of the parent, and the container of the child
     abbrev C : ℕ
-    C = (where_is session (state old) f ready.represents.laid above).container
+    C = (where_is accounts (state old) f ready.represents.matched above).container
 
     abbrev S : ℕ
-    S = (where_is session (state old) f ready.represents.laid above).segment
+    S = (where_is accounts (state old) f ready.represents.matched above).segment
 
     abbrev o : ℕ
-    o = (where_is session (state old) f ready.represents.laid (n ∷ above)).container
+    o = (where_is accounts (state old) f ready.represents.matched (n ∷ above)).container
 
     abbrev bytes : List ℕ
-    bytes = status_bytes (without_child n (status_of session (state old) f me t ready above parent))
+    bytes = status_bytes (without_child n (status_of accounts (state old) f me t ready above parent))
 
     abbrev unlinking : RawCall
     unlinking = raw.Unlink C o
@@ -182,18 +182,18 @@ module _ (session : Session) (ok : IsSession session) (old new : KernelModel) (f
     abbrev writing_call : RawCall
     writing_call = raw.Write C S 0 bytes
 
-    abbrev ending : Program
-    ending = ask writing_call (λ _. Answers Done)
+    abbrev call_error : Program
+    call_error = ask writing_call (λ _. Answers Done)
 
     module _ (found : not_found f p (n ∷ above) ≡ None) (child : Process) (there : f.processes (n ∷ above) ≡ Some child) (mid : KernelModel) (stays : state mid ≡ state old) (chain : Chain old t (all_granted (calls_to (n ∷ above))) mid) where
-      refused_by : (b : Bool) → same above me ≡ b → refused session f me p call ≡ unless b EACCES
+      refused_by : (b : Bool) → same above me ≡ b → refused accounts f me p call ≡ unless b EACCES
       refused_by b is = λ i. found i orelse unless ((same_turned me above ∙ is) i) EACCES
 
       -- the kernel's check is the flat rule
       said : (b : Bool) → same above me ≡ b → check (state mid) t unlinking ≡ unless b Modify
       said b is =
           ap (λ (s : State). check s t unlinking) stays
-          ∙ unlink_said session (state old) f l above parent here me p t (runs_as session (state old) f me t ready) seen (Child n) o (at_container session (state old) f l name child there)
+          ∙ unlink_said accounts (state old) f l above parent here me p t (runs_as accounts (state old) f me t ready) seen (Child n) o (at_container accounts (state old) f l name child there)
           ∙ ap (λ (b : Bool). unless b Modify) is
 
       module _ (mine : same above me ≡ true) (cut : KernelModel) (cuts : CutsOff (state old) C o (state cut)) (so_far : Chain old t (all_granted (calls_to name ++ unlinking ∷ [])) cut) where
@@ -202,63 +202,63 @@ module _ (session : Session) (ok : IsSession session) (old new : KernelModel) (f
         outside = ap (λ (x : ProcName). under same_step (home_address (n ∷ above)) (home_address x)) (sym (equal_names above me mine)) ∙ not_above same_step step_tests_equality (home_address above) (Child n)
 
         abbrev own : Levels
-        own = rights_label l.category (thread_rights session me p)
+        own = rights_label l.category (thread_rights accounts me p)
 
-        abbrev most : Levels
-        most = rights_clearance l.category (thread_rights session me p)
+        abbrev clearance : Levels
+        clearance = rights_clearance l.category (thread_rights accounts me p)
 
         abbrev due : Levels
         due = guard_label l.category (process_guard above parent)
 
         write_said : check (state cut) t writing_call ≡ None
         write_said =
-            let runs = runs_as session (state old) f me t ready in
-            write_granted (state cut) t C S own most due (set.remove (container_found session (state old) f l above parent here).0 o) (process_bytes f.processes l.naming.number above parent)
-            (thread_then session (state old) f l above parent here n child there me p t runs outside (state cut) cuts)
-            (holder_then session (state old) f l above parent here n child there me p t runs outside (state cut) cuts)
-            (segment_then session (state old) f l above parent here n child there me p t runs outside (state cut) cuts)
-            (observed session (state old) f l above parent here me p ∙ seen) (modified session (state old) f l above parent here me p ready.caller.stands seen ∙ mine)
-            (linked_then session (state old) f l above parent here n child there me p t runs outside (state cut) cuts) bytes (killed_few session (state old) f l above parent here n)
+            let runs = runs_as accounts (state old) f me t ready in
+            write_granted (state cut) t C S own clearance due (set.remove (container_found accounts (state old) f l above parent here).0 o) (process_bytes f.processes l.naming.number above parent)
+            (thread_then accounts (state old) f l above parent here n child there me p t runs outside (state cut) cuts)
+            (holder_then accounts (state old) f l above parent here n child there me p t runs outside (state cut) cuts)
+            (segment_then accounts (state old) f l above parent here n child there me p t runs outside (state cut) cuts)
+            (observed accounts (state old) f l above parent here me p ∙ seen) (modified accounts (state old) f l above parent here me p ready.caller.agrees seen ∙ mine)
+            (linked_then accounts (state old) f l above parent here n child there me p t runs outside (state cut) cuts) bytes (killed_few accounts (state old) f l above parent here n)
 
-        laid_after : Represents session (with_segment_bytes (state cut) S bytes) (without_process f name)
-        laid_after =
-            subst (λ (b : List ℕ). Represents session (with_segment_bytes (state cut) S b) (without_process f name)) (sym (killed_bytes session (state old) f l above parent here n))
-            (represents_left session (state old) f l above parent here n C S o (at_container session (state old) f l above parent here) (at_segment session (state old) f l above parent here) (at_container session (state old) f l name child there)
+        matched_after : Represents accounts (with_segment_bytes (state cut) S bytes) (without_process f name)
+        matched_after =
+            subst (λ (b : List ℕ). Represents accounts (with_segment_bytes (state cut) S b) (without_process f name)) (sym (killed_bytes accounts (state old) f l above parent here n))
+            (represents_left accounts (state old) f l above parent here n C S o (at_container accounts (state old) f l above parent here) (at_segment accounts (state old) f l above parent here) (at_container accounts (state old) f l name child there)
             (state cut) cuts ready.represents.jobs_given)
 
         -- the parent's segment is written, and the call is answered
-        written : Runs ending cut new t result → Row name
+        written : Runs call_error cut new t result → Refined name
         written on =
-            granted_step session f me ready.caller call old new t ready.thread result (calls_to name ++ unlinking ∷ []) cut so_far writing_call (λ _. Answers Done) write_said on
+            granted_step accounts f me ready.caller call old new t ready.thread result (calls_to name ++ unlinking ∷ []) cut so_far writing_call (λ _. Answers Done) write_said on
             (λ end done wrote right whole last.
             let all = (calls_to name ++ unlinking ∷ []) ++ writing_call ∷ [] in
-            answered_step session f me ready.caller call old new t ready.thread result all end whole Done refl (refused_by true mine) tt
-            (has_search session (state old) f me t ready name _
+            answered_step accounts f me ready.caller call old new t ready.thread result all end whole Done refl (refused_by true mine) tt
+            (has_search accounts (state old) f me t ready name _
             (among_then old.line t (calls_to name) (calls_to name ++ unlinking ∷ []) (writing_call ∷ []) (among_then old.line t (calls_to name) (calls_to name) (unlinking ∷ []) (among_granted_all old.line t (calls_to name)))))
-            (subst (λ (s : State). Represents session s (without_process f name)) (sym wrote.state) laid_after) last)
+            (subst (λ (s : State). Represents accounts s (without_process f name)) (sym wrote.state) matched_after) last)
 
-      by_kin : (b : Bool) → same above me ≡ b → Runs (ask unlinking (λ _. ending)) mid new t result → Row name
+      by_kin : (b : Bool) → same above me ≡ b → Runs (ask unlinking (λ _. call_error)) mid new t result → Refined name
       by_kin false is on =
-          refused_step session f me ready.caller call old new t ready.thread result (calls_to name) mid chain stays ready.represents EACCES (refused_by false is) unlinking (λ _. ending) Modify (said false is) refl
-          (has_search session (state old) f me t ready name _ (among_also old.line t (calls_to name) (calls_to name) ((unlinking, Some Modify) ∷ []) (among_granted_all old.line t (calls_to name)))) on
+          refused_step accounts f me ready.caller call old new t ready.thread result (calls_to name) mid chain stays ready.represents EACCES (refused_by false is) unlinking (λ _. call_error) Modify (said false is) refl
+          (has_search accounts (state old) f me t ready name _ (among_also old.line t (calls_to name) (calls_to name) ((unlinking, Some Modify) ∷ []) (among_granted_all old.line t (calls_to name)))) on
       by_kin true is on =
-          granted_step session f me ready.caller call old new t ready.thread result (calls_to name) mid chain unlinking (λ _. ending) (said true is) on
+          granted_step accounts f me ready.caller call old new t ready.thread result (calls_to name) mid chain unlinking (λ _. call_error) (said true is) on
           (λ cut done called right so_far rest. written is cut (subst (λ (s : State). CutsOff s C o (state cut)) stays called.state) so_far rest)
 
   -- the parent is found, then the child, which is taken away
-  kill_is_row : (n : ℕ) (above : ProcName) → Runs (kill_program (places_of (length session.users)) (n ∷ above)) old new t result → Row (n ∷ above)
+  kill_is_refined : (n : ℕ) (above : ProcName) → Runs (kill_program (roots_of (length accounts.users)) (n ∷ above)) old new t result → Refined (n ∷ above)
   unfolding kill_program
-  kill_is_row n above run =
-      search_step session ok old new f me t ready (calls.Kill (n ∷ above)) result above
+  kill_is_refined n above run =
+      search_step accounts ok old new f me t ready (calls.Kill (n ∷ above)) result above
       (λ home status. given (must_be_there (child_at status.children n)) (λ child. read_status (child_home child) (λ _. ask (raw.Unlink home.container child.container) (λ _. ask (raw.Write home.container home.segment 0 (status_bytes (without_child n status))) (λ _. Answers Done))))) run
-      (parent_refuses session ok old new f me t ready (calls.Kill (n ∷ above)) result n above (kill_refuses (n ∷ above)))
+      (parent_refuses accounts ok old new f me t ready (calls.Kill (n ∷ above)) result n above (kill_refuses (n ∷ above)))
       (λ found parent here seen mid stays chain on.
-      child_step session ok old new f me t ready (calls.Kill (n ∷ above)) result n above (λ place status. ask (raw.Unlink (where_is session (state old) f l above).container place.container) (λ _. ending n above parent here seen))
+      child_step accounts ok old new f me t ready (calls.Kill (n ∷ above)) result n above (λ place status. ask (raw.Unlink (where_is accounts (state old) f l above).container place.container) (λ _. call_error n above parent here seen))
       (kill_refuses (n ∷ above))
       (λ child_found child there sees_child mid stays chain on. by_kin n above parent here seen child_found child there mid stays chain (same above me) refl on)
       found parent here mid stays chain on)
 
 -- a kill does what its flat rule says
 pub kill_refines : KillRefines
-kill_refines session ok [] me old new f t result ready run = kill_of_first session ok old new f me t ready result run
-kill_refines session ok (n ∷ above) me old new f t result ready run = kill_is_row session ok old new f me t ready result n above run
+kill_refines accounts ok [] me old new f t result ready run = kill_of_first accounts ok old new f me t ready result run
+kill_refines accounts ok (n ∷ above) me old new f t result ready run = kill_is_refined accounts ok old new f me t ready result n above run

@@ -6,7 +6,7 @@ use Rattle.std.specs.List.{filter, range_with_len}
 use Rattle.std.proofs.lemmas.Bool.Decides.{eqb_tells}
 use Rattle.std.proofs.lemmas.Bool.{ne_eqb}
 use Rattle.histar_flat.specs.Words.{ProcName}
-use Rattle.histar_flat.specs.Sessions.{Session}
+use Rattle.histar_flat.specs.Accounts.{Accounts}
 use Rattle.histar_flat.specs.Classes.{Process}
 use Rattle.histar_flat.specs.FlatState.{Flat, without_process}
 use Rattle.histar_flat.proofs.FileLemmas.{same_name_found}
@@ -33,7 +33,7 @@ use Rattle.histar_refinement.specs.Laws.{RunsAs}
 use Rattle.histar_refinement.specs.Processes.{or_zero, listed_by, status_by, process_bytes}
 use Rattle.histar_refinement.proofs.CallerFound.{where_is}
 use Rattle.histar_refinement.proofs.Moving.{one_address}
-use Rattle.histar_refinement.proofs.Places.{same_home}
+use Rattle.histar_refinement.proofs.Roots.{same_home}
 use Rattle.histar_refinement.proofs.RawChecks.{object}
 use Rattle.histar_refinement.proofs.Steps.{step_tests_equality}
 use Rattle.histar_sim.proofs.FoundProcesses.{at_container, at_segment, container_found, segment_found, step_below, thread}
@@ -76,7 +76,7 @@ module _ (me : ProcName) (n : ℕ) (number numbers : AddressNumbers) (test later
 
 -- ---- in a state that is represented
 
-module _ (session : Session) (s : State) (f : Flat) (l : ObjectsMatch session s f) (me : ProcName) (p : Process) (here : f.processes me ≡ Some p) (n : ℕ) where
+module _ (accounts : Accounts) (s : State) (f : Flat) (l : ObjectsMatch accounts s f) (me : ProcName) (p : Process) (here : f.processes me ≡ Some p) (n : ℕ) where
   abbrev top : ProcName
   top = n ∷ me
 
@@ -127,61 +127,61 @@ module _ (session : Session) (s : State) (f : Flat) (l : ObjectsMatch session s 
   killed_few = subst (λ (b : List ℕ). length b ≤ 4096) (sym killed_bytes) (status_few (status_by after.processes naming.number me p) (listed_few after.processes naming.number me p.born (l.processes me p here).few))
 
   -- the state once the child was taken out of the container
-  module _ (child : Process) (there : f.processes (n ∷ me) ≡ Some child) (caller : ProcName) (q : Process) (t : ℕ) (runs : RunsAs session s f l caller q t) (outside : under same_step (home_address (n ∷ me)) (home_address caller) ≡ false)
-      (cut : State) (cuts : CutsOff s (where_is session s f l me).container (where_is session s f l (n ∷ me)).container cut) where
+  module _ (child : Process) (there : f.processes (n ∷ me) ≡ Some child) (caller : ProcName) (q : Process) (t : ℕ) (runs : RunsAs accounts s f l caller q t) (outside : under same_step (home_address (n ∷ me)) (home_address caller) ≡ false)
+      (cut : State) (cuts : CutsOff s (where_is accounts s f l me).container (where_is accounts s f l (n ∷ me)).container cut) where
     abbrev C : ℕ
-    C = (where_is session s f l me).container
+    C = (where_is accounts s f l me).container
 
     abbrev S : ℕ
-    S = (where_is session s f l me).segment
+    S = (where_is accounts s f l me).segment
 
     abbrev o : ℕ
-    o = (where_is session s f l (n ∷ me)).container
+    o = (where_is accounts s f l (n ∷ me)).container
 
     abbrev own : Levels
-    own = rights_label l.category (thread_rights session caller q)
+    own = rights_label l.category (thread_rights accounts caller q)
 
-    abbrev most : Levels
-    most = rights_clearance l.category (thread_rights session caller q)
+    abbrev clearance : Levels
+    clearance = rights_clearance l.category (thread_rights accounts caller q)
 
     abbrev due : Levels
     due = guard_label l.category (process_guard me p)
 
     abbrev links : Links
-    links = (container_found session s f l me p here).0
+    links = (container_found accounts s f l me p here).0
 
-    thread_is : s.objects t ≡ object own (Thread most)
-    thread_is = thread session s f l me p here caller q t runs
+    thread_is : s.objects t ≡ object own (Thread clearance)
+    thread_is = thread accounts s f l me p here caller q t runs
 
     holder_is : s.objects C ≡ object due (Container links)
-    holder_is = (container_found session s f l me p here).1
+    holder_is = (container_found accounts s f l me p here).1
 
     segment_is : s.objects S ≡ object due (Segment (process_bytes f.processes l.naming.number me p))
-    segment_is = segment_found session s f l me p here
+    segment_is = segment_found accounts s f l me p here
 
     at_victim : l.naming.number (home_address (n ∷ me)) ≡ Some o
-    at_victim = at_container session s f l (n ∷ me) child there
+    at_victim = at_container accounts s f l (n ∷ me) child there
 
     -- what lies elsewhere is as it was, but for the container
     remains : (b : Address Step) (k : ℕ) → l.naming.number b ≡ Some k → under same_step (home_address top) b ≡ false → k ≢ C → cut.objects k ≡ s.objects k
     remains b k at_k out other =
-        cuts.is_cut.stays k (not_reached same_step step_tests_equality s.objects s.next_object (objects_at s.objects l.naming) l.naming l.stands.tree o (home_address top) (l.stands.tree.addressed (home_address top) o at_victim) k
-        (ap (is_under same_step (home_address top)) (l.stands.tree.addressed b k at_k) ∙ out)) other
+        cuts.is_cut.stays k (not_reached same_step step_tests_equality s.objects s.next_object (objects_at s.objects l.naming) l.naming l.agrees.tree o (home_address top) (l.agrees.tree.addressed (home_address top) o at_victim) k
+        (ap (is_under same_step (home_address top)) (l.agrees.tree.addressed b k at_k) ∙ out)) other
 
-    pub thread_then : cut.objects t ≡ object (rights_label l.category (thread_rights session caller q)) (Thread (rights_clearance l.category (thread_rights session caller q)))
-    thread_then = remains (Runner ∷ Inside ∷ home_address caller) t runs.2 outside (thread_apart s t C S own most due links _ thread_is holder_is segment_is) ∙ thread_is
+    pub thread_then : cut.objects t ≡ object (rights_label l.category (thread_rights accounts caller q)) (Thread (rights_clearance l.category (thread_rights accounts caller q)))
+    thread_then = remains (Runner ∷ Inside ∷ home_address caller) t runs.2 outside (thread_apart s t C S own clearance due links _ thread_is holder_is segment_is) ∙ thread_is
 
-    pub segment_then : cut.objects (where_is session s f l me).segment ≡ object (guard_label l.category (process_guard me p)) (Segment (process_bytes f.processes l.naming.number me p))
-    segment_then = remains (Status ∷ home_address me) S (at_segment session s f l me p here) parent_outside (segment_apart s t C S own most due links _ thread_is holder_is segment_is) ∙ segment_is
+    pub segment_then : cut.objects (where_is accounts s f l me).segment ≡ object (guard_label l.category (process_guard me p)) (Segment (process_bytes f.processes l.naming.number me p))
+    segment_then = remains (Status ∷ home_address me) S (at_segment accounts s f l me p here) parent_outside (segment_apart s t C S own clearance due links _ thread_is holder_is segment_is) ∙ segment_is
 
-    pub holder_then : cut.objects (where_is session s f l me).container ≡ object (guard_label l.category (process_guard me p)) (Container (set.remove (container_found session s f l me p here).0 (where_is session s f l (n ∷ me)).container))
+    pub holder_then : cut.objects (where_is accounts s f l me).container ≡ object (guard_label l.category (process_guard me p)) (Container (set.remove (container_found accounts s f l me p here).0 (where_is accounts s f l (n ∷ me)).container))
     holder_then = cuts.is_cut.unlinked ∙ ap (option_map (unlinking o)) holder_is
 
     -- the parent's segment is another object than the child's container, and is still linked
     segment_other : S ≢ o
-    segment_other e = let same = one_address same_step step_tests_equality s l.naming (expected session l.category f l.naming.number) l.stands (Status ∷ home_address me) (home_address top) S (at_segment session s f l me p here) (at_victim ∙ ap Some (sym e)) in absurd cc
+    segment_other e = let same = one_address same_step step_tests_equality s l.naming (expected accounts l.category f l.naming.number) l.agrees (Status ∷ home_address me) (home_address top) S (at_segment accounts s f l me p here) (at_victim ∙ ap Some (sym e)) in absurd cc
 
-    pub linked_then : set.contains (set.remove (container_found session s f l me p here).0 (where_is session s f l (n ∷ me)).container) (where_is session s f l me).segment ≡ true
+    pub linked_then : set.contains (set.remove (container_found accounts s f l me p here).0 (where_is accounts s f l (n ∷ me)).container) (where_is accounts s f l me).segment ≡ true
     linked_then =
         unlinked_links (Some (record { label = due; kind = Container links })) o S
-        ∙ (λ i. not (ne_eqb S o segment_other i) && step_below session s f l me p here Status S (at_segment session s f l me p here) i)
+        ∙ (λ i. not (ne_eqb S o segment_other i) && step_below accounts s f l me p here Status S (at_segment accounts s f l me p here) i)

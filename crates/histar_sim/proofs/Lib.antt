@@ -1,6 +1,6 @@
 pub mod ReadsByCall
 pub mod Chains
-pub mod Endings
+pub mod CallErrors
 pub mod Steps
 pub mod Walks
 pub mod FirstFree

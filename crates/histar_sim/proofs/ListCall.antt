@@ -7,53 +7,53 @@ use Rattle.histar_flat.specs.declared.replies.Errno.TheVariants.{EACCES, ENOENT,
 use Rattle.histar_flat.specs.declared.replies.Reply.{Reply}
 use Rattle.histar_flat.specs.declared.replies.Reply.TheVariants.{Entries}
 use Rattle.histar_flat.specs.Words.{Path, ProcName}
-use Rattle.histar_flat.specs.Sessions.{Session}
+use Rattle.histar_flat.specs.Accounts.{Accounts}
 use Rattle.histar_flat.specs.FlatState.{Flat, is_some_and, is_dir, reads, into, entries_in}
 use Rattle.histar_flat.specs.FlatCalls.{refused}
 use Rattle.histar_object.specs.State.{State}
 use Rattle.histar_syscall.specs.KernelModel.{KernelModel, state}
 use Rattle.histar_layout.specs.Listing.{names_in}
-use Rattle.histar_calls.specs.declared.ending.Stopped.{Stopped}
+use Rattle.histar_calls.specs.declared.call_error.Stopped.{Stopped}
 use Rattle.histar_calls.specs.Programs.{Runs}
 use Rattle.histar_calls.specs.Programs.Program.{Answers}
 use Rattle.histar_calls.specs.ListCall.{list_program}
-use Rattle.histar_login.specs.Start.{places_of}
-use Rattle.histar_refinement.specs.Sessions.{IsSession}
+use Rattle.histar_login.specs.Start.{roots_of}
+use Rattle.histar_refinement.specs.Accounts.{AreAccounts}
 use Rattle.histar_refinement.specs.Directories.{directory_of}
 use Rattle.histar_refinement.specs.Represents.{Represents}
 use Rattle.histar_refinement.proofs.Listings.{names_directory}
 use Rattle.histar_refinement.proofs.Making.{entry_leads}
-use Rattle.histar_refinement.proofs.Standing.{root_is_dir}
+use Rattle.histar_refinement.proofs.Agreeing.{root_is_dir}
 use Rattle.histar_sim.specs.Simulation.{IsReady}
 use Rattle.histar_sim.specs.Laws.{ListRefines}
 use Rattle.histar_sim.proofs.Steps.{Goal, answered_step}
 use Rattle.histar_sim.proofs.Walks.{walk_reads, has_way, among_granted_all, walk_step}
 
-module _ (session : Session) (ok : IsSession session) (old new : KernelModel) (f : Flat) (me : ProcName) (t : ℕ) (ready : IsReady session (state old) f me t) (path : Path) (result : Result Reply Stopped) where
+module _ (accounts : Accounts) (ok : AreAccounts accounts) (old new : KernelModel) (f : Flat) (me : ProcName) (t : ℕ) (ready : IsReady accounts (state old) f me t) (path : Path) (result : Result Reply Stopped) where
   abbrev call : UnixCall
   call = calls.List path
 
   -- what refuses the way into the directory refuses the call
-  refused_is : (q : Path) → refused session f me ready.caller.process (calls.List q) ≡ into session f ready.caller.process q
+  refused_is : (q : Path) → refused accounts f me ready.caller.process (calls.List q) ≡ into accounts f ready.caller.process q
   refused_is [] =
-      let root = (root_is_dir session (state old) f ready.represents.laid).1 in
-      λ i. unless (is_some_and (root i) (λ n. true)) ENOENT orelse unless (is_some_and (root i) is_dir) ENOTDIR orelse unless (reads session f ready.caller.process []) EACCES
+      let root = (root_is_dir accounts (state old) f ready.represents.matched).1 in
+      λ i. unless (is_some_and (root i) (λ n. true)) ENOENT orelse unless (is_some_and (root i) is_dir) ENOTDIR orelse unless (reads accounts f ready.caller.process []) EACCES
   refused_is (n ∷ d) = refl
 
-  names_are : names_in (directory_of f.files ready.represents.laid.naming.number path) ≡ entries_in f path
-  names_are = names_directory f ready.represents.laid.naming.number path (λ n there at. entry_leads session (state old) f ready.represents.laid (n ∷ path) there at)
+  names_are : names_in (directory_of f.files ready.represents.matched.naming.number path) ≡ entries_in f path
+  names_are = names_directory f ready.represents.matched.naming.number path (λ n there at. entry_leads accounts (state old) f ready.represents.matched (n ∷ path) there at)
 
-  list_is_row : Runs (list_program (places_of (length session.users)) path) old new t result → Goal session f me ready.caller call old new t ready.thread result
+  list_is_refined : Runs (list_program (roots_of (length accounts.users)) path) old new t result → Goal accounts f me ready.caller call old new t ready.thread result
   unfolding list_program
-  list_is_row run =
-      let walk = walk_reads session ok (state old) f me t ready path in
-      walk_step session ok old new f me t ready call result path (λ directory. Answers (Entries (names_in directory.entries))) run
-      (λ errno is steps among. (refused_is path ∙ is, has_way session ok (state old) f me t ready path _ among))
+  list_is_refined run =
+      let walk = walk_reads accounts ok (state old) f me t ready path in
+      walk_step accounts ok old new f me t ready call result path (λ directory. Answers (Entries (names_in directory.entries))) run
+      (λ errno is steps among. (refused_is path ∙ is, has_way accounts ok (state old) f me t ready path _ among))
       (λ open_so_far mid stays chain on.
-      answered_step session f me ready.caller call old new t ready.thread result walk mid chain (Entries (names_in (directory_of f.files ready.represents.laid.naming.number path))) (ap Entries names_are) (refused_is path ∙ open_so_far) tt
-      (has_way session ok (state old) f me t ready path _ (among_granted_all old.line t walk))
-      (subst (λ (s : State). Represents session s f) (sym stays) ready.represents) on)
+      answered_step accounts f me ready.caller call old new t ready.thread result walk mid chain (Entries (names_in (directory_of f.files ready.represents.matched.naming.number path))) (ap Entries names_are) (refused_is path ∙ open_so_far) tt
+      (has_way accounts ok (state old) f me t ready path _ (among_granted_all old.line t walk))
+      (subst (λ (s : State). Represents accounts s f) (sym stays) ready.represents) on)
 
 -- a list does what its flat rule says
 pub list_refines : ListRefines
-list_refines session ok path me old new f t result ready run = list_is_row session ok old new f me t ready path result run
+list_refines accounts ok path me old new f t result ready run = list_is_refined accounts ok old new f me t ready path result run

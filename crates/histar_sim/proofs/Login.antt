@@ -13,7 +13,7 @@ use Rattle.histar_flat.specs.declared.replies.Reply.{Reply}
 use Rattle.histar_flat.specs.declared.replies.Reply.TheVariants.{Done, Refused}
 use Rattle.histar_flat.specs.Words.{Name, Password, ProcName}
 use Rattle.histar_flat.specs.PathOrder.{same}
-use Rattle.histar_flat.specs.Sessions.{Session, user_named, user_number}
+use Rattle.histar_flat.specs.Accounts.{Accounts, user_named, user_number}
 use Rattle.histar_flat.specs.Classes.{Process, is_free}
 use Rattle.histar_flat.specs.FlatState.{Flat, is_some_and, with_process}
 use Rattle.histar_flat.specs.FlatCalls.{refused}
@@ -29,14 +29,14 @@ use Rattle.histar_rules.specs.Rules.{check}
 use Rattle.histar_rules.specs.Sound.{root_number}
 use Rattle.histar_syscall.specs.KernelModel.{KernelModel, state}
 use Rattle.histar_syscall.proofs.Runs.{same_kernel}
-use Rattle.histar_calls.specs.declared.ending.Stopped.{Stopped}
+use Rattle.histar_calls.specs.declared.call_error.Stopped.{Stopped}
 use Rattle.histar_layout.specs.Categories.{owners_of}
 use Rattle.histar_calls.specs.Programs.{Program, Runs}
 use Rattle.histar_calls.specs.Programs.Program.{Answers}
 use Rattle.histar_calls.specs.Parts.{◌>>=◌, ◌>>◌, ask}
 use Rattle.histar_process.specs.declared.caller.Caller.{Caller}
 use Rattle.histar_process.specs.Caller.{caller_at}
-use Rattle.histar_login.specs.Start.{places_of, owners_label, owners_clearance}
+use Rattle.histar_login.specs.Start.{roots_of, owners_label, owners_clearance}
 use Rattle.histar_login.specs.Login.{place_of, password_of, gate_of, user_label, user_clearance, entering, label_if, clearance_if, reply_if, login_at, login_as_program}
 use Rattle.histar_refinement.specs.Categories.{CategoryName, among}
 use Rattle.histar_refinement.specs.Categories.CategoryName.{ReadsProcess, WritesProcess}
@@ -45,7 +45,7 @@ use Rattle.histar_refinement.specs.Labels.{thread_rights, gate_rights}
 use Rattle.histar_refinement.specs.Represents.{ObjectsMatch, Represents}
 use Rattle.histar_refinement.specs.Laws.{RunsAs}
 use Rattle.histar_layout.proofs.Declared.{user_range}
-use Rattle.histar_refinement.proofs.Standing.{thread_found}
+use Rattle.histar_refinement.proofs.Agreeing.{thread_found}
 use Rattle.histar_refinement.proofs.StatusFound.{thread_back}
 use Rattle.histar_refinement.proofs.LeftObjects.{password_found, unnumbered_user}
 use Rattle.histar_refinement.proofs.CallerFound.{caller_found}
@@ -65,92 +65,92 @@ use Rattle.histar_sim.proofs.Steps.{granted_step, refused_step, refused_at_once,
 free_by_chain : (p : Process) (chain : List ProcName) → p.chain ≡ chain → is_free p ≡ elim chain as (λ _. Bool) [ [] ↦ true | job ∷ jobs ↦ false ]
 free_by_chain p chain e = λ i. elim (e i) as (λ _. Bool) [ [] ↦ true | job ∷ jobs ↦ false ]
 
-module _ (session : Session) (name : Name) (password : Password) (me : ProcName) (caller : Caller) (old new : KernelModel) (f : Flat) (result : Result Reply Stopped)
-    (ready : IsReady session (state old) f me caller.thread) (found : caller_at (state old) (places_of (length session.users)).home me ≡ Some caller) where
+module _ (accounts : Accounts) (name : Name) (password : Password) (me : ProcName) (caller : Caller) (old new : KernelModel) (f : Flat) (result : Result Reply Stopped)
+    (ready : IsReady accounts (state old) f me caller.thread) (found : caller_at (state old) (roots_of (length accounts.users)).home me ≡ Some caller) where
   abbrev t : ℕ
   t = caller.thread
 
   abbrev p : Process
   p = ready.caller.process
 
-  abbrev l : ObjectsMatch session (state old) f
-  l = ready.represents.laid
+  abbrev l : ObjectsMatch accounts (state old) f
+  l = ready.represents.matched
 
   abbrev call : UnixCall
   call = Login name password
 
   abbrev Goal : Type 0
-  Goal = FollowsRule session f me call old new t result
+  Goal = FollowsRule accounts f me call old new t result
 
-  runs_as : RunsAs session (state old) f l me p t
-  runs_as = (ready.caller.stands, ready.caller.runs, (thread_back session (state old) f l me t ready.thread).3)
+  runs_as : RunsAs accounts (state old) f l me p t
+  runs_as = (ready.caller.agrees, ready.caller.runs, (thread_back accounts (state old) f l me t ready.thread).3)
 
   -- the numbers of its own two categories
   own_reads : l.category (ReadsProcess me) ≡ caller.read
-  own_reads = (caller_found session (state old) f l me caller found).1.reads
+  own_reads = (caller_found accounts (state old) f l me caller found).1.reads
 
   own_writes : l.category (WritesProcess me) ≡ caller.write
-  own_writes = (caller_found session (state old) f l me caller found).1.writes
+  own_writes = (caller_found accounts (state old) f l me caller found).1.writes
 
   -- what the flat rules refuse, in their order
   abbrev refusal : Option User → Bool → Option Errno
   refusal found alone = unless (is_some found) ENOENT orelse unless alone EACCES orelse unless (is_some_and found (λ (u : User). same u.password password)) EAUTH
 
-  refused_is : (found : Option User) (alone : Bool) → user_named session.users name ≡ found → is_free p ≡ alone → refused session f me p call ≡ refusal found alone
+  refused_is : (found : Option User) (alone : Bool) → user_named accounts.users name ≡ found → is_free p ≡ alone → refused accounts f me p call ≡ refusal found alone
   refused_is found alone named alone_is = λ i. refusal (named i) (alone_is i)
 
   -- no user has the name
-  unknown : place_of session.users name ≡ None → Runs (Answers (Refused ENOENT)) old new t result → Goal
+  unknown : place_of accounts.users name ≡ None → Runs (Answers (Refused ENOENT)) old new t result → Goal
   unknown nowhere runs =
-      refused_at_once session f me ready.caller call old new t ready.thread result [] old (same_kernel old) refl ready.represents ENOENT
-      (refused_is None (is_free p) (unnumbered_user session name (number_by_place session name ∙ ap (option_map (λ place. place + 1)) nowhere)) refl) refl refl
-      (subst (λ (o : Option ℕ). AreAmong (reads_of_login session o false) []) (sym nowhere) tt) runs
+      refused_at_once accounts f me ready.caller call old new t ready.thread result [] old (same_kernel old) refl ready.represents ENOENT
+      (refused_is None (is_free p) (unnumbered_user accounts name (number_by_place accounts name ∙ ap (option_map (λ place. place + 1)) nowhere)) refl) refl refl
+      (subst (λ (o : Option ℕ). AreAmong (reads_of_login accounts o false) []) (sym nowhere) tt) runs
 
-  module _ (place : ℕ) (at_place : place_of session.users name ≡ Some place) where
-    numbered : user_number session name ≡ Some (place + 1)
-    numbered = number_by_place session name ∙ ap (option_map (λ place. place + 1)) at_place
+  module _ (place : ℕ) (at_place : place_of accounts.users name ≡ Some place) where
+    numbered : user_number accounts name ≡ Some (place + 1)
+    numbered = number_by_place accounts name ∙ ap (option_map (λ place. place + 1)) at_place
 
-    high : place + 1 ≤ length session.users
-    high = (user_range session name (place + 1) numbered).1
+    high : place + 1 ≤ length accounts.users
+    high = (user_range accounts name (place + 1) numbered).1
 
-    user : (u : User) × (user_named session.users name ≡ Some u) × (bytes_in ((state old).objects (password_of (place + 1))) ≡ u.password)
-    user = let found = password_found session (state old) f l name (place + 1) numbered in (found.0, found.1, ap bytes_in found.2)
+    user : (u : User) × (user_named accounts.users name ≡ Some u) × (bytes_in ((state old).objects (password_of (place + 1))) ≡ u.password)
+    user = let found = password_found accounts (state old) f l name (place + 1) numbered in (found.0, found.1, ap bytes_in found.2)
 
     abbrev own : Levels
-    own = rights_label l.category (thread_rights session me p)
+    own = rights_label l.category (thread_rights accounts me p)
 
-    abbrev most : Levels
-    most = rights_clearance l.category (thread_rights session me p)
+    abbrev clearance : Levels
+    clearance = rights_clearance l.category (thread_rights accounts me p)
 
-    thread : (state old).objects t ≡ Some (thread_of own most)
-    thread = thread_found session (state old) f l me p runs_as.0 runs_as.1 t runs_as.2
+    thread : (state old).objects t ≡ Some (thread_of own clearance)
+    thread = thread_found accounts (state old) f l me p runs_as.0 runs_as.1 t runs_as.2
 
     -- ---- the labels that the code hands in are those of names
 
     -- whose categories the user owns
     abbrev owners : List ℕ
-    owners = owners_of session (place + 1) name
+    owners = owners_of accounts (place + 1) name
 
-    gate_label : rights_label l.category (gate_rights session name (place + 1)) ≡ owners_label owners
-    gate_label = sym (gate_label_is session l.category l.as_made name (place + 1) high)
+    gate_label : rights_label l.category (gate_rights accounts name (place + 1)) ≡ owners_label owners
+    gate_label = sym (gate_label_is accounts l.category l.as_made name (place + 1) high)
 
-    gate_clearance : rights_clearance l.category (gate_rights session name (place + 1)) ≡ owners_clearance owners
-    gate_clearance = sym (gate_clearance_is session l.category l.as_made name (place + 1) high)
+    gate_clearance : rights_clearance l.category (gate_rights accounts name (place + 1)) ≡ owners_clearance owners
+    gate_clearance = sym (gate_clearance_is accounts l.category l.as_made name (place + 1) high)
 
     abbrev behind : State
-    behind = entered session (state old) f l me p t runs_as name (place + 1) numbered
+    behind = entered accounts (state old) f l me p t runs_as name (place + 1) numbered
 
     -- behind the gate the password is what it was
     password_then : bytes_in (behind.objects (password_of (place + 1))) ≡ user.0.password
-    password_then = kept_bytes (state old) t own most thread (wanted session (state old) f l me p t runs_as name (place + 1) numbered) (limit session (state old) f l me p t runs_as name (place + 1) numbered) (password_of (place + 1)) ∙ user.2
+    password_then = kept_bytes (state old) t own clearance thread (wanted accounts (state old) f l me p t runs_as name (place + 1) numbered) (limit accounts (state old) f l me p t runs_as name (place + 1) numbered) (password_of (place + 1)) ∙ user.2
 
     abbrev process_then : Process
-    process_then = as_user session (state old) f l me p t runs_as name (place + 1) numbered
+    process_then = as_user accounts (state old) f l me p t runs_as name (place + 1) numbered
 
     -- ---- the raw calls
 
     abbrev enters : RawCall
-    enters = entering owners (place + 1) own most
+    enters = entering owners (place + 1) own clearance
 
     abbrev reads : RawCall
     reads = Read root_number (password_of (place + 1))
@@ -161,25 +161,25 @@ module _ (session : Session) (name : Name) (password : Password) (me : ProcName)
     -- the gate lets in exactly who is in no job
     enters_said : check (state old) t enters ≡ unless (is_free p) Gate
     enters_said =
-        (λ k. check (state old) t (Enter root_number (gate_of (place + 1)) (floor_of own (sym gate_label k)) (join_of most (sym gate_clearance k)) own))
-        ∙ enter_said session (state old) f l me p t runs_as name (place + 1) numbered
+        (λ k. check (state old) t (Enter root_number (gate_of (place + 1)) (floor_of own (sym gate_label k)) (join_of clearance (sym gate_clearance k)) own))
+        ∙ enter_said accounts (state old) f l me p t runs_as name (place + 1) numbered
 
     -- behind it the thread has the labels that the code asks for
     abbrev code_label : Levels
     code_label = floor_of own (owners_label owners)
 
     abbrev code_clearance : Levels
-    code_clearance = join_of most (owners_clearance owners)
+    code_clearance = join_of clearance (owners_clearance owners)
 
     entered_is : with_own (state old) t code_label code_clearance ≡ behind
-    entered_is = λ k. with_own (state old) t (floor_of own (sym gate_label k)) (join_of most (sym gate_clearance k))
+    entered_is = λ k. with_own (state old) t (floor_of own (sym gate_label k)) (join_of clearance (sym gate_clearance k))
 
     -- the last raw calls, and the reply
     abbrev takes_label : Bool → RawCall
     takes_label right = SetLabel (label_if right caller owners own)
 
     abbrev takes_clearance : Bool → RawCall
-    takes_clearance right = SetClearance (clearance_if right caller owners most)
+    takes_clearance right = SetClearance (clearance_if right caller owners clearance)
 
     abbrev taking : Bool → Program
     taking right = ask (takes_label right) (λ _. ask (takes_clearance right) (λ _. Answers (reply_if right)))
@@ -189,16 +189,16 @@ module _ (session : Session) (name : Name) (password : Password) (me : ProcName)
     all_calls right = OwnLabel ∷ enters ∷ reads ∷ takes_label right ∷ takes_clearance right ∷ []
 
     -- the read of the password is among them
-    among_calls : (right : Bool) → AreAmong (reads_of_login session (place_of session.users name) true) (entries_of old.line t (all_granted (all_calls right)))
-    among_calls right = subst (λ (o : Option ℕ). AreAmong (reads_of_login session o true) (entries_of old.line t (all_granted (all_calls right)))) (sym at_place) (inr (inr (inl (refl, tt))))
+    among_calls : (right : Bool) → AreAmong (reads_of_login accounts (place_of accounts.users name) true) (entries_of old.line t (all_granted (all_calls right)))
+    among_calls right = subst (λ (o : Option ℕ). AreAmong (reads_of_login accounts o true) (entries_of old.line t (all_granted (all_calls right)))) (sym at_place) (inr (inr (inl (refl, tt))))
 
     -- labels of rights that are no more than the thread has behind the gate are taken
-    module _ (right : Bool) (r : Rights) (owned : (c : CategoryName) → among r.owned c ≡ true → among (more session (state old) f l me p t runs_as name (place + 1) numbered).owned c ≡ true)
-        (fewer : (c : CategoryName) → among r.tainted c ≡ true → among (thread_rights session me p).tainted c ≡ true) (as_many : (c : CategoryName) → among (thread_rights session me p).tainted c ≡ true → among r.tainted c ≡ true)
-        (label_is : label_if right caller owners own ≡ rights_label l.category r) (clearance_is : clearance_if right caller owners most ≡ rights_clearance l.category r)
+    module _ (right : Bool) (r : Rights) (owned : (c : CategoryName) → among r.owned c ≡ true → among (more accounts (state old) f l me p t runs_as name (place + 1) numbered).owned c ≡ true)
+        (fewer : (c : CategoryName) → among r.tainted c ≡ true → among (thread_rights accounts me p).tainted c ≡ true) (as_many : (c : CategoryName) → among (thread_rights accounts me p).tainted c ≡ true → among r.tainted c ≡ true)
+        (label_is : label_if right caller owners own ≡ rights_label l.category r) (clearance_is : clearance_if right caller owners clearance ≡ rights_clearance l.category r)
         (mid : KernelModel) (so_far : Chain old t (all_granted (OwnLabel ∷ enters ∷ reads ∷ [])) mid) (at : state mid ≡ behind) where
       abbrev after_label : State
-      after_label = relabelled_state session (state old) f l me p t runs_as name (place + 1) numbered r owned fewer as_many
+      after_label = relabelled_state accounts (state old) f l me p t runs_as name (place + 1) numbered r owned fewer as_many
 
       -- what comes after the labels were taken
       abbrev GoesOn : Type 0
@@ -207,18 +207,18 @@ module _ (session : Session) (name : Name) (password : Password) (me : ProcName)
       -- the clearance behind the label
       cleared : (labelled : KernelModel) → Chain old t (all_granted (OwnLabel ∷ enters ∷ reads ∷ takes_label right ∷ [])) labelled → state labelled ≡ after_label → Runs (ask (takes_clearance right) (λ _. Answers (reply_if right))) labelled new t result → GoesOn → Goal
       cleared labelled chain is runs go_on =
-          granted_step session f me ready.caller call old new t ready.thread result (OwnLabel ∷ enters ∷ reads ∷ takes_label right ∷ []) labelled chain (takes_clearance right) (λ _. Answers (reply_if right))
-          ((λ k. check (is k) t (SetClearance (clearance_is k))) ∙ set_clearance_said session (state old) f l me p t runs_as name (place + 1) numbered r owned fewer as_many) runs
-          (λ later done called told longer answers. go_on later longer
+          granted_step accounts f me ready.caller call old new t ready.thread result (OwnLabel ∷ enters ∷ reads ∷ takes_label right ∷ []) labelled chain (takes_clearance right) (λ _. Answers (reply_if right))
+          ((λ k. check (is k) t (SetClearance (clearance_is k))) ∙ set_clearance_said accounts (state old) f l me p t runs_as name (place + 1) numbered r owned fewer as_many) runs
+          (λ later done called revealed longer answers. go_on later longer
           (called.state ∙ (λ k. with_changed (is k) t (with_clearance (clearance_is k)))
-          ∙ labels_taken (state old) t (wanted session (state old) f l me p t runs_as name (place + 1) numbered) (limit session (state old) f l me p t runs_as name (place + 1) numbered) (rights_label l.category r) (rights_clearance l.category r))
+          ∙ labels_taken (state old) t (wanted accounts (state old) f l me p t runs_as name (place + 1) numbered) (limit accounts (state old) f l me p t runs_as name (place + 1) numbered) (rights_label l.category r) (rights_clearance l.category r))
           answers)
 
       taken : Runs (taking right) mid new t result → GoesOn → Goal
       taken runs go_on =
-          granted_step session f me ready.caller call old new t ready.thread result (OwnLabel ∷ enters ∷ reads ∷ []) mid so_far (takes_label right) (λ _. ask (takes_clearance right) (λ _. Answers (reply_if right)))
-          ((λ k. check (at k) t (SetLabel (label_is k))) ∙ set_label_said session (state old) f l me p t runs_as name (place + 1) numbered r owned fewer as_many) runs
-          (λ labelled done called told chain clears. cleared labelled chain (called.state ∙ λ k. with_changed (at k) t (with_label (label_is k))) clears go_on)
+          granted_step accounts f me ready.caller call old new t ready.thread result (OwnLabel ∷ enters ∷ reads ∷ []) mid so_far (takes_label right) (λ _. ask (takes_clearance right) (λ _. Answers (reply_if right)))
+          ((λ k. check (at k) t (SetLabel (label_is k))) ∙ set_label_said accounts (state old) f l me p t runs_as name (place + 1) numbered r owned fewer as_many) runs
+          (λ labelled done called revealed chain clears. cleared labelled chain (called.state ∙ λ k. with_changed (at k) t (with_label (label_is k))) clears go_on)
 
     -- the program behind the gate
     abbrev reading : Program
@@ -230,34 +230,34 @@ module _ (session : Session) (name : Name) (password : Password) (me : ProcName)
       alone = free_by_chain p [] in_none
 
       -- the labels that the code takes are those of the user's process
-      user_takes : user_label caller owners ≡ rights_label l.category (thread_rights session me process_then)
-      user_takes = sym (user_label_is session (state old) f l me caller own_reads own_writes name (place + 1) numbered p.exited p.born)
-          ∙ λ k. rights_label l.category (thread_rights session me (record { user = name; chain = sym in_none k; held = []; exited = p.exited; born = p.born }))
+      user_takes : user_label caller owners ≡ rights_label l.category (thread_rights accounts me process_then)
+      user_takes = sym (user_label_is accounts (state old) f l me caller own_reads own_writes name (place + 1) numbered p.exited p.born)
+          ∙ λ k. rights_label l.category (thread_rights accounts me (record { user = name; chain = sym in_none k; held = []; exited = p.exited; born = p.born }))
 
-      user_clears : user_clearance caller owners ≡ rights_clearance l.category (thread_rights session me process_then)
-      user_clears = sym (user_clearance_is session (state old) f l me caller own_reads own_writes name (place + 1) numbered p.exited p.born)
-          ∙ λ k. rights_clearance l.category (thread_rights session me (record { user = name; chain = sym in_none k; held = []; exited = p.exited; born = p.born }))
+      user_clears : user_clearance caller owners ≡ rights_clearance l.category (thread_rights accounts me process_then)
+      user_clears = sym (user_clearance_is accounts (state old) f l me caller own_reads own_writes name (place + 1) numbered p.exited p.born)
+          ∙ λ k. rights_clearance l.category (thread_rights accounts me (record { user = name; chain = sym in_none k; held = []; exited = p.exited; born = p.born }))
 
-      refused_by : (right : Bool) → same user.0.password password ≡ right → refused session f me p call ≡ unless right EAUTH
+      refused_by : (right : Bool) → same user.0.password password ≡ right → refused accounts f me p call ≡ unless right EAUTH
       refused_by right is = refused_is (Some user.0) true user.1 alone ∙ ap (λ (b : Bool). unless b EAUTH) is
 
       -- behind the gate, by whether the password is right
       ends : (right : Bool) → same user.0.password password ≡ right → (mid : KernelModel) → Chain old t (all_granted (OwnLabel ∷ enters ∷ reads ∷ [])) mid → state mid ≡ behind → Runs (taking right) mid new t result → Goal
       ends true is mid so_far at runs =
-          taken true (thread_rights session me process_then) (user_owns_less session (state old) f l me p t runs_as name (place + 1) numbered) (λ c e. e) (λ c e. e) user_takes user_clears mid so_far at runs
+          taken true (thread_rights accounts me process_then) (user_owns_less accounts (state old) f l me p t runs_as name (place + 1) numbered) (λ c e. e) (λ c e. e) user_takes user_clears mid so_far at runs
           (λ later chain later_is answers.
-          answered_step session f me ready.caller call old new t ready.thread result (all_calls true) later chain Done refl (refused_by true is) tt (among_calls true)
-          (subst (λ (s : State). Represents session s (with_process f me process_then)) (sym later_is) (represents_login session (state old) f ready.represents me p runs_as.0 runs_as.1 name (ap is_some numbered) t runs_as.2)) answers)
+          answered_step accounts f me ready.caller call old new t ready.thread result (all_calls true) later chain Done refl (refused_by true is) tt (among_calls true)
+          (subst (λ (s : State). Represents accounts s (with_process f me process_then)) (sym later_is) (represents_login accounts (state old) f ready.represents me p runs_as.0 runs_as.1 name (ap is_some numbered) t runs_as.2)) answers)
       ends false is mid so_far at runs =
-          taken false (thread_rights session me p) (own_owns_less session (state old) f l me p t runs_as name (place + 1) numbered) (λ c e. e) (λ c e. e) refl refl mid so_far at runs
+          taken false (thread_rights accounts me p) (own_owns_less accounts (state old) f l me p t runs_as name (place + 1) numbered) (λ c e. e) (λ c e. e) refl refl mid so_far at runs
           (λ later chain later_is answers.
-          refused_at_once session f me ready.caller call old new t ready.thread result (all_calls false) later chain (later_is ∙ labels_back (state old) t own most thread) ready.represents EAUTH (refused_by false is) refl refl (among_calls false) answers)
+          refused_at_once accounts f me ready.caller call old new t ready.thread result (all_calls false) later chain (later_is ∙ labels_back (state old) t own clearance thread) ready.represents EAUTH (refused_by false is) refl refl (among_calls false) answers)
 
       -- the password is read
       from_gate : (inside : KernelModel) → Chain old t (all_granted (OwnLabel ∷ enters ∷ [])) inside → state inside ≡ behind → Runs reading inside new t result → Goal
       from_gate inside chain is runs =
-          granted_step session f me ready.caller call old new t ready.thread result (OwnLabel ∷ enters ∷ []) inside chain reads (λ kept. taking (bytes_eq kept password))
-          (ap (λ (s : State). check s t reads) is ∙ read_password_said session (state old) f l me p t runs_as name (place + 1) numbered) runs
+          granted_step accounts f me ready.caller call old new t ready.thread result (OwnLabel ∷ enters ∷ []) inside chain reads (λ kept. taking (bytes_eq kept password))
+          (ap (λ (s : State). check s t reads) is ∙ read_password_said accounts (state old) f l me p t runs_as name (place + 1) numbered) runs
           (λ read kept called kept_is longer goes.
           let kept_so : kept ≡ user.0.password = kept_is ∙ ap (λ (s : State). bytes_in (s.objects (password_of (place + 1)))) is ∙ password_then in
           ends (bytes_eq kept password) (sym (ap (λ (bytes : List ℕ). bytes_eq bytes password) kept_so ∙ equal_bytes user.0.password password)) read longer (called.state ∙ is) goes)
@@ -265,16 +265,16 @@ module _ (session : Session) (name : Name) (password : Password) (me : ProcName)
       -- the gate lets it in
       let_in : (asked : KernelModel) → Chain old t (all_granted (OwnLabel ∷ [])) asked → state asked ≡ state old → Runs (ask enters (λ _. reading)) asked new t result → Goal
       let_in asked chain stays runs =
-          granted_step session f me ready.caller call old new t ready.thread result (OwnLabel ∷ []) asked chain enters (λ _. reading) (ap (λ (s : State). check s t enters) stays ∙ enters_said ∙ ap (λ (b : Bool). unless b Gate) alone) runs
+          granted_step accounts f me ready.caller call old new t ready.thread result (OwnLabel ∷ []) asked chain enters (λ _. reading) (ap (λ (s : State). check s t enters) stays ∙ enters_said ∙ ap (λ (b : Bool). unless b Gate) alone) runs
           (λ inside entry called entry_is longer goes.
           from_gate inside longer (called.state ∙ ap (λ (s : State). with_own s t code_label code_clearance) stays ∙ entered_is) goes)
 
     -- a process in a job is not let in
     kept_out : is_free p ≡ false → (asked : KernelModel) → Chain old t (all_granted (OwnLabel ∷ [])) asked → state asked ≡ state old → Runs (ask enters (λ _. reading)) asked new t result → Goal
     kept_out jobbed asked chain stays runs =
-        refused_step session f me ready.caller call old new t ready.thread result (OwnLabel ∷ []) asked chain stays ready.represents EACCES (refused_is (Some user.0) false user.1 jobbed) enters (λ _. reading) Gate
+        refused_step accounts f me ready.caller call old new t ready.thread result (OwnLabel ∷ []) asked chain stays ready.represents EACCES (refused_is (Some user.0) false user.1 jobbed) enters (λ _. reading) Gate
         (ap (λ (s : State). check s t enters) stays ∙ enters_said ∙ ap (λ (b : Bool). unless b Gate) jobbed) refl
-        (subst (λ (o : Option ℕ). AreAmong (reads_of_login session o false) (entries_of old.line t (all_granted (OwnLabel ∷ []) ++ (enters, Some Gate) ∷ []))) (sym at_place) tt) runs
+        (subst (λ (o : Option ℕ). AreAmong (reads_of_login accounts o false) (entries_of old.line t (all_granted (OwnLabel ∷ []) ++ (enters, Some Gate) ∷ []))) (sym at_place) tt) runs
 
     -- the gate is tried, by the jobs that the process is in
     to_gate : (jobs : List ProcName) → p.chain ≡ jobs → (asked : KernelModel) → Chain old t (all_granted (OwnLabel ∷ [])) asked → state asked ≡ state old → Runs (ask enters (λ _. reading)) asked new t result → Goal
@@ -294,15 +294,15 @@ module _ (session : Session) (name : Name) (password : Password) (me : ProcName)
     someone : Runs (login_as_program caller (place + 1) owners password) old new t result → Goal
     unfolding login_as_program
     someone runs =
-        granted_step session f me ready.caller call old new t ready.thread result [] old (same_kernel old) OwnLabel with_labels asks_said runs
-        (λ asked told called tells chain goes.
-        let told_is : told ≡ (own, most) = λ k. (same_Some told.0 own (tells.0 ∙ ap label_there thread) k, same_Some told.1 most (tells.1 ∙ ap clearance_there thread) k) in
-        to_gate p.chain refl asked chain called.state (subst (λ (x : Levels × Levels). Runs (with_labels x) asked new t result) told_is goes))
+        granted_step accounts f me ready.caller call old new t ready.thread result [] old (same_kernel old) OwnLabel with_labels asks_said runs
+        (λ asked revealed called reveals chain goes.
+        let revealed_is : revealed ≡ (own, clearance) = λ k. (same_Some revealed.0 own (reveals.0 ∙ ap label_there thread) k, same_Some revealed.1 clearance (reveals.1 ∙ ap clearance_there thread) k) in
+        to_gate p.chain refl asked chain called.state (subst (λ (x : Levels × Levels). Runs (with_labels x) asked new t result) revealed_is goes))
 
-  by_place : (o : Option ℕ) → place_of session.users name ≡ o → Runs (login_at session caller name password o) old new t result → Goal
+  by_place : (o : Option ℕ) → place_of accounts.users name ≡ o → Runs (login_at accounts caller name password o) old new t result → Goal
   by_place None nowhere runs = unknown nowhere runs
   by_place (Some place) at_place runs = someone place at_place runs
 
 -- A login is the row of its call.
 pub login_refines : LoginRefines
-login_refines session ok name password me caller old new f result ready found runs = by_place session name password me caller old new f result ready found (place_of session.users name) refl runs
+login_refines accounts ok name password me caller old new f result ready found runs = by_place accounts name password me caller old new f result ready found (place_of accounts.users name) refl runs

@@ -8,7 +8,7 @@ use Rattle.histar_flat.specs.declared.replies.Errno.TheVariants.{EACCES}
 use Rattle.histar_flat.specs.declared.replies.Reply.{Reply}
 use Rattle.histar_flat.specs.declared.replies.Reply.TheVariants.{Data}
 use Rattle.histar_flat.specs.Words.{Name, Path, ProcName}
-use Rattle.histar_flat.specs.Sessions.{Session}
+use Rattle.histar_flat.specs.Accounts.{Accounts}
 use Rattle.histar_flat.specs.Files.{get}
 use Rattle.histar_flat.specs.Classes.{Class, Process}
 use Rattle.histar_flat.specs.FlatState.{Flat, bytes_at, reads, into}
@@ -22,76 +22,76 @@ use Rattle.histar_rules.specs.declared.raw.RawCall.TheVariants as raw
 use Rattle.histar_rules.specs.Rules.{check}
 use Rattle.histar_syscall.specs.KernelModel.{KernelModel, state}
 use Rattle.histar_syscall.specs.declared.trace.TraceEntry.{TraceEntry}
-use Rattle.histar_calls.specs.declared.ending.Stopped.{Stopped}
+use Rattle.histar_calls.specs.declared.call_error.Stopped.{Stopped}
 use Rattle.histar_calls.specs.Programs.{Runs}
 use Rattle.histar_calls.specs.Programs.Program.{Answers}
 use Rattle.histar_calls.specs.Parts.{ask}
 use Rattle.histar_calls.specs.Read.{read_program}
-use Rattle.histar_refinement.specs.Sessions.{IsSession}
+use Rattle.histar_refinement.specs.Accounts.{AreAccounts}
 use Rattle.histar_refinement.specs.Represents.{Represents}
 use Rattle.histar_sim.specs.Simulation.{IsReady, EndsWithRead}
 use Rattle.histar_sim.specs.Laws.{ReadRefines}
 use Rattle.histar_sim.proofs.Chains.{all_granted, entries_of, Chain}
-use Rattle.histar_sim.proofs.Endings.{read_last}
+use Rattle.histar_sim.proofs.CallErrors.{read_last}
 use Rattle.histar_sim.proofs.Steps.{Goal, granted_step, refused_step, answered_step}
 use Rattle.histar_sim.proofs.Walks.{walk_reads, walked_then, walked_also}
 use Rattle.histar_sim.proofs.Files.{ReachesFile, slash_is_no_file, reached, file_step}
 use Rattle.histar_sim.proofs.FoundObjects.{container, segment, held_there, read_said}
 
 -- a read reaches the file that it reads
-read_reaches : (session : Session) (f : Flat) (me : ProcName) (p : Process) (q : Path) → ReachesFile session f me p q (calls.Read q) (unless (reads session f p q) EACCES)
-read_reaches session f me p q = record { refuses = refl; reads = λ s reply entries walk. walk }
+read_reaches : (accounts : Accounts) (f : Flat) (me : ProcName) (p : Process) (q : Path) → ReachesFile accounts f me p q (calls.Read q) (unless (reads accounts f p q) EACCES)
+read_reaches accounts f me p q = record { refuses = refl; reads = λ s reply entries walk. walk }
 
-module _ (session : Session) (ok : IsSession session) (old new : KernelModel) (f : Flat) (me : ProcName) (t : ℕ) (ready : IsReady session (state old) f me t) (m : Name) (d : Path) (result : Result Reply Stopped) where
+module _ (accounts : Accounts) (ok : AreAccounts accounts) (old new : KernelModel) (f : Flat) (me : ProcName) (t : ℕ) (ready : IsReady accounts (state old) f me t) (m : Name) (d : Path) (result : Result Reply Stopped) where
   abbrev call : UnixCall
   call = calls.Read (m ∷ d)
 
   abbrev walk : List RawCall
-  walk = walk_reads session ok (state old) f me t ready d
+  walk = walk_reads accounts ok (state old) f me t ready d
 
   abbrev p : Process
   p = ready.caller.process
 
-  abbrev Row : Type 0
-  Row = Goal session f me ready.caller call old new t ready.thread result
+  abbrev Refined : Type 0
+  Refined = Goal accounts f me ready.caller call old new t ready.thread result
 
   -- the segment of the file, and the read of it
   abbrev file : ℕ
-  file = segment session ok (state old) f me t ready d m
+  file = segment accounts ok (state old) f me t ready d m
 
   abbrev next : RawCall
-  next = raw.Read (container session ok (state old) f me t ready d) file
+  next = raw.Read (container accounts ok (state old) f me t ready d) file
 
-  module _ (open_so_far : into session f p d ≡ None) (class : Class) (bytes : List ℕ) (at : get f.files (m ∷ d) ≡ Some (record { class = class; content = File bytes })) (mid : KernelModel) (stays : state mid ≡ state old) (chain : Chain old t (all_granted walk) mid) where
+  module _ (open_so_far : into accounts f p d ≡ None) (class : Class) (bytes : List ℕ) (at : get f.files (m ∷ d) ≡ Some (record { class = class; content = File bytes })) (mid : KernelModel) (stays : state mid ≡ state old) (chain : Chain old t (all_granted walk) mid) where
     -- the kernel's check is the flat rule
-    said_by : (may : Bool) → reads session f p (m ∷ d) ≡ may → check (state mid) t next ≡ unless may Observe
-    said_by may is = ap (λ (s : State). check s t next) stays ∙ read_said session ok (state old) f me t ready d open_so_far m class bytes at ∙ ap (λ (b : Bool). unless b Observe) is
+    said_by : (may : Bool) → reads accounts f p (m ∷ d) ≡ may → check (state mid) t next ≡ unless may Observe
+    said_by may is = ap (λ (s : State). check s t next) stays ∙ read_said accounts ok (state old) f me t ready d open_so_far m class bytes at ∙ ap (λ (b : Bool). unless b Observe) is
 
-    refused_by : (may : Bool) → reads session f p (m ∷ d) ≡ may → refused session f me p call ≡ unless may EACCES
-    refused_by may is = reached session ok old new f me t ready m d call result _ (read_reaches session f me p (m ∷ d)) open_so_far class bytes at ∙ ap (λ (b : Bool). unless b EACCES) is
+    refused_by : (may : Bool) → reads accounts f p (m ∷ d) ≡ may → refused accounts f me p call ≡ unless may EACCES
+    refused_by may is = reached accounts ok old new f me t ready m d call result _ (read_reaches accounts f me p (m ∷ d)) open_so_far class bytes at ∙ ap (λ (b : Bool). unless b EACCES) is
 
     held : bytes_in ((state mid).objects file) ≡ bytes_at f (m ∷ d)
-    held = ap (λ (s : State). bytes_in (s.objects file)) stays ∙ held_there session ok (state old) f me t ready d open_so_far m class bytes at
+    held = ap (λ (s : State). bytes_in (s.objects file)) stays ∙ held_there accounts ok (state old) f me t ready d open_so_far m class bytes at
 
-    by_right : (may : Bool) → reads session f p (m ∷ d) ≡ may → Runs (ask next (λ (b : List ℕ). Answers (Data b))) mid new t result → Row
+    by_right : (may : Bool) → reads accounts f p (m ∷ d) ≡ may → Runs (ask next (λ (b : List ℕ). Answers (Data b))) mid new t result → Refined
     by_right false is on =
-        refused_step session f me ready.caller call old new t ready.thread result walk mid chain stays ready.represents EACCES (refused_by false is) next (λ (b : List ℕ). Answers (Data b)) Observe
-        (said_by false is) refl (walked_also session ok (state old) f me t ready m d old.line ((next, Some Observe) ∷ [])) on
+        refused_step accounts f me ready.caller call old new t ready.thread result walk mid chain stays ready.represents EACCES (refused_by false is) next (λ (b : List ℕ). Answers (Data b)) Observe
+        (said_by false is) refl (walked_also accounts ok (state old) f me t ready m d old.line ((next, Some Observe) ∷ [])) on
     by_right true is on =
-        granted_step session f me ready.caller call old new t ready.thread result walk mid chain next (λ (b : List ℕ). Answers (Data b)) (said_by true is) on
+        granted_step accounts f me ready.caller call old new t ready.thread result walk mid chain next (λ (b : List ℕ). Answers (Data b)) (said_by true is) on
         (λ later answer called right longer end.
         let answer_is : answer ≡ bytes_at f (m ∷ d) = right ∙ held in
         let entries_are : entries_of old.line t (all_granted (walk ++ next ∷ [])) ≡ entries_of old.line t (all_granted walk ++ (next, None) ∷ []) = ap (entries_of old.line t) (map-append (λ (c : RawCall). (c, None)) walk (next ∷ [])) in
         let backed = subst (λ (es : List TraceEntry). EndsWithRead (state old) es (bytes_at f (m ∷ d))) (sym entries_are)
-        (subst (EndsWithRead (state old) (entries_of old.line t (all_granted walk ++ (next, None) ∷ []))) held (read_last old mid t walk chain (container session ok (state old) f me t ready d) file)) in
+        (subst (EndsWithRead (state old) (entries_of old.line t (all_granted walk ++ (next, None) ∷ []))) held (read_last old mid t walk chain (container accounts ok (state old) f me t ready d) file)) in
         let same : state later ≡ state old = called.state ∙ stays in
-        answered_step session f me ready.caller call old new t ready.thread result (walk ++ next ∷ []) later longer (Data answer) (ap Data answer_is) (refused_by true is) backed (walked_then session ok (state old) f me t ready m d old.line (next ∷ []))
-        (subst (λ (s : State). Represents session s f) (sym same) ready.represents) end)
+        answered_step accounts f me ready.caller call old new t ready.thread result (walk ++ next ∷ []) later longer (Data answer) (ap Data answer_is) (refused_by true is) backed (walked_then accounts ok (state old) f me t ready m d old.line (next ∷ []))
+        (subst (λ (s : State). Represents accounts s f) (sym same) ready.represents) end)
 
 -- a read does what its flat rule says
 pub read_refines : ReadRefines
 unfolding read_program
-read_refines session ok [] me old new f t result ready run = slash_is_no_file session old new f me t ready (calls.Read []) result _ (read_reaches session f me ready.caller.process []) _ run
-read_refines session ok (m ∷ d) me old new f t result ready run =
-    file_step session ok old new f me t ready m d (calls.Read (m ∷ d)) result _ (read_reaches session f me ready.caller.process (m ∷ d)) _ run
-    (λ open_so_far class bytes at mid stays chain on. by_right session ok old new f me t ready m d result open_so_far class bytes at mid stays chain (reads session f ready.caller.process (m ∷ d)) refl on)
+read_refines accounts ok [] me old new f t result ready run = slash_is_no_file accounts old new f me t ready (calls.Read []) result _ (read_reaches accounts f me ready.caller.process []) _ run
+read_refines accounts ok (m ∷ d) me old new f t result ready run =
+    file_step accounts ok old new f me t ready m d (calls.Read (m ∷ d)) result _ (read_reaches accounts f me ready.caller.process (m ∷ d)) _ run
+    (λ open_so_far class bytes at mid stays chain on. by_right accounts ok old new f me t ready m d result open_so_far class bytes at mid stays chain (reads accounts f ready.caller.process (m ∷ d)) refl on)

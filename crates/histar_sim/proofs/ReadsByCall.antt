@@ -6,7 +6,7 @@ use Rattle.histar_flat.specs.declared.replies.Errno.TheVariants.{EAGAIN}
 use Rattle.histar_flat.specs.declared.replies.Reply.{Reply}
 use Rattle.histar_flat.specs.declared.replies.Reply.TheVariants.{Stats, Refused}
 use Rattle.histar_flat.specs.Words.{Path, ProcName}
-use Rattle.histar_flat.specs.Sessions.{Session}
+use Rattle.histar_flat.specs.Accounts.{Accounts}
 use Rattle.histar_flat.specs.Classes.{Process}
 use Rattle.histar_flat.specs.FlatState.{Flat}
 use Rattle.histar_flat.specs.CallRules.{path_of}
@@ -20,18 +20,18 @@ use Rattle.histar_refinement.specs.Lines.{IsStatusSegment, IsDirectoryAt, IsObje
 use Rattle.histar_sim.specs.Reads.{Question, AreAmong, is_compared, tested, looked_at, walked, walked_into, walked_unless_full, label_asked, password_asked, due, Asks, AskAll, HasReads}
 use Rattle.histar_sim.specs.Reads.Question.{EntriesOf, LabelAt, StatusOf, OwnLabel, PasswordAt}
 
-module _ (session : Session) where
+module _ (accounts : Accounts) where
   module _ (s : State) where
     -- these raw calls read the directory segments of these directories, one after another
     abbrev pub AreReadsOf : List Path → List RawCall → Type 0
     AreReadsOf [] calls = calls ≡ []
     AreReadsOf (d ∷ more) calls =
         (container : ℕ) × (listing : ℕ) × (later : List RawCall)
-        × IsDirectoryAt session s d container listing × (calls ≡ raw.Read container listing ∷ later) × AreReadsOf more later
+        × IsDirectoryAt accounts s d container listing × (calls ≡ raw.Read container listing ∷ later) × AreReadsOf more later
 
     -- among the entries are reads of the directories that the way into a directory looks at
     abbrev pub HasWay : Flat → Process → Path → List TraceEntry → Type 0
-    HasWay f p d entries = (calls : List RawCall) × AreReadsOf (tested session f p d) calls × AreAmong calls entries
+    HasWay f p d entries = (calls : List RawCall) × AreReadsOf (tested accounts f p d) calls × AreAmong calls entries
 
     -- the walk to a path is the way into the directory that it lies in; to `/` there is no walk
     abbrev pub HasWalk : Flat → Process → Path → List TraceEntry → Type 0
@@ -41,7 +41,7 @@ module _ (session : Session) where
     -- the directories that the walk to a path looks whether it may read
     abbrev pub walked_paths : Flat → Process → Path → List Path
     walked_paths f p [] = []
-    walked_paths f p (n ∷ d) = tested session f p d
+    walked_paths f p (n ∷ d) = tested accounts f p d
 
     -- a wrap that has no room for a child makes no walk
     abbrev pub HasWalkUnlessFull : Flat → Process → Path → Reply → List TraceEntry → Type 0
@@ -50,7 +50,7 @@ module _ (session : Session) where
 
     -- a raw call that asks for the label of what stands at a path, where the reply tells of it
     abbrev pub AreLabelCalls : Path → Reply → List RawCall → Type 0
-    AreLabelCalls q (Stats stat) calls = (container : ℕ) × (object : ℕ) × IsObjectAt session s q container object × (calls ≡ raw.LabelOf container object ∷ [])
+    AreLabelCalls q (Stats stat) calls = (container : ℕ) × (object : ℕ) × IsObjectAt accounts s q container object × (calls ≡ raw.LabelOf container object ∷ [])
     AreLabelCalls q _ calls = calls ≡ []
 
     -- among the entries are the reads of the walk to a path, and after them the raw call for the label, if there is one
@@ -63,11 +63,11 @@ module _ (session : Session) where
     AreStatusReads [] calls = calls ≡ []
     AreStatusReads (name ∷ more) calls =
         (container : ℕ) × (segment : ℕ) × (later : List RawCall)
-        × IsStatusSegment session s name container segment × (calls ≡ raw.Read container segment ∷ later) × AreStatusReads more later
+        × IsStatusSegment accounts s name container segment × (calls ≡ raw.Read container segment ∷ later) × AreStatusReads more later
 
     -- among the entries are reads of the processes on the way to a name that are looked at
     abbrev pub HasSearch : Flat → Process → ProcName → List TraceEntry → Type 0
-    HasSearch f p name entries = (calls : List RawCall) × AreStatusReads (looked_at session f p name) calls × AreAmong calls entries
+    HasSearch f p name entries = (calls : List RawCall) × AreStatusReads (looked_at accounts f p name) calls × AreAmong calls entries
 
     -- a directory that is to be taken away is read itself, as the ones on the way are
     abbrev pub HasWayUnlessSlash : Flat → Process → Path → List TraceEntry → Type 0
@@ -88,71 +88,71 @@ module _ (session : Session) where
   HasReadsByCall s f p (Status name) reply entries = HasSearch s f p name entries
   HasReadsByCall s f p (Kill name) reply entries = HasSearch s f p name entries
   HasReadsByCall s f p Whoami reply entries = AreAmong (raw.OwnLabel ∷ []) entries
-  HasReadsByCall s f p (Login name password) reply entries = AreAmong (reads_of_login (place_of session.users name) (is_compared reply)) entries
+  HasReadsByCall s f p (Login name password) reply entries = AreAmong (reads_of_login (place_of accounts.users name) (is_compared reply)) entries
   HasReadsByCall s f p (Wrap path) reply entries = HasWalkUnlessFull s f p path reply entries
   HasReadsByCall s f p call reply entries = HasWalk s f p (path_of call) entries
 
   module _ (s : State) (f : Flat) (p : Process) where
     -- what is asked first, and then what is asked behind it
-    asked_then : (xs ys : List Question) (a b : List RawCall) → AskAll session s xs a → AskAll session s ys b → AskAll session s (xs ++ ys) (a ++ b)
-    asked_then [] ys a b h k = subst (λ (c : List RawCall). AskAll session s ys (c ++ b)) (sym h) k
+    asked_then : (xs ys : List Question) (a b : List RawCall) → AskAll accounts s xs a → AskAll accounts s ys b → AskAll accounts s (xs ++ ys) (a ++ b)
+    asked_then [] ys a b h k = subst (λ (c : List RawCall). AskAll accounts s ys (c ++ b)) (sym h) k
     asked_then (x ∷ xs) ys a b h k = (h.0, h.1 ++ b, h.2, ap (λ (c : List RawCall). c ++ b) h.3, asked_then xs ys h.1 b h.4 k)
 
     -- reads of directory segments ask for the entries of the directories
-    asked_entries : (ds : List Path) (calls : List RawCall) → AreReadsOf s ds calls → AskAll session s (map EntriesOf ds) calls
+    asked_entries : (ds : List Path) (calls : List RawCall) → AreReadsOf s ds calls → AskAll accounts s (map EntriesOf ds) calls
     asked_entries [] calls h = h
     asked_entries (d ∷ more) calls h = (raw.Read h.0 h.1, h.2, (h.0, h.1, h.3, refl), h.4, asked_entries more h.2 h.5)
 
     -- reads of process segments ask for what they show
-    asked_statuses : (names : List ProcName) (calls : List RawCall) → AreStatusReads s names calls → AskAll session s (map StatusOf names) calls
+    asked_statuses : (names : List ProcName) (calls : List RawCall) → AreStatusReads s names calls → AskAll accounts s (map StatusOf names) calls
     asked_statuses [] calls h = h
     asked_statuses (name ∷ more) calls h = (raw.Read h.0 h.1, h.2, (h.0, h.1, h.3, refl), h.4, asked_statuses more h.2 h.5)
 
     -- the reads of a walk ask what the walk is due to ask
-    asked_walk : (q : Path) (calls : List RawCall) → AreReadsOf s (walked_paths s f p q) calls → AskAll session s (walked session f p q) calls
+    asked_walk : (q : Path) (calls : List RawCall) → AreReadsOf s (walked_paths s f p q) calls → AskAll accounts s (walked accounts f p q) calls
     asked_walk [] calls h = h
-    asked_walk (n ∷ d) calls h = asked_entries (tested session f p d) calls h
+    asked_walk (n ∷ d) calls h = asked_entries (tested accounts f p d) calls h
 
     -- a raw call for a label asks for it
-    asked_label : (q : Path) (reply : Reply) (calls : List RawCall) → AreLabelCalls s q reply calls → AskAll session s (label_asked q reply) calls
+    asked_label : (q : Path) (reply : Reply) (calls : List RawCall) → AreLabelCalls s q reply calls → AskAll accounts s (label_asked q reply) calls
     asked_label q (Stats stat) calls h = (raw.LabelOf h.0 h.1, [], (h.0, h.1, h.2, refl), h.3, refl)
     asked_label q reply calls h = h
 
     -- what is due to a walk is asked
-    walk_due : (q : Path) (entries : List TraceEntry) → HasWalk s f p q entries → (calls : List RawCall) × AskAll session s (walked session f p q) calls × AreAmong calls entries
+    walk_due : (q : Path) (entries : List TraceEntry) → HasWalk s f p q entries → (calls : List RawCall) × AskAll accounts s (walked accounts f p q) calls × AreAmong calls entries
     walk_due [] entries h = ([], refl, tt)
-    walk_due (n ∷ d) entries h = (h.0, asked_entries (tested session f p d) h.0 h.1, h.2)
+    walk_due (n ∷ d) entries h = (h.0, asked_entries (tested accounts f p d) h.0 h.1, h.2)
 
     -- what is due to a call that looks into a directory that it removes
-    into_due : (q : Path) (entries : List TraceEntry) → HasWayUnlessSlash s f p q entries → (calls : List RawCall) × AskAll session s (walked_into session f p q) calls × AreAmong calls entries
+    into_due : (q : Path) (entries : List TraceEntry) → HasWayUnlessSlash s f p q entries → (calls : List RawCall) × AskAll accounts s (walked_into accounts f p q) calls × AreAmong calls entries
     into_due [] entries h = ([], refl, tt)
-    into_due (n ∷ d) entries h = (h.0, asked_entries (tested session f p (n ∷ d)) h.0 h.1, h.2)
+    into_due (n ∷ d) entries h = (h.0, asked_entries (tested accounts f p (n ∷ d)) h.0 h.1, h.2)
 
     -- what is due to a wrap
-    wrap_due : (q : Path) (reply : Reply) (entries : List TraceEntry) → HasWalkUnlessFull s f p q reply entries → (calls : List RawCall) × AskAll session s (walked_unless_full session f p q reply) calls × AreAmong calls entries
+    wrap_due : (q : Path) (reply : Reply) (entries : List TraceEntry) → HasWalkUnlessFull s f p q reply entries → (calls : List RawCall) × AskAll accounts s (walked_unless_full accounts f p q reply) calls × AreAmong calls entries
     wrap_due q (Refused EAGAIN) entries h = ([], refl, tt)
     wrap_due q (Refused errno) entries h = walk_due q entries h
     wrap_due q reply entries h = walk_due q entries h
 
     -- what is due to a search
-    search_due : (name : ProcName) (entries : List TraceEntry) → HasSearch s f p name entries → (calls : List RawCall) × AskAll session s (map StatusOf (looked_at session f p name)) calls × AreAmong calls entries
-    search_due name entries h = (h.0, asked_statuses (looked_at session f p name) h.0 h.1, h.2)
+    search_due : (name : ProcName) (entries : List TraceEntry) → HasSearch s f p name entries → (calls : List RawCall) × AskAll accounts s (map StatusOf (looked_at accounts f p name)) calls × AreAmong calls entries
+    search_due name entries h = (h.0, asked_statuses (looked_at accounts f p name) h.0 h.1, h.2)
 
     -- what is due to a login
-    login_due : (place : Option ℕ) (compared : Bool) (entries : List TraceEntry) → AreAmong (reads_of_login place compared) entries → (calls : List RawCall) × AskAll session s (password_asked place compared) calls × AreAmong calls entries
+    login_due : (place : Option ℕ) (compared : Bool) (entries : List TraceEntry) → AreAmong (reads_of_login place compared) entries → (calls : List RawCall) × AskAll accounts s (password_asked place compared) calls × AreAmong calls entries
     login_due None compared entries h = ([], refl, tt)
     login_due (Some place) false entries h = ([], refl, tt)
     login_due (Some place) true entries h = (raw.Read root_number (password_of (place + 1)) ∷ [], (raw.Read root_number (password_of (place + 1)), [], refl, refl, refl), h)
 
     -- what is due to a call is asked, where it has the reads of its words
-    pub reads_due : (call : UnixCall) (reply : Reply) (entries : List TraceEntry) → HasReadsByCall s f p call reply entries → HasReads session s f (Some p) call reply entries
-    reads_due (ListCall path) reply entries h = (h.0, asked_entries (tested session f p path) h.0 h.1, h.2)
+    pub reads_due : (call : UnixCall) (reply : Reply) (entries : List TraceEntry) → HasReadsByCall s f p call reply entries → HasReads accounts s f (Some p) call reply entries
+    reads_due (ListCall path) reply entries h = (h.0, asked_entries (tested accounts f p path) h.0 h.1, h.2)
     reads_due (Stat path) reply entries h =
-        (h.0 ++ h.1, asked_then (walked session f p path) (label_asked path reply) h.0 h.1 (asked_walk path h.0 h.2) (asked_label path reply h.1 h.3), h.4)
+        (h.0 ++ h.1, asked_then (walked accounts f p path) (label_asked path reply) h.0 h.1 (asked_walk path h.0 h.2) (asked_label path reply h.1 h.3), h.4)
     reads_due (Rmdir path) reply entries h = into_due path entries h
     reads_due (Status name) reply entries h = search_due name entries h
     reads_due (Kill name) reply entries h = search_due name entries h
     reads_due Whoami reply entries h = (raw.OwnLabel ∷ [], (raw.OwnLabel, [], refl, refl, refl), h)
-    reads_due (Login name password) reply entries h = login_due (place_of session.users name) (is_compared reply) entries h
+    reads_due (Login name password) reply entries h = login_due (place_of accounts.users name) (is_compared reply) entries h
     reads_due (Wrap path) reply entries h = wrap_due path reply entries h
     reads_due call reply entries h = walk_due (path_of call) entries h

@@ -10,7 +10,7 @@ use Rattle.histar_flat.specs.declared.replies.Errno.TheVariants.{EACCES, EBUSY, 
 use Rattle.histar_flat.specs.declared.replies.Reply.{Reply}
 use Rattle.histar_flat.specs.declared.replies.Reply.TheVariants.{Done}
 use Rattle.histar_flat.specs.Words.{Name, Path, ProcName, is_name}
-use Rattle.histar_flat.specs.Sessions.{Session}
+use Rattle.histar_flat.specs.Accounts.{Accounts}
 use Rattle.histar_flat.specs.Files.{get}
 use Rattle.histar_flat.specs.Classes.{Class, Process, may_read, may_write}
 use Rattle.histar_flat.specs.FlatState.{Flat, Node, Content, is_some_and, is_dir_at, writes, into, with_renamed}
@@ -25,89 +25,89 @@ use Rattle.histar_syscall.specs.KernelModel.{KernelModel, state}
 use Rattle.histar_syscall.proofs.Runs.{same_kernel}
 use Rattle.histar_layout.specs.Directory.{Entries, spelling}
 use Rattle.histar_layout.specs.declared.entry.Target.{Target}
-use Rattle.histar_calls.specs.declared.ending.Stopped.{Stopped}
+use Rattle.histar_calls.specs.declared.call_error.Stopped.{Stopped}
 use Rattle.histar_calls.specs.Programs.{Program, Runs}
 use Rattle.histar_calls.specs.Programs.Program.{Answers}
 use Rattle.histar_calls.specs.Parts.{ask, given}
 use Rattle.histar_moves.specs.Parts.{find_entry, must_be_free}
 use Rattle.histar_moves.specs.Rename.{rename_program}
-use Rattle.histar_login.specs.Start.{places_of}
-use Rattle.histar_refinement.specs.Sessions.{IsSession}
+use Rattle.histar_login.specs.Start.{roots_of}
+use Rattle.histar_refinement.specs.Accounts.{AreAccounts}
 use Rattle.histar_refinement.specs.Addresses.{address_of}
 use Rattle.histar_refinement.specs.Addresses.Step.{Listing}
 use Rattle.histar_refinement.specs.Directories.{directory_of}
 use Rattle.histar_refinement.specs.Represents.{Represents}
 use Rattle.histar_refinement.proofs.DirectoryLaws.{get_directory}
 use Rattle.histar_refinement.proofs.FileChecks.{write_listing_said}
-use Rattle.histar_refinement.proofs.FileRows.{leads_at}
+use Rattle.histar_refinement.proofs.ListedFiles.{leads_at}
 use Rattle.histar_refinement.proofs.Renaming.{listable_renamed, represents_renamed}
 use Rattle.histar_sim.specs.Simulation.{IsReady}
 use Rattle.histar_sim.proofs.Chains.{all_granted, Chain}
 use Rattle.histar_sim.proofs.Steps.{Goal, granted_step, refused_step, refused_at_once, answered_step}
-use Rattle.histar_sim.proofs.Walks.{runs, place_at, walk_reads, among_granted_all, stands, at_container, at_listing, dir, seen, nothing_there, has_walk, walked_then, walked_also}
+use Rattle.histar_sim.proofs.Walks.{runs, place_at, walk_reads, among_granted_all, agrees, at_container, at_listing, dir, seen, nothing_there, has_walk, walked_then, walked_also}
 use Rattle.histar_sim.specs.Laws.{RenameRefines}
 use Rattle.histar_sim.proofs.Entries.{target_at, entry_leads, reached, entry_step}
 
-module _ (session : Session) (ok : IsSession session) (old new : KernelModel) (f : Flat) (me : ProcName) (t : ℕ) (ready : IsReady session (state old) f me t) (m : Name) (d : Path) (name : Name) (named : IsTrue (is_name name)) (result : Result Reply Stopped) where
+module _ (accounts : Accounts) (ok : AreAccounts accounts) (old new : KernelModel) (f : Flat) (me : ProcName) (t : ℕ) (ready : IsReady accounts (state old) f me t) (m : Name) (d : Path) (name : Name) (named : IsTrue (is_name name)) (result : Result Reply Stopped) where
   abbrev call : UnixCall
   call = calls.Rename (m ∷ d) name
 
   abbrev walk : List RawCall
-  walk = walk_reads session ok (state old) f me t ready d
+  walk = walk_reads accounts ok (state old) f me t ready d
 
-  abbrev Row : Type 0
-  Row = Goal session f me ready.caller call old new t ready.thread result
+  abbrev Refined : Type 0
+  Refined = Goal accounts f me ready.caller call old new t ready.thread result
 
   abbrev p : Process
   p = ready.caller.process
 
   -- the container of the directory and its directory segment
   abbrev container : ℕ
-  container = (place_at session ok (state old) f me t ready d).container
+  container = (place_at accounts ok (state old) f me t ready d).container
 
   abbrev listing : ℕ
-  listing = (place_at session ok (state old) f me t ready d).listing
+  listing = (place_at accounts ok (state old) f me t ready d).listing
 
   abbrev entries : Entries
-  entries = directory_of f.files ready.represents.laid.naming.number d
+  entries = directory_of f.files ready.represents.matched.naming.number d
 
   -- what the flat rules refuse of the new name
   abbrev refusal : Option Node → Bool → Option Errno
   refusal o may = unless (not (is_some_and o (λ n. true))) EEXIST orelse unless may EACCES
 
-  module _ (open_so_far : into session f p d ≡ None) (class : Class) (content : Content) (at : get f.files (m ∷ d) ≡ Some (record { class = class; content = content })) (mid : KernelModel) (stays : state mid ≡ state old) (chain : Chain old t (all_granted walk) mid) where
+  module _ (open_so_far : into accounts f p d ≡ None) (class : Class) (content : Content) (at : get f.files (m ∷ d) ≡ Some (record { class = class; content = content })) (mid : KernelModel) (stays : state mid ≡ state old) (chain : Chain old t (all_granted walk) mid) where
     is_dir_here : is_dir_at f d ≡ true
-    is_dir_here = dir session ok (state old) f me t ready d open_so_far
+    is_dir_here = dir accounts ok (state old) f me t ready d open_so_far
 
     abbrev root : Class
-    root = (stands session ok (state old) f me t ready d (dir session ok (state old) f me t ready d open_so_far)).0
+    root = (agrees accounts ok (state old) f me t ready d (dir accounts ok (state old) f me t ready d open_so_far)).0
 
     root_at : get f.files d ≡ Some (record { class = root; content = Dir })
-    root_at = (stands session ok (state old) f me t ready d (dir session ok (state old) f me t ready d open_so_far)).1
+    root_at = (agrees accounts ok (state old) f me t ready d (dir accounts ok (state old) f me t ready d open_so_far)).1
 
-    at_D : ready.represents.laid.naming.number (address_of d) ≡ Some container
-    at_D = at_container session ok (state old) f me t ready d is_dir_here
+    at_D : ready.represents.matched.naming.number (address_of d) ≡ Some container
+    at_D = at_container accounts ok (state old) f me t ready d is_dir_here
 
-    at_N : ready.represents.laid.naming.number (Listing ∷ address_of d) ≡ Some listing
-    at_N = at_listing session ok (state old) f me t ready d is_dir_here
+    at_N : ready.represents.matched.naming.number (Listing ∷ address_of d) ≡ Some listing
+    at_N = at_listing accounts ok (state old) f me t ready d is_dir_here
 
-    sees : may_read session p root ≡ true
-    sees = seen session ok (state old) f me t ready d open_so_far
+    sees : may_read accounts p root ≡ true
+    sees = seen accounts ok (state old) f me t ready d open_so_far
 
-    right_is : writes session f p d ≡ may_write session p root
-    right_is = ap (λ (o : Option Node). is_some_and o (λ n. may_write session p n.class)) root_at
+    right_is : writes accounts f p d ≡ may_write accounts p root
+    right_is = ap (λ (o : Option Node). is_some_and o (λ n. may_write accounts p n.class)) root_at
 
-    refused_by : (o : Option Node) (may : Bool) → get f.files (name ∷ d) ≡ o → may_write session p root ≡ may → refused session f me p call ≡ refusal o may
+    refused_by : (o : Option Node) (may : Bool) → get f.files (name ∷ d) ≡ o → may_write accounts p root ≡ may → refused accounts f me p call ≡ refusal o may
     refused_by o may is_o is_may =
-        reached session ok old new f me t ready m d call result (refusal (get f.files (name ∷ d)) (writes session f p d)) refl (λ _ steps r among. has_walk session ok (state old) f me t ready m d _ among) open_so_far (record { class = class; content = content }) at
+        reached accounts ok old new f me t ready m d call result (refusal (get f.files (name ∷ d)) (writes accounts f p d)) refl (λ _ steps r among. has_walk accounts ok (state old) f me t ready m d _ among) open_so_far (record { class = class; content = content }) at
         ∙ (λ i. refusal (is_o i) ((right_is ∙ is_may) i))
 
     -- where the entry leads
     abbrev target : Target
-    target = target_at session ok (state old) f me t ready m d content
+    target = target_at accounts ok (state old) f me t ready m d content
 
-    leads : leads_at f.files ready.represents.laid.naming.number (m ∷ d) ≡ Some target
-    leads = sym (get_directory f.files ready.represents.laid.naming.number d m) ∙ entry_leads session ok (state old) f me t ready m d class content at
+    leads : leads_at f.files ready.represents.matched.naming.number (m ∷ d) ≡ Some target
+    leads = sym (get_directory f.files ready.represents.matched.naming.number d m) ∙ entry_leads accounts ok (state old) f me t ready m d class content at
 
     -- the directory with the entry under its new name
     abbrev renamed : Entries
@@ -118,53 +118,53 @@ module _ (session : Session) (ok : IsSession session) (old new : KernelModel) (f
 
     module _ (absent : get f.files (name ∷ d) ≡ None) where
       -- the kernel's check is the flat rule
-      said : (may : Bool) → may_write session p root ≡ may → check (state mid) t next ≡ unless may Modify
+      said : (may : Bool) → may_write accounts p root ≡ may → check (state mid) t next ≡ unless may Modify
       said may is_may =
           ap (λ (s : State). check s t next) stays
-          ∙ write_listing_said session (state old) f ready.represents.laid ok me p t (runs session ok (state old) f me t ready) d root root_at container listing at_D at_N sees renamed
-          (listable_renamed session (state old) f ready.represents.laid m name d listing at_N absent target leads named (ready.represents.laid.listable d is_dir_here))
+          ∙ write_listing_said accounts (state old) f ready.represents.matched ok me p t (runs accounts ok (state old) f me t ready) d root root_at container listing at_D at_N sees renamed
+          (listable_renamed accounts (state old) f ready.represents.matched m name d listing at_N absent target leads named (ready.represents.matched.listable d is_dir_here))
           ∙ ap (λ (b : Bool). unless b Modify) is_may
 
       -- the kernel has the objects of the flat state with the entry renamed
-      laid_after : Represents session (with_segment_bytes (state old) listing (spelling renamed)) (with_renamed f (m ∷ d) (name ∷ d))
-      laid_after = represents_renamed session (state old) f ready.represents.laid m name d listing at_N absent target leads ready.represents.jobs_given named is_dir_here
+      matched_after : Represents accounts (with_segment_bytes (state old) listing (spelling renamed)) (with_renamed f (m ∷ d) (name ∷ d))
+      matched_after = represents_renamed accounts (state old) f ready.represents.matched m name d listing at_N absent target leads ready.represents.jobs_given named is_dir_here
 
-      by_right : (may : Bool) → may_write session p root ≡ may → Runs (ask next (λ _. Answers Done)) mid new t result → Row
+      by_right : (may : Bool) → may_write accounts p root ≡ may → Runs (ask next (λ _. Answers Done)) mid new t result → Refined
       by_right false is_may on =
-          refused_step session f me ready.caller call old new t ready.thread result walk mid chain stays ready.represents EACCES (refused_by None false absent is_may) next (λ _. Answers Done) Modify (said false is_may) refl
-          (walked_also session ok (state old) f me t ready m d old.line ((next, Some Modify) ∷ [])) on
+          refused_step accounts f me ready.caller call old new t ready.thread result walk mid chain stays ready.represents EACCES (refused_by None false absent is_may) next (λ _. Answers Done) Modify (said false is_may) refl
+          (walked_also accounts ok (state old) f me t ready m d old.line ((next, Some Modify) ∷ [])) on
       by_right true is_may on =
-          granted_step session f me ready.caller call old new t ready.thread result walk mid chain next (λ _. Answers Done) (said true is_may) on
+          granted_step accounts f me ready.caller call old new t ready.thread result walk mid chain next (λ _. Answers Done) (said true is_may) on
           (λ later answer called right longer end.
           let new_state : state later ≡ with_segment_bytes (state old) listing (spelling renamed) = called.state ∙ ap (λ (s : State). with_segment_bytes s listing (spelling renamed)) stays in
-          answered_step session f me ready.caller call old new t ready.thread result (walk ++ next ∷ []) later longer Done refl (refused_by None true absent is_may) tt (walked_then session ok (state old) f me t ready m d old.line (next ∷ []))
-          (subst (λ (s : State). Represents session s (with_renamed f (m ∷ d) (name ∷ d))) (sym new_state) laid_after) end)
+          answered_step accounts f me ready.caller call old new t ready.thread result (walk ++ next ∷ []) later longer Done refl (refused_by None true absent is_may) tt (walked_then accounts ok (state old) f me t ready m d old.line (next ∷ []))
+          (subst (λ (s : State). Represents accounts s (with_renamed f (m ∷ d) (name ∷ d))) (sym new_state) matched_after) end)
 
     -- once the new name was looked up
     abbrev at_name : Option Target → Program
     at_name o = given (must_be_free o) (λ _. ask next (λ _. Answers Done))
 
-    by_name : (o : Option Node) → get f.files (name ∷ d) ≡ o → Runs (at_name (map.get entries name)) mid new t result → Row
+    by_name : (o : Option Node) → get f.files (name ∷ d) ≡ o → Runs (at_name (map.get entries name)) mid new t result → Refined
     by_name None absent on =
-        by_right absent (may_write session p root) refl (subst (λ (o : Option Target). Runs (at_name o) mid new t result) (nothing_there session ok (state old) f me t ready name d absent) on)
+        by_right absent (may_write accounts p root) refl (subst (λ (o : Option Target). Runs (at_name o) mid new t result) (nothing_there accounts ok (state old) f me t ready name d absent) on)
     by_name (Some node) is on =
-        refused_at_once session f me ready.caller call old new t ready.thread result walk mid chain stays ready.represents EEXIST (refused_by (Some node) (may_write session p root) is refl) refl refl
-        (has_walk session ok (state old) f me t ready m d _ (among_granted_all old.line t walk))
-        (subst (λ (o : Option Target). Runs (at_name o) mid new t result) (entry_leads session ok (state old) f me t ready name d node.class node.content is) on)
+        refused_at_once accounts f me ready.caller call old new t ready.thread result walk mid chain stays ready.represents EEXIST (refused_by (Some node) (may_write accounts p root) is refl) refl refl
+        (has_walk accounts ok (state old) f me t ready m d _ (among_granted_all old.line t walk))
+        (subst (λ (o : Option Target). Runs (at_name o) mid new t result) (entry_leads accounts ok (state old) f me t ready name d node.class node.content is) on)
 
-  rename_is_row : Runs (rename_program (places_of (length session.users)) (m ∷ d) name) old new t result → Row
+  rename_is_refined : Runs (rename_program (roots_of (length accounts.users)) (m ∷ d) name) old new t result → Refined
   unfolding rename_program
-  rename_is_row run = entry_step session ok old new f me t ready m d call result (refusal (get f.files (name ∷ d)) (writes session f p d)) refl (λ _ steps r among. has_walk session ok (state old) f me t ready m d _ among) _ run
+  rename_is_refined run = entry_step accounts ok old new f me t ready m d call result (refusal (get f.files (name ∷ d)) (writes accounts f p d)) refl (λ _ steps r among. has_walk accounts ok (state old) f me t ready m d _ among) _ run
       (λ open_so_far class content at mid stays chain on. by_name open_so_far class content at mid stays chain (get f.files (name ∷ d)) refl on)
 
 -- a rename of `/`
-rename_of_slash : (session : Session) (old new : KernelModel) (f : Flat) (me : ProcName) (t : ℕ) (name : Name) (result : Result Reply Stopped) (ready : IsReady session (state old) f me t) → Runs (rename_program (places_of (length session.users)) [] name) old new t result
-    → Goal session f me ready.caller (calls.Rename [] name) old new t ready.thread result
+rename_of_slash : (accounts : Accounts) (old new : KernelModel) (f : Flat) (me : ProcName) (t : ℕ) (name : Name) (result : Result Reply Stopped) (ready : IsReady accounts (state old) f me t) → Runs (rename_program (roots_of (length accounts.users)) [] name) old new t result
+    → Goal accounts f me ready.caller (calls.Rename [] name) old new t ready.thread result
 unfolding rename_program find_entry
-rename_of_slash session old new f me t name result ready run =
-    refused_at_once session f me ready.caller (calls.Rename [] name) old new t ready.thread result [] old (same_kernel old) refl ready.represents EBUSY refl refl refl tt run
+rename_of_slash accounts old new f me t name result ready run =
+    refused_at_once accounts f me ready.caller (calls.Rename [] name) old new t ready.thread result [] old (same_kernel old) refl ready.represents EBUSY refl refl refl tt run
 
 -- a rename does what its flat rule says
 pub rename_refines : RenameRefines
-rename_refines session ok [] name named me old new f t result ready run = rename_of_slash session old new f me t name result ready run
-rename_refines session ok (m ∷ d) name named me old new f t result ready run = rename_is_row session ok old new f me t ready m d name named result run
+rename_refines accounts ok [] name named me old new f t result ready run = rename_of_slash accounts old new f me t name result ready run
+rename_refines accounts ok (m ∷ d) name named me old new f t result ready run = rename_is_refined accounts ok old new f me t ready m d name named result run

@@ -10,7 +10,7 @@ use Rattle.histar_flat.specs.declared.replies.Errno.TheVariants.{EACCES, EBUSY, 
 use Rattle.histar_flat.specs.declared.replies.Reply.{Reply}
 use Rattle.histar_flat.specs.declared.replies.Reply.TheVariants.{Done, Refused}
 use Rattle.histar_flat.specs.Words.{Name, Path, ProcName}
-use Rattle.histar_flat.specs.Sessions.{Session}
+use Rattle.histar_flat.specs.Accounts.{Accounts}
 use Rattle.histar_flat.specs.Files.{get}
 use Rattle.histar_flat.specs.Classes.{Class, Process}
 use Rattle.histar_flat.specs.FlatState.{Flat, Node, Content, is_some_and, is_dir, is_dir_at, reads, writes, into, entries_in}
@@ -21,20 +21,20 @@ use Rattle.histar_rules.specs.declared.raw.RawCall.{RawCall}
 use Rattle.histar_syscall.specs.KernelModel.{KernelModel, state}
 use Rattle.histar_syscall.proofs.Runs.{same_kernel}
 use Rattle.histar_calls.specs.declared.directory.Directory.{Directory}
-use Rattle.histar_calls.specs.declared.ending.Stopped.{Stopped}
+use Rattle.histar_calls.specs.declared.call_error.Stopped.{Stopped}
 use Rattle.histar_calls.specs.Programs.{Program, Runs}
 use Rattle.histar_calls.specs.Programs.Program.{Answers}
 use Rattle.histar_calls.specs.Parts.{given, read_directory}
 use Rattle.histar_moves.specs.declared.entry.FoundEntry.{FoundEntry}
 use Rattle.histar_moves.specs.Parts.{find_entry, must_be_directory, must_be_empty, take_away}
 use Rattle.histar_moves.specs.Rmdir.{rmdir_program}
-use Rattle.histar_login.specs.Start.{places_of}
-use Rattle.histar_refinement.specs.Sessions.{IsSession}
+use Rattle.histar_login.specs.Start.{roots_of}
+use Rattle.histar_refinement.specs.Accounts.{AreAccounts}
 use Rattle.histar_refinement.proofs.Making.{count_entries}
 use Rattle.histar_sim.specs.Simulation.{IsReady}
 use Rattle.histar_sim.specs.Reads.{AreAmong, tested}
 use Rattle.histar_sim.proofs.Chains.{Step, all_granted, entries_of, Chain}
-use Rattle.histar_sim.proofs.Endings.{ReadsAmong}
+use Rattle.histar_sim.proofs.CallErrors.{ReadsAmong}
 use Rattle.histar_sim.proofs.Steps.{Goal, refused_at_once}
 use Rattle.histar_sim.proofs.Walks.{read_of, walk_reads, directory_read, has_way, among_granted_all, among_refused, read_step}
 use Rattle.histar_sim.specs.Laws.{RmdirRefines}
@@ -45,7 +45,7 @@ use Rattle.histar_sim.proofs.TakingAway.{take_away_step}
 abbrev unless_filled : Bool → Result (Unit {0}) Errno
 unless_filled empty = if empty then Ok tt else Err ENOTEMPTY
 
-module _ (session : Session) (ok : IsSession session) (old new : KernelModel) (f : Flat) (me : ProcName) (t : ℕ) (ready : IsReady session (state old) f me t) (m : Name) (d : Path) (result : Result Reply Stopped) where
+module _ (accounts : Accounts) (ok : AreAccounts accounts) (old new : KernelModel) (f : Flat) (me : ProcName) (t : ℕ) (ready : IsReady accounts (state old) f me t) (m : Name) (d : Path) (result : Result Reply Stopped) where
   abbrev call : UnixCall
   call = calls.Rmdir (m ∷ d)
 
@@ -53,37 +53,37 @@ module _ (session : Session) (ok : IsSession session) (old new : KernelModel) (f
   p = ready.caller.process
 
   abbrev walk : List RawCall
-  walk = walk_reads session ok (state old) f me t ready d
+  walk = walk_reads accounts ok (state old) f me t ready d
 
   -- the raw call that reads the directory itself
   abbrev read : RawCall
-  read = read_of session ok (state old) f me t ready (m ∷ d)
+  read = read_of accounts ok (state old) f me t ready (m ∷ d)
 
-  abbrev Row : Type 0
-  Row = Goal session f me ready.caller call old new t ready.thread result
+  abbrev Refined : Type 0
+  Refined = Goal accounts f me ready.caller call old new t ready.thread result
 
   -- the reads that the call cannot do without are those of the walk, and that of the directory itself where the way leads into it
-  reads_are : (b : Bool) → (not (is_some (into session f p d)) && is_dir_at f (m ∷ d)) ≡ b → walk_reads session ok (state old) f me t ready (m ∷ d) ≡ walk ++ (if b then read ∷ [] else [])
+  reads_are : (b : Bool) → (not (is_some (into accounts f p d)) && is_dir_at f (m ∷ d)) ≡ b → walk_reads accounts ok (state old) f me t ready (m ∷ d) ≡ walk ++ (if b then read ∷ [] else [])
   reads_are b is =
-      map-append (read_of session ok (state old) f me t ready) (tested session f p d) (if not (is_some (into session f p d)) && is_dir_at f (m ∷ d) then (m ∷ d) ∷ [] else [])
-      ∙ ap (λ (b : Bool). walk ++ map (read_of session ok (state old) f me t ready) (if b then (m ∷ d) ∷ [] else [])) is ∙ by b
+      map-append (read_of accounts ok (state old) f me t ready) (tested accounts f p d) (if not (is_some (into accounts f p d)) && is_dir_at f (m ∷ d) then (m ∷ d) ∷ [] else [])
+      ∙ ap (λ (b : Bool). walk ++ map (read_of accounts ok (state old) f me t ready) (if b then (m ∷ d) ∷ [] else [])) is ∙ by b
     where
-      by : (b : Bool) → walk ++ map (read_of session ok (state old) f me t ready) (if b then (m ∷ d) ∷ [] else []) ≡ walk ++ (if b then read ∷ [] else [])
+      by : (b : Bool) → walk ++ map (read_of accounts ok (state old) f me t ready) (if b then (m ∷ d) ∷ [] else []) ≡ walk ++ (if b then read ∷ [] else [])
       by true = refl
       by false = refl
 
   module _ (steps : List Step) (r : Reply) where
-    walk_suffices : (not (is_some (into session f p d)) && is_dir_at f (m ∷ d)) ≡ false → AreAmong walk (entries_of old.line t steps) → ReadsAmong session f me ready.caller call old new t ready.thread steps r
-    walk_suffices none among = has_way session ok (state old) f me t ready (m ∷ d) _
+    walk_suffices : (not (is_some (into accounts f p d)) && is_dir_at f (m ∷ d)) ≡ false → AreAmong walk (entries_of old.line t steps) → ReadsAmong accounts f me ready.caller call old new t ready.thread steps r
+    walk_suffices none among = has_way accounts ok (state old) f me t ready (m ∷ d) _
         (subst (λ (calls : List RawCall). AreAmong calls (entries_of old.line t steps)) (sym (reads_are false none ∙ append-nil walk)) among)
 
-    both_suffice : into session f p d ≡ None → is_dir_at f (m ∷ d) ≡ true → AreAmong (walk ++ read ∷ []) (entries_of old.line t steps) → ReadsAmong session f me ready.caller call old new t ready.thread steps r
-    both_suffice open_so_far dir among = has_way session ok (state old) f me t ready (m ∷ d) _
+    both_suffice : into accounts f p d ≡ None → is_dir_at f (m ∷ d) ≡ true → AreAmong (walk ++ read ∷ []) (entries_of old.line t steps) → ReadsAmong accounts f me ready.caller call old new t ready.thread steps r
+    both_suffice open_so_far dir among = has_way accounts ok (state old) f me t ready (m ∷ d) _
         (subst (λ (calls : List RawCall). AreAmong calls (entries_of old.line t steps)) (sym (reads_are true (λ i. not (is_some (open_so_far i)) && dir i))) among)
 
   -- what the flat rules refuse of the entry
   abbrev refusal : Bool → Bool → Bool → Option Errno
-  refusal dir sees empty = unless dir ENOTDIR orelse unless sees EACCES orelse unless empty ENOTEMPTY orelse unless (writes session f p d) EACCES
+  refusal dir sees empty = unless dir ENOTDIR orelse unless sees EACCES orelse unless empty ENOTEMPTY orelse unless (writes accounts f p d) EACCES
 
   abbrev is_empty : Bool
   is_empty = length (entries_in f (m ∷ d)) == 0
@@ -95,59 +95,59 @@ module _ (session : Session) (ok : IsSession session) (old new : KernelModel) (f
   abbrev at_entry : FoundEntry → Program
   at_entry entry = given (must_be_directory entry.target) (λ place. read_directory place (when_read entry))
 
-  module _ (open_so_far : into session f p d ≡ None) where
-    refused_by : (content : Content) (class : Class) (sees empty : Bool) → get f.files (m ∷ d) ≡ Some (record { class = class; content = content }) → reads session f p (m ∷ d) ≡ sees → is_empty ≡ empty
-        → refused session f me p call ≡ refusal (is_dir (record { class = class; content = content })) sees empty
+  module _ (open_so_far : into accounts f p d ≡ None) where
+    refused_by : (content : Content) (class : Class) (sees empty : Bool) → get f.files (m ∷ d) ≡ Some (record { class = class; content = content }) → reads accounts f p (m ∷ d) ≡ sees → is_empty ≡ empty
+        → refused accounts f me p call ≡ refusal (is_dir (record { class = class; content = content })) sees empty
     refused_by content class sees empty at is_seen is_so =
-        reached session ok old new f me t ready m d call result (refusal (is_dir_at f (m ∷ d)) (reads session f p (m ∷ d)) is_empty) refl (λ none steps r among. walk_suffices steps r none among) open_so_far _ at
+        reached accounts ok old new f me t ready m d call result (refusal (is_dir_at f (m ∷ d)) (reads accounts f p (m ∷ d)) is_empty) refl (λ none steps r among. walk_suffices steps r none among) open_so_far _ at
         ∙ (λ i. refusal (is_some_and (at i) is_dir) (is_seen i) (is_so i))
 
     module _ (class : Class) (at : get f.files (m ∷ d) ≡ Some (record { class = class; content = Dir })) where
       is_dir_here : is_dir_at f (m ∷ d) ≡ true
       is_dir_here = ap (λ (o : Option Node). is_some_and o is_dir) at
 
-      module _ (sees : reads session f p (m ∷ d) ≡ true) (mid : KernelModel) (stays : state mid ≡ state old) (chain : Chain old t (all_granted (walk ++ read ∷ [])) mid) where
-        by_entries : (b : Bool) → is_empty ≡ b → Runs (given (unless_filled b) (λ _. take_away (entry_of session ok (state old) f me t ready m d Dir) (λ _. Answers Done))) mid new t result → Row
+      module _ (sees : reads accounts f p (m ∷ d) ≡ true) (mid : KernelModel) (stays : state mid ≡ state old) (chain : Chain old t (all_granted (walk ++ read ∷ [])) mid) where
+        by_entries : (b : Bool) → is_empty ≡ b → Runs (given (unless_filled b) (λ _. take_away (entry_of accounts ok (state old) f me t ready m d Dir) (λ _. Answers Done))) mid new t result → Refined
         by_entries false is on =
-            refused_at_once session f me ready.caller call old new t ready.thread result (walk ++ read ∷ []) mid chain stays ready.represents ENOTEMPTY (refused_by Dir class true false at sees is) refl refl
+            refused_at_once accounts f me ready.caller call old new t ready.thread result (walk ++ read ∷ []) mid chain stays ready.represents ENOTEMPTY (refused_by Dir class true false at sees is) refl refl
             (both_suffice (all_granted (walk ++ read ∷ [])) (Refused ENOTEMPTY) open_so_far is_dir_here (among_granted_all old.line t (walk ++ read ∷ []))) on
         by_entries true is on =
-            take_away_step session ok old new f me t ready m d call result (record { refuses = refused_by Dir class true true at sees is; removes = refl; answers = refl }) open_so_far class Dir at
+            take_away_step accounts ok old new f me t ready m d call result (record { refuses = refused_by Dir class true true at sees is; removes = refl; answers = refl }) open_so_far class Dir at
             (walk ++ read ∷ []) (λ steps r among. both_suffice steps r open_so_far is_dir_here among) mid stays chain on
 
-        emptied : Runs (when_read (entry_of session ok (state old) f me t ready m d Dir) (directory_read session ok (state old) f me t ready (m ∷ d))) mid new t result → Row
+        emptied : Runs (when_read (entry_of accounts ok (state old) f me t ready m d Dir) (directory_read accounts ok (state old) f me t ready (m ∷ d))) mid new t result → Refined
         emptied on =
             by_entries is_empty refl
-            (subst (λ (n : ℕ). Runs (given (unless_filled (n == 0)) (λ _. take_away (entry_of session ok (state old) f me t ready m d Dir) (λ _. Answers Done))) mid new t result)
-            (count_entries session (state old) f ready.represents.laid (m ∷ d)) on)
+            (subst (λ (n : ℕ). Runs (given (unless_filled (n == 0)) (λ _. take_away (entry_of accounts ok (state old) f me t ready m d Dir) (λ _. Answers Done))) mid new t result)
+            (count_entries accounts (state old) f ready.represents.matched (m ∷ d)) on)
 
     module _ (mid : KernelModel) (stays : state mid ≡ state old) (chain : Chain old t (all_granted walk) mid) where
-      by_content : (class : Class) (content : Content) → get f.files (m ∷ d) ≡ Some (record { class = class; content = content }) → Runs (at_entry (entry_of session ok (state old) f me t ready m d content)) mid new t result → Row
+      by_content : (class : Class) (content : Content) → get f.files (m ∷ d) ≡ Some (record { class = class; content = content }) → Runs (at_entry (entry_of accounts ok (state old) f me t ready m d content)) mid new t result → Refined
       by_content class Dir at on =
-          read_step session ok old new f me t ready call result (m ∷ d) (is_dir_here class at) walk mid stays chain (when_read (entry_of session ok (state old) f me t ready m d Dir)) on
+          read_step accounts ok old new f me t ready call result (m ∷ d) (is_dir_here class at) walk mid stays chain (when_read (entry_of accounts ok (state old) f me t ready m d Dir)) on
           (λ unseen. (
             refused_by Dir class false is_empty at unseen refl,
             both_suffice (all_granted walk ++ (read, Some Observe) ∷ []) (Refused EACCES) open_so_far (is_dir_here class at) (among_refused old.line t walk read Observe),
           ))
           (λ sees later same longer rest. emptied class at sees later same longer rest)
       by_content class (File bytes) at on =
-          refused_at_once session f me ready.caller call old new t ready.thread result walk mid chain stays ready.represents ENOTDIR (refused_by (File bytes) class (reads session f p (m ∷ d)) is_empty at refl refl) refl refl
+          refused_at_once accounts f me ready.caller call old new t ready.thread result walk mid chain stays ready.represents ENOTDIR (refused_by (File bytes) class (reads accounts f p (m ∷ d)) is_empty at refl refl) refl refl
           (walk_suffices (all_granted walk) (Refused ENOTDIR) (λ i. not (is_some (open_so_far i)) && is_some_and (at i) is_dir) (among_granted_all old.line t walk)) on
 
-  rmdir_is_row : Runs (rmdir_program (places_of (length session.users)) (m ∷ d)) old new t result → Row
+  rmdir_is_refined : Runs (rmdir_program (roots_of (length accounts.users)) (m ∷ d)) old new t result → Refined
   unfolding rmdir_program
-  rmdir_is_row run =
-      entry_step session ok old new f me t ready m d call result (refusal (is_dir_at f (m ∷ d)) (reads session f p (m ∷ d)) is_empty) refl (λ none steps r among. walk_suffices steps r none among) at_entry run
+  rmdir_is_refined run =
+      entry_step accounts ok old new f me t ready m d call result (refusal (is_dir_at f (m ∷ d)) (reads accounts f p (m ∷ d)) is_empty) refl (λ none steps r among. walk_suffices steps r none among) at_entry run
       (λ open_so_far class content at mid stays chain on. by_content open_so_far mid stays chain class content at on)
 
 -- an rmdir of `/`
-rmdir_of_slash : (session : Session) (old new : KernelModel) (f : Flat) (me : ProcName) (t : ℕ) (result : Result Reply Stopped) (ready : IsReady session (state old) f me t) → Runs (rmdir_program (places_of (length session.users)) []) old new t result
-    → Goal session f me ready.caller (calls.Rmdir []) old new t ready.thread result
+rmdir_of_slash : (accounts : Accounts) (old new : KernelModel) (f : Flat) (me : ProcName) (t : ℕ) (result : Result Reply Stopped) (ready : IsReady accounts (state old) f me t) → Runs (rmdir_program (roots_of (length accounts.users)) []) old new t result
+    → Goal accounts f me ready.caller (calls.Rmdir []) old new t ready.thread result
 unfolding rmdir_program find_entry
-rmdir_of_slash session old new f me t result ready run =
-    refused_at_once session f me ready.caller (calls.Rmdir []) old new t ready.thread result [] old (same_kernel old) refl ready.represents EBUSY refl refl refl tt run
+rmdir_of_slash accounts old new f me t result ready run =
+    refused_at_once accounts f me ready.caller (calls.Rmdir []) old new t ready.thread result [] old (same_kernel old) refl ready.represents EBUSY refl refl refl tt run
 
 -- an rmdir does what its flat rule says
 pub rmdir_refines : RmdirRefines
-rmdir_refines session ok [] me old new f t result ready run = rmdir_of_slash session old new f me t result ready run
-rmdir_refines session ok (m ∷ d) me old new f t result ready run = rmdir_is_row session ok old new f me t ready m d result run
+rmdir_refines accounts ok [] me old new f t result ready run = rmdir_of_slash accounts old new f me t result ready run
+rmdir_refines accounts ok (m ∷ d) me old new f t result ready run = rmdir_is_refined accounts ok old new f me t ready m d result run

@@ -12,7 +12,7 @@ use Rattle.histar_flat.specs.declared.replies.Errno.TheVariants.{EACCES, ESRCH}
 use Rattle.histar_flat.specs.declared.replies.Reply.{Reply}
 use Rattle.histar_flat.specs.declared.replies.Reply.TheVariants.{Refused}
 use Rattle.histar_flat.specs.Words.{ProcName}
-use Rattle.histar_flat.specs.Sessions.{Session}
+use Rattle.histar_flat.specs.Accounts.{Accounts}
 use Rattle.histar_flat.specs.Classes.{Process, knows, sees}
 use Rattle.histar_flat.specs.FlatState.{Flat, is_some_and}
 use Rattle.histar_flat.specs.FlatCalls.{not_found, refused}
@@ -27,24 +27,24 @@ use Rattle.histar_syscall.specs.declared.trace.TraceEntry.{TraceEntry}
 use Rattle.histar_syscall.proofs.Runs.{same_kernel}
 use Rattle.histar_layout.specs.declared.status.Child.{Child as Listed}
 use Rattle.histar_layout.specs.Status.{ProcessStatus, child_at, status_in}
-use Rattle.histar_calls.specs.declared.ending.Stopped.{Stopped}
-use Rattle.histar_calls.specs.declared.places.Home.{Home}
+use Rattle.histar_calls.specs.declared.call_error.Stopped.{Stopped}
+use Rattle.histar_calls.specs.declared.roots.Home.{Home}
 use Rattle.histar_calls.specs.Programs.{Program, Runs}
 use Rattle.histar_calls.specs.Parts.{given, if_there}
 use Rattle.histar_process.specs.Parts.{find_home, home_of, must_be_there, read_status}
-use Rattle.histar_login.specs.Start.{places_of}
-use Rattle.histar_refinement.specs.Sessions.{IsSession}
+use Rattle.histar_login.specs.Start.{roots_of}
+use Rattle.histar_refinement.specs.Accounts.{AreAccounts}
 use Rattle.histar_refinement.specs.Represents.{ObjectsMatch}
 use Rattle.histar_refinement.specs.Laws.{RunsAs}
 use Rattle.histar_refinement.specs.Processes.{status_by}
 use Rattle.histar_refinement.proofs.CallerFound.{where_is, status_is, child_is}
-use Rattle.histar_refinement.proofs.Standing.{some_of}
+use Rattle.histar_refinement.proofs.Agreeing.{some_of}
 use Rattle.histar_refinement.proofs.StatusFound.{thread_back}
 use Rattle.histar_sim.specs.Simulation.{IsReady}
 use Rattle.histar_sim.specs.Reads.{AreAmong, looked_at}
 use Rattle.histar_sim.proofs.ReadsByCall.{AreStatusReads, HasSearch}
 use Rattle.histar_sim.proofs.Chains.{Step, all_granted, entries_of, Chain}
-use Rattle.histar_sim.proofs.Endings.{ReadsAmong}
+use Rattle.histar_sim.proofs.CallErrors.{ReadsAmong}
 use Rattle.histar_sim.proofs.Steps.{Goal, granted_step, refused_step, refused_at_once}
 use Rattle.histar_sim.proofs.Walks.{among_granted_all, among_refused, all_joined}
 use Rattle.histar_sim.proofs.FoundProcesses.{first_place, led_to, read_said}
@@ -53,24 +53,24 @@ use Rattle.histar_sim.proofs.FoundProcesses.{first_place, led_to, read_said}
 seen_if_free : (p other : Process) → other.chain ≡ [] → sees p other ≡ true
 seen_if_free p other free = ap (list_all (knows p)) free
 
-module _ (session : Session) (s : State) (f : Flat) (me : ProcName) (t : ℕ) (ready : IsReady session s f me t) where
+module _ (accounts : Accounts) (s : State) (f : Flat) (me : ProcName) (t : ℕ) (ready : IsReady accounts s f me t) where
   abbrev p : Process
   p = ready.caller.process
 
-  abbrev l : ObjectsMatch session s f
-  l = ready.represents.laid
+  abbrev l : ObjectsMatch accounts s f
+  l = ready.represents.matched
 
   -- the thread is that of the process
-  pub runs_as : RunsAs session s f ready.represents.laid me ready.caller.process t
-  runs_as = (ready.caller.stands, ready.caller.runs, (thread_back session s f ready.represents.laid me t ready.thread).3)
+  pub runs_as : RunsAs accounts s f ready.represents.matched me ready.caller.process t
+  runs_as = (ready.caller.agrees, ready.caller.runs, (thread_back accounts s f ready.represents.matched me t ready.thread).3)
 
   -- where a process is found
   abbrev pub place_of : ProcName → Home
-  place_of name = where_is session s f ready.represents.laid name
+  place_of name = where_is accounts s f ready.represents.matched name
 
   -- what its process segment tells
   abbrev pub status_of : ProcName → Process → ProcessStatus
-  status_of name other = status_by f.processes ready.represents.laid.naming.number name other
+  status_of name other = status_by f.processes ready.represents.matched.naming.number name other
 
   -- the raw call that reads its process segment
   abbrev pub read_of : ProcName → RawCall
@@ -78,7 +78,7 @@ module _ (session : Session) (s : State) (f : Flat) (me : ProcName) (t : ℕ) (r
 
   -- the raw calls of the way to it
   abbrev pub search_reads : ProcName → List RawCall
-  search_reads name = map read_of (looked_at session f p name)
+  search_reads name = map read_of (looked_at accounts f p name)
 
   -- process 0 is there, and seen
   pub first_there : (first : Process) × (f.processes [] ≡ Some first) × (sees p first ≡ true)
@@ -87,10 +87,10 @@ module _ (session : Session) (s : State) (f : Flat) (me : ProcName) (t : ℕ) (r
       (there.0, there.1, seen_if_free p there.0 (ready.first there.0 there.1))
 
   -- the processes that are looked at are there
-  looked_there : (name : ProcName) → AllByRecursion (λ (q : ProcName). is_some (f.processes q) ≡ true) (looked_at session f p name)
+  looked_there : (name : ProcName) → AllByRecursion (λ (q : ProcName). is_some (f.processes q) ≡ true) (looked_at accounts f p name)
   looked_there [] = (l.first, tt)
   looked_there (n ∷ above) =
-      all_joined (λ (q : ProcName). is_some (f.processes q) ≡ true) (looked_at session f p above) _ (looked_there above)
+      all_joined (λ (q : ProcName). is_some (f.processes q) ≡ true) (looked_at accounts f p above) _ (looked_there above)
       (by (not (is_some (not_found f p above))) (is_some (f.processes (n ∷ above))) refl)
     where
       by : (a b : Bool) → is_some (f.processes (n ∷ above)) ≡ b → AllByRecursion (λ (q : ProcName). is_some (f.processes q) ≡ true) (if a && b then (n ∷ above) ∷ [] else [])
@@ -98,21 +98,21 @@ module _ (session : Session) (s : State) (f : Flat) (me : ProcName) (t : ℕ) (r
       by true false e = tt
       by false b e = tt
 
-  are_reads : (names : List ProcName) → AllByRecursion (λ (q : ProcName). is_some (f.processes q) ≡ true) names → AreStatusReads session s names (map read_of names)
+  are_reads : (names : List ProcName) → AllByRecursion (λ (q : ProcName). is_some (f.processes q) ≡ true) names → AreStatusReads accounts s names (map read_of names)
   are_reads [] all = refl
   are_reads (name ∷ more) all =
       let there = some_of (f.processes name) all.0 in
-      ((place_of name).container, (place_of name).segment, map read_of more, led_to session s f l name there.0 there.1, refl, are_reads more all.1)
+      ((place_of name).container, (place_of name).segment, map read_of more, led_to accounts s f l name there.0 there.1, refl, are_reads more all.1)
 
   -- the raw calls of the way to a process are the reads that a call on it cannot do without
-  pub has_search : (name : ProcName) (entries : List TraceEntry) → AreAmong (search_reads name) entries → HasSearch session s f p name entries
-  has_search name entries among = (search_reads name, are_reads (looked_at session f p name) (looked_there name), among)
+  pub has_search : (name : ProcName) (entries : List TraceEntry) → AreAmong (search_reads name) entries → HasSearch accounts s f p name entries
+  has_search name entries among = (search_reads name, are_reads (looked_at accounts f p name) (looked_there name), among)
 
   -- on the way to a child it is looked at where it is there, behind those on the way to its parent
   search_longer : (n : ℕ) (above : ProcName) → not_found f p above ≡ None → (b : Bool) → is_some (f.processes (n ∷ above)) ≡ b
       → search_reads (n ∷ above) ≡ search_reads above ++ (if b then read_of (n ∷ above) ∷ [] else [])
   search_longer n above found b is =
-      map-append read_of (looked_at session f p above) (if not (is_some (not_found f p above)) && is_some (f.processes (n ∷ above)) then (n ∷ above) ∷ [] else [])
+      map-append read_of (looked_at accounts f p above) (if not (is_some (not_found f p above)) && is_some (f.processes (n ∷ above)) then (n ∷ above) ∷ [] else [])
       ∙ (λ i. search_reads above ++ map read_of (if not (is_some (found i)) && is i then (n ∷ above) ∷ [] else [])) ∙ by b
     where
       by : (b : Bool) → search_reads above ++ map read_of (if b then (n ∷ above) ∷ [] else []) ≡ search_reads above ++ (if b then read_of (n ∷ above) ∷ [] else [])
@@ -122,40 +122,40 @@ module _ (session : Session) (s : State) (f : Flat) (me : ProcName) (t : ℕ) (r
   -- where the parent is not found no process more is looked at
   search_stopped : (n : ℕ) (above : ProcName) (errno : Errno) → not_found f p above ≡ Some errno → search_reads (n ∷ above) ≡ search_reads above
   search_stopped n above errno is =
-      map-append read_of (looked_at session f p above) (if not (is_some (not_found f p above)) && is_some (f.processes (n ∷ above)) then (n ∷ above) ∷ [] else [])
+      map-append read_of (looked_at accounts f p above) (if not (is_some (not_found f p above)) && is_some (f.processes (n ∷ above)) then (n ∷ above) ∷ [] else [])
       ∙ (λ i. search_reads above ++ map read_of (if not (is_some (is i)) && is_some (f.processes (n ∷ above)) then (n ∷ above) ∷ [] else [])) ∙ append-nil (search_reads above)
 
   -- what the bytes of a process segment tell
-  pub told : (name : ProcName) (other : Process) → f.processes name ≡ Some other → status_in (bytes_in (s.objects (place_of name).segment)) ≡ Some (status_of name other)
-  told name other here = status_is session s f l name other here
+  pub revealed : (name : ProcName) (other : Process) → f.processes name ≡ Some other → status_in (bytes_in (s.objects (place_of name).segment)) ≡ Some (status_of name other)
+  revealed name other here = status_is accounts s f l name other here
 
   -- and what they tell of a child
-  pub child_told : (n : ℕ) (name : ProcName) (other : Process) → f.processes name ≡ Some other
+  pub child_revealed : (n : ℕ) (name : ProcName) (other : Process) → f.processes name ≡ Some other
       → child_at (status_of name other).children n ≡ option_map (λ (q : Process). record { number = n; container = (place_of (n ∷ name)).container; segment = (place_of (n ∷ name)).segment }) (f.processes (n ∷ name))
-  child_told n name other here = child_is session s f l n name other here
+  child_revealed n name other here = child_is accounts s f l n name other here
 
-module _ (session : Session) (ok : IsSession session) (old new : KernelModel) (f : Flat) (me : ProcName) (t : ℕ) (ready : IsReady session (state old) f me t) (call : UnixCall) (result : Result Reply Stopped) where
-  abbrev Row : Type 0
-  Row = Goal session f me ready.caller call old new t ready.thread result
+module _ (accounts : Accounts) (ok : AreAccounts accounts) (old new : KernelModel) (f : Flat) (me : ProcName) (t : ℕ) (ready : IsReady accounts (state old) f me t) (call : UnixCall) (result : Result Reply Stopped) where
+  abbrev Refined : Type 0
+  Refined = Goal accounts f me ready.caller call old new t ready.thread result
 
   abbrev process : Process
   process = ready.caller.process
 
   abbrev calls_to : ProcName → List RawCall
-  calls_to name = search_reads session (state old) f me t ready name
+  calls_to name = search_reads accounts (state old) f me t ready name
 
   abbrev place : ProcName → Home
-  place name = where_is session (state old) f ready.represents.laid name
+  place name = where_is accounts (state old) f ready.represents.matched name
 
   abbrev status : ProcName → Process → ProcessStatus
-  status name other = status_of session (state old) f me t ready name other
+  status name other = status_of accounts (state old) f me t ready name other
 
   abbrev read : ProcName → RawCall
-  read name = read_of session (state old) f me t ready name
+  read name = read_of accounts (state old) f me t ready name
 
   -- the call is refused so, and these raw calls are the reads that it cannot do without
   abbrev pub IsRefusedBy : Errno → List Step → Type 0
-  IsRefusedBy errno steps = (refused session f me process call ≡ Some errno) × ReadsAmong session f me ready.caller call old new t ready.thread steps (Refused errno)
+  IsRefusedBy errno steps = (refused accounts f me process call ≡ Some errno) × ReadsAmong accounts f me ready.caller call old new t ready.thread steps (Refused errno)
 
   -- where the process cannot be learnt of, the call is refused, once the reads of the way are made
   abbrev pub Refuses : ProcName → Type 0
@@ -165,31 +165,31 @@ module _ (session : Session) (ok : IsSession session) (old new : KernelModel) (f
   abbrev pub GoesOn : ProcName → (Home → ProcessStatus → Program) → Type 0
   GoesOn name rest =
       not_found f process name ≡ None → (other : Process) → f.processes name ≡ Some other → sees process other ≡ true
-      → (mid : KernelModel) → state mid ≡ state old → Chain old t (all_granted (calls_to name)) mid → Runs (rest (place name) (status name other)) mid new t result → Row
+      → (mid : KernelModel) → state mid ≡ state old → Chain old t (all_granted (calls_to name)) mid → Runs (rest (place name) (status name other)) mid new t result → Refined
 
   -- a process segment is read after these raw calls
   pub status_step : (name : ProcName) (other : Process) → f.processes name ≡ Some other → (before : List RawCall) (mid : KernelModel) → state mid ≡ state old → Chain old t (all_granted before) mid
       → (rest : ProcessStatus → Program) → Runs (read_status (place name) rest) mid new t result
       → (sees process other ≡ false → IsRefusedBy EACCES (all_granted before ++ (read name, Some Observe) ∷ []))
-      → (sees process other ≡ true → (later : KernelModel) → state later ≡ state old → Chain old t (all_granted (before ++ read name ∷ [])) later → Runs (rest (status name other)) later new t result → Row) → Row
+      → (sees process other ≡ true → (later : KernelModel) → state later ≡ state old → Chain old t (all_granted (before ++ read name ∷ [])) later → Runs (rest (status name other)) later new t result → Refined) → Refined
   unfolding read_status
   status_step name other here before mid stays chain rest run refuses go_on = by (sees process other) refl
     where
       said : (b : Bool) → sees process other ≡ b → check (state mid) t (read name) ≡ unless b Observe
       said b is =
           ap (λ (s : State). check s t (read name)) stays
-          ∙ read_said session (state old) f ready.represents.laid name other here me process t (runs_as session (state old) f me t ready) ∙ ap (λ (b : Bool). unless b Observe) is
+          ∙ read_said accounts (state old) f ready.represents.matched name other here me process t (runs_as accounts (state old) f me t ready) ∙ ap (λ (b : Bool). unless b Observe) is
 
-      by : (b : Bool) → sees process other ≡ b → Row
+      by : (b : Bool) → sees process other ≡ b → Refined
       by false is =
           let end = refuses is in
-          refused_step session f me ready.caller call old new t ready.thread result before mid chain stays ready.represents EACCES end.0 (read name) _ Observe (said false is) refl end.1 run
+          refused_step accounts f me ready.caller call old new t ready.thread result before mid chain stays ready.represents EACCES end.0 (read name) _ Observe (said false is) refl end.1 run
       by true is =
-          granted_step session f me ready.caller call old new t ready.thread result before mid chain (read name) _ (said true is) run
+          granted_step accounts f me ready.caller call old new t ready.thread result before mid chain (read name) _ (said true is) run
           (λ later bytes called right longer on.
-          let tells : status_in bytes ≡ Some (status name other) =
-          ap status_in (right ∙ ap (λ (s : State). bytes_in (s.objects (place name).segment)) stays) ∙ told session (state old) f me t ready name other here in
-          go_on is later (called.state ∙ stays) longer (subst (λ (o : Option ProcessStatus). Runs (if_there rest o) later new t result) tells on))
+          let reveals : status_in bytes ≡ Some (status name other) =
+          ap status_in (right ∙ ap (λ (s : State). bytes_in (s.objects (place name).segment)) stays) ∙ revealed accounts (state old) f me t ready name other here in
+          go_on is later (called.state ∙ stays) longer (subst (λ (o : Option ProcessStatus). Runs (if_there rest o) later new t result) reveals on))
 
   -- from a process that was found on to a child of it
   module _ (n : ℕ) (above : ProcName) (rest : Home → ProcessStatus → Program) (refuses : Refuses (n ∷ above)) (go_on : GoesOn (n ∷ above) rest) (found : not_found f process above ≡ None)
@@ -205,9 +205,9 @@ module _ (session : Session) (ok : IsSession session) (old new : KernelModel) (f
     abbrev at_child : Option Listed → Program
     at_child child = given (must_be_there child) (λ child. read_status (home_of child) (rest (home_of child)))
 
-    enters : (child : Process) → f.processes (n ∷ above) ≡ Some child → Runs (read_status (place (n ∷ above)) (rest (place (n ∷ above)))) mid new t result → Row
+    enters : (child : Process) → f.processes (n ∷ above) ≡ Some child → Runs (read_status (place (n ∷ above)) (rest (place (n ∷ above)))) mid new t result → Refined
     enters child is on =
-        let longer = search_longer session (state old) f me t ready n above found true (ap is_some is) in
+        let longer = search_longer accounts (state old) f me t ready n above found true (ap is_some is) in
         status_step (n ∷ above) child is (calls_to above) mid stays chain (rest (place (n ∷ above))) on
         (λ unseen. refuses EACCES (tests_are (Some child) is ∙ ap (λ (b : Bool). unless b EACCES) unseen) (all_granted (calls_to above) ++ (read (n ∷ above), Some Observe) ∷ [])
         (subst (λ (calls : List RawCall). AreAmong calls (entries_of old.line t (all_granted (calls_to above) ++ (read (n ∷ above), Some Observe) ∷ []))) (sym longer) (among_refused old.line t (calls_to above) (read (n ∷ above)) Observe)))
@@ -215,31 +215,31 @@ module _ (session : Session) (ok : IsSession session) (old new : KernelModel) (f
         (subst (λ (calls : List RawCall). Chain old t (all_granted calls) later) (sym longer) further) end)
 
     by_child : (o : Option Process) → f.processes (n ∷ above) ≡ o
-        → Runs (at_child (option_map (λ (q : Process). record { number = n; container = (place (n ∷ above)).container; segment = (place (n ∷ above)).segment }) o)) mid new t result → Row
+        → Runs (at_child (option_map (λ (q : Process). record { number = n; container = (place (n ∷ above)).container; segment = (place (n ∷ above)).segment }) o)) mid new t result → Refined
     by_child None is on =
-        let same = search_longer session (state old) f me t ready n above found false (ap is_some is) ∙ append-nil (calls_to above) in
+        let same = search_longer accounts (state old) f me t ready n above found false (ap is_some is) ∙ append-nil (calls_to above) in
         let end = refuses ESRCH (tests_are None is) (all_granted (calls_to above))
         (subst (λ (calls : List RawCall). AreAmong calls (entries_of old.line t (all_granted (calls_to above)))) (sym same) (among_granted_all old.line t (calls_to above))) in
-        refused_at_once session f me ready.caller call old new t ready.thread result (calls_to above) mid chain stays ready.represents ESRCH end.0 refl refl end.1 on
+        refused_at_once accounts f me ready.caller call old new t ready.thread result (calls_to above) mid chain stays ready.represents ESRCH end.0 refl refl end.1 on
     by_child (Some child) is on = enters child is on
 
     -- the number is looked up in what the parent's process segment tells, and the child's is read
-    pub child_step : Runs (at_child (child_at (status above parent).children n)) mid new t result → Row
-    child_step run = by_child (f.processes (n ∷ above)) refl (subst (λ (o : Option Listed). Runs (at_child o) mid new t result) (child_told session (state old) f me t ready n above parent here) run)
+    pub child_step : Runs (at_child (child_at (status above parent).children n)) mid new t result → Refined
+    child_step run = by_child (f.processes (n ∷ above)) refl (subst (λ (o : Option Listed). Runs (at_child o) mid new t result) (child_revealed accounts (state old) f me t ready n above parent here) run)
 
   -- where the parent cannot be learnt of, no more can the child
   pub parent_refuses : (n : ℕ) (above : ProcName) → Refuses (n ∷ above) → Refuses above
   parent_refuses n above refuses errno is steps among =
       refuses errno (ap (λ (o : Option Errno). o orelse unless (is_some (f.processes (n ∷ above))) ESRCH orelse unless (is_some_and (f.processes (n ∷ above)) (sees process)) EACCES) is) steps
-      (subst (λ (calls : List RawCall). AreAmong calls (entries_of old.line t steps)) (sym (search_stopped session (state old) f me t ready n above errno is)) among)
+      (subst (λ (calls : List RawCall). AreAmong calls (entries_of old.line t steps)) (sym (search_stopped accounts (state old) f me t ready n above errno is)) among)
 
   -- The way to a process: it is refused as the flat rules refuse the call, or the call goes on with the process.
-  pub search_step : (name : ProcName) (rest : Home → ProcessStatus → Program) → Runs (find_home (places_of (length session.users)).home name (λ home. read_status home (rest home))) old new t result → Refuses name → GoesOn name rest → Row
+  pub search_step : (name : ProcName) (rest : Home → ProcessStatus → Program) → Runs (find_home (roots_of (length accounts.users)).home name (λ home. read_status home (rest home))) old new t result → Refuses name → GoesOn name rest → Refined
   unfolding find_home
   search_step [] rest run refuses go_on =
-      let first = first_there session (state old) f me t ready in
+      let first = first_there accounts (state old) f me t ready in
       status_step [] first.0 first.1 [] old refl (same_kernel old) (rest (place []))
-      (subst (λ (home : Home). Runs (read_status home (rest home)) old new t result) (first_place session (state old) f ready.represents.laid) run)
+      (subst (λ (home : Home). Runs (read_status home (rest home)) old new t result) (first_place accounts (state old) f ready.represents.matched) run)
       (λ unseen. absurd (true≢false (sym first.2 ∙ unseen)))
       (λ seen later stays chain on. go_on refl first.0 first.1 seen later stays chain on)
   search_step (n ∷ above) rest run refuses go_on =

@@ -9,7 +9,7 @@ use Rattle.histar_flat.specs.declared.replies.Errno.TheVariants.{EAGAIN}
 use Rattle.histar_flat.specs.declared.replies.Reply.{Reply}
 use Rattle.histar_flat.specs.declared.replies.Reply.TheVariants.{Child}
 use Rattle.histar_flat.specs.Words.{ProcName, most_children, most_numbers}
-use Rattle.histar_flat.specs.Sessions.{Session}
+use Rattle.histar_flat.specs.Accounts.{Accounts}
 use Rattle.histar_flat.specs.Classes.{Process}
 use Rattle.histar_flat.specs.FlatState.{Flat}
 use Rattle.histar_flat.specs.FlatState as flat
@@ -22,7 +22,7 @@ use Rattle.histar_rules.specs.declared.raw.RawCall.TheVariants.{OwnLabel, SetLab
 use Rattle.histar_rules.specs.Rules.{greatest}
 use Rattle.histar_syscall.specs.KernelModel.{KernelModel, state}
 use Rattle.histar_layout.specs.Status.{ProcessStatus}
-use Rattle.histar_calls.specs.declared.ending.Stopped.{Stopped}
+use Rattle.histar_calls.specs.declared.call_error.Stopped.{Stopped}
 use Rattle.histar_calls.specs.Programs.{Program, Runs}
 use Rattle.histar_calls.specs.Programs.Program.{Answers}
 use Rattle.histar_calls.specs.Parts.{ask}
@@ -31,45 +31,45 @@ use Rattle.histar_process.specs.Birth.{birth}
 use Rattle.histar_process.specs.Caller.{caller_at}
 use Rattle.histar_process.specs.Kin.{kin_of}
 use Rattle.histar_process.specs.SpawnCall.{spawn_program}
-use Rattle.histar_login.specs.Start.{places_of}
-use Rattle.histar_refinement.specs.Sessions.{IsSession}
+use Rattle.histar_login.specs.Start.{roots_of}
+use Rattle.histar_refinement.specs.Accounts.{AreAccounts}
 use Rattle.histar_refinement.specs.Represents.{Represents}
 use Rattle.histar_sim.specs.Simulation.{IsReady}
 use Rattle.histar_sim.specs.Reads.{AreAmong}
 use Rattle.histar_sim.proofs.Chains.{all_granted, entries_of, Chain}
 use Rattle.histar_sim.proofs.Steps.{Goal, answered_step}
 use Rattle.histar_sim.specs.Laws.{SpawnRefines}
-use Rattle.histar_sim.proofs.BirthFit.{fit, spawned_laid}
+use Rattle.histar_sim.proofs.BirthFit.{fit, spawned_matched}
 use Rattle.histar_sim.proofs.BirthRun.{spawned, birth_made}
-use Rattle.histar_sim.proofs.ChildRoom.{NeedsChild, own_of, most_of, status_of, reads, at_home, at_status, at_thread, child_room_step, own_label_step}
+use Rattle.histar_sim.proofs.ChildRoom.{NeedsChild, own_of, own_clearance_of, status_of, reads, at_home, at_status, at_thread, child_room_step, own_label_step}
 
 -- what is refused first is refused, whatever nothing comes behind it
 nothing_behind : (o : Option Errno) → o ≡ (o orelse None)
 nothing_behind None = refl
 nothing_behind (Some errno) = refl
 
-module _ (session : Session) (ok : IsSession session) (me : ProcName) (caller : Caller) (old new : KernelModel) (f : Flat) (result : Result Reply Stopped)
-    (ready : IsReady session (state old) f me caller.thread) (found : caller_at (state old) (places_of (length session.users)).home me ≡ Some caller) where
+module _ (accounts : Accounts) (ok : AreAccounts accounts) (me : ProcName) (caller : Caller) (old new : KernelModel) (f : Flat) (result : Result Reply Stopped)
+    (ready : IsReady accounts (state old) f me caller.thread) (found : caller_at (state old) (roots_of (length accounts.users)).home me ≡ Some caller) where
   abbrev t : ℕ
   t = caller.thread
 
   abbrev p : Process
   p = ready.caller.process
 
-  abbrev Row : Type 0
-  Row = Goal session f me ready.caller Spawn old new t ready.thread result
+  abbrev Refined : Type 0
+  Refined = Goal accounts f me ready.caller Spawn old new t ready.thread result
 
   abbrev status : ProcessStatus
-  status = status_of session me caller old new f result ready found
+  status = status_of accounts me caller old new f result ready found
 
   abbrev own : Levels
-  own = own_of session me caller old new f result ready found
+  own = own_of accounts me caller old new f result ready found
 
-  abbrev most : Levels
-  most = most_of session me caller old new f result ready found
+  abbrev clearance : Levels
+  clearance = own_clearance_of accounts me caller old new f result ready found
 
   -- a spawn needs room for a child, and nothing else
-  needs : NeedsChild session f me p Spawn None
+  needs : NeedsChild accounts f me p Spawn None
   needs = record { refuses = nothing_behind (no_child me p); reads = λ steps line t s. tt }
 
   -- ---- the program
@@ -78,13 +78,13 @@ module _ (session : Session) (ok : IsSession session) (me : ProcName) (caller : 
   reply = Child ((status.born + 1) ∷ me)
 
   abbrev with_labels : ProcessStatus → Levels × Levels → Program
-  with_labels told labels = birth caller.home told (kin_of session labels.0) (λ _. ask (SetLabel labels.0) (λ _. ask (SetClearance labels.1) (λ _. Answers (Child ((told.born + 1) ∷ me)))))
+  with_labels revealed labels = birth caller.home revealed (kin_of accounts labels.0) (λ _. ask (SetLabel labels.0) (λ _. ask (SetClearance labels.1) (λ _. Answers (Child ((revealed.born + 1) ∷ me)))))
 
   abbrev in_room : ProcessStatus → Program
-  in_room told = ask OwnLabel (with_labels told)
+  in_room revealed = ask OwnLabel (with_labels revealed)
 
   abbrev before : List RawCall
-  before = reads session me caller old new f result ready found ∷ []
+  before = reads accounts me caller old new f result ready found ∷ []
 
   -- ---- the child is born
 
@@ -92,32 +92,32 @@ module _ (session : Session) (ok : IsSession session) (me : ProcName) (caller : 
     few_born : p.born < 64
     few_born = ltb-true p.born 64 room
 
-    refused_nowhere : refused session f me p Spawn ≡ None
+    refused_nowhere : refused accounts f me p Spawn ≡ None
     refused_nowhere = λ i. unless (room i) EAGAIN orelse unless (long i) EAGAIN
 
     -- with all raw calls the call is answered
-    answered : (calls : List RawCall) (later : KernelModel) → AreAmong [] (entries_of old.line t (all_granted calls)) → Chain old t (all_granted calls) later → state later ≡ spawned (state old) t caller.home status (kin_of session own) own most → (state old).next_object + 3 < greatest
-        → Runs (Answers reply) later new t result → Row
+    answered : (calls : List RawCall) (later : KernelModel) → AreAmong [] (entries_of old.line t (all_granted calls)) → Chain old t (all_granted calls) later → state later ≡ spawned (state old) t caller.home status (kin_of accounts own) own clearance → (state old).next_object + 3 < greatest
+        → Runs (Answers reply) later new t result → Refined
     answered calls later kept chain is few runs =
-        answered_step session f me ready.caller Spawn old new t ready.thread result calls later chain reply refl refused_nowhere tt tt
-        (subst (λ (s : State). Represents session s (flat.with_child f me p p.chain)) (sym is)
-        (spawned_laid session ok (state old) f ready.represents me p ready.caller.stands ready.caller.runs few_born caller.home.container caller.home.segment
-        (at_home session me caller old new f result ready found) (at_status session me caller old new f result ready found) t (at_thread session me caller old new f result ready found) few)) runs
+        answered_step accounts f me ready.caller Spawn old new t ready.thread result calls later chain reply refl refused_nowhere tt tt
+        (subst (λ (s : State). Represents accounts s (flat.with_child f me p p.chain)) (sym is)
+        (spawned_matched accounts ok (state old) f ready.represents me p ready.caller.agrees ready.caller.runs few_born caller.home.container caller.home.segment
+        (at_home accounts me caller old new f result ready found) (at_status accounts me caller old new f result ready found) t (at_thread accounts me caller old new f result ready found) few)) runs
 
     -- the thread has asked for its own labels
-    born : (mid : KernelModel) → Chain old t (all_granted (before ++ OwnLabel ∷ [])) mid → state mid ≡ state old → Runs (with_labels status (own, most)) mid new t result → Row
+    born : (mid : KernelModel) → Chain old t (all_granted (before ++ OwnLabel ∷ [])) mid → state mid ≡ state old → Runs (with_labels status (own, clearance)) mid new t result → Refined
     born mid chain stays runs =
-        birth_made session f me ready.caller Spawn old new t ready.thread result (state old) caller.home status (kin_of session own) own most
-        (fit session ok (state old) f ready.represents me p ready.caller.stands ready.caller.runs few_born caller.home.container caller.home.segment
-        (at_home session me caller old new f result ready found) (at_status session me caller old new f result ready found) t (at_thread session me caller old new f result ready found)) reply []
+        birth_made accounts f me ready.caller Spawn old new t ready.thread result (state old) caller.home status (kin_of accounts own) own clearance
+        (fit accounts ok (state old) f ready.represents me p ready.caller.agrees ready.caller.runs few_born caller.home.container caller.home.segment
+        (at_home accounts me caller old new f result ready found) (at_status accounts me caller old new f result ready found) t (at_thread accounts me caller old new f result ready found)) reply []
         answered (before ++ OwnLabel ∷ []) mid tt chain stays runs
 
-    asked : (mid : KernelModel) → Chain old t (all_granted before) mid → state mid ≡ state old → Runs (in_room status) mid new t result → Row
-    asked mid chain stays runs = own_label_step session me caller old new f result ready found Spawn before mid chain stays (with_labels status) runs born
+    asked : (mid : KernelModel) → Chain old t (all_granted before) mid → state mid ≡ state old → Runs (in_room status) mid new t result → Refined
+    asked mid chain stays runs = own_label_step accounts me caller old new f result ready found Spawn before mid chain stays (with_labels status) runs born
 
 -- A spawn is the row of its call.
 pub spawn_refines : SpawnRefines
 unfolding spawn_program
-spawn_refines session ok me caller old new f result ready found runs =
-    child_room_step session me caller old new f result ready found Spawn None (needs session ok me caller old new f result ready found) (in_room session ok me caller old new f result ready found) runs
-    (λ long room mid chain stays on. asked session ok me caller old new f result ready found long room mid chain stays on)
+spawn_refines accounts ok me caller old new f result ready found runs =
+    child_room_step accounts me caller old new f result ready found Spawn None (needs accounts ok me caller old new f result ready found) (in_room accounts ok me caller old new f result ready found) runs
+    (λ long room mid chain stays on. asked accounts ok me caller old new f result ready found long room mid chain stays on)

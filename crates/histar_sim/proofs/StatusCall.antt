@@ -5,22 +5,22 @@ use Rattle.histar_flat.specs.declared.calls.UnixCall.TheVariants as calls
 use Rattle.histar_flat.specs.declared.replies.Reply.{Reply}
 use Rattle.histar_flat.specs.declared.replies.Reply.TheVariants.{Running, Exited}
 use Rattle.histar_flat.specs.Words.{ProcName}
-use Rattle.histar_flat.specs.Sessions.{Session}
+use Rattle.histar_flat.specs.Accounts.{Accounts}
 use Rattle.histar_flat.specs.Classes.{Process}
 use Rattle.histar_flat.specs.FlatState.{Flat}
 use Rattle.histar_flat.specs.FlatCalls.{life_reply}
 use Rattle.histar_object.specs.State.{State}
 use Rattle.histar_syscall.specs.declared.trace.TraceEntry.{TraceEntry}
 use Rattle.histar_syscall.specs.KernelModel.{KernelModel, state}
-use Rattle.histar_calls.specs.declared.ending.Stopped.{Stopped}
+use Rattle.histar_calls.specs.declared.call_error.Stopped.{Stopped}
 use Rattle.histar_calls.specs.Programs.{Runs}
 use Rattle.histar_calls.specs.Programs.Program.{Answers}
 use Rattle.histar_process.specs.StatusCall.{status_reply, status_program}
-use Rattle.histar_login.specs.Start.{places_of}
-use Rattle.histar_refinement.specs.Sessions.{IsSession}
+use Rattle.histar_login.specs.Start.{roots_of}
+use Rattle.histar_refinement.specs.Accounts.{AreAccounts}
 use Rattle.histar_refinement.specs.Represents.{Represents}
 use Rattle.histar_sim.specs.Simulation.{IsReady}
-use Rattle.histar_sim.proofs.Endings.{IsBacked}
+use Rattle.histar_sim.proofs.CallErrors.{IsBacked}
 use Rattle.histar_sim.proofs.Steps.{Goal, answered_step}
 use Rattle.histar_sim.proofs.Walks.{among_granted_all}
 use Rattle.histar_sim.specs.Laws.{StatusRefines}
@@ -36,25 +36,25 @@ life_backed : (s : State) (entries : List TraceEntry) (e : Option ℕ) → IsBac
 life_backed s entries None = tt
 life_backed s entries (Some n) = tt
 
-module _ (session : Session) (ok : IsSession session) (old new : KernelModel) (f : Flat) (me : ProcName) (t : ℕ) (ready : IsReady session (state old) f me t) (name : ProcName) (result : Result Reply Stopped) where
+module _ (accounts : Accounts) (ok : AreAccounts accounts) (old new : KernelModel) (f : Flat) (me : ProcName) (t : ℕ) (ready : IsReady accounts (state old) f me t) (name : ProcName) (result : Result Reply Stopped) where
   abbrev call : UnixCall
   call = calls.Status name
 
   said : (other : Process) → f.processes name ≡ Some other → status_reply other.exited ≡ life_reply (f.processes name)
   said other here = life_is other.exited ∙ ap life_reply (sym here)
 
-  status_is_row : Runs (status_program (places_of (length session.users)) name) old new t result → Goal session f me ready.caller call old new t ready.thread result
+  status_is_refined : Runs (status_program (roots_of (length accounts.users)) name) old new t result → Goal accounts f me ready.caller call old new t ready.thread result
   unfolding status_program
-  status_is_row run =
-      let reads = search_reads session (state old) f me t ready name in
-      search_step session ok old new f me t ready call result name (λ home status. Answers (status_reply status.exited)) run
-      (λ errno is steps among. (is, has_search session (state old) f me t ready name _ among))
+  status_is_refined run =
+      let reads = search_reads accounts (state old) f me t ready name in
+      search_step accounts ok old new f me t ready call result name (λ home status. Answers (status_reply status.exited)) run
+      (λ errno is steps among. (is, has_search accounts (state old) f me t ready name _ among))
       (λ found other here seen mid stays chain on.
-      answered_step session f me ready.caller call old new t ready.thread result reads mid chain (status_reply other.exited) (said other here) found
+      answered_step accounts f me ready.caller call old new t ready.thread result reads mid chain (status_reply other.exited) (said other here) found
       (subst (IsBacked (state old) _) (said other here) (life_backed (state old) _ other.exited))
-      (has_search session (state old) f me t ready name _ (among_granted_all old.line t reads))
-      (subst (λ (s : State). Represents session s f) (sym stays) ready.represents) on)
+      (has_search accounts (state old) f me t ready name _ (among_granted_all old.line t reads))
+      (subst (λ (s : State). Represents accounts s f) (sym stays) ready.represents) on)
 
 -- a question for a status does what its flat rule says
 pub status_refines : StatusRefines
-status_refines session ok name me old new f t result ready run = status_is_row session ok old new f me t ready name result run
+status_refines accounts ok name me old new f t result ready run = status_is_refined accounts ok old new f me t ready name result run

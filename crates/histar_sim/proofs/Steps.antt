@@ -7,7 +7,7 @@ use Rattle.histar_flat.specs.declared.replies.Errno.{Errno}
 use Rattle.histar_flat.specs.declared.replies.Reply.{Reply}
 use Rattle.histar_flat.specs.declared.replies.Reply.TheVariants.{Refused}
 use Rattle.histar_flat.specs.Words.{ProcName}
-use Rattle.histar_flat.specs.Sessions.{Session}
+use Rattle.histar_flat.specs.Accounts.{Accounts}
 use Rattle.histar_flat.specs.FlatState.{Flat}
 use Rattle.histar_flat.specs.FlatCalls as flat
 use Rattle.histar_flat.specs.FlatCalls.{refused, changed, reply_to}
@@ -20,7 +20,7 @@ use Rattle.histar_syscall.specs.KernelModel.{KernelModel, state, Called, IsUncha
 use Rattle.histar_syscall.proofs.Runs.{same_kernel}
 use Rattle.histar_layout.specs.Directory.{Entries, IsDirectory}
 use Rattle.histar_layout.proofs.DirectoryLemmas.{found_directory}
-use Rattle.histar_calls.specs.declared.ending.Stopped.{Stopped}
+use Rattle.histar_calls.specs.declared.call_error.Stopped.{Stopped}
 use Rattle.histar_calls.specs.Refusals.{errno_for}
 use Rattle.histar_calls.specs.Replies.{is_access, is_permission}
 use Rattle.histar_calls.specs.Programs.{AnswerOf, IsAnswer, Outcome, Program, Asked, Completes, Begins, Runs}
@@ -30,7 +30,7 @@ use Rattle.histar_refinement.specs.Represents.{Represents}
 use Rattle.histar_refinement.specs.Lines.{IsThreadOf}
 use Rattle.histar_sim.specs.Simulation.{IsRunning, has_category, FollowsRule}
 use Rattle.histar_sim.proofs.Chains.{Step, all_granted, entries_of, Chain, chain_after, granted_broken_off, exhausted_broken_off}
-use Rattle.histar_sim.proofs.Endings.{IsBacked, ReadsAmong, told_shown, chain_unanswered, granted_row, unchanged_row, refused_row}
+use Rattle.histar_sim.proofs.CallErrors.{IsBacked, ReadsAmong, revealed_shown, chain_unanswered, granted_refined, unchanged_refined, refused_refined}
 
 -- the call ended here without a reply
 pub record EndsHere (old new : KernelModel) (result : Result Reply Stopped) : Type 0 where
@@ -115,10 +115,10 @@ module _ (t : ℕ) (old new : KernelModel) where
               runs = subst (λ (d : Denied). Runs (rest (Err d)) mid new t result) same runs;
             })
 
-module _ (session : Session) (f : Flat) (me : ProcName) (caller : IsRunning f me) (call : UnixCall) (old new : KernelModel) (t : ℕ) (named : IsThreadOf session (state old) me t) (result : Result Reply Stopped) where
+module _ (accounts : Accounts) (f : Flat) (me : ProcName) (caller : IsRunning f me) (call : UnixCall) (old new : KernelModel) (t : ℕ) (named : IsThreadOf accounts (state old) me t) (result : Result Reply Stopped) where
   -- what a row shows
   abbrev pub Goal : Type 0
-  Goal = FollowsRule session f me call old new t result
+  Goal = FollowsRule accounts f me call old new t result
 
   -- the raw calls so far, each granted
   module _ (calls : List RawCall) (mid : KernelModel) (so_far : Chain old t (all_granted calls) mid) where
@@ -138,9 +138,9 @@ module _ (session : Session) (f : Flat) (me : ProcName) (caller : IsRunning f me
         chain : Chain old t (all_granted calls) new
         chain = kept ends.unchanged
 
-        by : (r : Result Reply Stopped) → IsErr r → FollowsRule session f me call old new t r
+        by : (r : Result Reply Stopped) → IsErr r → FollowsRule accounts f me call old new t r
         by (Ok reply) err = absurd cc
-        by (Err stopped) err = chain_unanswered session f me caller call old new t named (all_granted calls) chain (granted_broken_off t (reply_to session f me call) old new old.line calls chain)
+        by (Err stopped) err = chain_unanswered accounts f me caller call old new t named (all_granted calls) chain (granted_broken_off t (reply_to accounts f me call) old new old.line calls chain)
 
     -- a raw call that the rules grant, whatever a denial would have come to
     pub allowed_step : (next : RawCall) (rest : Outcome next → Program) → check (state mid) t next ≡ None → Runs (Asks next rest) mid new t result
@@ -176,51 +176,51 @@ module _ (session : Session) (f : Flat) (me : ProcName) (caller : IsRunning f me
           let here = stopped_here t end.mid new result (subst (λ (program : Program). Runs program end.mid new t result) stops end.runs) in
           let last : Chain mid t ((next, Some TooBig) ∷ []) new = (end.mid, end.called, here.unchanged) in
           let chain = chain_after t old mid new (all_granted calls) ((next, Some TooBig) ∷ []) so_far last in
-          by result here.unanswered (chain_unanswered session f me caller call old new t named (all_granted calls ++ (next, Some TooBig) ∷ []) chain (exhausted_broken_off t (reply_to session f me call) old mid new old.line calls next so_far last greatest))
+          by result here.unanswered (chain_unanswered accounts f me caller call old new t named (all_granted calls ++ (next, Some TooBig) ∷ []) chain (exhausted_broken_off t (reply_to accounts f me call) old mid new old.line calls next so_far last greatest))
     ]
       where
-        by : (r : Result Reply Stopped) → IsErr r → FollowsRule session f me call old new t (Err (record {})) → FollowsRule session f me call old new t r
-        by (Ok reply) err row = absurd cc
-        by (Err stopped) err row = row
+        by : (r : Result Reply Stopped) → IsErr r → FollowsRule accounts f me call old new t (Err (record {})) → FollowsRule accounts f me call old new t r
+        by (Ok reply) err refined = absurd cc
+        by (Err stopped) err refined = refined
 
     -- the same of one whose denial is replied, if it has an errno
     counted_out : (next : RawCall) (rest : AnswerOf next → Program) → check (state mid) t next ≡ Some TooBig → errno_for next TooBig ≡ None
         → (has_number (state mid) ≡ false) ⊎ (has_category (state mid) ≡ false) → Runs (ask next rest) mid new t result → Goal
-    counted_out next rest fails untold greatest runs = spent_step next (or_refused (errno_for next) rest) fails (ap refused_with untold) greatest runs
+    counted_out next rest fails unrevealed greatest runs = spent_step next (or_refused (errno_for next) rest) fails (ap refused_with unrevealed) greatest runs
 
     -- one that makes an object, since the next object has no number
     pub exhausted_step : (next : RawCall) (rest : AnswerOf next → Program) → check (state mid) t next ≡ Some TooBig → errno_for next TooBig ≡ None → has_number (state mid) ≡ false → Runs (ask next rest) mid new t result → Goal
-    exhausted_step next rest fails untold greatest runs = counted_out next rest fails untold (inl greatest) runs
+    exhausted_step next rest fails unrevealed greatest runs = counted_out next rest fails unrevealed (inl greatest) runs
 
     -- and one that makes a category, since the next category has none
     pub exhausted_category_step : (next : RawCall) (rest : AnswerOf next → Program) → check (state mid) t next ≡ Some TooBig → errno_for next TooBig ≡ None → has_category (state mid) ≡ false → Runs (ask next rest) mid new t result → Goal
-    exhausted_category_step next rest fails untold greatest runs = counted_out next rest fails untold (inr greatest) runs
+    exhausted_category_step next rest fails unrevealed greatest runs = counted_out next rest fails unrevealed (inr greatest) runs
 
-    module _ (stays : state mid ≡ state old) (represents : Represents session (state old) f) (errno : Errno) (is : refused session f me caller.process call ≡ Some errno) where
+    module _ (stays : state mid ≡ state old) (represents : Represents accounts (state old) f) (errno : Errno) (is : refused accounts f me caller.process call ≡ Some errno) where
       -- a raw call that they refuse, as the flat rules refuse the call
       pub refused_step : (next : RawCall) (rest : AnswerOf next → Program) (denied : Denied) → check (state mid) t next ≡ Some denied → errno_for next denied ≡ Some errno
-          → ReadsAmong session f me caller call old new t named (all_granted calls ++ (next, Some denied) ∷ []) (Refused errno) → Runs (ask next rest) mid new t result → Goal
-      refused_step next rest denied fails told reads runs = elim (refused_so t mid new next (or_refused (errno_for next) rest) denied fails result runs) [
+          → ReadsAmong accounts f me caller call old new t named (all_granted calls ++ (next, Some denied) ∷ []) (Refused errno) → Runs (ask next rest) mid new t result → Goal
+      refused_step next rest denied fails revealed reads runs = elim (refused_so t mid new next (or_refused (errno_for next) rest) denied fails result runs) [
         | inl ends ↦ ends_here ends
         | inr end ↦
-            let said = replied t end.mid new (Refused errno) result (subst (λ (o : Option Errno). Runs (refused_with o) end.mid new t result) told end.runs) in
+            let said = replied t end.mid new (Refused errno) result (subst (λ (o : Option Errno). Runs (refused_with o) end.mid new t result) revealed end.runs) in
             let chain = chain_after t old mid new (all_granted calls) ((next, Some denied) ∷ []) so_far (end.mid, end.called, said.0) in
-            subst (FollowsRule session f me call old new t) (sym said.1)
-            (refused_row session f me caller call old new t named (said.0.state ∙ end.called.state ∙ stays) represents calls next denied chain errno (told_shown next denied errno told) is reads)
+            subst (FollowsRule accounts f me call old new t) (sym said.1)
+            (refused_refined accounts f me caller call old new t named (said.0.state ∙ end.called.state ∙ stays) represents calls next denied chain errno (revealed_shown next denied errno revealed) is reads)
       ]
 
       -- and a call that is refused with no raw call more
-      pub refused_at_once : is_access errno ≡ false → is_permission errno ≡ false → ReadsAmong session f me caller call old new t named (all_granted calls) (Refused errno) → Runs (Answers (Refused errno)) mid new t result → Goal
+      pub refused_at_once : is_access errno ≡ false → is_permission errno ≡ false → ReadsAmong accounts f me caller call old new t named (all_granted calls) (Refused errno) → Runs (Answers (Refused errno)) mid new t result → Goal
       refused_at_once no_access no_permission reads runs =
           let end = replied t mid new (Refused errno) result runs in
-          subst (FollowsRule session f me call old new t) (sym end.1)
-          (unchanged_row session f me caller call old new t named (end.0.state ∙ stays) represents calls (kept end.0) errno no_access no_permission is reads)
+          subst (FollowsRule accounts f me call old new t) (sym end.1)
+          (unchanged_refined accounts f me caller call old new t named (end.0.state ∙ stays) represents calls (kept end.0) errno no_access no_permission is reads)
 
     -- a call that replies what the flat rules answer
-    pub answered_step : (reply : Reply) → reply ≡ flat.answer f me caller.process call → refused session f me caller.process call ≡ None → IsBacked (state old) (entries_of old.line t (all_granted calls)) (flat.answer f me caller.process call)
-        → ReadsAmong session f me caller call old new t named (all_granted calls) (flat.answer f me caller.process call) → Represents session (state mid) (changed session f me caller.process call) → Runs (Answers reply) mid new t result → Goal
+    pub answered_step : (reply : Reply) → reply ≡ flat.answer f me caller.process call → refused accounts f me caller.process call ≡ None → IsBacked (state old) (entries_of old.line t (all_granted calls)) (flat.answer f me caller.process call)
+        → ReadsAmong accounts f me caller call old new t named (all_granted calls) (flat.answer f me caller.process call) → Represents accounts (state mid) (changed accounts f me caller.process call) → Runs (Answers reply) mid new t result → Goal
     answered_step reply said is backed reads represents runs =
         let end = replied t mid new reply result runs in
-        subst (FollowsRule session f me call old new t) (sym (end.1 ∙ ap Ok said))
-        (granted_row session f me caller call old new t named calls (kept end.0) is backed reads
-        (subst (λ (s : State). Represents session s (changed session f me caller.process call)) (sym end.0.state) represents))
+        subst (FollowsRule accounts f me call old new t) (sym (end.1 ∙ ap Ok said))
+        (granted_refined accounts f me caller call old new t named calls (kept end.0) is backed reads
+        (subst (λ (s : State). Represents accounts s (changed accounts f me caller.process call)) (sym end.0.state) represents))

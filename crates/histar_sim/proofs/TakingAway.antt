@@ -11,7 +11,7 @@ use Rattle.histar_flat.specs.declared.replies.Errno.TheVariants.{EACCES}
 use Rattle.histar_flat.specs.declared.replies.Reply.{Reply}
 use Rattle.histar_flat.specs.declared.replies.Reply.TheVariants.{Done}
 use Rattle.histar_flat.specs.Words.{Name, Path, ProcName}
-use Rattle.histar_flat.specs.Sessions.{Session}
+use Rattle.histar_flat.specs.Accounts.{Accounts}
 use Rattle.histar_flat.specs.Files.{get}
 use Rattle.histar_flat.specs.Classes.{Class, Process, may_read, may_write}
 use Rattle.histar_flat.specs.FlatState.{Flat, Node, Content, is_some_and, is_dir_at, writes, into, without_below}
@@ -34,12 +34,12 @@ use Rattle.histar_rules.specs.Rules.{check}
 use Rattle.histar_syscall.specs.KernelModel.{KernelModel, state}
 use Rattle.histar_layout.specs.Directory.{Entries, IsListable, spelling}
 use Rattle.histar_layout.proofs.MapLemmas.{listable_remove}
-use Rattle.histar_calls.specs.declared.ending.Stopped.{Stopped}
+use Rattle.histar_calls.specs.declared.call_error.Stopped.{Stopped}
 use Rattle.histar_calls.specs.Programs.{Program, Runs}
 use Rattle.histar_calls.specs.Programs.Program.{Answers}
 use Rattle.histar_calls.specs.Parts.{ask}
 use Rattle.histar_moves.specs.Parts.{take_away}
-use Rattle.histar_refinement.specs.Sessions.{IsSession}
+use Rattle.histar_refinement.specs.Accounts.{AreAccounts}
 use Rattle.histar_refinement.specs.Guards.{Guard, guard_label, rights_label, rights_clearance}
 use Rattle.histar_refinement.specs.Labels.{class_guard, thread_rights}
 use Rattle.histar_refinement.specs.Addresses.{Step, same_step, address_of, home_address}
@@ -55,52 +55,52 @@ use Rattle.histar_refinement.proofs.DirectoryLaws.{spelling_fits}
 use Rattle.histar_refinement.proofs.RawChecks.{object, write_check}
 use Rattle.histar_refinement.proofs.FileChecks.{fits, unlink_said}
 use Rattle.histar_refinement.proofs.Removing.{under_home, represents_removed}
-use Rattle.histar_refinement.proofs.Standing.{thread_found, guard_at, container_found, listing_found, step_linked}
+use Rattle.histar_refinement.proofs.Agreeing.{thread_found, guard_at, container_found, listing_found, step_linked}
 use Rattle.histar_sim.specs.Simulation.{IsReady}
 use Rattle.histar_sim.specs.Reads.{AreAmong}
 use Rattle.histar_sim.proofs.Chains.{Step as Made, all_granted, entries_of, Chain}
-use Rattle.histar_sim.proofs.Endings.{IsBacked, ReadsAmong}
+use Rattle.histar_sim.proofs.CallErrors.{IsBacked, ReadsAmong}
 use Rattle.histar_sim.proofs.Steps.{Goal, granted_step, refused_step, answered_step}
-use Rattle.histar_sim.proofs.Walks.{runs, place_at, stands, at_container, at_listing, dir, seen, among_granted_all, among_then, among_also}
+use Rattle.histar_sim.proofs.Walks.{runs, place_at, agrees, at_container, at_listing, dir, seen, among_granted_all, among_then, among_also}
 use Rattle.histar_sim.proofs.Entries.{object_at, entry_of, object_led_to, object_numbered}
 
 -- ---- the state between the two raw calls
 
-module _ (session : Session) (s : State) (f : Flat) (l : ObjectsMatch session s f) (ok : IsSession session) (me : ProcName) (p : Process) (t : ℕ) (runs : RunsAs session s f l me p t)
+module _ (accounts : Accounts) (s : State) (f : Flat) (l : ObjectsMatch accounts s f) (ok : AreAccounts accounts) (me : ProcName) (p : Process) (t : ℕ) (runs : RunsAs accounts s f l me p t)
     (d : Path) (class : Class) (at : get f.files d ≡ Some (record { class = class; content = Dir })) (D N : ℕ) (at_directory : l.naming.number (address_of d) ≡ Some D) (at_listing : l.naming.number (Listing ∷ address_of d) ≡ Some N)
     (m : Name) (O : ℕ) (at_entry : l.naming.number (address_of (m ∷ d)) ≡ Some O) (mid : State) (cuts : CutsOff s D O mid) where
   abbrev top : Address Step
   top = Named m ∷ address_of d
 
   abbrev label : Levels
-  label = rights_label l.category (thread_rights session me p)
+  label = rights_label l.category (thread_rights accounts me p)
 
   abbrev clearance : Levels
-  clearance = rights_clearance l.category (thread_rights session me p)
+  clearance = rights_clearance l.category (thread_rights accounts me p)
 
-  guard : (g : Guard) × (class_guard session class ≡ Some g)
-  guard = guard_at session s f l d (record { class = class; content = Dir }) at
+  guard : (g : Guard) × (class_guard accounts class ≡ Some g)
+  guard = guard_at accounts s f l d (record { class = class; content = Dir }) at
 
   abbrev due : Levels
   due = guard_label l.category guard.0
 
-  thread : s.objects t ≡ object (rights_label l.category (thread_rights session me p)) (Thread (rights_clearance l.category (thread_rights session me p)))
-  thread = thread_found session s f l me p runs.0 runs.1 t runs.2
+  thread : s.objects t ≡ object (rights_label l.category (thread_rights accounts me p)) (Thread (rights_clearance l.category (thread_rights accounts me p)))
+  thread = thread_found accounts s f l me p runs.0 runs.1 t runs.2
 
   abbrev links : Links
-  links = (container_found session s f l d class at guard.0 guard.1 D at_directory).0
+  links = (container_found accounts s f l d class at guard.0 guard.1 D at_directory).0
 
   holder : s.objects D ≡ object due (Container links)
-  holder = (container_found session s f l d class at guard.0 guard.1 D at_directory).1
+  holder = (container_found accounts s f l d class at guard.0 guard.1 D at_directory).1
 
   segment : s.objects N ≡ object due (Segment (spelling (directory_of f.files l.naming.number d)))
-  segment = listing_found session s f l d class at guard.0 guard.1 N at_listing
+  segment = listing_found accounts s f l d class at guard.0 guard.1 N at_listing
 
   -- what lies elsewhere is as it was, but for the directory's container
   stays : (b : Address Step) (q : ℕ) → l.naming.number b ≡ Some q → under same_step top b ≡ false → q ≢ D → mid.objects q ≡ s.objects q
   stays b q at_q outside other =
-      cuts.is_cut.stays q (not_reached same_step step_tests_equality s.objects s.next_object (objects_at s.objects l.naming) l.naming l.stands.tree O top (l.stands.tree.addressed top O at_entry) q
-      (ap (is_under same_step top) (l.stands.tree.addressed b q at_q) ∙ outside)) other
+      cuts.is_cut.stays q (not_reached same_step step_tests_equality s.objects s.next_object (objects_at s.objects l.naming) l.naming l.agrees.tree O top (l.agrees.tree.addressed top O at_entry) q
+      (ap (is_under same_step top) (l.agrees.tree.addressed b q at_q) ∙ outside)) other
 
   other_thread : t ≢ D
   other_thread e = true≢false (sym (ap is_container (ap s.objects e ∙ holder)) ∙ ap is_container thread)
@@ -120,78 +120,78 @@ module _ (session : Session) (s : State) (f : Flat) (l : ObjectsMatch session s 
 
   -- the directory segment is another object than the one that was unlinked
   other_object : N ≢ O
-  other_object e = let same = one_address same_step step_tests_equality s l.naming (expected session l.category f l.naming.number) l.stands (Listing ∷ address_of d) top N at_listing (at_entry ∙ ap Some (sym e)) in absurd cc
+  other_object e = let same = one_address same_step step_tests_equality s l.naming (expected accounts l.category f l.naming.number) l.agrees (Listing ∷ address_of d) top N at_listing (at_entry ∙ ap Some (sym e)) in absurd cc
 
   -- and is still linked
   linked_then : set.contains (set.remove links O) N ≡ true
   linked_then =
       unlinked_links (Some (record { label = due; kind = Container links })) O N
       ∙ (λ i. not (ne_eqb N O other_object i) && sym (ap (λ (o : Found). set.contains (links_in o) N) holder) i)
-      ∙ step_linked session s f l Listing (address_of d) D N at_directory at_listing
+      ∙ step_linked accounts s f l Listing (address_of d) D N at_directory at_listing
 
   -- where the directory may be read and written, its segment is written with any directory that can be listed
-  pub written_then : may_read session p class ≡ true → may_write session p class ≡ true → (entries : Entries) → IsListable entries → check mid t (raw.Write D N 0 (spelling entries)) ≡ None
+  pub written_then : may_read accounts p class ≡ true → may_write accounts p class ≡ true → (entries : Entries) → IsListable entries → check mid t (raw.Write D N 0 (spelling entries)) ≡ None
   written_then sees may entries listable =
       let old = spelling (directory_of f.files l.naming.number d) in
-      let observed : is_below_raised due label ≡ true = observes_class session me p l.category l.different ok class guard.0 guard.1 ∙ sees in
-      let changes : (is_below label due && is_below_raised due label) ≡ true = modifies_class session me p l.category l.different ok class guard.0 guard.1 ∙ may in
+      let observed : is_below_raised due label ≡ true = observes_class accounts me p l.category l.different ok class guard.0 guard.1 ∙ sees in
+      let changes : (is_below label due && is_below_raised due label) ≡ true = modifies_class accounts me p l.category l.different ok class guard.0 guard.1 ∙ may in
       write_check mid t label clearance thread_then D due (set.remove links O) holder_then observed N linked_then due old listing_then 0 (spelling entries)
       ∙ (λ i. unless (changes i) Modify orelse unless (fits old (spelling entries) (spelling_fits entries listable) i) TooBig)
 
 -- ---- the two raw calls
 
-module _ (session : Session) (ok : IsSession session) (old new : KernelModel) (f : Flat) (me : ProcName) (t : ℕ) (ready : IsReady session (state old) f me t) (m : Name) (d : Path) (call : UnixCall) (result : Result Reply Stopped) where
+module _ (accounts : Accounts) (ok : AreAccounts accounts) (old new : KernelModel) (f : Flat) (me : ProcName) (t : ℕ) (ready : IsReady accounts (state old) f me t) (m : Name) (d : Path) (call : UnixCall) (result : Result Reply Stopped) where
   abbrev p : Process
   p = ready.caller.process
 
   -- the container of its directory, its directory segment, and what the entry leads to
   abbrev container : ℕ
-  container = (place_at session ok (state old) f me t ready d).container
+  container = (place_at accounts ok (state old) f me t ready d).container
 
   abbrev listing : ℕ
-  listing = (place_at session ok (state old) f me t ready d).listing
+  listing = (place_at accounts ok (state old) f me t ready d).listing
 
   abbrev o : ℕ
-  o = object_at session ok (state old) f me t ready m d
+  o = object_at accounts ok (state old) f me t ready m d
 
   abbrev entries : Entries
-  entries = directory_of f.files ready.represents.laid.naming.number d
+  entries = directory_of f.files ready.represents.matched.naming.number d
 
   -- The flat rule takes the entry away where the directory that it lies in may be written.
   pub record TakesAway : Type 0 where
-    pub refuses : refused session f me p call ≡ unless (writes session f p d) EACCES
-    pub removes : changed session f me p call ≡ without_below f (m ∷ d)
+    pub refuses : refused accounts f me p call ≡ unless (writes accounts f p d) EACCES
+    pub removes : changed accounts f me p call ≡ without_below f (m ∷ d)
     pub answers : flat.answer f me p call ≡ Done
 
-  module _ (rule : TakesAway) (open_so_far : into session f p d ≡ None) (class : Class) (content : Content) (at : get f.files (m ∷ d) ≡ Some (record { class = class; content = content }))
-      (calls : List RawCall) (has_reads : (steps : List Made) (r : Reply) → AreAmong calls (entries_of old.line t steps) → ReadsAmong session f me ready.caller call old new t ready.thread steps r)
+  module _ (rule : TakesAway) (open_so_far : into accounts f p d ≡ None) (class : Class) (content : Content) (at : get f.files (m ∷ d) ≡ Some (record { class = class; content = content }))
+      (calls : List RawCall) (has_reads : (steps : List Made) (r : Reply) → AreAmong calls (entries_of old.line t steps) → ReadsAmong accounts f me ready.caller call old new t ready.thread steps r)
       (mid : KernelModel) (same : state mid ≡ state old) (chain : Chain old t (all_granted calls) mid) where
-    abbrev Row : Type 0
-    Row = Goal session f me ready.caller call old new t ready.thread result
+    abbrev Refined : Type 0
+    Refined = Goal accounts f me ready.caller call old new t ready.thread result
 
     is_dir_here : is_dir_at f d ≡ true
-    is_dir_here = dir session ok (state old) f me t ready d open_so_far
+    is_dir_here = dir accounts ok (state old) f me t ready d open_so_far
 
     abbrev root : Class
-    root = (stands session ok (state old) f me t ready d (dir session ok (state old) f me t ready d open_so_far)).0
+    root = (agrees accounts ok (state old) f me t ready d (dir accounts ok (state old) f me t ready d open_so_far)).0
 
     root_at : get f.files d ≡ Some (record { class = root; content = Dir })
-    root_at = (stands session ok (state old) f me t ready d (dir session ok (state old) f me t ready d open_so_far)).1
+    root_at = (agrees accounts ok (state old) f me t ready d (dir accounts ok (state old) f me t ready d open_so_far)).1
 
-    at_D : ready.represents.laid.naming.number (address_of d) ≡ Some container
-    at_D = at_container session ok (state old) f me t ready d is_dir_here
+    at_D : ready.represents.matched.naming.number (address_of d) ≡ Some container
+    at_D = at_container accounts ok (state old) f me t ready d is_dir_here
 
-    at_N : ready.represents.laid.naming.number (Listing ∷ address_of d) ≡ Some listing
-    at_N = at_listing session ok (state old) f me t ready d is_dir_here
+    at_N : ready.represents.matched.naming.number (Listing ∷ address_of d) ≡ Some listing
+    at_N = at_listing accounts ok (state old) f me t ready d is_dir_here
 
-    at_O : ready.represents.laid.naming.number (address_of (m ∷ d)) ≡ Some o
-    at_O = object_numbered session ok (state old) f me t ready m d class content at
+    at_O : ready.represents.matched.naming.number (address_of (m ∷ d)) ≡ Some o
+    at_O = object_numbered accounts ok (state old) f me t ready m d class content at
 
-    sees : may_read session p root ≡ true
-    sees = seen session ok (state old) f me t ready d open_so_far
+    sees : may_read accounts p root ≡ true
+    sees = seen accounts ok (state old) f me t ready d open_so_far
 
-    refused_so : (may : Bool) → may_write session p root ≡ may → refused session f me p call ≡ unless may EACCES
-    refused_so may is = rule.refuses ∙ ap (λ (b : Bool). unless b EACCES) (ap (λ (x : Option Node). is_some_and x (λ n. may_write session p n.class)) root_at ∙ is)
+    refused_so : (may : Bool) → may_write accounts p root ≡ may → refused accounts f me p call ≡ unless may EACCES
+    refused_so may is = rule.refuses ∙ ap (λ (b : Bool). unless b EACCES) (ap (λ (x : Option Node). is_some_and x (λ n. may_write accounts p n.class)) root_at ∙ is)
 
     abbrev unlinks : RawCall
     unlinks = raw.Unlink container o
@@ -199,48 +199,48 @@ module _ (session : Session) (ok : IsSession session) (old new : KernelModel) (f
     abbrev writing : RawCall
     writing = raw.Write container listing 0 (spelling (map.remove entries m))
 
-    abbrev ending : Program
-    ending = ask writing (λ _. Answers Done)
+    abbrev call_error : Program
+    call_error = ask writing (λ _. Answers Done)
 
     -- the kernel's check is the flat rule
-    said : (may : Bool) → may_write session p root ≡ may → check (state mid) t unlinks ≡ unless may Modify
+    said : (may : Bool) → may_write accounts p root ≡ may → check (state mid) t unlinks ≡ unless may Modify
     said may is =
         ap (λ (s : State). check s t unlinks) same
-        ∙ unlink_said session (state old) f ready.represents.laid ok me p t (runs session ok (state old) f me t ready) d root root_at container listing at_D at_N sees m o at_O
+        ∙ unlink_said accounts (state old) f ready.represents.matched ok me p t (runs accounts ok (state old) f me t ready) d root root_at container listing at_D at_N sees m o at_O
         ∙ ap (λ (b : Bool). unless b Modify) is
 
     among : (more : List RawCall) → AreAmong calls (entries_of old.line t (all_granted (calls ++ more)))
     among more = among_then old.line t calls calls more (among_granted_all old.line t calls)
 
-    module _ (may : may_write session p root ≡ true) (cut : KernelModel) (cuts : CutsOff (state old) container o (state cut)) (so_far : Chain old t (all_granted (calls ++ unlinks ∷ [])) cut) where
+    module _ (may : may_write accounts p root ≡ true) (cut : KernelModel) (cuts : CutsOff (state old) container o (state cut)) (so_far : Chain old t (all_granted (calls ++ unlinks ∷ [])) cut) where
       write_said : check (state cut) t writing ≡ None
       write_said =
-          written_then session (state old) f ready.represents.laid ok me p t (runs session ok (state old) f me t ready) d root root_at container listing at_D at_N m o at_O (state cut) cuts sees may
-          (map.remove entries m) (listable_remove entries m (ready.represents.laid.listable d is_dir_here))
+          written_then accounts (state old) f ready.represents.matched ok me p t (runs accounts ok (state old) f me t ready) d root root_at container listing at_D at_N m o at_O (state cut) cuts sees may
+          (map.remove entries m) (listable_remove entries m (ready.represents.matched.listable d is_dir_here))
 
-      laid_after : Represents session (with_segment_bytes (state cut) listing (spelling (map.remove entries m))) (without_below f (m ∷ d))
-      laid_after = represents_removed session (state old) f ready.represents.laid m d container listing o at_D at_N at_O (state cut) cuts ready.represents.jobs_given is_dir_here
+      matched_after : Represents accounts (with_segment_bytes (state cut) listing (spelling (map.remove entries m))) (without_below f (m ∷ d))
+      matched_after = represents_removed accounts (state old) f ready.represents.matched m d container listing o at_D at_N at_O (state cut) cuts ready.represents.jobs_given is_dir_here
 
       -- the directory is written, and the call is answered
-      written : Runs ending cut new t result → Row
+      written : Runs call_error cut new t result → Refined
       written on =
-          granted_step session f me ready.caller call old new t ready.thread result (calls ++ unlinks ∷ []) cut so_far writing (λ _. Answers Done) write_said on
+          granted_step accounts f me ready.caller call old new t ready.thread result (calls ++ unlinks ∷ []) cut so_far writing (λ _. Answers Done) write_said on
           (λ end done wrote right whole last.
           let all = (calls ++ unlinks ∷ []) ++ writing ∷ [] in
           let among_all = among_then old.line t calls (calls ++ unlinks ∷ []) (writing ∷ []) (among (unlinks ∷ [])) in
-          answered_step session f me ready.caller call old new t ready.thread result all end whole Done (sym rule.answers) (refused_so true may)
+          answered_step accounts f me ready.caller call old new t ready.thread result all end whole Done (sym rule.answers) (refused_so true may)
           (subst (IsBacked (state old) (entries_of old.line t (all_granted all))) (sym rule.answers) tt) (has_reads (all_granted all) (flat.answer f me p call) among_all)
-          (subst (Represents session (state end)) (sym rule.removes) (subst (λ (s : State). Represents session s (without_below f (m ∷ d))) (sym wrote.state) laid_after)) last)
+          (subst (Represents accounts (state end)) (sym rule.removes) (subst (λ (s : State). Represents accounts s (without_below f (m ∷ d))) (sym wrote.state) matched_after)) last)
 
-    by_right : (may : Bool) → may_write session p root ≡ may → Runs (ask unlinks (λ _. ending)) mid new t result → Row
+    by_right : (may : Bool) → may_write accounts p root ≡ may → Runs (ask unlinks (λ _. call_error)) mid new t result → Refined
     by_right false is on =
-        refused_step session f me ready.caller call old new t ready.thread result calls mid chain same ready.represents EACCES (refused_so false is) unlinks (λ _. ending) Modify (said false is) refl
+        refused_step accounts f me ready.caller call old new t ready.thread result calls mid chain same ready.represents EACCES (refused_so false is) unlinks (λ _. call_error) Modify (said false is) refl
         (has_reads _ _ (among_also old.line t calls calls ((unlinks, Some Modify) ∷ []) (among_granted_all old.line t calls))) on
     by_right true is on =
-        granted_step session f me ready.caller call old new t ready.thread result calls mid chain unlinks (λ _. ending) (said true is) on
+        granted_step accounts f me ready.caller call old new t ready.thread result calls mid chain unlinks (λ _. call_error) (said true is) on
         (λ cut done called right longer rest. written is cut (subst (λ (s : State). CutsOff s container o (state cut)) same called.state) longer rest)
 
     -- the entry is taken away, or the call is refused
-    pub take_away_step : Runs (take_away (entry_of session ok (state old) f me t ready m d content) (λ _. Answers Done)) mid new t result → Row
+    pub take_away_step : Runs (take_away (entry_of accounts ok (state old) f me t ready m d content) (λ _. Answers Done)) mid new t result → Refined
     unfolding take_away
-    take_away_step run = by_right (may_write session p root) refl (subst (λ (q : ℕ). Runs (ask (raw.Unlink container q) (λ _. ending)) mid new t result) (object_led_to session ok (state old) f me t ready m d content) run)
+    take_away_step run = by_right (may_write accounts p root) refl (subst (λ (q : ℕ). Runs (ask (raw.Unlink container q) (λ _. call_error)) mid new t result) (object_led_to accounts ok (state old) f me t ready m d content) run)

@@ -9,7 +9,7 @@ use Rattle.histar_flat.specs.declared.replies.Errno.TheVariants.{EACCES, EBUSY, 
 use Rattle.histar_flat.specs.declared.replies.Reply.{Reply}
 use Rattle.histar_flat.specs.declared.replies.Reply.TheVariants.{Done}
 use Rattle.histar_flat.specs.Words.{Name, Path, ProcName}
-use Rattle.histar_flat.specs.Sessions.{Session}
+use Rattle.histar_flat.specs.Accounts.{Accounts}
 use Rattle.histar_flat.specs.Files.{get}
 use Rattle.histar_flat.specs.Classes.{Class}
 use Rattle.histar_flat.specs.FlatState.{Flat, Node, Content, is_some_and, is_dir, is_file_at, writes, into}
@@ -18,15 +18,15 @@ use Rattle.histar_flat.specs.FlatCalls.{refused}
 use Rattle.histar_rules.specs.declared.raw.RawCall.{RawCall}
 use Rattle.histar_syscall.specs.KernelModel.{KernelModel, state}
 use Rattle.histar_syscall.proofs.Runs.{same_kernel}
-use Rattle.histar_calls.specs.declared.ending.Stopped.{Stopped}
+use Rattle.histar_calls.specs.declared.call_error.Stopped.{Stopped}
 use Rattle.histar_calls.specs.Programs.{Program, Runs}
 use Rattle.histar_calls.specs.Programs.Program.{Answers}
 use Rattle.histar_calls.specs.Parts.{given}
 use Rattle.histar_moves.specs.declared.entry.FoundEntry.{FoundEntry}
 use Rattle.histar_moves.specs.Parts.{find_entry, must_be_file, take_away}
 use Rattle.histar_moves.specs.Unlink.{unlink_program}
-use Rattle.histar_login.specs.Start.{places_of}
-use Rattle.histar_refinement.specs.Sessions.{IsSession}
+use Rattle.histar_login.specs.Start.{roots_of}
+use Rattle.histar_refinement.specs.Accounts.{AreAccounts}
 use Rattle.histar_sim.specs.Simulation.{IsReady}
 use Rattle.histar_sim.proofs.Chains.{all_granted, Chain}
 use Rattle.histar_sim.proofs.Steps.{Goal, refused_at_once}
@@ -35,53 +35,53 @@ use Rattle.histar_sim.specs.Laws.{UnlinkRefines}
 use Rattle.histar_sim.proofs.Entries.{entry_of, reached, entry_step}
 use Rattle.histar_sim.proofs.TakingAway.{take_away_step}
 
-module _ (session : Session) (ok : IsSession session) (old new : KernelModel) (f : Flat) (me : ProcName) (t : ℕ) (ready : IsReady session (state old) f me t) (m : Name) (d : Path) (result : Result Reply Stopped) where
+module _ (accounts : Accounts) (ok : AreAccounts accounts) (old new : KernelModel) (f : Flat) (me : ProcName) (t : ℕ) (ready : IsReady accounts (state old) f me t) (m : Name) (d : Path) (result : Result Reply Stopped) where
   abbrev call : UnixCall
   call = calls.Unlink (m ∷ d)
 
   abbrev walk : List RawCall
-  walk = walk_reads session ok (state old) f me t ready d
+  walk = walk_reads accounts ok (state old) f me t ready d
 
-  abbrev Row : Type 0
-  Row = Goal session f me ready.caller call old new t ready.thread result
+  abbrev Refined : Type 0
+  Refined = Goal accounts f me ready.caller call old new t ready.thread result
 
   -- what the flat rules refuse of the entry
   abbrev refusal : Option Errno
-  refusal = unless (is_file_at f (m ∷ d)) EISDIR orelse unless (writes session f ready.caller.process d) EACCES
+  refusal = unless (is_file_at f (m ∷ d)) EISDIR orelse unless (writes accounts f ready.caller.process d) EACCES
 
   -- once the entry was found
   abbrev at_entry : FoundEntry → Program
   at_entry entry = given (must_be_file entry.target) (λ _. take_away entry (λ _. Answers Done))
 
-  module _ (open_so_far : into session f ready.caller.process d ≡ None) (mid : KernelModel) (stays : state mid ≡ state old) (chain : Chain old t (all_granted walk) mid) where
+  module _ (open_so_far : into accounts f ready.caller.process d ≡ None) (mid : KernelModel) (stays : state mid ≡ state old) (chain : Chain old t (all_granted walk) mid) where
     refused_by : (class : Class) (content : Content) → get f.files (m ∷ d) ≡ Some (record { class = class; content = content })
-        → refused session f me ready.caller.process call ≡ (unless (not (is_dir (record { class = class; content = content }))) EISDIR orelse unless (writes session f ready.caller.process d) EACCES)
+        → refused accounts f me ready.caller.process call ≡ (unless (not (is_dir (record { class = class; content = content }))) EISDIR orelse unless (writes accounts f ready.caller.process d) EACCES)
     refused_by class content at =
-        reached session ok old new f me t ready m d call result refusal refl (λ none steps r among. has_walk session ok (state old) f me t ready m d _ among) open_so_far _ at
-        ∙ ap (λ (x : Option Node). unless (is_some_and x (λ n. not (is_dir n))) EISDIR orelse unless (writes session f ready.caller.process d) EACCES) at
+        reached accounts ok old new f me t ready m d call result refusal refl (λ none steps r among. has_walk accounts ok (state old) f me t ready m d _ among) open_so_far _ at
+        ∙ ap (λ (x : Option Node). unless (is_some_and x (λ n. not (is_dir n))) EISDIR orelse unless (writes accounts f ready.caller.process d) EACCES) at
 
-    by_content : (class : Class) (content : Content) → get f.files (m ∷ d) ≡ Some (record { class = class; content = content }) → Runs (at_entry (entry_of session ok (state old) f me t ready m d content)) mid new t result → Row
+    by_content : (class : Class) (content : Content) → get f.files (m ∷ d) ≡ Some (record { class = class; content = content }) → Runs (at_entry (entry_of accounts ok (state old) f me t ready m d content)) mid new t result → Refined
     by_content class Dir at on =
-        refused_at_once session f me ready.caller call old new t ready.thread result walk mid chain stays ready.represents EISDIR (refused_by class Dir at) refl refl
-        (has_walk session ok (state old) f me t ready m d _ (among_granted_all old.line t walk)) on
+        refused_at_once accounts f me ready.caller call old new t ready.thread result walk mid chain stays ready.represents EISDIR (refused_by class Dir at) refl refl
+        (has_walk accounts ok (state old) f me t ready m d _ (among_granted_all old.line t walk)) on
     by_content class (File bytes) at on =
-        take_away_step session ok old new f me t ready m d call result (record { refuses = refused_by class (File bytes) at; removes = refl; answers = refl }) open_so_far class (File bytes) at
-        walk (λ steps r among. has_walk session ok (state old) f me t ready m d _ among) mid stays chain on
+        take_away_step accounts ok old new f me t ready m d call result (record { refuses = refused_by class (File bytes) at; removes = refl; answers = refl }) open_so_far class (File bytes) at
+        walk (λ steps r among. has_walk accounts ok (state old) f me t ready m d _ among) mid stays chain on
 
-  unlink_is_row : Runs (unlink_program (places_of (length session.users)) (m ∷ d)) old new t result → Row
+  unlink_is_refined : Runs (unlink_program (roots_of (length accounts.users)) (m ∷ d)) old new t result → Refined
   unfolding unlink_program
-  unlink_is_row run =
-      entry_step session ok old new f me t ready m d call result refusal refl (λ none steps r among. has_walk session ok (state old) f me t ready m d _ among) at_entry run
+  unlink_is_refined run =
+      entry_step accounts ok old new f me t ready m d call result refusal refl (λ none steps r among. has_walk accounts ok (state old) f me t ready m d _ among) at_entry run
       (λ open_so_far class content at mid stays chain on. by_content open_so_far mid stays chain class content at on)
 
 -- an unlink of `/`
-unlink_of_slash : (session : Session) (old new : KernelModel) (f : Flat) (me : ProcName) (t : ℕ) (result : Result Reply Stopped) (ready : IsReady session (state old) f me t) → Runs (unlink_program (places_of (length session.users)) []) old new t result
-    → Goal session f me ready.caller (calls.Unlink []) old new t ready.thread result
+unlink_of_slash : (accounts : Accounts) (old new : KernelModel) (f : Flat) (me : ProcName) (t : ℕ) (result : Result Reply Stopped) (ready : IsReady accounts (state old) f me t) → Runs (unlink_program (roots_of (length accounts.users)) []) old new t result
+    → Goal accounts f me ready.caller (calls.Unlink []) old new t ready.thread result
 unfolding unlink_program find_entry
-unlink_of_slash session old new f me t result ready run =
-    refused_at_once session f me ready.caller (calls.Unlink []) old new t ready.thread result [] old (same_kernel old) refl ready.represents EBUSY refl refl refl tt run
+unlink_of_slash accounts old new f me t result ready run =
+    refused_at_once accounts f me ready.caller (calls.Unlink []) old new t ready.thread result [] old (same_kernel old) refl ready.represents EBUSY refl refl refl tt run
 
 -- an unlink does what its flat rule says
 pub unlink_refines : UnlinkRefines
-unlink_refines session ok [] me old new f t result ready run = unlink_of_slash session old new f me t result ready run
-unlink_refines session ok (m ∷ d) me old new f t result ready run = unlink_is_row session ok old new f me t ready m d result run
+unlink_refines accounts ok [] me old new f t result ready run = unlink_of_slash accounts old new f me t result ready run
+unlink_refines accounts ok (m ∷ d) me old new f t result ready run = unlink_is_refined accounts ok old new f me t ready m d result run

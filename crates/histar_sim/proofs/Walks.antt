@@ -12,7 +12,7 @@ use Rattle.histar_flat.specs.declared.replies.Errno.TheVariants.{EACCES, ENOENT,
 use Rattle.histar_flat.specs.declared.replies.Reply.{Reply}
 use Rattle.histar_flat.specs.declared.replies.Reply.TheVariants.{Refused}
 use Rattle.histar_flat.specs.Words.{Name, Path, ProcName}
-use Rattle.histar_flat.specs.Sessions.{Session}
+use Rattle.histar_flat.specs.Accounts.{Accounts}
 use Rattle.histar_flat.specs.Files.{get}
 use Rattle.histar_flat.specs.Classes.{Class, Process, may_read}
 use Rattle.histar_flat.specs.FlatState.{Flat, Node, Content, is_some_and, is_dir, is_there, is_dir_at, reads, into}
@@ -34,31 +34,31 @@ use Rattle.histar_layout.specs.Found.{found_in}
 use Rattle.histar_layout.specs.declared.entry.Target.{Target}
 use Rattle.histar_layout.specs.declared.entry.Target.TheVariants as targets
 use Rattle.histar_layout.proofs.LookingUp.{found_in_directory}
-use Rattle.histar_calls.specs.declared.ending.Stopped.{Stopped}
+use Rattle.histar_calls.specs.declared.call_error.Stopped.{Stopped}
 use Rattle.histar_calls.specs.declared.directory.Directory.{Directory}
-use Rattle.histar_calls.specs.declared.places.Place.{Place}
+use Rattle.histar_calls.specs.declared.roots.Place.{Place}
 use Rattle.histar_calls.specs.Programs.{Program, Runs}
 use Rattle.histar_calls.specs.Parts.{ask, given, list, read_directory, look_in, find_place, walk_to, directory_at}
-use Rattle.histar_login.specs.Start.{places_of}
-use Rattle.histar_refinement.specs.Sessions.{IsSession}
+use Rattle.histar_login.specs.Start.{roots_of}
+use Rattle.histar_refinement.specs.Accounts.{AreAccounts}
 use Rattle.histar_refinement.specs.Addresses.{AddressNumbers, address_of, slash_number, slash_listing_number}
 use Rattle.histar_refinement.specs.Addresses.Step.{Slash, Listing}
 use Rattle.histar_refinement.specs.Directories.{both_numbers, directory_of, target_for}
 use Rattle.histar_refinement.specs.Laws.{RunsAs}
 use Rattle.histar_refinement.specs.Lines.{IsDirectoryAt}
 use Rattle.histar_refinement.specs.Processes.{or_zero}
-use Rattle.histar_refinement.proofs.FileRows.{numbered_path, numbered_listing}
+use Rattle.histar_refinement.proofs.ListedFiles.{numbered_path, numbered_listing}
 use Rattle.histar_refinement.proofs.FileChecks.{read_listing_said}
 use Rattle.histar_refinement.proofs.DirectoryLaws.{get_directory}
-use Rattle.histar_refinement.proofs.LinesLaid.{holds_directory, directory_found}
-use Rattle.histar_refinement.proofs.Standing.{root_is_dir}
+use Rattle.histar_refinement.proofs.LinesMatched.{holds_directory, directory_found}
+use Rattle.histar_refinement.proofs.Agreeing.{root_is_dir}
 use Rattle.histar_refinement.proofs.StatusFound.{thread_back}
 use Rattle.histar_refinement.proofs.CallerFound.{is_or_zero}
 use Rattle.histar_sim.specs.Simulation.{IsReady}
 use Rattle.histar_sim.specs.Reads.{AreAmong, tested}
 use Rattle.histar_sim.proofs.ReadsByCall.{AreReadsOf, HasWay, HasWalk}
 use Rattle.histar_sim.proofs.Chains.{Step, all_granted, entries_of, Chain}
-use Rattle.histar_sim.proofs.Endings.{ReadsAmong}
+use Rattle.histar_sim.proofs.CallErrors.{ReadsAmong}
 use Rattle.histar_sim.proofs.Steps.{Goal, granted_step, refused_step, listed_step, refused_at_once}
 
 -- a directory is there
@@ -127,16 +127,16 @@ module _ (line t : ℕ) where
   among_refused_behind (call ∷ before) calls last denied =
       among_after (calls ++ last ∷ []) (entry_of line t call None) (entries_of line t (all_granted (before ++ calls) ++ (last, Some denied) ∷ [])) (among_refused_behind before calls last denied)
 
-module _ (session : Session) (ok : IsSession session) (s : State) (f : Flat) (me : ProcName) (t : ℕ) (ready : IsReady session s f me t) where
+module _ (accounts : Accounts) (ok : AreAccounts accounts) (s : State) (f : Flat) (me : ProcName) (t : ℕ) (ready : IsReady accounts s f me t) where
   abbrev pub numbers : AddressNumbers
-  numbers = ready.represents.laid.naming.number
+  numbers = ready.represents.matched.naming.number
 
   abbrev p : Process
   p = ready.caller.process
 
   -- the thread is that of the process
-  pub runs : RunsAs session s f ready.represents.laid me ready.caller.process t
-  runs = (ready.caller.stands, ready.caller.runs, (thread_back session s f ready.represents.laid me t ready.thread).3)
+  pub runs : RunsAs accounts s f ready.represents.matched me ready.caller.process t
+  runs = (ready.caller.agrees, ready.caller.runs, (thread_back accounts s f ready.represents.matched me t ready.thread).3)
 
   -- where a directory is found
   abbrev pub place_at : Path → Place
@@ -148,95 +148,95 @@ module _ (session : Session) (ok : IsSession session) (s : State) (f : Flat) (me
 
   -- the raw calls of the walk into it
   abbrev pub walk_reads : Path → List RawCall
-  walk_reads d = map read_of (tested session f p d)
+  walk_reads d = map read_of (tested accounts f p d)
 
   -- the directory once it was read
   abbrev pub directory_read : Path → Directory
   directory_read d = record { place = place_at d; entries = directory_of f.files numbers d }
 
   pub slash_is_dir : is_dir_at f [] ≡ true
-  slash_is_dir = ap (λ (o : Option Node). is_some_and o is_dir) (root_is_dir session s f ready.represents.laid).1
+  slash_is_dir = ap (λ (o : Option Node). is_some_and o is_dir) (root_is_dir accounts s f ready.represents.matched).1
 
   -- `/` is found where boot left it
-  pub slash_place : (places_of (length session.users)).slash ≡ place_at []
+  pub slash_place : (roots_of (length accounts.users)).slash ≡ place_at []
   slash_place =
-      let container = sym (ready.represents.laid.as_booted (Slash ∷ []) (slash_number (length session.users)) refl) in
-      let listing = sym (ready.represents.laid.as_booted (Listing ∷ Slash ∷ []) (slash_listing_number (length session.users)) refl) in
+      let container = sym (ready.represents.matched.as_booted (Slash ∷ []) (slash_number (length accounts.users)) refl) in
+      let listing = sym (ready.represents.matched.as_booted (Listing ∷ Slash ∷ []) (slash_listing_number (length accounts.users)) refl) in
       λ i. record { container = or_zero (container i); listing = or_zero (listing i) }
 
   module _ (d : Path) (dir : is_dir_at f d ≡ true) where
-    pub stands : (class : Class) × (get f.files d ≡ Some (record { class = class; content = Dir }))
-    stands = dir_there (get f.files d) dir
+    pub agrees : (class : Class) × (get f.files d ≡ Some (record { class = class; content = Dir }))
+    agrees = dir_there (get f.files d) dir
 
     pub at_container : numbers (address_of d) ≡ Some (place_at d).container
-    at_container = is_or_zero (numbers (address_of d)) (numbered_path session s f ready.represents.laid d (record { class = stands.0; content = Dir }) stands.1)
+    at_container = is_or_zero (numbers (address_of d)) (numbered_path accounts s f ready.represents.matched d (record { class = agrees.0; content = Dir }) agrees.1)
 
     pub at_listing : numbers (Listing ∷ address_of d) ≡ Some (place_at d).listing
-    at_listing = is_or_zero (numbers (Listing ∷ address_of d)) (numbered_listing session s f ready.represents.laid d stands.0 stands.1)
+    at_listing = is_or_zero (numbers (Listing ∷ address_of d)) (numbered_listing accounts s f ready.represents.matched d agrees.0 agrees.1)
 
     pub holds : IsDirectory (bytes_in (s.objects (place_at d).listing)) (directory_of f.files numbers d)
-    holds = holds_directory session s f ready.represents.laid d (place_at d).listing dir at_listing
+    holds = holds_directory accounts s f ready.represents.matched d (place_at d).listing dir at_listing
 
-    pub found : IsDirectoryAt session s d (place_at d).container (place_at d).listing
-    found = directory_found session s f ready.represents.laid d (place_at d).container (place_at d).listing dir at_container at_listing
+    pub found : IsDirectoryAt accounts s d (place_at d).container (place_at d).listing
+    found = directory_found accounts s f ready.represents.matched d (place_at d).container (place_at d).listing dir at_container at_listing
 
-    pub reads_is : reads session f p d ≡ may_read session p stands.0
-    reads_is = ap (λ (o : Option Node). is_some_and o (λ n. may_read session p n.class)) stands.1
+    pub reads_is : reads accounts f p d ≡ may_read accounts p agrees.0
+    reads_is = ap (λ (o : Option Node). is_some_and o (λ n. may_read accounts p n.class)) agrees.1
 
     -- its directory segment is read unless the process may not read it
-    pub read_said : check s t (read_of d) ≡ unless (reads session f p d) Observe
+    pub read_said : check s t (read_of d) ≡ unless (reads accounts f p d) Observe
     read_said =
-        read_listing_said session s f ready.represents.laid ok me p t runs d stands.0 stands.1 (place_at d).container (place_at d).listing at_container at_listing
+        read_listing_said accounts s f ready.represents.matched ok me p t runs d agrees.0 agrees.1 (place_at d).container (place_at d).listing at_container at_listing
         ∙ ap (λ (b : Bool). unless b Observe) (sym reads_is)
 
   -- the walk looks whether directories may be read, and nothing else
-  tested_dirs : (d : Path) → AllByRecursion (λ (q : Path). is_dir_at f q ≡ true) (tested session f p d)
+  tested_dirs : (d : Path) → AllByRecursion (λ (q : Path). is_dir_at f q ≡ true) (tested accounts f p d)
   tested_dirs [] = (slash_is_dir, tt)
   tested_dirs (n ∷ d) =
-      all_joined (λ (q : Path). is_dir_at f q ≡ true) (tested session f p d) (if not (is_some (into session f p d)) && is_dir_at f (n ∷ d) then (n ∷ d) ∷ [] else []) (tested_dirs d)
-      (by (not (is_some (into session f p d))) (is_dir_at f (n ∷ d)) refl)
+      all_joined (λ (q : Path). is_dir_at f q ≡ true) (tested accounts f p d) (if not (is_some (into accounts f p d)) && is_dir_at f (n ∷ d) then (n ∷ d) ∷ [] else []) (tested_dirs d)
+      (by (not (is_some (into accounts f p d))) (is_dir_at f (n ∷ d)) refl)
     where
       by : (a b : Bool) → is_dir_at f (n ∷ d) ≡ b → AllByRecursion (λ (q : Path). is_dir_at f q ≡ true) (if a && b then (n ∷ d) ∷ [] else [])
       by true true e = (e, tt)
       by true false e = tt
       by false b e = tt
 
-  are_reads : (ds : List Path) → AllByRecursion (λ (q : Path). is_dir_at f q ≡ true) ds → AreReadsOf session s ds (map read_of ds)
+  are_reads : (ds : List Path) → AllByRecursion (λ (q : Path). is_dir_at f q ≡ true) ds → AreReadsOf accounts s ds (map read_of ds)
   are_reads [] all = refl
   are_reads (d ∷ more) all = ((place_at d).container, (place_at d).listing, map read_of more, found d all.0, refl, are_reads more all.1)
 
   -- the raw calls of the walk into a directory read the directories that it looks at
-  pub reads_way : (d : Path) → AreReadsOf session s (tested session f p d) (walk_reads d)
-  reads_way d = are_reads (tested session f p d) (tested_dirs d)
+  pub reads_way : (d : Path) → AreReadsOf accounts s (tested accounts f p d) (walk_reads d)
+  reads_way d = are_reads (tested accounts f p d) (tested_dirs d)
 
   -- the reads of the way into a directory are the reads that a call that looks into it cannot do without
-  pub has_way : (d : Path) (entries : List TraceEntry) → AreAmong (walk_reads d) entries → HasWay session s f p d entries
+  pub has_way : (d : Path) (entries : List TraceEntry) → AreAmong (walk_reads d) entries → HasWay accounts s f p d entries
   has_way d entries among = (walk_reads d, reads_way d, among)
 
   -- and so for a call on what lies in the directory
-  pub has_walk : (m : Name) (d : Path) (entries : List TraceEntry) → AreAmong (walk_reads d) entries → HasWalk session s f p (m ∷ d) entries
+  pub has_walk : (m : Name) (d : Path) (entries : List TraceEntry) → AreAmong (walk_reads d) entries → HasWalk accounts s f p (m ∷ d) entries
   has_walk m d entries among = has_way d entries among
 
   -- they are among the entries of the walk and of raw calls behind it
-  pub walked_then : (m : Name) (d : Path) (line : ℕ) (more : List RawCall) → HasWalk session s f p (m ∷ d) (entries_of line t (all_granted (walk_reads d ++ more)))
+  pub walked_then : (m : Name) (d : Path) (line : ℕ) (more : List RawCall) → HasWalk accounts s f p (m ∷ d) (entries_of line t (all_granted (walk_reads d ++ more)))
   walked_then m d line more = has_walk m d _ (among_then line t (walk_reads d) (walk_reads d) more (among_granted_all line t (walk_reads d)))
 
   -- also of one that was refused
-  pub walked_also : (m : Name) (d : Path) (line : ℕ) (steps : List Step) → HasWalk session s f p (m ∷ d) (entries_of line t (all_granted (walk_reads d) ++ steps))
+  pub walked_also : (m : Name) (d : Path) (line : ℕ) (steps : List Step) → HasWalk accounts s f p (m ∷ d) (entries_of line t (all_granted (walk_reads d) ++ steps))
   walked_also m d line steps = has_walk m d _ (among_also line t (walk_reads d) (walk_reads d) steps (among_granted_all line t (walk_reads d)))
 
   -- the way into a directory is open: it is one, and the process may read it
-  module _ (d : Path) (open_so_far : into session f p d ≡ None) where
-    passed_so : (d : Path) → into session f p d ≡ None → (is_dir_at f d ≡ true) × (reads session f p d ≡ true)
-    passed_so [] is = (slash_is_dir, passed (reads session f p []) EACCES is)
+  module _ (d : Path) (open_so_far : into accounts f p d ≡ None) where
+    passed_so : (d : Path) → into accounts f p d ≡ None → (is_dir_at f d ≡ true) × (reads accounts f p d ≡ true)
+    passed_so [] is = (slash_is_dir, passed (reads accounts f p []) EACCES is)
     passed_so (n ∷ d) is =
-        let all = three_pass (into session f p d) (is_there f (n ∷ d)) (is_dir_at f (n ∷ d)) (reads session f p (n ∷ d)) ENOENT ENOTDIR EACCES is in
+        let all = three_pass (into accounts f p d) (is_there f (n ∷ d)) (is_dir_at f (n ∷ d)) (reads accounts f p (n ∷ d)) ENOENT ENOTDIR EACCES is in
         (all.2, all.3)
 
     pub dir : is_dir_at f d ≡ true
     dir = (passed_so d open_so_far).0
 
-    pub seen : may_read session p (stands d dir).0 ≡ true
+    pub seen : may_read accounts p (agrees d dir).0 ≡ true
     seen = sym (reads_is d dir) ∙ (passed_so d open_so_far).1
 
   module _ (m : Name) (d : Path) where
@@ -252,7 +252,7 @@ module _ (session : Session) (ok : IsSession session) (s : State) (f : Flat) (me
 
     -- a file does
     pub file_number : (class : Class) (bytes : List ℕ) → get f.files (m ∷ d) ≡ Some (record { class = class; content = File bytes }) → numbers (address_of (m ∷ d)) ≡ Some (or_zero (numbers (address_of (m ∷ d))))
-    file_number class bytes is = is_or_zero (numbers (address_of (m ∷ d))) (numbered_path session s f ready.represents.laid (m ∷ d) (record { class = class; content = File bytes }) is)
+    file_number class bytes is = is_or_zero (numbers (address_of (m ∷ d))) (numbered_path accounts s f ready.represents.matched (m ∷ d) (record { class = class; content = File bytes }) is)
 
     pub file_there : (class : Class) (bytes : List ℕ) → get f.files (m ∷ d) ≡ Some (record { class = class; content = File bytes })
         → finite.get (directory_of f.files numbers d) m ≡ Some (targets.File (or_zero (numbers (address_of (m ∷ d)))))
@@ -265,64 +265,64 @@ module _ (session : Session) (ok : IsSession session) (s : State) (f : Flat) (me
         let dir : is_dir_at f (m ∷ d) ≡ true = ap (λ (o : Option Node). is_some_and o is_dir) is in
         target_is (Some (record { class = class; content = Dir })) is ∙ (λ i. both_numbers (at_container (m ∷ d) dir i) (at_listing (m ∷ d) dir i))
 
-module _ (session : Session) (ok : IsSession session) (old new : KernelModel) (f : Flat) (me : ProcName) (t : ℕ) (ready : IsReady session (state old) f me t) (call : UnixCall) (result : Result Reply Stopped) where
-  abbrev Row : Type 0
-  Row = Goal session f me ready.caller call old new t ready.thread result
+module _ (accounts : Accounts) (ok : AreAccounts accounts) (old new : KernelModel) (f : Flat) (me : ProcName) (t : ℕ) (ready : IsReady accounts (state old) f me t) (call : UnixCall) (result : Result Reply Stopped) where
+  abbrev Refined : Type 0
+  Refined = Goal accounts f me ready.caller call old new t ready.thread result
 
   abbrev process : Process
   process = ready.caller.process
 
   abbrev calls_to : Path → List RawCall
-  calls_to d = walk_reads session ok (state old) f me t ready d
+  calls_to d = walk_reads accounts ok (state old) f me t ready d
 
   abbrev last_of : Path → Directory
-  last_of d = directory_read session ok (state old) f me t ready d
+  last_of d = directory_read accounts ok (state old) f me t ready d
 
   abbrev read : Path → RawCall
-  read d = read_of session ok (state old) f me t ready d
+  read d = read_of accounts ok (state old) f me t ready d
 
   -- the call is refused so, and these raw calls are the reads that it cannot do without
   abbrev pub IsRefusedBy : Errno → List Step → Type 0
-  IsRefusedBy errno steps = (refused session f me process call ≡ Some errno) × ReadsAmong session f me ready.caller call old new t ready.thread steps (Refused errno)
+  IsRefusedBy errno steps = (refused accounts f me process call ≡ Some errno) × ReadsAmong accounts f me ready.caller call old new t ready.thread steps (Refused errno)
 
   -- where the way into the directory is refused, so is the call, once the reads of the walk are made
   abbrev pub Refuses : Path → Type 0
-  Refuses d = (errno : Errno) → into session f process d ≡ Some errno → (steps : List Step) → AreAmong (calls_to d) (entries_of old.line t steps) → IsRefusedBy errno steps
+  Refuses d = (errno : Errno) → into accounts f process d ≡ Some errno → (steps : List Step) → AreAmong (calls_to d) (entries_of old.line t steps) → IsRefusedBy errno steps
 
   -- the entries of a directory
   abbrev entries_at : Path → Entries
-  entries_at d = directory_of f.files ready.represents.laid.naming.number d
+  entries_at d = directory_of f.files ready.represents.matched.naming.number d
 
   -- the bytes of a directory segment are read after these raw calls
   bytes_step : (d : Path) → is_dir_at f d ≡ true → (before : List RawCall) (mid : KernelModel) → state mid ≡ state old → Chain old t (all_granted before) mid
       → (rest : List ℕ → Program) → Runs (ask (read d) rest) mid new t result
-      → (reads session f process d ≡ false → IsRefusedBy EACCES (all_granted before ++ (read d, Some Observe) ∷ []))
-      → (reads session f process d ≡ true → (later : KernelModel) → state later ≡ state old → Chain old t (all_granted (before ++ read d ∷ [])) later
-      → (bytes : List ℕ) → IsDirectory bytes (entries_at d) → Runs (rest bytes) later new t result → Row) → Row
-  bytes_step d dir before mid stays chain rest run refuses go_on = by (reads session f process d) refl
+      → (reads accounts f process d ≡ false → IsRefusedBy EACCES (all_granted before ++ (read d, Some Observe) ∷ []))
+      → (reads accounts f process d ≡ true → (later : KernelModel) → state later ≡ state old → Chain old t (all_granted (before ++ read d ∷ [])) later
+      → (bytes : List ℕ) → IsDirectory bytes (entries_at d) → Runs (rest bytes) later new t result → Refined) → Refined
+  bytes_step d dir before mid stays chain rest run refuses go_on = by (reads accounts f process d) refl
     where
-      said : (b : Bool) → reads session f process d ≡ b → check (state mid) t (read d) ≡ unless b Observe
-      said b is = ap (λ (s : State). check s t (read d)) stays ∙ read_said session ok (state old) f me t ready d dir ∙ ap (λ (b : Bool). unless b Observe) is
+      said : (b : Bool) → reads accounts f process d ≡ b → check (state mid) t (read d) ≡ unless b Observe
+      said b is = ap (λ (s : State). check s t (read d)) stays ∙ read_said accounts ok (state old) f me t ready d dir ∙ ap (λ (b : Bool). unless b Observe) is
 
-      by : (b : Bool) → reads session f process d ≡ b → Row
+      by : (b : Bool) → reads accounts f process d ≡ b → Refined
       by false is =
           let end = refuses is in
-          refused_step session f me ready.caller call old new t ready.thread result before mid chain stays ready.represents EACCES end.0 (read d) rest Observe (said false is) refl end.1 run
+          refused_step accounts f me ready.caller call old new t ready.thread result before mid chain stays ready.represents EACCES end.0 (read d) rest Observe (said false is) refl end.1 run
       by true is =
-          granted_step session f me ready.caller call old new t ready.thread result before mid chain (read d) rest (said true is) run
+          granted_step accounts f me ready.caller call old new t ready.thread result before mid chain (read d) rest (said true is) run
           (λ later bytes called right longer on.
-          let bytes_are : bytes ≡ bytes_in ((state old).objects (place_at session ok (state old) f me t ready d).listing) = right ∙ ap (λ (s : State). bytes_in (s.objects (place_at session ok (state old) f me t ready d).listing)) stays in
-          go_on is later (called.state ∙ stays) longer bytes (subst (λ (b : List ℕ). IsDirectory b (entries_at d)) (sym bytes_are) (holds session ok (state old) f me t ready d dir)) on)
+          let bytes_are : bytes ≡ bytes_in ((state old).objects (place_at accounts ok (state old) f me t ready d).listing) = right ∙ ap (λ (s : State). bytes_in (s.objects (place_at accounts ok (state old) f me t ready d).listing)) stays in
+          go_on is later (called.state ∙ stays) longer bytes (subst (λ (b : List ℕ). IsDirectory b (entries_at d)) (sym bytes_are) (holds accounts ok (state old) f me t ready d dir)) on)
 
   -- a directory is read after these raw calls
   pub read_step : (d : Path) → is_dir_at f d ≡ true → (before : List RawCall) (mid : KernelModel) → state mid ≡ state old → Chain old t (all_granted before) mid
-      → (rest : Directory → Program) → Runs (read_directory (place_at session ok (state old) f me t ready d) rest) mid new t result
-      → (reads session f process d ≡ false → IsRefusedBy EACCES (all_granted before ++ (read d, Some Observe) ∷ []))
-      → (reads session f process d ≡ true → (later : KernelModel) → state later ≡ state old → Chain old t (all_granted (before ++ read d ∷ [])) later → Runs (rest (last_of d)) later new t result → Row) → Row
+      → (rest : Directory → Program) → Runs (read_directory (place_at accounts ok (state old) f me t ready d) rest) mid new t result
+      → (reads accounts f process d ≡ false → IsRefusedBy EACCES (all_granted before ++ (read d, Some Observe) ∷ []))
+      → (reads accounts f process d ≡ true → (later : KernelModel) → state later ≡ state old → Chain old t (all_granted (before ++ read d ∷ [])) later → Runs (rest (last_of d)) later new t result → Refined) → Refined
   unfolding read_directory
   read_step d dir before mid stays chain rest run refuses go_on =
-      bytes_step d dir before mid stays chain (λ bytes. list bytes (λ entries. rest (record { place = place_at session ok (state old) f me t ready d; entries = entries }))) run refuses
-      (λ seen later same longer bytes is on. listed_step session f me ready.caller call old new t ready.thread result (before ++ read d ∷ []) later longer bytes (entries_at d) is _ on (go_on seen later same longer))
+      bytes_step d dir before mid stays chain (λ bytes. list bytes (λ entries. rest (record { place = place_at accounts ok (state old) f me t ready d; entries = entries }))) run refuses
+      (λ seen later same longer bytes is on. listed_step accounts f me ready.caller call old new t ready.thread result (before ++ read d ∷ []) later longer bytes (entries_at d) is _ on (go_on seen later same longer))
 
   -- the walk is made behind raw calls that were granted and have changed nothing
   module _ (before : List RawCall) (start : KernelModel) (unchanged : state start ≡ state old) (begun : Chain old t (all_granted before) start) where
@@ -337,32 +337,32 @@ module _ (session : Session) (ok : IsSession session) (old new : KernelModel) (f
     -- where the way is not refused, it goes on with the bytes of the directory
     abbrev GoesOnReading : Path → (Place → List ℕ → Program) → Type 0
     GoesOnReading d after =
-        into session f process d ≡ None → (mid : KernelModel) → state mid ≡ state old → Chain old t (all_granted (reached d)) mid
-        → (bytes : List ℕ) → IsDirectory bytes (entries_at d) → Runs (after (place_at session ok (state old) f me t ready d) bytes) mid new t result → Row
+        into accounts f process d ≡ None → (mid : KernelModel) → state mid ≡ state old → Chain old t (all_granted (reached d)) mid
+        → (bytes : List ℕ) → IsDirectory bytes (entries_at d) → Runs (after (place_at accounts ok (state old) f me t ready d) bytes) mid new t result → Refined
 
     -- or with where a name leads in it
     abbrev pub GoesOnLooking : Path → Name → (Place → Option Target → Program) → Type 0
     GoesOnLooking d n rest =
-        into session f process d ≡ None → (mid : KernelModel) → state mid ≡ state old → Chain old t (all_granted (reached d)) mid
-        → Runs (rest (place_at session ok (state old) f me t ready d) (finite.get (entries_at d) n)) mid new t result → Row
+        into accounts f process d ≡ None → (mid : KernelModel) → state mid ≡ state old → Chain old t (all_granted (reached d)) mid
+        → Runs (rest (place_at accounts ok (state old) f me t ready d) (finite.get (entries_at d) n)) mid new t result → Refined
 
     -- or with the directory
     abbrev pub GoesOn : Path → (Directory → Program) → Type 0
-    GoesOn d rest = into session f process d ≡ None → (mid : KernelModel) → state mid ≡ state old → Chain old t (all_granted (reached d)) mid → Runs (rest (last_of d)) mid new t result → Row
+    GoesOn d rest = into accounts f process d ≡ None → (mid : KernelModel) → state mid ≡ state old → Chain old t (all_granted (reached d)) mid → Runs (rest (last_of d)) mid new t result → Refined
 
     -- from a directory that may be read on to the next
-    module _ (n : Name) (d : Path) (after : Place → List ℕ → Program) (refuses : Refuses (n ∷ d)) (go_on : GoesOnReading (n ∷ d) after) (open_so_far : into session f process d ≡ None) (mid : KernelModel) (stays : state mid ≡ state old) (chain : Chain old t (all_granted (reached d)) mid) where
+    module _ (n : Name) (d : Path) (after : Place → List ℕ → Program) (refuses : Refuses (n ∷ d)) (go_on : GoesOnReading (n ∷ d) after) (open_so_far : into accounts f process d ≡ None) (mid : KernelModel) (stays : state mid ≡ state old) (chain : Chain old t (all_granted (reached d)) mid) where
       -- the tests of the next name
       abbrev tests : Option Node → Option Errno
-      tests o = unless (is_some_and o (λ n. true)) ENOENT orelse unless (is_some_and o is_dir) ENOTDIR orelse unless (is_some_and o (λ n. may_read session process n.class)) EACCES
+      tests o = unless (is_some_and o (λ n. true)) ENOENT orelse unless (is_some_and o is_dir) ENOTDIR orelse unless (is_some_and o (λ n. may_read accounts process n.class)) EACCES
 
-      into_is : (o : Option Node) → get f.files (n ∷ d) ≡ o → into session f process (n ∷ d) ≡ tests o
+      into_is : (o : Option Node) → get f.files (n ∷ d) ≡ o → into accounts f process (n ∷ d) ≡ tests o
       into_is o is = λ i. open_so_far i orelse tests (is i)
 
       -- the directories that are looked at
       calls_are : (b : Bool) → is_dir_at f (n ∷ d) ≡ b → calls_to (n ∷ d) ≡ calls_to d ++ (if b then read (n ∷ d) ∷ [] else [])
       calls_are b is =
-          map-append read (tested session f process d) (if not (is_some (into session f process d)) && is_dir_at f (n ∷ d) then (n ∷ d) ∷ [] else [])
+          map-append read (tested accounts f process d) (if not (is_some (into accounts f process d)) && is_dir_at f (n ∷ d) then (n ∷ d) ∷ [] else [])
           ∙ (λ i. calls_to d ++ map read (if not (is_some (open_so_far i)) && is i then (n ∷ d) ∷ [] else [])) ∙ by b
         where
           by : (b : Bool) → calls_to d ++ map read (if b then (n ∷ d) ∷ [] else []) ≡ calls_to d ++ (if b then read (n ∷ d) ∷ [] else [])
@@ -370,15 +370,15 @@ module _ (session : Session) (ok : IsSession session) (old new : KernelModel) (f
           by false = refl
 
       -- the walk ends here, with no raw call more
-      breaks_off : (errno : Errno) → into session f process (n ∷ d) ≡ Some errno → is_dir_at f (n ∷ d) ≡ false → IsRefusedBy errno (all_granted (reached d))
+      breaks_off : (errno : Errno) → into accounts f process (n ∷ d) ≡ Some errno → is_dir_at f (n ∷ d) ≡ false → IsRefusedBy errno (all_granted (reached d))
       breaks_off errno is no_dir = refuses errno is (all_granted (reached d))
           (subst (λ (calls : List RawCall). AreAmong calls (entries_of old.line t (all_granted (reached d)))) (sym (calls_are false no_dir ∙ append-nil (calls_to d))) (among_granted_behind old.line t before (calls_to d)))
 
-      enters : (class : Class) → get f.files (n ∷ d) ≡ Some (record { class = class; content = Dir }) → Runs (reading after (place_at session ok (state old) f me t ready (n ∷ d))) mid new t result → Row
+      enters : (class : Class) → get f.files (n ∷ d) ≡ Some (record { class = class; content = Dir }) → Runs (reading after (place_at accounts ok (state old) f me t ready (n ∷ d))) mid new t result → Refined
       enters class is on =
           let dir : is_dir_at f (n ∷ d) ≡ true = ap (λ (o : Option Node). is_some_and o is_dir) is in
-          let into_so : into session f process (n ∷ d) ≡ unless (reads session f process (n ∷ d)) EACCES = λ i. open_so_far i orelse unless (is_some_and (is i) (λ n. true)) ENOENT orelse unless (is_some_and (is i) is_dir) ENOTDIR orelse unless (reads session f process (n ∷ d)) EACCES in
-          bytes_step (n ∷ d) dir (reached d) mid stays chain (after (place_at session ok (state old) f me t ready (n ∷ d))) on
+          let into_so : into accounts f process (n ∷ d) ≡ unless (reads accounts f process (n ∷ d)) EACCES = λ i. open_so_far i orelse unless (is_some_and (is i) (λ n. true)) ENOENT orelse unless (is_some_and (is i) is_dir) ENOTDIR orelse unless (reads accounts f process (n ∷ d)) EACCES in
+          bytes_step (n ∷ d) dir (reached d) mid stays chain (after (place_at accounts ok (state old) f me t ready (n ∷ d))) on
           (λ unseen. refuses EACCES (into_so ∙ ap (λ (b : Bool). unless b EACCES) unseen) (all_granted (reached d) ++ (read (n ∷ d), Some Observe) ∷ [])
           (subst (λ (calls : List RawCall). AreAmong calls (entries_of old.line t (all_granted (reached d) ++ (read (n ∷ d), Some Observe) ∷ []))) (sym (calls_are true dir)) (among_refused_behind old.line t before (calls_to d) (read (n ∷ d)) Observe)))
           (λ seen later same longer bytes holds end. go_on (into_so ∙ ap (λ (b : Bool). unless b EACCES) seen) later same (subst (λ (calls : List RawCall). Chain old t (all_granted calls) later) (append_assoc before (calls_to d) (read (n ∷ d) ∷ []) ∙ ap (λ (calls : List RawCall). before ++ calls) (sym (calls_are true dir))) longer) bytes holds end)
@@ -387,65 +387,65 @@ module _ (session : Session) (ok : IsSession session) (old new : KernelModel) (f
       abbrev at_name : Option Target → Program
       at_name target = given (directory_at target) (reading after)
 
-      by_content : (class : Class) (c : Content) → get f.files (n ∷ d) ≡ Some (record { class = class; content = c }) → Runs (at_name (finite.get (entries_at d) n)) mid new t result → Row
-      by_content class Dir is on = enters class is (subst (λ (target : Option Target). Runs (at_name target) mid new t result) (directory_there session ok (state old) f me t ready n d class is) on)
+      by_content : (class : Class) (c : Content) → get f.files (n ∷ d) ≡ Some (record { class = class; content = c }) → Runs (at_name (finite.get (entries_at d) n)) mid new t result → Refined
+      by_content class Dir is on = enters class is (subst (λ (target : Option Target). Runs (at_name target) mid new t result) (directory_there accounts ok (state old) f me t ready n d class is) on)
       by_content class (File bytes) is on =
           let end = breaks_off ENOTDIR (into_is _ is) (ap (λ (o : Option Node). is_some_and o is_dir) is) in
-          refused_at_once session f me ready.caller call old new t ready.thread result (reached d) mid chain stays ready.represents ENOTDIR end.0 refl refl end.1
-          (subst (λ (target : Option Target). Runs (at_name target) mid new t result) (file_there session ok (state old) f me t ready n d class bytes is) on)
+          refused_at_once accounts f me ready.caller call old new t ready.thread result (reached d) mid chain stays ready.represents ENOTDIR end.0 refl refl end.1
+          (subst (λ (target : Option Target). Runs (at_name target) mid new t result) (file_there accounts ok (state old) f me t ready n d class bytes is) on)
 
-      next_step : (o : Option Node) → get f.files (n ∷ d) ≡ o → Runs (at_name (finite.get (entries_at d) n)) mid new t result → Row
+      next_step : (o : Option Node) → get f.files (n ∷ d) ≡ o → Runs (at_name (finite.get (entries_at d) n)) mid new t result → Refined
       next_step None is on =
           let end = breaks_off ENOENT (into_is _ is) (ap (λ (o : Option Node). is_some_and o is_dir) is) in
-          refused_at_once session f me ready.caller call old new t ready.thread result (reached d) mid chain stays ready.represents ENOENT end.0 refl refl end.1
-          (subst (λ (target : Option Target). Runs (at_name target) mid new t result) (nothing_there session ok (state old) f me t ready n d is) on)
+          refused_at_once accounts f me ready.caller call old new t ready.thread result (reached d) mid chain stays ready.represents ENOENT end.0 refl refl end.1
+          (subst (λ (target : Option Target). Runs (at_name target) mid new t result) (nothing_there accounts ok (state old) f me t ready n d is) on)
       next_step (Some node) is on = by_content node.class node.content is on
 
     -- the walk into a directory up to its bytes
-    reading_step : (d : Path) (after : Place → List ℕ → Program) → Runs (find_place (places_of (length session.users)) d (reading after)) start new t result → Refuses d → GoesOnReading d after → Row
+    reading_step : (d : Path) (after : Place → List ℕ → Program) → Runs (find_place (roots_of (length accounts.users)) d (reading after)) start new t result → Refuses d → GoesOnReading d after → Refined
     unfolding find_place look_in
     reading_step [] after run refuses go_on =
-        bytes_step [] (slash_is_dir session ok (state old) f me t ready) before start unchanged begun (after (place_at session ok (state old) f me t ready []))
-        (subst (λ (place : Place). Runs (reading after place) start new t result) (slash_place session ok (state old) f me t ready) run)
+        bytes_step [] (slash_is_dir accounts ok (state old) f me t ready) before start unchanged begun (after (place_at accounts ok (state old) f me t ready []))
+        (subst (λ (place : Place). Runs (reading after place) start new t result) (slash_place accounts ok (state old) f me t ready) run)
         (λ unseen. refuses EACCES (ap (λ (b : Bool). unless b EACCES) unseen) (all_granted before ++ (read [], Some Observe) ∷ []) (among_behind old.line t (read [] ∷ []) before ((read [], Some Observe) ∷ []) (inl (refl, tt))))
         (λ seen. go_on (ap (λ (b : Bool). unless b EACCES) seen))
     reading_step (n ∷ d) after run refuses go_on =
         reading_step d (λ above bytes. given (directory_at (found_in bytes n)) (reading after)) run
-        (λ errno is steps among. refuses errno (ap (λ (o : Option Errno). o orelse unless (is_there f (n ∷ d)) ENOENT orelse unless (is_dir_at f (n ∷ d)) ENOTDIR orelse unless (reads session f process (n ∷ d)) EACCES) is) steps
+        (λ errno is steps among. refuses errno (ap (λ (o : Option Errno). o orelse unless (is_there f (n ∷ d)) ENOENT orelse unless (is_dir_at f (n ∷ d)) ENOTDIR orelse unless (reads accounts f process (n ∷ d)) EACCES) is) steps
         (subst (λ (calls : List RawCall). AreAmong calls (entries_of old.line t steps)) (sym (stopped_before n d errno is)) among))
         (λ open_so_far mid stays chain bytes is on.
         next_step n d after refuses go_on open_so_far mid stays chain (get f.files (n ∷ d)) refl
         (subst (λ (target : Option Target). Runs (given (directory_at target) (reading after)) mid new t result) (found_in_directory bytes (entries_at d) n is) on))
       where
         -- a walk that was refused looks at no directory more
-        stopped_before : (n : Name) (d : Path) (errno : Errno) → into session f process d ≡ Some errno → calls_to (n ∷ d) ≡ calls_to d
+        stopped_before : (n : Name) (d : Path) (errno : Errno) → into accounts f process d ≡ Some errno → calls_to (n ∷ d) ≡ calls_to d
         stopped_before n d errno is =
-            map-append read (tested session f process d) (if not (is_some (into session f process d)) && is_dir_at f (n ∷ d) then (n ∷ d) ∷ [] else [])
+            map-append read (tested accounts f process d) (if not (is_some (into accounts f process d)) && is_dir_at f (n ∷ d) then (n ∷ d) ∷ [] else [])
             ∙ (λ i. calls_to d ++ map read (if not (is_some (is i)) && is_dir_at f (n ∷ d) then (n ∷ d) ∷ [] else [])) ∙ append-nil (calls_to d)
 
     -- The walk into a directory: it is refused as the flat rules refuse the call, or the call goes on with the directory.
-    pub walk_step_behind : (d : Path) (rest : Directory → Program) → Runs (walk_to (places_of (length session.users)) d rest) start new t result → Refuses d → GoesOn d rest → Row
+    pub walk_step_behind : (d : Path) (rest : Directory → Program) → Runs (walk_to (roots_of (length accounts.users)) d rest) start new t result → Refuses d → GoesOn d rest → Refined
     unfolding walk_to read_directory
     walk_step_behind d rest run refuses go_on =
         reading_step d (λ place bytes. list bytes (λ entries. rest (record { place = place; entries = entries }))) run refuses
         (λ open_so_far mid stays chain bytes is on.
-        listed_step session f me ready.caller call old new t ready.thread result (reached d) mid chain bytes (entries_at d) is _ on (go_on open_so_far mid stays chain))
+        listed_step accounts f me ready.caller call old new t ready.thread result (reached d) mid chain bytes (entries_at d) is _ on (go_on open_so_far mid stays chain))
 
     -- The walk to a directory, and a look-up in it: it is refused as the flat rules refuse the call, or the call goes on with where the name leads.
-    pub look_step_behind : (d : Path) (n : Name) (rest : Place → Option Target → Program) → Runs (find_place (places_of (length session.users)) d (λ place. look_in place n (rest place))) start new t result
-        → Refuses d → GoesOnLooking d n rest → Row
+    pub look_step_behind : (d : Path) (n : Name) (rest : Place → Option Target → Program) → Runs (find_place (roots_of (length accounts.users)) d (λ place. look_in place n (rest place))) start new t result
+        → Refuses d → GoesOnLooking d n rest → Refined
     unfolding look_in
     look_step_behind d n rest run refuses go_on =
         reading_step d (λ place bytes. rest place (found_in bytes n)) run refuses
         (λ open_so_far mid stays chain bytes is on.
         go_on open_so_far mid stays chain
-        (subst (λ (target : Option Target). Runs (rest (place_at session ok (state old) f me t ready d) target) mid new t result) (found_in_directory bytes (entries_at d) n is) on))
+        (subst (λ (target : Option Target). Runs (rest (place_at accounts ok (state old) f me t ready d) target) mid new t result) (found_in_directory bytes (entries_at d) n is) on))
 
   -- the same of a walk with which the call begins
-  pub walk_step : (d : Path) (rest : Directory → Program) → Runs (walk_to (places_of (length session.users)) d rest) old new t result → Refuses d → GoesOn [] old refl (same_kernel old) d rest → Row
+  pub walk_step : (d : Path) (rest : Directory → Program) → Runs (walk_to (roots_of (length accounts.users)) d rest) old new t result → Refuses d → GoesOn [] old refl (same_kernel old) d rest → Refined
   walk_step d rest run refuses go_on = walk_step_behind [] old refl (same_kernel old) d rest run refuses go_on
 
   -- and of a look-up
-  pub look_step : (d : Path) (n : Name) (rest : Place → Option Target → Program) → Runs (find_place (places_of (length session.users)) d (λ place. look_in place n (rest place))) old new t result
-      → Refuses d → GoesOnLooking [] old refl (same_kernel old) d n rest → Row
+  pub look_step : (d : Path) (n : Name) (rest : Place → Option Target → Program) → Runs (find_place (roots_of (length accounts.users)) d (λ place. look_in place n (rest place))) old new t result
+      → Refuses d → GoesOnLooking [] old refl (same_kernel old) d n rest → Refined
   look_step d n rest run refuses go_on = look_step_behind [] old refl (same_kernel old) d n rest run refuses go_on

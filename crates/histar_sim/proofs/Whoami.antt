@@ -6,7 +6,7 @@ use Rattle.histar_flat.specs.declared.calls.UnixCall.TheVariants as calls
 use Rattle.histar_flat.specs.declared.replies.Reply.{Reply}
 use Rattle.histar_flat.specs.declared.replies.Reply.TheVariants as replies
 use Rattle.histar_flat.specs.Words.{ProcName}
-use Rattle.histar_flat.specs.Sessions.{Session}
+use Rattle.histar_flat.specs.Accounts.{Accounts}
 use Rattle.histar_flat.specs.Classes.{Process}
 use Rattle.histar_flat.specs.FlatState.{Flat}
 use Rattle.histar_flat.specs.FlatCalls as flat
@@ -16,19 +16,19 @@ use Rattle.histar_object.specs.State.{State}
 use Rattle.histar_rules.specs.declared.raw.RawCall.TheVariants.{OwnLabel}
 use Rattle.histar_syscall.specs.KernelModel.{KernelModel, state}
 use Rattle.histar_syscall.proofs.Runs.{same_kernel}
-use Rattle.histar_calls.specs.declared.ending.Stopped.{Stopped}
+use Rattle.histar_calls.specs.declared.call_error.Stopped.{Stopped}
 use Rattle.histar_layout.specs.Categories.{user_of}
 use Rattle.histar_calls.specs.Programs.{Runs}
 use Rattle.histar_calls.specs.Programs.Program.{Answers}
 use Rattle.histar_process.specs.Kin.{user_name}
 use Rattle.histar_layout.specs.Jobs.{jobs_in, is_empty}
 use Rattle.histar_process.specs.Whoami.{whoami_program}
-use Rattle.histar_refinement.specs.Sessions.{IsSession}
+use Rattle.histar_refinement.specs.Accounts.{AreAccounts}
 use Rattle.histar_refinement.specs.Guards.{rights_label, rights_clearance}
 use Rattle.histar_refinement.specs.Labels.{thread_rights}
 use Rattle.histar_refinement.specs.Represents.{ObjectsMatch, Represents}
 use Rattle.histar_refinement.proofs.RawChecks.{caller_passes}
-use Rattle.histar_refinement.proofs.Standing.{thread_found}
+use Rattle.histar_refinement.proofs.Agreeing.{thread_found}
 use Rattle.histar_sim.specs.Simulation.{IsReady}
 use Rattle.histar_sim.proofs.Steps.{Goal, granted_step, answered_step}
 use Rattle.histar_sim.specs.Laws.{WhoamiRefines}
@@ -36,40 +36,40 @@ use Rattle.histar_refinement.proofs.OwnLabels.{own_user_is, name_of_number}
 use Rattle.histar_refinement.proofs.JobLabels.{none_if_free}
 use Rattle.histar_sim.proofs.Searches.{runs_as}
 
-module _ (session : Session) (ok : IsSession session) (old new : KernelModel) (f : Flat) (me : ProcName) (t : ℕ) (ready : IsReady session (state old) f me t) (result : Result Reply Stopped) where
+module _ (accounts : Accounts) (ok : AreAccounts accounts) (old new : KernelModel) (f : Flat) (me : ProcName) (t : ℕ) (ready : IsReady accounts (state old) f me t) (result : Result Reply Stopped) where
   abbrev p : Process
   p = ready.caller.process
 
-  abbrev l : ObjectsMatch session (state old) f
-  l = ready.represents.laid
+  abbrev l : ObjectsMatch accounts (state old) f
+  l = ready.represents.matched
 
   abbrev own : Levels
-  own = rights_label l.category (thread_rights session me p)
+  own = rights_label l.category (thread_rights accounts me p)
 
-  thread : (state old).objects t ≡ Some (thread_of (rights_label l.category (thread_rights session me p)) (rights_clearance l.category (thread_rights session me p)))
-  thread = let runs = runs_as session (state old) f me t ready in thread_found session (state old) f l me p runs.0 runs.1 t runs.2
+  thread : (state old).objects t ≡ Some (thread_of (rights_label l.category (thread_rights accounts me p)) (rights_clearance l.category (thread_rights accounts me p)))
+  thread = let runs = runs_as accounts (state old) f me t ready in thread_found accounts (state old) f l me p runs.0 runs.1 t runs.2
 
   -- what is replied by a label
   abbrev reply_by : Levels → Reply
-  reply_by label = replies.User (user_name session.users (user_of label (length session.users))) (not (is_empty (jobs_in label)))
+  reply_by label = replies.User (user_name accounts.users (user_of label (length accounts.users))) (not (is_empty (jobs_in label)))
 
-  name_is : user_name session.users (user_of own (length session.users)) ≡ p.user
-  name_is = ap (user_name session.users) (own_user_is session (state old) f l me p) ∙ name_of_number session p.user ((l.processes me p ready.caller.stands).someone ready.caller.runs)
+  name_is : user_name accounts.users (user_of own (length accounts.users)) ≡ p.user
+  name_is = ap (user_name accounts.users) (own_user_is accounts (state old) f l me p) ∙ name_of_number accounts p.user ((l.processes me p ready.caller.agrees).someone ready.caller.runs)
 
-  told : (label : Levels) → Some label ≡ label_there ((state old).objects t) → reply_by label ≡ flat.answer f me p calls.Whoami
-  told label right =
+  revealed : (label : Levels) → Some label ≡ label_there ((state old).objects t) → reply_by label ≡ flat.answer f me p calls.Whoami
+  revealed label right =
       let is : label ≡ own = same_Some label own (right ∙ ap label_there thread) in
-      ap reply_by is ∙ (λ i. replies.User (name_is i) (not (none_if_free l.category session me p i)))
+      ap reply_by is ∙ (λ i. replies.User (name_is i) (not (none_if_free l.category accounts me p i)))
 
-  whoami_is_row : Runs (whoami_program session) old new t result → Goal session f me ready.caller calls.Whoami old new t ready.thread result
+  whoami_is_refined : Runs (whoami_program accounts) old new t result → Goal accounts f me ready.caller calls.Whoami old new t ready.thread result
   unfolding whoami_program
-  whoami_is_row run =
-      granted_step session f me ready.caller calls.Whoami old new t ready.thread result [] old (same_kernel old) OwnLabel (λ label. Answers (reply_by label.0))
-      (caller_passes (state old) t own (rights_clearance l.category (thread_rights session me p)) thread) run
+  whoami_is_refined run =
+      granted_step accounts f me ready.caller calls.Whoami old new t ready.thread result [] old (same_kernel old) OwnLabel (λ label. Answers (reply_by label.0))
+      (caller_passes (state old) t own (rights_clearance l.category (thread_rights accounts me p)) thread) run
       (λ later label called right longer on.
-      answered_step session f me ready.caller calls.Whoami old new t ready.thread result (OwnLabel ∷ []) later longer (reply_by label.0) (told label.0 right.0) refl tt (inl (refl, tt))
-      (subst (λ (s : State). Represents session s f) (sym called.state) ready.represents) on)
+      answered_step accounts f me ready.caller calls.Whoami old new t ready.thread result (OwnLabel ∷ []) later longer (reply_by label.0) (revealed label.0 right.0) refl tt (inl (refl, tt))
+      (subst (λ (s : State). Represents accounts s f) (sym called.state) ready.represents) on)
 
 -- a whoami does what its flat rule says
 pub whoami_refines : WhoamiRefines
-whoami_refines session ok me old new f t result ready run = whoami_is_row session ok old new f me t ready result run
+whoami_refines accounts ok me old new f t result ready run = whoami_is_refined accounts ok old new f me t ready result run

@@ -10,7 +10,7 @@ use Rattle.histar_flat.specs.declared.replies.Reply.{Reply}
 use Rattle.histar_flat.specs.declared.replies.Reply.TheVariants.{Child, Refused}
 use Rattle.histar_flat.specs.Words.{Name, Path, ProcName, is_name, is_path, most_children, most_numbers}
 use Rattle.histar_flat.specs.PathOrder.{same}
-use Rattle.histar_flat.specs.Sessions.{Session, user_number}
+use Rattle.histar_flat.specs.Accounts.{Accounts, user_number}
 use Rattle.histar_flat.specs.Classes.{Process, nobody, may_write}
 use Rattle.histar_flat.specs.Files.{get}
 use Rattle.histar_flat.specs.FlatState.{Flat, entries_in, into}
@@ -27,7 +27,7 @@ use Rattle.histar_rules.specs.Rules.{check, has_number}
 use Rattle.histar_syscall.specs.KernelModel.{KernelModel, state}
 use Rattle.histar_syscall.specs.declared.trace.TraceEntry.{TraceEntry}
 use Rattle.histar_layout.specs.Status.{ProcessStatus}
-use Rattle.histar_calls.specs.declared.ending.Stopped.{Stopped}
+use Rattle.histar_calls.specs.declared.call_error.Stopped.{Stopped}
 use Rattle.histar_calls.specs.declared.find.Room.{Room}
 use Rattle.histar_calls.specs.Refusals.{errno_for}
 use Rattle.histar_calls.specs.Programs.{Program, Runs}
@@ -36,13 +36,13 @@ use Rattle.histar_calls.specs.Parts.{ask, find_room}
 use Rattle.histar_process.specs.declared.caller.Caller.{Caller}
 use Rattle.histar_process.specs.Birth.{birth}
 use Rattle.histar_process.specs.Caller.{caller_at}
-use Rattle.histar_login.specs.Start.{places_of}
+use Rattle.histar_login.specs.Start.{roots_of}
 use Rattle.histar_wrap.specs.Scratch.{ask_or_give_back, directory_label, hold_job, kin_in, make_scratch, or_given_back}
 use Rattle.histar_wrap.specs.WrapCall.{wrap_program}
-use Rattle.histar_refinement.specs.Sessions.{IsSession}
+use Rattle.histar_refinement.specs.Accounts.{AreAccounts}
 use Rattle.histar_refinement.specs.Represents.{Represents}
 use Rattle.histar_refinement.proofs.Beside.{own_set}
-use Rattle.histar_refinement.proofs.Standing.{some_of}
+use Rattle.histar_refinement.proofs.Agreeing.{some_of}
 use Rattle.histar_refinement.proofs.WrapRefused.{represents_refused}
 use Rattle.histar_sim.specs.Simulation.{IsReady, has_category}
 use Rattle.histar_sim.specs.Reads.{AreAmong}
@@ -51,11 +51,11 @@ use Rattle.histar_sim.proofs.Chains.{all_granted, entries_of, Chain}
 use Rattle.histar_sim.proofs.Steps.{Goal, allowed_step, spent_step}
 use Rattle.histar_sim.proofs.Walks.{walk_reads, among_granted_behind, among_then, among_also}
 use Rattle.histar_sim.proofs.FoundObjects.{container, directory_class, is_nobody, thread}
-use Rattle.histar_sim.proofs.FoundRoom.{NeedsRoom, slash_stands, the_room, has_reads, refused_in_room, room_step}
+use Rattle.histar_sim.proofs.FoundRoom.{NeedsRoom, slash_agrees, the_room, has_reads, refused_in_room, room_step}
 use Rattle.histar_sim.proofs.NewEntries.{last_name}
 use Rattle.histar_sim.proofs.BirthChecks.{category_said}
 use Rattle.histar_sim.proofs.BirthSteps.{category_step}
-use Rattle.histar_sim.proofs.ChildRoom.{NeedsChild, own_of, most_of, status_of, reads, at_thread, child_room_step, own_label_step}
+use Rattle.histar_sim.proofs.ChildRoom.{NeedsChild, own_of, own_clearance_of, status_of, reads, at_thread, child_room_step, own_label_step}
 use Rattle.histar_sim.specs.Laws.{WrapRefines}
 use Rattle.histar_sim.proofs.GivenBack.{given_back_step}
 use Rattle.histar_sim.proofs.GrantedWrap as granted
@@ -63,13 +63,13 @@ use Rattle.histar_sim.proofs.GrantedWrap.{job_begun}
 use Rattle.histar_sim.proofs.ScratchChecks.{set_label_said, set_clearance_said, scratch_said}
 
 -- a wrap that has the reads of the walk has those that it cannot do without
-walk_unless_full : (session : Session) (s : State) (f : Flat) (p : Process) (q : Path) (reply : Reply) (entries : List TraceEntry) → HasWalk session s f p q entries → HasWalkUnlessFull session s f p q reply entries
-walk_unless_full session s f p q (Refused EAGAIN) entries walk = tt
-walk_unless_full session s f p q (Refused errno) entries walk = walk
-walk_unless_full session s f p q reply entries walk = walk
+walk_unless_full : (accounts : Accounts) (s : State) (f : Flat) (p : Process) (q : Path) (reply : Reply) (entries : List TraceEntry) → HasWalk accounts s f p q entries → HasWalkUnlessFull accounts s f p q reply entries
+walk_unless_full accounts s f p q (Refused EAGAIN) entries walk = tt
+walk_unless_full accounts s f p q (Refused errno) entries walk = walk
+walk_unless_full accounts s f p q reply entries walk = walk
 
-module _ (session : Session) (ok : IsSession session) (me : ProcName) (caller : Caller) (old new : KernelModel) (f : Flat) (result : Result Reply Stopped)
-    (ready : IsReady session (state old) f me caller.thread) (found : caller_at (state old) (places_of (length session.users)).home me ≡ Some caller) where
+module _ (accounts : Accounts) (ok : AreAccounts accounts) (me : ProcName) (caller : Caller) (old new : KernelModel) (f : Flat) (result : Result Reply Stopped)
+    (ready : IsReady accounts (state old) f me caller.thread) (found : caller_at (state old) (roots_of (length accounts.users)).home me ≡ Some caller) where
   abbrev t : ℕ
   t = caller.thread
 
@@ -77,58 +77,58 @@ module _ (session : Session) (ok : IsSession session) (me : ProcName) (caller : 
   p = ready.caller.process
 
   abbrev own : Levels
-  own = own_of session me caller old new f result ready found
+  own = own_of accounts me caller old new f result ready found
 
-  abbrev most : Levels
-  most = most_of session me caller old new f result ready found
+  abbrev clearance : Levels
+  clearance = own_clearance_of accounts me caller old new f result ready found
 
   abbrev status : ProcessStatus
-  status = status_of session me caller old new f result ready found
+  status = status_of accounts me caller old new f result ready found
 
   -- behind the room for a child and for an entry, a wrap needs a declared user
   abbrev not_nobody : Option Errno
   not_nobody = unless (not (same p.user nobody)) EPERM
 
   -- first it needs room for a child
-  needs_child : (q : Path) → NeedsChild session f me p (Wrap q) (no_room session f p q orelse not_nobody)
+  needs_child : (q : Path) → NeedsChild accounts f me p (Wrap q) (no_room accounts f p q orelse not_nobody)
   needs_child q = record { refuses = refl; reads = λ steps line t s. tt }
 
   -- the raw call that this takes
   abbrev first : List RawCall
-  first = reads session me caller old new f result ready found ∷ []
+  first = reads accounts me caller old new f result ready found ∷ []
 
   -- ---- the program
 
   abbrev in_job : ProcessStatus → Levels × Levels → Room → ℕ → Program
-  in_job told labels room job =
-      make_scratch labels (directory_label session labels.0 job) room (λ _. birth caller.home told (kin_in session labels.0 job) (λ _. hold_job labels job (λ _. Answers (Child ((told.born + 1) ∷ me)))))
+  in_job revealed labels room job =
+      make_scratch labels (directory_label accounts labels.0 job) room (λ _. birth caller.home revealed (kin_in accounts labels.0 job) (λ _. hold_job labels job (λ _. Answers (Child ((revealed.born + 1) ∷ me)))))
 
   abbrev with_labels : ProcessStatus → Room → Levels × Levels → Program
-  with_labels told room labels = ask MakeCategory (in_job told labels room)
+  with_labels revealed room labels = ask MakeCategory (in_job revealed labels room)
 
   abbrev with_room : ProcessStatus → Room → Program
-  with_room told room = ask OwnLabel (with_labels told room)
+  with_room revealed room = ask OwnLabel (with_labels revealed room)
 
   abbrev with_child : Path → ProcessStatus → Program
-  with_child q told = find_room (places_of (length session.users)) q (with_room told)
+  with_child q revealed = find_room (roots_of (length accounts.users)) q (with_room revealed)
 
   module _ (long : nat_lt (length me) most_numbers ≡ true) (few : nat_lt p.born most_children ≡ true) where
     -- then it needs room for an entry
-    needs_room : (q : Path) → NeedsRoom session f me p q (Wrap q) not_nobody
+    needs_room : (q : Path) → NeedsRoom accounts f me p q (Wrap q) not_nobody
     needs_room q = record {
-      refuses = λ i. (unless (few i) EAGAIN orelse unless (long i) EAGAIN) orelse no_room session f p q orelse not_nobody;
-      reads = λ s reply entries walk. walk_unless_full session s f p q reply entries walk;
+      refuses = λ i. (unless (few i) EAGAIN orelse unless (long i) EAGAIN) orelse no_room accounts f p q orelse not_nobody;
+      reads = λ s reply entries walk. walk_unless_full accounts s f p q reply entries walk;
     }
 
     module _ (m : Name) (named : IsTrue (is_name m)) (d : Path) where
-      abbrev Row : Type 0
-      Row = Goal session f me ready.caller (Wrap (m ∷ d)) old new t ready.thread result
+      abbrev Refined : Type 0
+      Refined = Goal accounts f me ready.caller (Wrap (m ∷ d)) old new t ready.thread result
 
       abbrev walk : List RawCall
-      walk = walk_reads session ok (state old) f me t ready d
+      walk = walk_reads accounts ok (state old) f me t ready d
 
       abbrev room : Room
-      room = the_room session ok (state old) f me t ready d m
+      room = the_room accounts ok (state old) f me t ready d m
 
       -- the raw calls up to the making
       abbrev before : List RawCall
@@ -143,77 +143,77 @@ module _ (session : Session) (ok : IsSession session) (me : ProcName) (caller : 
       job = (state old).next_category
 
       abbrev next : RawCall
-      next = MakeContainer (container session ok (state old) f me t ready d) (directory_label session own job)
+      next = MakeContainer (container accounts ok (state old) f me t ready d) (directory_label accounts own job)
 
       -- what is left of the program once it has a number
       abbrev within : ℕ → Program
-      within = granted.within session ok me caller old new f result ready found m named d
+      within = granted.within accounts ok me caller old new f result ready found m named d
 
-      module _ (open_so_far : into session f p d ≡ None) (absent : get f.files (m ∷ d) ≡ None) (roomy : nat_lt (length (entries_in f d)) most_entries ≡ true)
+      module _ (open_so_far : into accounts f p d ≡ None) (absent : get f.files (m ∷ d) ≡ None) (roomy : nat_lt (length (entries_in f d)) most_entries ≡ true)
           (mid : KernelModel) (counted : state mid ≡ with_category (state old) t) (chain : Chain old t (all_granted before) mid) where
         -- the directory above may be written
         abbrev may : Bool
-        may = may_write session p (directory_class session ok (state old) f me t ready d open_so_far)
+        may = may_write accounts p (directory_class accounts ok (state old) f me t ready d open_so_far)
 
-        refused_is : (can : Bool) → may ≡ can → refused session f me p (Wrap (m ∷ d)) ≡ (unless can EACCES orelse not_nobody)
-        refused_is can is = refused_in_room session ok old new f me t ready m d (Wrap (m ∷ d)) result not_nobody (needs_room (m ∷ d)) open_so_far absent roomy can is
+        refused_is : (can : Bool) → may ≡ can → refused accounts f me p (Wrap (m ∷ d)) ≡ (unless can EACCES orelse not_nobody)
+        refused_is can is = refused_in_room accounts ok old new f me t ready m d (Wrap (m ∷ d)) result not_nobody (needs_room (m ∷ d)) open_so_far absent roomy can is
 
         -- it is refused, and so is the call
-        given_back : (denied : Denied) (errno : Errno) → check (state mid) t next ≡ Some denied → errno_for next denied ≡ Some errno → refused session f me p (Wrap (m ∷ d)) ≡ Some errno → Runs (ask_or_give_back (own, most) next within) mid new t result → Row
-        given_back denied errno fails told is on =
-            given_back_step session f me ready.caller (Wrap (m ∷ d)) old new t ready.thread result before mid chain errno is (own, most) next within denied fails told
-            (ap (λ (s : State). check s t (SetLabel own)) counted ∙ set_label_said session ok (state old) f me t ready)
-            (ap (λ (s : State). check (with_changed s t (with_label own)) t (SetClearance most)) counted ∙ set_clearance_said session ok (state old) f me t ready)
-            (subst (λ (s : State). Represents session (own_set t s own most) f) (sym counted) (represents_refused session (state old) f ready.represents me p ready.caller.stands ready.caller.runs t (at_thread session me caller old new f result ready found)))
-            (has_reads session ok old new f me t ready m d (Wrap (m ∷ d)) result not_nobody (needs_room (m ∷ d)) (all_granted before ++ (next, Some denied) ∷ all_granted (SetLabel own ∷ SetClearance most ∷ [])) (Refused errno)
-            (among_also old.line t walk before ((next, Some denied) ∷ all_granted (SetLabel own ∷ SetClearance most ∷ [])) among_before)) on
+        given_back : (denied : Denied) (errno : Errno) → check (state mid) t next ≡ Some denied → errno_for next denied ≡ Some errno → refused accounts f me p (Wrap (m ∷ d)) ≡ Some errno → Runs (ask_or_give_back (own, clearance) next within) mid new t result → Refined
+        given_back denied errno fails revealed is on =
+            given_back_step accounts f me ready.caller (Wrap (m ∷ d)) old new t ready.thread result before mid chain errno is (own, clearance) next within denied fails revealed
+            (ap (λ (s : State). check s t (SetLabel own)) counted ∙ set_label_said accounts ok (state old) f me t ready)
+            (ap (λ (s : State). check (with_changed s t (with_label own)) t (SetClearance clearance)) counted ∙ set_clearance_said accounts ok (state old) f me t ready)
+            (subst (λ (s : State). Represents accounts (own_set t s own clearance) f) (sym counted) (represents_refused accounts (state old) f ready.represents me p ready.caller.agrees ready.caller.runs t (at_thread accounts me caller old new f result ready found)))
+            (has_reads accounts ok old new f me t ready m d (Wrap (m ∷ d)) result not_nobody (needs_room (m ∷ d)) (all_granted before ++ (next, Some denied) ∷ all_granted (SetLabel own ∷ SetClearance clearance ∷ [])) (Refused errno)
+            (among_also old.line t walk before ((next, Some denied) ∷ all_granted (SetLabel own ∷ SetClearance clearance ∷ [])) among_before)) on
 
         -- by what the kernel says
-        by_right : (can declared has : Bool) → may ≡ can → is_some (user_number session p.user) ≡ declared → has_number (state old) ≡ has
-            → check (state mid) t next ≡ (unless can Modify orelse unless declared Range orelse unless has TooBig) → Runs (ask_or_give_back (own, most) next within) mid new t result → Row
+        by_right : (can declared has : Bool) → may ≡ can → is_some (user_number accounts p.user) ≡ declared → has_number (state old) ≡ has
+            → check (state mid) t next ≡ (unless can Modify orelse unless declared Range orelse unless has TooBig) → Runs (ask_or_give_back (own, clearance) next within) mid new t result → Refined
         by_right false declared has is_may is_declared is_has said on = given_back Modify EACCES said refl (refused_is false is_may) on
-        by_right true false has is_may is_declared is_has said on = given_back Range EPERM said refl (refused_is true is_may ∙ ap (λ (b : Bool). unless (not b) EPERM) (is_nobody session ok (state old) f me t ready is_declared)) on
+        by_right true false has is_may is_declared is_has said on = given_back Range EPERM said refl (refused_is true is_may ∙ ap (λ (b : Bool). unless (not b) EPERM) (is_nobody accounts ok (state old) f me t ready is_declared)) on
         by_right true true false is_may is_declared is_has said on =
-            spent_step session f me ready.caller (Wrap (m ∷ d)) old new t ready.thread result before mid chain next (or_given_back (own, most) (errno_for next) within) said refl (inl (ap has_number counted ∙ is_has)) on
+            spent_step accounts f me ready.caller (Wrap (m ∷ d)) old new t ready.thread result before mid chain next (or_given_back (own, clearance) (errno_for next) within) said refl (inl (ap has_number counted ∙ is_has)) on
         by_right true true true is_may is_declared is_has said on =
-            allowed_step session f me ready.caller (Wrap (m ∷ d)) old new t ready.thread result before mid chain next (or_given_back (own, most) (errno_for next) within) said on
+            allowed_step accounts f me ready.caller (Wrap (m ∷ d)) old new t ready.thread result before mid chain next (or_given_back (own, clearance) (errno_for next) within) said on
             (λ linked number called number_is longer rest.
-            let user = some_of (user_number session p.user) is_declared in
-            job_begun session ok me caller old new f result ready found m named d long few open_so_far absent roomy is_may user.0 user.1 is_has (before ++ next ∷ []) (among_then old.line t walk before (next ∷ []) among_before) linked
-            (called.state ∙ ap (λ (s : State). with_object s room.place.container (granted.container session ok me caller old new f result ready found m named d)) counted) longer
+            let user = some_of (user_number accounts p.user) is_declared in
+            job_begun accounts ok me caller old new f result ready found m named d long few open_so_far absent roomy is_may user.0 user.1 is_has (before ++ next ∷ []) (among_then old.line t walk before (next ∷ []) among_before) linked
+            (called.state ∙ ap (λ (s : State). with_object s room.place.container (granted.container accounts ok me caller old new f result ready found m named d)) counted) longer
             (subst (λ (q : ℕ). Runs (within q) linked new t result) (number_is ∙ ap (λ (s : State). s.next_object) counted) rest))
 
-        made_step : Runs (in_job status (own, most) room job) mid new t result → Row
+        made_step : Runs (in_job status (own, clearance) room job) mid new t result → Refined
         unfolding make_scratch
-        made_step on = by_right may (is_some (user_number session p.user)) (has_number (state old)) refl refl refl (ap (λ (s : State). check s t next) counted ∙ scratch_said session ok (state old) f me t ready d open_so_far) on
+        made_step on = by_right may (is_some (user_number accounts p.user)) (has_number (state old)) refl refl refl (ap (λ (s : State). check s t next) counted ∙ scratch_said accounts ok (state old) f me t ready d open_so_far) on
 
       -- ---- there is room
 
-      roomed : (open_so_far : into session f p d ≡ None) → get f.files (m ∷ d) ≡ None → nat_lt (length (entries_in f d)) most_entries ≡ true
-          → (mid : KernelModel) → state mid ≡ state old → Chain old t (all_granted (first ++ walk)) mid → Runs (with_room status room) mid new t result → Row
+      roomed : (open_so_far : into accounts f p d ≡ None) → get f.files (m ∷ d) ≡ None → nat_lt (length (entries_in f d)) most_entries ≡ true
+          → (mid : KernelModel) → state mid ≡ state old → Chain old t (all_granted (first ++ walk)) mid → Runs (with_room status room) mid new t result → Refined
       roomed open_so_far absent roomy mid stays chain on =
-          own_label_step session me caller old new f result ready found (Wrap (m ∷ d)) (first ++ walk) mid chain stays (with_labels status room) on
+          own_label_step accounts me caller old new f result ready found (Wrap (m ∷ d)) (first ++ walk) mid chain stays (with_labels status room) on
           (λ labelled longer still rest.
-          category_step session f me ready.caller (Wrap (m ∷ d)) old new t ready.thread result ((first ++ walk) ++ OwnLabel ∷ []) labelled longer MakeCategory (in_job status (own, most) room) refl
-          (ap (λ (s : State). check s t MakeCategory) still ∙ category_said (state old) t own most (thread session ok (state old) f me t ready) ∙ ap (λ (s : State). unless (has_category s) TooBig) (sym still)) rest
+          category_step accounts f me ready.caller (Wrap (m ∷ d)) old new t ready.thread result ((first ++ walk) ++ OwnLabel ∷ []) labelled longer MakeCategory (in_job status (own, clearance) room) refl
+          (ap (λ (s : State). check s t MakeCategory) still ∙ category_said (state old) t own clearance (thread accounts ok (state old) f me t ready) ∙ ap (λ (s : State). unless (has_category s) TooBig) (sym still)) rest
           (λ later number called number_is whole goes.
           made_step open_so_far absent roomy later (called.state ∙ ap (λ (s : State). with_category s t) still) whole
-          (subst (λ (q : ℕ). Runs (in_job status (own, most) room q) later new t result) (number_is ∙ ap (λ (s : State). s.next_category) still) goes)))
+          (subst (λ (q : ℕ). Runs (in_job status (own, clearance) room q) later new t result) (number_is ∙ ap (λ (s : State). s.next_category) still) goes)))
 
-      entered : (mid : KernelModel) → Chain old t (all_granted first) mid → state mid ≡ state old → Runs (with_child (m ∷ d) status) mid new t result → Row
+      entered : (mid : KernelModel) → Chain old t (all_granted first) mid → state mid ≡ state old → Runs (with_child (m ∷ d) status) mid new t result → Refined
       entered mid chain stays on =
-          room_step session ok old new f me t ready m d (Wrap (m ∷ d)) result not_nobody (needs_room (m ∷ d)) first mid stays chain (with_room status) on roomed
+          room_step accounts ok old new f me t ready m d (Wrap (m ∷ d)) result not_nobody (needs_room (m ∷ d)) first mid stays chain (with_room status) on roomed
 
   -- a wrap of this path
   wrapped : (q : Path) → IsTrue (is_path q) → nat_lt (length me) most_numbers ≡ true → nat_lt p.born most_children ≡ true → (mid : KernelModel) → Chain old t (all_granted first) mid → state mid ≡ state old → Runs (with_child q status) mid new t result
-      → Goal session f me ready.caller (Wrap q) old new t ready.thread result
-  wrapped [] right long few mid chain stays on = slash_stands session old new f me t ready (Wrap []) result not_nobody (needs_room long few []) first mid stays chain (with_room status) on
+      → Goal accounts f me ready.caller (Wrap q) old new t ready.thread result
+  wrapped [] right long few mid chain stays on = slash_agrees accounts old new f me t ready (Wrap []) result not_nobody (needs_room long few []) first mid stays chain (with_room status) on
   wrapped (m ∷ d) right long few mid chain stays on = entered long few m (last_name m d right) d mid chain stays on
 
 -- A wrap is the row of its call.
 pub wrap_refines : WrapRefines
 unfolding wrap_program
-wrap_refines session ok q right me caller old new f result ready found runs =
-    child_room_step session me caller old new f result ready found (Wrap q) (no_room session f ready.caller.process q orelse unless (not (same ready.caller.process.user nobody)) EPERM)
-    (needs_child session ok me caller old new f result ready found q) (with_child session ok me caller old new f result ready found q) runs
-    (λ long few mid chain stays on. wrapped session ok me caller old new f result ready found q right long few mid chain stays on)
+wrap_refines accounts ok q right me caller old new f result ready found runs =
+    child_room_step accounts me caller old new f result ready found (Wrap q) (no_room accounts f ready.caller.process q orelse unless (not (same ready.caller.process.user nobody)) EPERM)
+    (needs_child accounts ok me caller old new f result ready found q) (with_child accounts ok me caller old new f result ready found q) runs
+    (λ long few mid chain stays on. wrapped accounts ok me caller old new f result ready found q right long few mid chain stays on)

@@ -6,7 +6,7 @@ use Rattle.histar_flat.specs.declared.replies.Errno.TheVariants.{EAGAIN, EAUTH}
 use Rattle.histar_flat.specs.declared.replies.Reply.{Reply}
 use Rattle.histar_flat.specs.declared.replies.Reply.TheVariants.{Done, Stats, Refused}
 use Rattle.histar_flat.specs.Words.{Path, ProcName}
-use Rattle.histar_flat.specs.Sessions.{Session}
+use Rattle.histar_flat.specs.Accounts.{Accounts}
 use Rattle.histar_flat.specs.Classes.{Process}
 use Rattle.histar_flat.specs.FlatState.{Flat, is_dir_at, into}
 use Rattle.histar_flat.specs.CallRules.{path_of}
@@ -54,11 +54,11 @@ abbrev pub label_asked : Path → Reply → List Question
 label_asked q (Stats stat) = LabelAt q ∷ []
 label_asked q _ = []
 
-module _ (session : Session) where
+module _ (accounts : Accounts) where
   -- the directories of which the way into a directory tests whether they may be read, from `/` on
   abbrev pub tested : Flat → Process → Path → List Path
   tested f p [] = [] ∷ []
-  tested f p (n ∷ d) = tested f p d ++ (if not (is_some (into session f p d)) && is_dir_at f (n ∷ d) then (n ∷ d) ∷ [] else [])
+  tested f p (n ∷ d) = tested f p d ++ (if not (is_some (into accounts f p d)) && is_dir_at f (n ∷ d) then (n ∷ d) ∷ [] else [])
 
   -- the processes on the way to a name that are looked at, from process 0 on: each that is there, up to the first that may not be seen
   abbrev pub looked_at : Flat → Process → ProcName → List ProcName
@@ -88,15 +88,15 @@ module _ (session : Session) where
   due f p (Status name) reply = map StatusOf (looked_at f p name)
   due f p (Kill name) reply = map StatusOf (looked_at f p name)
   due f p Whoami reply = OwnLabel ∷ []
-  due f p (Login name password) reply = password_asked (place_of session.users name) (is_compared reply)
+  due f p (Login name password) reply = password_asked (place_of accounts.users name) (is_compared reply)
   due f p (Wrap path) reply = walked_unless_full f p path reply
   due f p call reply = walked f p (path_of call)
 
   -- a raw call asks this of a state
   abbrev pub Asks : State → Question → RawCall → Type 0
-  Asks s (EntriesOf d) call = (container : ℕ) × (listing : ℕ) × IsDirectoryAt session s d container listing × (call ≡ raw.Read container listing)
-  Asks s (LabelAt q) call = (container : ℕ) × (object : ℕ) × IsObjectAt session s q container object × (call ≡ raw.LabelOf container object)
-  Asks s (StatusOf name) call = (container : ℕ) × (segment : ℕ) × IsStatusSegment session s name container segment × (call ≡ raw.Read container segment)
+  Asks s (EntriesOf d) call = (container : ℕ) × (listing : ℕ) × IsDirectoryAt accounts s d container listing × (call ≡ raw.Read container listing)
+  Asks s (LabelAt q) call = (container : ℕ) × (object : ℕ) × IsObjectAt accounts s q container object × (call ≡ raw.LabelOf container object)
+  Asks s (StatusOf name) call = (container : ℕ) × (segment : ℕ) × IsStatusSegment accounts s name container segment × (call ≡ raw.Read container segment)
   Asks s OwnLabel call = call ≡ raw.OwnLabel
   Asks s (PasswordAt place) call = call ≡ raw.Read root_number (password_of (place + 1))
 

@@ -2,26 +2,26 @@
 use Rattle.std.specs.Prelude.{ℕ, ◌≡◌, length, Some, Result}
 use Rattle.histar_flat.specs.declared.replies.Reply.{Reply}
 use Rattle.histar_flat.specs.Words.{ProcName}
-use Rattle.histar_flat.specs.Sessions.{Session}
+use Rattle.histar_flat.specs.Accounts.{Accounts}
 use Rattle.histar_flat.specs.FlatState.{Flat}
 use Rattle.histar_syscall.specs.KernelModel.{KernelModel, state}
-use Rattle.histar_calls.specs.declared.ending.Stopped.{Stopped}
+use Rattle.histar_calls.specs.declared.call_error.Stopped.{Stopped}
 use Rattle.histar_calls.specs.Programs.{Program, Runs}
 use Rattle.histar_process.specs.declared.caller.Caller.{Caller}
 use Rattle.histar_process.specs.Caller.{caller_at}
-use Rattle.histar_login.specs.Start.{places_of}
+use Rattle.histar_login.specs.Start.{roots_of}
 use Rattle.histar_flat.specs.declared.calls.UnixCall.{UnixCall}
 use Rattle.histar_sim.specs.Simulation.{IsReady, FollowsRule}
 
 -- Whoever runs the program as the thread of a process, in a state that represents a flat state, does what the flat rule of the call says.
-abbrev pub Refines : Session → UnixCall → Program → Type 0
-Refines session call program =
+abbrev pub Refines : Accounts → UnixCall → Program → Type 0
+Refines accounts call program =
     (me : ProcName) (old new : KernelModel) (f : Flat) (t : ℕ) (result : Result Reply Stopped)
-    → IsReady session (state old) f me t → Runs program old new t result → FollowsRule session f me call old new t result
+    → IsReady accounts (state old) f me t → Runs program old new t result → FollowsRule accounts f me call old new t result
 
 -- The same of a program that asks where its process is found, which is what the state shows.
-abbrev pub CallerRefines : Session → UnixCall → (ProcName → Caller → Program) → Type 0
-CallerRefines session call program =
+abbrev pub CallerRefines : Accounts → UnixCall → (ProcName → Caller → Program) → Type 0
+CallerRefines accounts call program =
     (me : ProcName) (caller : Caller) (old new : KernelModel) (f : Flat) (result : Result Reply Stopped)
-    → IsReady session (state old) f me caller.thread → caller_at (state old) (places_of (length session.users)).home me ≡ Some caller
-    → Runs (program me caller) old new caller.thread result → FollowsRule session f me call old new caller.thread result
+    → IsReady accounts (state old) f me caller.thread → caller_at (state old) (roots_of (length accounts.users)).home me ≡ Some caller
+    → Runs (program me caller) old new caller.thread result → FollowsRule accounts f me call old new caller.thread result

@@ -6,7 +6,7 @@ use Rattle.histar_flat.specs.declared.calls.UnixCall.{UnixCall}
 use Rattle.histar_flat.specs.declared.replies.Reply.{Reply}
 use Rattle.histar_flat.specs.declared.replies.Reply.TheVariants.{Data, Refused, Gone}
 use Rattle.histar_flat.specs.Words.{Path, ProcName}
-use Rattle.histar_flat.specs.Sessions.{Session}
+use Rattle.histar_flat.specs.Accounts.{Accounts}
 use Rattle.histar_flat.specs.Files.{get}
 use Rattle.histar_flat.specs.Classes.{Class, Process}
 use Rattle.histar_flat.specs.FlatState.{Flat}
@@ -21,7 +21,7 @@ use Rattle.histar_syscall.specs.declared.answers.Answer.TheVariants as answers
 use Rattle.histar_syscall.specs.Answers.{raw_answer}
 use Rattle.histar_syscall.specs.KernelModel.{KernelModel, state}
 use Rattle.histar_syscall.specs.Runs.{IsBy, IsRun, some_label_refusal, some_range_refusal}
-use Rattle.histar_calls.specs.declared.ending.Stopped.{Stopped}
+use Rattle.histar_calls.specs.declared.call_error.Stopped.{Stopped}
 use Rattle.histar_calls.specs.Refusals.{write_errno_of}
 use Rattle.histar_calls.specs.Replies.{is_no_access, is_no_permission, IsRefusedOnce, IsRestoring}
 use Rattle.histar_refinement.specs.Represents.{Represents}
@@ -31,7 +31,7 @@ use Rattle.histar_sim.specs.Reads.{HasReads}
 -- The process that makes a call runs.
 pub record IsRunning (f : Flat) (me : ProcName) : Type 0 where
   pub process : Process
-  pub stands : f.processes me ≡ Some process
+  pub agrees : f.processes me ≡ Some process
   pub runs : process.exited ≡ None
 
 -- from this state on, the last of the entries is a read that the kernel answers with these bytes
@@ -54,9 +54,9 @@ IsReplyOfDenial reply (Some denied) = option_map Refused (write_errno_of denied)
 -- comparing labels exactly where the reply is EACCES, and by range exactly where it is EPERM; at most one is refused, the reply is
 -- that of the denial, and after it the thread is only given labels. What was read is what the last of them reads. A line that is answered `gone` has
 -- none.
-pub record IsLine (session : Session) (before : State) (line : ℕ) (process : ProcName) (reply : Reply) (entries : List TraceEntry) (after : State) : Type 0 where
+pub record IsLine (accounts : Accounts) (before : State) (line : ℕ) (process : ProcName) (reply : Reply) (entries : List TraceEntry) (after : State) : Type 0 where
   pub run : IsRun before entries after
-  pub own : AllByRecursion (λ e. (e.line ≡ line) × IsThreadOf session before process e.thread) entries
+  pub own : AllByRecursion (λ e. (e.line ≡ line) × IsThreadOf accounts before process e.thread) entries
   pub access : some_label_refusal entries ≡ is_no_access reply
   pub permission : some_range_refusal entries ≡ is_no_permission reply
   pub denials : AllByRecursion (λ e. IsReplyOfDenial reply e.denied) entries
@@ -66,17 +66,17 @@ pub record IsLine (session : Session) (before : State) (line : ℕ) (process : P
 
 -- The line is the row of its call: it is answered what the flat state says, it has the reads that the call cannot do without, and the
 -- state after it represents the flat state after the call.
-pub record SimulatesLine (session : Session) (before : State) (f : Flat) (asked : CallLine) (entries : List TraceEntry) (after : State) : Type 0 where
-  pub line : IsLine session before asked.line asked.process (reply_to session f asked.process asked.call) entries after
-  pub reads : HasReads session before f (running f asked.process) asked.call (reply_to session f asked.process asked.call) entries
-  pub represents : Represents session after (flat_after session f asked.process asked.call)
+pub record SimulatesLine (accounts : Accounts) (before : State) (f : Flat) (asked : CallLine) (entries : List TraceEntry) (after : State) : Type 0 where
+  pub line : IsLine accounts before asked.line asked.process (reply_to accounts f asked.process asked.call) entries after
+  pub reads : HasReads accounts before f (running f asked.process) asked.call (reply_to accounts f asked.process asked.call) entries
+  pub represents : Represents accounts after (flat_after accounts f asked.process asked.call)
 
 -- the lines of a script, one after another, from a state that represents this flat state: each is the row of its call
-abbrev pub SimulatesLines : Session → State → Flat → List CallLine → List TraceEntry → State → Type 0
-SimulatesLines session s f [] entries end = (entries ≡ []) × (end ≡ s)
-SimulatesLines session s f (asked ∷ more) entries end =
+abbrev pub SimulatesLines : Accounts → State → Flat → List CallLine → List TraceEntry → State → Type 0
+SimulatesLines accounts s f [] entries end = (entries ≡ []) × (end ≡ s)
+SimulatesLines accounts s f (asked ∷ more) entries end =
     (own : List TraceEntry) × (later : List TraceEntry) × (mid : State)
-    × (entries ≡ own ++ later) × SimulatesLine session s f asked own mid × SimulatesLines session mid (flat_after session f asked.process asked.call) more later end
+    × (entries ≡ own ++ later) × SimulatesLine accounts s f asked own mid × SimulatesLines accounts mid (flat_after accounts f asked.process asked.call) more later end
 
 -- the next category has a number
 abbrev pub has_category : State → Bool
@@ -100,24 +100,24 @@ IsBrokenOff reply s (e ∷ entries) end =
     × MayBreakOff reply s e.denied entries × IsBrokenOff reply mid entries end
 
 -- A call of a process has added these entries to the trace, on the line that was begun; they are the row of the call.
-pub record IsAnswered (session : Session) (f : Flat) (me : ProcName) (call : UnixCall) (old new : KernelModel) : Type 0 where
+pub record IsAnswered (accounts : Accounts) (f : Flat) (me : ProcName) (call : UnixCall) (old new : KernelModel) : Type 0 where
   pub entries : List TraceEntry
   pub trace : new.trace ≡ old.trace ++ entries
   pub line : new.line ≡ old.line
-  pub row : SimulatesLine session (state old) f (record { line = old.line; process = me; call = call }) entries (state new)
+  pub refined : SimulatesLine accounts (state old) f (record { line = old.line; process = me; call = call }) entries (state new)
 
 -- The raw calls that were made are a run of the kernel by the thread, broken off before the reply of the flat rules.
-pub record IsUnanswered (session : Session) (f : Flat) (me : ProcName) (call : UnixCall) (old new : KernelModel) (t : ℕ) : Type 0 where
+pub record IsUnanswered (accounts : Accounts) (f : Flat) (me : ProcName) (call : UnixCall) (old new : KernelModel) (t : ℕ) : Type 0 where
   pub entries : List TraceEntry
   pub trace : new.trace ≡ old.trace ++ entries
   pub line : new.line ≡ old.line
-  pub run : IsBrokenOff (reply_to session f me call) (state old) entries (state new)
+  pub run : IsBrokenOff (reply_to accounts f me call) (state old) entries (state new)
   pub own : AllByRecursion (IsBy old.line t) entries
 
 -- a call of a process, which its thread makes, does what its flat rule says, or it ends without a reply
-abbrev pub FollowsRule : Session → Flat → ProcName → UnixCall → KernelModel → KernelModel → ℕ → Result Reply Stopped → Type 0
-FollowsRule session f me call old new t (Ok reply) = (reply ≡ reply_to session f me call) × IsAnswered session f me call old new
-FollowsRule session f me call old new t (Err stopped) = IsUnanswered session f me call old new t
+abbrev pub FollowsRule : Accounts → Flat → ProcName → UnixCall → KernelModel → KernelModel → ℕ → Result Reply Stopped → Type 0
+FollowsRule accounts f me call old new t (Ok reply) = (reply ≡ reply_to accounts f me call) × IsAnswered accounts f me call old new
+FollowsRule accounts f me call old new t (Err stopped) = IsUnanswered accounts f me call old new t
 
 -- each file holds as many bytes as a segment can hold
 abbrev pub AreFilesSmall : Flat → Type 0
@@ -129,9 +129,9 @@ IsFirstFree f = (p : Process) → f.processes [] ≡ Some p → p.chain ≡ []
 
 -- Where a call of a process is made: the state represents this flat state, in which the process runs, process 0 is in no job and files are
 -- small enough, and the thread is the process's own.
-pub record IsReady (session : Session) (s : State) (f : Flat) (me : ProcName) (t : ℕ) : Type 0 where
-  pub represents : Represents session s f
+pub record IsReady (accounts : Accounts) (s : State) (f : Flat) (me : ProcName) (t : ℕ) : Type 0 where
+  pub represents : Represents accounts s f
   pub caller : IsRunning f me
   pub first : IsFirstFree f
   pub small : AreFilesSmall f
-  pub thread : IsThreadOf session s me t
+  pub thread : IsThreadOf accounts s me t

@@ -4,7 +4,7 @@ use Rattle.std.proofs.Common.{refl, sym, ap, ◌∙◌, append_assoc, arith, add
 use Rattle.std.specs.List.{list_all}
 use Rattle.std.proofs.lemmas.List.Folds.{list_all-append}
 use Rattle.histar_flat.specs.FlatState.{Flat}
-use Rattle.histar_flat.specs.Sessions.{Session}
+use Rattle.histar_flat.specs.Accounts.{Accounts}
 use Rattle.histar_test.specs.declared.checks.Check.{Check}
 use Rattle.histar_test.specs.declared.checks.Made.{Made}
 use Rattle.histar_test.specs.declared.running.Tally.{Tally}
@@ -46,10 +46,10 @@ tally_more t front more =
     λ i. record { count = counted i; are_met = met i }
 
 -- the check of a step, and then those behind it
-pub check_first : (session : Session) (f : Flat) (last : Option Made) (step : Step) (later : List Step)
-    → checks_from session f last (step ∷ later)
-    ≡ check_at session f last step ++ checks_from session (flat_at session f step) (last_at session f last step) later
-check_first session f last (Makes c said) later = refl
-check_first session f None (Expects text) later = refl
-check_first session f (Some made) (Expects text) later = refl
-check_first session f last (Asks q) later = refl
+pub check_first : (accounts : Accounts) (f : Flat) (last : Option Made) (step : Step) (later : List Step)
+    → checks_from accounts f last (step ∷ later)
+    ≡ check_at accounts f last step ++ checks_from accounts (flat_at accounts f step) (last_at accounts f last step) later
+check_first accounts f last (Makes c said) later = refl
+check_first accounts f None (Expects text) later = refl
+check_first accounts f (Some made) (Expects text) later = refl
+check_first accounts f last (Asks q) later = refl

@@ -11,13 +11,13 @@ use Rattle.histar_flat.specs.declared.calls.CallLine.{CallLine}
 use Rattle.histar_flat.specs.FlatCalls.{flat_after, reply_to}
 use Rattle.histar_flat.specs.FlatState.{Flat}
 use Rattle.histar_flat.specs.Meaning.{boot, flat_end, meaning}
-use Rattle.histar_flat.specs.Sessions.{Session}
+use Rattle.histar_flat.specs.Accounts.{Accounts}
 use Rattle.histar_flat.proofs.Laws.{replies_go_on, states_go_on}
 use Rattle.histar_script.specs.declared.items.Item.{Item}
 use Rattle.histar_script.specs.declared.items.Item.TheVariants as items
 use Rattle.histar_script.specs.Lines.{lines_of}
 use Rattle.histar_script.specs.Reading.{item_of, script_of}
-use Rattle.histar_script.specs.Script.{Reading}
+use Rattle.histar_script.specs.Script.{ScriptModel}
 use Rattle.histar_rights.specs.declared.rights.Rights.{Rights}
 use Rattle.histar_rights.specs.Rights.{rights_text}
 use Rattle.histar_rights.proofs.Spelling.{letters_spell_rights}
@@ -127,23 +127,23 @@ listed : (n : ℕ) (line : List ℕ) (lines : List (List ℕ)) → wants line �
 listed n line lines is =
     ap (λ (b : Bool). if b then record { number = n; text = line } ∷ wanting_from (n + 1) lines else wanting_from (n + 1) lines) is
 
-module _ (script : Reading) where
+module _ (script : ScriptModel) where
   -- what a line wants, and what the script means there
   abbrev IsCheckOf : NumberedLine → Check → Type 0
   IsCheckOf line check = IsExpectedOn line check × IsOfTheMeaning script line check
 
   -- the flat state after these calls
   abbrev flat : List CallLine → Flat
-  flat done = flat_end script.session (boot script.session) done
+  flat done = flat_end script.accounts (boot script.accounts) done
 
   -- the call that is open is the last of these
   abbrev HasLast : List CallLine → Option Made → Type 0
   HasLast done None = Unit {0}
-  HasLast done (Some made) = IsLastAnswer made (meaning script.session done)
+  HasLast done (Some made) = IsLastAnswer made (meaning script.accounts done)
 
   -- these lines have their checks, behind these calls
   abbrev AreOfLines : ℕ → List (List ℕ) → List CallLine → Option Made → List Step → Type 0
-  AreOfLines n lines done last steps = AllZip IsCheckOf (wanting_from n lines) (checks_from script.session (flat done) last steps)
+  AreOfLines n lines done last steps = AllZip IsCheckOf (wanting_from n lines) (checks_from script.accounts (flat done) last steps)
 
   module _ (n : ℕ) (is_open opened : Bool) (line : List ℕ) (lines : List (List ℕ)) (done : List CallLine) (rest : List Step) where
     -- so have those behind a line, whatever calls come before them and is open there
@@ -161,14 +161,14 @@ module _ (script : Reading) where
           let w = text_wanted n line (asked_of line) (expectation_of line) (call_in n (item_of line)) text is in
           let shut : false ≡ opened = same_Some false opened (ap (λ (b : Bool). open_after b (Expects text)) was ∙ opens) in
           let check : Check = record { made = made; wanted = text } in
-          subst (λ (ls : List NumberedLine). AllZip IsCheckOf ls (check ∷ checks_from script.session (flat done) None rest))
+          subst (λ (ls : List NumberedLine). AllZip IsCheckOf ls (check ∷ checks_from script.accounts (flat done) None rest))
           (sym (listed n line lines (λ i. is_some (w.0 i) || is_some (w.1 i)))) (
             (
               subst (λ (o : Option (List ℕ)). MatchOption o (expectation_of line ≡ Some text)
                   (λ asked. IsSomeAnd (question_of n asked) (λ (q : Question). text ≡ rights_text q.wanted))) (sym w.0) w.1,
-              subst (λ (o : Option (List ℕ)). MatchOption o (IsLastAnswer made (meaning script.session (calls_before (Some n) script.calls)))
-                  (λ asked. IsSomeAnd (question_of n asked) (λ (q : Question). made ≡ asked_in script.session (state_before (Some n) script) q))) (sym w.0)
-                  (subst (λ (cs : List CallLine). IsLastAnswer made (meaning script.session cs)) (sym at) has),
+              subst (λ (o : Option (List ℕ)). MatchOption o (IsLastAnswer made (meaning script.accounts (calls_before (Some n) script.calls)))
+                  (λ asked. IsSomeAnd (question_of n asked) (λ (q : Question). made ≡ asked_in script.accounts (state_before (Some n) script) q))) (sym w.0)
+                  (subst (λ (cs : List CallLine). IsLastAnswer made (meaning script.accounts cs)) (sym at) has),
             ),
             later done None calls (before_next n done before) shut tt,
           )
@@ -178,18 +178,18 @@ module _ (script : Reading) where
           → script.calls ≡ done ++ calls_in rest → is_some last ≡ is_open → HasLast done last → AreOfLines n (line ∷ lines) done last (Asks q ∷ rest)
       asked_there q last is opens calls was has =
           let w = rights_wanted n line (asked_of line) (expectation_of line) (call_in n (item_of line)) q is in
-          let check = question_check script.session (flat done) q in
-          subst (λ (ls : List NumberedLine). AllZip IsCheckOf ls (check ∷ checks_from script.session (flat done) last rest))
+          let check = question_check script.accounts (flat done) q in
+          subst (λ (ls : List NumberedLine). AllZip IsCheckOf ls (check ∷ checks_from script.accounts (flat done) last rest))
           (sym (listed n line lines (λ i. is_some (w.1 i) || is_some (expectation_of line)))) (
             (
               subst (λ (o : Option (List ℕ)). MatchOption o (expectation_of line ≡ Some check.wanted)
                   (λ asked. IsSomeAnd (question_of n asked) (λ (x : Question). check.wanted ≡ rights_text x.wanted))) (sym w.1)
                   (subst (λ (o : Option Question). IsSomeAnd o (λ (x : Question). check.wanted ≡ rights_text x.wanted)) (sym w.2) refl),
-              subst (λ (o : Option (List ℕ)). MatchOption o (IsLastAnswer check.made (meaning script.session (calls_before (Some n) script.calls)))
-                  (λ asked. IsSomeAnd (question_of n asked) (λ (x : Question). check.made ≡ asked_in script.session (state_before (Some n) script) x)))
+              subst (λ (o : Option (List ℕ)). MatchOption o (IsLastAnswer check.made (meaning script.accounts (calls_before (Some n) script.calls)))
+                  (λ asked. IsSomeAnd (question_of n asked) (λ (x : Question). check.made ≡ asked_in script.accounts (state_before (Some n) script) x)))
                   (sym w.1)
-                  (subst (λ (o : Option Question). IsSomeAnd o (λ (x : Question). check.made ≡ asked_in script.session (state_before (Some n) script) x))
-                  (sym w.2) (ap (λ (cs : List CallLine). asked_in script.session (flat cs) q) (sym at))),
+                  (subst (λ (o : Option Question). IsSomeAnd o (λ (x : Question). check.made ≡ asked_in script.accounts (state_before (Some n) script) x))
+                  (sym w.2) (ap (λ (cs : List CallLine). asked_in script.accounts (flat cs) q) (sym at))),
             ),
             later done last calls (before_next n done before) (was ∙ same_Some is_open opened opens) has,
           )
@@ -199,20 +199,20 @@ module _ (script : Reading) where
           → script.calls ≡ done ++ c ∷ calls_in rest → AreOfLines n (line ∷ lines) done last (Makes c said ∷ rest)
       called_there c said last is opens calls =
           let w = call_wanted n line (asked_of line) (expectation_of line) (call_in n (item_of line)) c said is in
-          let made = made_of script.session (flat done) c said in
-          let on : flat (done ++ c ∷ []) ≡ flat_after script.session (flat done) c.process c.call =
-          states_go_on script.session (boot script.session) done (c ∷ []) in
+          let made = made_of script.accounts (flat done) c said in
+          let on : flat (done ++ c ∷ []) ≡ flat_after script.accounts (flat done) c.process c.call =
+          states_go_on script.accounts (boot script.accounts) done (c ∷ []) in
           let lt : c.line < n + 1 = omega (arith, line_of_step n line c said is) in
-          let answered : IsLastAnswer made (meaning script.session (done ++ c ∷ [])) = record {
-            before = meaning script.session done;
-            last = record { call = c; reply = reply_to script.session (flat done) c.process c.call };
-            parts = replies_go_on script.session (boot script.session) done (c ∷ []);
+          let answered : IsLastAnswer made (meaning script.accounts (done ++ c ∷ [])) = record {
+            before = meaning script.accounts done;
+            last = record { call = c; reply = reply_to script.accounts (flat done) c.process c.call };
+            parts = replies_go_on script.accounts (boot script.accounts) done (c ∷ []);
             is_answer = (refl, refl);
           } in
           subst (λ (ls : List NumberedLine). AllZip IsCheckOf ls
-          (checks_from script.session (flat_after script.session (flat done) c.process c.call) (Some made) rest))
+          (checks_from script.accounts (flat_after script.accounts (flat done) c.process c.call) (Some made) rest))
           (sym (passed_over n line lines (λ i. is_some (w.0 i) || is_some (w.1 i))))
-          (subst (λ (f : Flat). AllZip IsCheckOf (wanting_from (n + 1) lines) (checks_from script.session f (Some made) rest)) on
+          (subst (λ (f : Flat). AllZip IsCheckOf (wanting_from (n + 1) lines) (checks_from script.accounts f (Some made) rest)) on
           (later (done ++ c ∷ []) (Some made) (calls ∙ sym (append_assoc done (c ∷ []) (calls_in rest)))
           (before_more (n + 1) done c (before_next n done before) lt) (same_Some true opened opens) answered))
 
@@ -222,7 +222,7 @@ module _ (script : Reading) where
           → AreOfLines n (line ∷ lines) done last (option_to_list step ++ rest)
       line_checked None last is opens calls was has =
           let w = none_wanted n line (asked_of line) (expectation_of line) (call_in n (item_of line)) is in
-          subst (λ (ls : List NumberedLine). AllZip IsCheckOf ls (checks_from script.session (flat done) last rest))
+          subst (λ (ls : List NumberedLine). AllZip IsCheckOf ls (checks_from script.accounts (flat done) last rest))
           (sym (passed_over n line lines (λ i. is_some (w.0 i) || is_some (w.1 i))))
           (later done last calls (before_next n done before) (was ∙ sym opens) has)
       line_checked (Some (Makes c said)) last is opens calls was has = called_there c said last is opens calls
@@ -250,11 +250,11 @@ module _ (script : Reading) where
 -- ---- whole texts
 
 -- so have those of a test
-test_checked : (text : List ℕ) (script : Reading) (test : Test) → script_of text ≡ Ok script → test_of text ≡ Ok test
+test_checked : (text : List ℕ) (script : ScriptModel) (test : Test) → script_of text ≡ Ok script → test_of text ≡ Ok test
     → AllZip (IsCheckOf script) (wanting_in text) (checks_of test)
 test_checked text script test is reads =
     let makes = tests_make_the_calls text script test is reads in
-    subst (λ (s : Session). AllZip (IsCheckOf script) (wanting_in text) (checks_from s (boot s) None test.steps)) (sym makes.0)
+    subst (λ (s : Accounts). AllZip (IsCheckOf script) (wanting_in text) (checks_from s (boot s) None test.steps)) (sym makes.0)
     (lines_checked script 1 false (lines_of text) test.steps [] None (read_as text test reads).are_steps (sym makes.1) tt refl tt)
 
 -- what holds of two lists, one by one, where more does
@@ -287,10 +287,10 @@ same_letters a b e =
 -- a question is met exactly where four lines more would be answered so
 pub questions_are_of_replies : QuestionsAreOfReplies
 questions_are_of_replies script n q =
-    let letters = rights_of script.session (state_before (Some n) script) q.path q.process in
+    let letters = rights_of script.accounts (state_before (Some n) script) q.path q.process in
     let decides = bytes_eq-Decides (rights_text letters) (rights_text q.wanted) in
     record {
       letters = letters;
-      answered = rights_answered script.session (calls_before (Some n) script.calls) q.process q.path;
+      answered = rights_answered script.accounts (calls_before (Some n) script.calls) q.process q.path;
       met = (λ e. sym (same_letters letters q.wanted (decides.0 e)), λ e. decides.1 (ap rights_text (sym e)));
     }

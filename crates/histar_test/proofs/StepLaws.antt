@@ -10,7 +10,7 @@ use Rattle.histar_flat.specs.declared.calls.CallLine.{CallLine}
 use Rattle.histar_flat.specs.declared.calls.UnixCall.{UnixCall}
 use Rattle.histar_flat.specs.FlatCalls.{flat_after}
 use Rattle.histar_flat.specs.FlatState.{Flat}
-use Rattle.histar_flat.specs.Sessions.{Session}
+use Rattle.histar_flat.specs.Accounts.{Accounts}
 use Rattle.histar_flat.specs.Words.{ProcName}
 use Rattle.histar_flat.specs.Meaning.{boot}
 use Rattle.histar_script.specs.declared.fault.Fault.{Fault}
@@ -20,7 +20,7 @@ use Rattle.histar_script.specs.declared.items.Item.TheVariants as items
 use Rattle.histar_script.specs.Lines.{is_plain, is_too_long, lines_of}
 use Rattle.histar_script.specs.Reading.{is_empty, item_of, reading, script_of, takes_call, takes_group, takes_user}
 use Rattle.histar_script.specs.Reading.{with_item, with_line, with_lines, words_item}
-use Rattle.histar_script.specs.Script.{Reading, nothing_read}
+use Rattle.histar_script.specs.Script.{ScriptModel, nothing_read}
 use Rattle.histar_test.specs.declared.checks.Made.{Made}
 use Rattle.histar_test.specs.declared.questions.Question.{Question}
 use Rattle.histar_test.specs.declared.steps.Step.{Step}
@@ -127,20 +127,20 @@ counted_on : (step : Step) (rest : List Step) → expectation_count (step ∷ re
 counted_on step rest = sum_by-append _ (step ∷ []) rest
 
 -- steps in their order have a check for each expectation
-pub steps_counted : (session : Session) (f : Flat) (last : Option Made) (steps : List Step) → is_in_order (is_some last) steps ≡ true
-    → length (checks_from session f last steps) ≡ expectation_count steps
-steps_counted session f last [] ordered = refl
-steps_counted session f last (Makes c said ∷ steps) ordered =
-    let on = steps_counted session (flat_after session f c.process c.call) (Some (made_of session f c said)) steps ordered in
+pub steps_counted : (accounts : Accounts) (f : Flat) (last : Option Made) (steps : List Step) → is_in_order (is_some last) steps ≡ true
+    → length (checks_from accounts f last steps) ≡ expectation_count steps
+steps_counted accounts f last [] ordered = refl
+steps_counted accounts f last (Makes c said ∷ steps) ordered =
+    let on = steps_counted accounts (flat_after accounts f c.process c.call) (Some (made_of accounts f c said)) steps ordered in
     let one : expectation_count (Makes c said ∷ steps) ≡ expectation_count steps = counted_on (Makes c said) steps ∙ omega arith in
     on ∙ sym one
-steps_counted session f None (Expects text ∷ steps) ordered = absurd cc
-steps_counted session f (Some made) (Expects text ∷ steps) ordered =
-    let on = steps_counted session f None steps ordered in
+steps_counted accounts f None (Expects text ∷ steps) ordered = absurd cc
+steps_counted accounts f (Some made) (Expects text ∷ steps) ordered =
+    let on = steps_counted accounts f None steps ordered in
     let one : expectation_count (Expects text ∷ steps) ≡ 1 + expectation_count steps = counted_on (Expects text) steps ∙ omega arith in
     omega (arith, on, one)
-steps_counted session f last (Asks q ∷ steps) ordered =
-    let on = steps_counted session f last steps ordered in
+steps_counted accounts f last (Asks q ∷ steps) ordered =
+    let on = steps_counted accounts f last steps ordered in
     let one : expectation_count (Asks q ∷ steps) ≡ 1 + expectation_count steps = counted_on (Asks q) steps ∙ omega arith in
     omega (arith, on, one)
 
@@ -209,40 +209,40 @@ own_call n line None (Some text) c step none nothing e = absurd cc
 own_call n line None None c step none nothing e = let same : step ≡ Some (Makes c line) = cc in ap calls_by same
 
 -- what is read, if it may be
-abbrev read_if : Bool → Reading → Option Reading
+abbrev read_if : Bool → ScriptModel → Option ScriptModel
 read_if b t = if b then Some t else None
 
 -- it is that
-is_read : (b : Bool) (t u : Reading) → read_if b t ≡ Some u → u ≡ t
+is_read : (b : Bool) (t u : ScriptModel) → read_if b t ≡ Some u → u ≡ t
 is_read true t u e = cc
 is_read false t u e = absurd cc
 
 -- a line that makes no call leaves the calls as they were
-same_left : (s t : Reading) (calls : List CallLine) → t.calls ≡ s.calls → calls ≡ [] → t.calls ≡ s.calls ++ calls
+same_left : (s t : ScriptModel) (calls : List CallLine) → t.calls ≡ s.calls → calls ≡ [] → t.calls ≡ s.calls ++ calls
 same_left s t calls same none = same ∙ sym (append-nil s.calls) ∙ ap (λ (cs : List CallLine). s.calls ++ cs) (sym none)
 
 -- the calls after a line that says an item
-calls_at_item : (s t : Reading) (n : ℕ) (line : List ℕ) (item : Item) (step : Option Step) → item_of line ≡ Some item → with_item s n item ≡ Some t
+calls_at_item : (s t : ScriptModel) (n : ℕ) (line : List ℕ) (item : Item) (step : Option Step) → item_of line ≡ Some item → with_item s n item ≡ Some t
     → step_by n line (asked_of line) (expectation_of line) (call_in n (Some item)) ≡ Ok step → t.calls ≡ s.calls ++ calls_by step
 unfolding with_item
 calls_at_item s t n line items.Comment step says reads is =
     let same : t ≡ s = cc in
-    same_left s t (calls_by step) (ap (λ (r : Reading). r.calls) same) (no_call n line (asked_of line) (expectation_of line) step is)
+    same_left s t (calls_by step) (ap (λ (r : ScriptModel). r.calls) same) (no_call n line (asked_of line) (expectation_of line) step is)
 calls_at_item s t n line (items.User u) step says reads is =
-    same_left s t (calls_by step) (ap (λ (r : Reading). r.calls) (is_read (takes_user s u) _ t reads))
+    same_left s t (calls_by step) (ap (λ (r : ScriptModel). r.calls) (is_read (takes_user s u) _ t reads))
     (no_call n line (asked_of line) (expectation_of line) step is)
 calls_at_item s t n line (items.Group g) step says reads is =
-    same_left s t (calls_by step) (ap (λ (r : Reading). r.calls) (is_read (takes_group s g) _ t reads))
+    same_left s t (calls_by step) (ap (λ (r : ScriptModel). r.calls) (is_read (takes_group s g) _ t reads))
     (no_call n line (asked_of line) (expectation_of line) step is)
 calls_at_item s t n line (items.Call p c) step says reads is =
     let same = is_read (takes_call s c) _ t reads in
     let plain = no_comment line (call_says line p c says) in
     let call : CallLine = record { line = n; process = p; call = c } in
-    ap (λ (r : Reading). r.calls) same
+    ap (λ (r : ScriptModel). r.calls) same
     ∙ ap (λ (cs : List CallLine). s.calls ++ cs) (sym (own_call n line (asked_of line) (expectation_of line) call step plain.0 plain.1 is))
 
 -- the calls after a line
-calls_at : (s t : Reading) (n : ℕ) (line : List ℕ) (item : Option Item) (step : Option Step) → item_of line ≡ item
+calls_at : (s t : ScriptModel) (n : ℕ) (line : List ℕ) (item : Option Item) (step : Option Step) → item_of line ≡ item
     → option_and_then (λ i. with_item s n i) item ≡ Some t → step_of n line ≡ Ok step → t.calls ≡ s.calls ++ calls_by step
 calls_at s t n line None step says reads is = absurd cc
 calls_at s t n line (Some item) step says reads is =
@@ -250,19 +250,19 @@ calls_at s t n line (Some item) step says reads is =
     (sym (ap (λ (i : Option Item). step_by n line (asked_of line) (expectation_of line) (call_in n i)) says) ∙ is)
 
 -- what a script has read, if it has
-read_lines : (s : Reading) (n : ℕ) (lines : List (List ℕ)) (line : Option Reading) (script : Reading)
-    → ◌≡◌ {A = Result Reading Fault} (elim line [ None ↦ Err (BadScript (n + 1)) | Some t ↦ with_lines t (n + 1) lines ]) (Ok script)
-    → (t : Reading) × (line ≡ Some t) × (with_lines t (n + 1) lines ≡ Ok script)
+read_lines : (s : ScriptModel) (n : ℕ) (lines : List (List ℕ)) (line : Option ScriptModel) (script : ScriptModel)
+    → ◌≡◌ {A = Result ScriptModel Fault} (elim line [ None ↦ Err (BadScript (n + 1)) | Some t ↦ with_lines t (n + 1) lines ]) (Ok script)
+    → (t : ScriptModel) × (line ≡ Some t) × (with_lines t (n + 1) lines ≡ Ok script)
 read_lines s n lines None script e = absurd cc
 read_lines s n lines (Some t) script e = (t, refl, e)
 
 -- the calls of lines are those of their steps
-pub same_calls : (s script : Reading) (n : ℕ) (is_open : Bool) (lines : List (List ℕ)) (steps : List Step) → with_lines s n lines ≡ Ok script
+pub same_calls : (s script : ScriptModel) (n : ℕ) (is_open : Bool) (lines : List (List ℕ)) (steps : List Step) → with_lines s n lines ≡ Ok script
     → steps_from (n + 1) is_open lines ≡ Ok steps → script.calls ≡ s.calls ++ calls_in steps
 unfolding with_lines steps_from with_line
 same_calls s script n is_open [] steps reads read =
     let none : steps ≡ [] = cc in
-    ap (λ (r : Reading). r.calls) (by (is_empty s.session.users) reads) ∙ sym (append-nil s.calls)
+    ap (λ (r : ScriptModel). r.calls) (by (is_empty s.accounts.users) reads) ∙ sym (append-nil s.calls)
     ∙ ap (λ (all : List Step). s.calls ++ calls_in all) (sym none)
   where
     by : (b : Bool) → (if b then Err (BadScript (n + 1)) else Ok s) ≡ Ok script → script ≡ s
@@ -280,24 +280,24 @@ same_calls s script n is_open (line ∷ lines) steps reads read =
 
 -- The text is a script with these steps, and the test has them and the session.
 pub record IsReadAs (text : List ℕ) (test : Test) : Type 0 where
-  pub script : Reading
+  pub script : ScriptModel
   pub is_script : script_of text ≡ Ok script
   pub are_steps : steps_from 1 false (lines_of text) ≡ Ok test.steps
-  pub session : test.session ≡ script.session
+  pub accounts : test.accounts ≡ script.accounts
 
 -- a test is read from both
-read_by : (text : List ℕ) (test : Test) (script : Result Reading Fault) (steps : Read) → script_of text ≡ script
+read_by : (text : List ℕ) (test : Test) (script : Result ScriptModel Fault) (steps : Read) → script_of text ≡ script
     → steps_from 1 false (lines_of text) ≡ steps
     → test_by script steps ≡ Ok test → IsReadAs text test
 read_by text test (Err fault) steps is are e = absurd cc
 read_by text test (Ok script) (Err line) is are e = absurd cc
 read_by text test (Ok script) (Ok steps) is are e =
-    let same : record { session = script.session; steps = steps } ≡ test = cc in
+    let same : record { accounts = script.accounts; steps = steps } ≡ test = cc in
     record {
       script = script;
       is_script = is;
       are_steps = are ∙ ap (λ (t : Test). let read : Read = Ok t.steps in read) same;
-      session = ap (λ (t : Test). t.session) (sym same);
+      accounts = ap (λ (t : Test). t.accounts) (sym same);
     }
 
 -- so is the test that a text is
@@ -305,7 +305,7 @@ pub read_as : (text : List ℕ) (test : Test) → test_of text ≡ Ok test → I
 read_as text test is = read_by text test (script_of text) (steps_from 1 false (lines_of text)) refl refl is
 
 -- a script that is no longer than that is read by its lines
-by_lines : (text : List ℕ) (script : Reading) → script_of text ≡ Ok script → with_lines nothing_read 0 (lines_of text) ≡ Ok script
+by_lines : (text : List ℕ) (script : ScriptModel) → script_of text ≡ Ok script → with_lines nothing_read 0 (lines_of text) ≡ Ok script
 unfolding reading
 by_lines text script is = by (is_too_long text) is
   where
@@ -315,7 +315,7 @@ by_lines text script is = by (is_too_long text) is
     by false e = e
 
 -- one answer has one script
-same_script : (a b : Reading) → (let read : Result Reading Fault = Ok a in read) ≡ Ok b → a ≡ b
+same_script : (a b : ScriptModel) → (let read : Result ScriptModel Fault = Ok a in read) ≡ Ok b → a ≡ b
 same_script a b e = cc
 
 -- the calls of a test are those of its script
@@ -323,7 +323,7 @@ pub tests_make_the_calls : TestsMakeTheCalls
 tests_make_the_calls text script test is reads =
     let as_read = read_as text test reads in
     let same = same_script as_read.script script (sym as_read.is_script ∙ is) in (
-      as_read.session ∙ ap (λ (r : Reading). r.session) same,
+      as_read.accounts ∙ ap (λ (r : ScriptModel). r.accounts) same,
       sym (same_calls nothing_read script 0 false (lines_of text) test.steps (by_lines text script is) as_read.are_steps),
     )
 
@@ -331,4 +331,4 @@ tests_make_the_calls text script test is reads =
 pub test_counted : (text : List ℕ) (test : Test) → test_of text ≡ Ok test → length (checks_of test) ≡ expectation_count test.steps
 test_counted text test reads =
     let is = read_as text test reads in
-    steps_counted test.session (boot test.session) None test.steps (in_order 1 false (lines_of text) test.steps is.are_steps)
+    steps_counted test.accounts (boot test.accounts) None test.steps (in_order 1 false (lines_of text) test.steps is.are_steps)

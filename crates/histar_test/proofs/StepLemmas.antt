@@ -7,7 +7,7 @@ use Rattle.histar_script.specs.declared.fault.Fault.TheVariants.{BadScript, TooL
 use Rattle.histar_script.specs.Lines.{is_too_long, lines_of, most_script_bytes}
 use Rattle.histar_script.specs.Outcome.{Gives}
 use Rattle.histar_script.specs.Reading.{script_of}
-use Rattle.histar_script.specs.Script.{Reading}
+use Rattle.histar_script.specs.Script.{ScriptModel}
 use Rattle.histar_script.proofs.LineLemmas.{no_lines}
 use Rattle.histar_test.specs.declared.steps.Step.{Step}
 use Rattle.histar_test.specs.Steps.{AddsLine, GivesStep, GivesSteps, TakesLine, Test, open_after, step_of, step_then, steps_before, steps_by}
@@ -123,7 +123,7 @@ too_long : (text : List ℕ) → most_script_bytes < length text → is_too_long
 too_long text lt = let e : ltb most_script_bytes (length text) ≡ true = search (rules, tests) in rw e refl
 
 -- a script has no more bytes than a script may have
-pub is_short : (text : List ℕ) (script : Reading) → script_of text ≡ Ok script → length text ≤ most_script_bytes
+pub is_short : (text : List ℕ) (script : ScriptModel) → script_of text ≡ Ok script → length text ≤ most_script_bytes
 is_short text script is =
     elim (cases_lt most_script_bytes (length text)) [
       | inl lt ↦
@@ -134,16 +134,16 @@ is_short text script is =
     ]
 
 -- the fault of a script
-pub script_fault : (f : Fault) (script : Result Reading Fault) (steps : Read) → Gives {A = Reading} (Err f) script
+pub script_fault : (f : Fault) (script : Result ScriptModel Fault) (steps : Read) → Gives {A = ScriptModel} (Err f) script
     → Gives {A = Test} (Err f) (test_by script steps)
-script_fault (BadScript n) script steps given = ap (λ (s : Result Reading Fault). test_by s steps) given
-script_fault TooLong script steps given = ap (λ (s : Result Reading Fault). test_by s steps) given
+script_fault (BadScript n) script steps given = ap (λ (s : Result ScriptModel Fault). test_by s steps) given
+script_fault TooLong script steps given = ap (λ (s : Result ScriptModel Fault). test_by s steps) given
 script_fault OutOfMemory script steps given = tt
 script_fault ReadFailed script steps given = absurd given
 script_fault WriteFailed script steps given = absurd given
 
 -- a line that is no step
-pub steps_fault : (f : Fault) (script : Reading) (read : Result Reading Fault) (steps : Read) → read ≡ Ok script → GivesSteps (Err f) steps
+pub steps_fault : (f : Fault) (script : ScriptModel) (read : Result ScriptModel Fault) (steps : Read) → read ≡ Ok script → GivesSteps (Err f) steps
     → Gives {A = Test} (Err f) (test_by read steps)
 steps_fault (BadScript n) script read steps is bad = λ i. test_by (is i) (bad i)
 steps_fault TooLong script read steps is bad = absurd bad

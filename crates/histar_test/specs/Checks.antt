@@ -4,7 +4,7 @@ use Rattle.std.specs.Prelude.{ℕ, ◌+◌, Bool, List, [], ◌∷◌, ◌++◌,
 use Rattle.std.specs.List.{flat_map}
 use Rattle.std.specs.Str.{bytes_eq}
 use Rattle.histar_flat.specs.declared.calls.CallLine.{CallLine}
-use Rattle.histar_flat.specs.Sessions.{Session}
+use Rattle.histar_flat.specs.Accounts.{Accounts}
 use Rattle.histar_flat.specs.FlatState.{Flat}
 use Rattle.histar_flat.specs.FlatCalls.{reply_to, flat_after}
 use Rattle.histar_flat.specs.Meaning.{boot}
@@ -23,29 +23,29 @@ abbrev pub is_met : Check → Bool
 is_met c = bytes_eq c.made.reply c.wanted
 
 -- a call that is made in a flat state, on a line with this text
-abbrev pub made_of : Session → Flat → CallLine → List ℕ → Made
-made_of session f c said = record { line = c.line; said = said; reply = reply_text (reply_to session f c.process c.call) }
+abbrev pub made_of : Accounts → Flat → CallLine → List ℕ → Made
+made_of accounts f c said = record { line = c.line; said = said; reply = reply_text (reply_to accounts f c.process c.call) }
 
 -- a question in a flat state, beside the letters of the rights that it asks for
-abbrev pub asked_in : Session → Flat → Question → Made
-asked_in session f q = record { line = q.line; said = q.said; reply = rights_text (rights_of session f q.path q.process) }
+abbrev pub asked_in : Accounts → Flat → Question → Made
+asked_in accounts f q = record { line = q.line; said = q.said; reply = rights_text (rights_of accounts f q.path q.process) }
 
 -- the check of a question in a flat state
-abbrev pub question_check : Session → Flat → Question → Check
-question_check session f q = record { made = asked_in session f q; wanted = rights_text q.wanted }
+abbrev pub question_check : Accounts → Flat → Question → Check
+question_check accounts f q = record { made = asked_in accounts f q; wanted = rights_text q.wanted }
 
 -- the checks of steps from a flat state on, where this is the call that is open before them, if one is
-abbrev pub checks_from : Session → Flat → Option Made → List Step → List Check
-checks_from session f last [] = []
-checks_from session f last (Makes c said ∷ steps) =
-    checks_from session (flat_after session f c.process c.call) (Some (made_of session f c said)) steps
-checks_from session f None (Expects text ∷ steps) = checks_from session f None steps
-checks_from session f (Some made) (Expects text ∷ steps) = record { made = made; wanted = text } ∷ checks_from session f None steps
-checks_from session f last (Asks q ∷ steps) = question_check session f q ∷ checks_from session f last steps
+abbrev pub checks_from : Accounts → Flat → Option Made → List Step → List Check
+checks_from accounts f last [] = []
+checks_from accounts f last (Makes c said ∷ steps) =
+    checks_from accounts (flat_after accounts f c.process c.call) (Some (made_of accounts f c said)) steps
+checks_from accounts f None (Expects text ∷ steps) = checks_from accounts f None steps
+checks_from accounts f (Some made) (Expects text ∷ steps) = record { made = made; wanted = text } ∷ checks_from accounts f None steps
+checks_from accounts f last (Asks q ∷ steps) = question_check accounts f q ∷ checks_from accounts f last steps
 
 -- the checks of a test: replies and rights are those of the meaning of its calls
 abbrev pub checks_of : Test → List Check
-checks_of test = checks_from test.session (boot test.session) None test.steps
+checks_of test = checks_from test.accounts (boot test.accounts) None test.steps
 
 -- a byte of a description: a backslash stands before `#`, which would begin a directive, and before a backslash
 abbrev pub escaped_byte : ℕ → List ℕ

@@ -2,10 +2,10 @@
 use Rattle.std.specs.Prelude.{◌≡◌, ◌↔◌, ℕ, ◌+◌, ◌||◌, true, Bool, List, [], ◌∷◌, ◌++◌, Option, Some, Ok, MatchOption, is_some, if◌then◌else◌}
 use Rattle.std.specs.List.{AllZip}
 use Rattle.std.specs.Option.{IsSomeAnd}
-use Rattle.histar_flat.specs.Meaning.{Answered, meaning}
+use Rattle.histar_flat.specs.Meaning.{RepliedCall, meaning}
 use Rattle.histar_flat.specs.Texts.{reply_text}
 use Rattle.histar_script.specs.Lines.{lines_of}
-use Rattle.histar_script.specs.Script.{Reading}
+use Rattle.histar_script.specs.Script.{ScriptModel}
 use Rattle.histar_script.specs.Reading.{script_of}
 use Rattle.histar_rights.specs.declared.rights.Rights.{Rights}
 use Rattle.histar_rights.specs.Rights.{rights_text}
@@ -19,8 +19,8 @@ use Rattle.histar_test.specs.Checks.{asked_in, checks_of, is_met, question_check
 
 -- the calls of a test are those of its script, in their order
 abbrev pub TestsMakeTheCalls : Type 0
-TestsMakeTheCalls = (text : List ℕ) (script : Reading) (test : Test) → script_of text ≡ Ok script → test_of text ≡ Ok test
-    → (test.session ≡ script.session) × (calls_in test.steps ≡ script.calls)
+TestsMakeTheCalls = (text : List ℕ) (script : ScriptModel) (test : Test) → script_of text ≡ Ok script → test_of text ≡ Ok test
+    → (test.accounts ≡ script.accounts) × (calls_in test.steps ≡ script.calls)
 
 -- a line of a text, with its number
 pub record NumberedLine : Type 0 where
@@ -51,36 +51,36 @@ abbrev pub ExpectationsAreChecked : Type 0
 ExpectationsAreChecked = (text : List ℕ) (test : Test) → test_of text ≡ Ok test → AllZip IsExpectedOn (wanting_in text) (checks_of test)
 
 -- the call is on this line, and the reply has this text
-abbrev pub IsAnswer : Made → Answered → Type 0
+abbrev pub IsAnswer : Made → RepliedCall → Type 0
 IsAnswer made a = (a.call.line ≡ made.line) × (reply_text a.reply ≡ made.reply)
 
 -- the last of some calls with their replies has this line and this reply
-pub record IsLastAnswer (made : Made) (answers : List Answered) : Type 0 where
-  pub before : List Answered
-  pub last : Answered
+pub record IsLastAnswer (made : Made) (answers : List RepliedCall) : Type 0 where
+  pub before : List RepliedCall
+  pub last : RepliedCall
   pub parts : answers ≡ before ++ last ∷ []
   pub is_answer : IsAnswer made last
 
 -- A check is of what the script means: on a line that expects, of the reply to the last call on the lines before it; and on a line that asks,
 -- of the rights in the flat state after the calls on the lines before it.
-abbrev pub IsOfTheMeaning : Reading → NumberedLine → Check → Type 0
+abbrev pub IsOfTheMeaning : ScriptModel → NumberedLine → Check → Type 0
 IsOfTheMeaning script line check = MatchOption (asked_of line.text)
-    (IsLastAnswer check.made (meaning script.session (calls_before (Some line.number) script.calls)))
+    (IsLastAnswer check.made (meaning script.accounts (calls_before (Some line.number) script.calls)))
     (λ asked. IsSomeAnd (question_of line.number asked)
-    (λ q. check.made ≡ asked_in script.session (state_before (Some line.number) script) q))
+    (λ q. check.made ≡ asked_in script.accounts (state_before (Some line.number) script) q))
 
 -- each check is, of its line
 abbrev pub ChecksAreOfTheMeaning : Type 0
-ChecksAreOfTheMeaning = (text : List ℕ) (script : Reading) (test : Test) → script_of text ≡ Ok script → test_of text ≡ Ok test
+ChecksAreOfTheMeaning = (text : List ℕ) (script : ScriptModel) (test : Test) → script_of text ≡ Ok script → test_of text ≡ Ok test
     → AllZip (IsOfTheMeaning script) (wanting_in text) (checks_of test)
 
 -- These letters say what the process of a question is answered to the four questions at its path, after the calls on the lines before line n;
 -- and the question is met exactly where it wants them.
-pub record IsMetByReplies (script : Reading) (n : ℕ) (q : Question) : Type 0 where
+pub record IsMetByReplies (script : ScriptModel) (n : ℕ) (q : Question) : Type 0 where
   pub letters : Rights
-  pub answered : IsAnsweredBy script.session (calls_before (Some n) script.calls) q.process q.path letters
-  pub met : (is_met (question_check script.session (state_before (Some n) script) q) ≡ true) ↔ (q.wanted ≡ letters)
+  pub answered : IsAnsweredBy script.accounts (calls_before (Some n) script.calls) q.process q.path letters
+  pub met : (is_met (question_check script.accounts (state_before (Some n) script) q) ≡ true) ↔ (q.wanted ≡ letters)
 
 -- a question is met exactly where four lines more would be answered so
 abbrev pub QuestionsAreOfReplies : Type 0
-QuestionsAreOfReplies = (script : Reading) (n : ℕ) (q : Question) → IsMetByReplies script n q
+QuestionsAreOfReplies = (script : ScriptModel) (n : ℕ) (q : Question) → IsMetByReplies script n q

@@ -2,9 +2,9 @@
 use Rattle.std.specs.Prelude.{◌≡◌, ℕ, ◌+◌, ◌&&◌, List, [], ◌∷◌, length, Option, None, Some}
 use Rattle.std.specs.List.{list_all}
 use Rattle.std.specs.Io.KnownBytes.{Appends}
-use Rattle.histar_devices.specs.Writing.{AppendsFront}
+use Rattle.histar_io.specs.Writing.{AppendsFront}
 use Rattle.histar_flat.specs.declared.calls.CallLine.{CallLine}
-use Rattle.histar_flat.specs.Sessions.{Session}
+use Rattle.histar_flat.specs.Accounts.{Accounts}
 use Rattle.histar_flat.specs.FlatState.{Flat}
 use Rattle.histar_flat.specs.FlatCalls.{flat_after}
 use Rattle.histar_script.specs.declared.fault.Fault.{Fault}
@@ -25,16 +25,16 @@ abbrev pub tally_with : Tally → List Check → Tally
 tally_with tally checks = record { count = tally.count + length checks; are_met = tally.are_met && list_all is_met checks }
 
 -- the flat state after a step
-abbrev pub flat_at : Session → Flat → Step → Flat
-flat_at session f (Makes c said) = flat_after session f c.process c.call
-flat_at session f (Expects text) = f
-flat_at session f (Asks q) = f
+abbrev pub flat_at : Accounts → Flat → Step → Flat
+flat_at accounts f (Makes c said) = flat_after accounts f c.process c.call
+flat_at accounts f (Expects text) = f
+flat_at accounts f (Asks q) = f
 
 -- the call that is open after a step, if one is, where this one is before it
-abbrev pub last_at : Session → Flat → Option Made → Step → Option Made
-last_at session f last (Makes c said) = Some (made_of session f c said)
-last_at session f last (Expects text) = None
-last_at session f last (Asks q) = last
+abbrev pub last_at : Accounts → Flat → Option Made → Step → Option Made
+last_at accounts f last (Makes c said) = Some (made_of accounts f c said)
+last_at accounts f last (Expects text) = None
+last_at accounts f last (Asks q) = last
 
 -- the check of an expectation, where this is the open call before it, if one is
 abbrev pub reply_check : Option Made → List ℕ → List Check
@@ -42,37 +42,37 @@ reply_check None wanted = []
 reply_check (Some made) wanted = record { made = made; wanted = wanted } ∷ []
 
 -- the check of a step, if it is one, in a flat state, where this is the open call before it
-abbrev pub check_at : Session → Flat → Option Made → Step → List Check
-check_at session f last (Makes c said) = []
-check_at session f last (Expects text) = reply_check last text
-check_at session f last (Asks q) = question_check session f q ∷ []
+abbrev pub check_at : Accounts → Flat → Option Made → Step → List Check
+check_at accounts f last (Makes c said) = []
+check_at accounts f last (Expects text) = reply_check last text
+check_at accounts f last (Asks q) = question_check accounts f q ∷ []
 
 -- the lines of the check of a step, if it is one
-abbrev pub step_text : List ℕ → Session → Flat → Run → Step → List ℕ
-step_text file session f run step = checks_text file (run.tally.count + 1) (check_at session f run.last step)
+abbrev pub step_text : List ℕ → Accounts → Flat → Run → Step → List ℕ
+step_text file accounts f run step = checks_text file (run.tally.count + 1) (check_at accounts f run.last step)
 
 -- memory ran out
 abbrev pub IsMemory : Fault → Type 0
 IsMemory fault = fault ≡ OutOfMemory
 
 -- a run begins: the machine represents the flat start of this session, no call is open, and the checks of earlier files are counted
-pub record Starts (session : Session) (before : Tally) (run : Run) : Type 0 where
-  pub shows : ShowsStart session run.machine
+pub record Starts (accounts : Accounts) (before : Tally) (run : Run) : Type 0 where
+  pub shows : ShowsStart accounts run.machine
   pub last : run.last ≡ None
   pub tally : run.tally ≡ before
 
 -- a call was made: the machine represents the flat state after it, and the reply is the one that the flat state says
-pub record IsMade (session : Session) (f : Flat) (new : MachineModel) (call : CallLine) (said : List ℕ) (made : Made) : Type 0 where
-  pub shows : Shows session new (flat_after session f call.process call.call)
-  pub is : made ≡ made_of session f call said
+pub record IsMade (accounts : Accounts) (f : Flat) (new : MachineModel) (call : CallLine) (said : List ℕ) (made : Made) : Type 0 where
+  pub shows : Shows accounts new (flat_after accounts f call.process call.call)
+  pub is : made ≡ made_of accounts f call said
 
 -- whatever flat state the machine represented, the call was made in it
 abbrev pub MakesCall : MachineModel → MachineModel → CallLine → List ℕ → Made → Type 0
-MakesCall old new call said made = (session : Session) (f : Flat) → Shows session old f → IsMade session f new call said made
+MakesCall old new call said made = (accounts : Accounts) (f : Flat) → Shows accounts old f → IsMade accounts f new call said made
 
 -- whatever flat state the machine represents, this is the check of the question in it
 abbrev pub AsksMachine : MachineModel → Question → Check → Type 0
-AsksMachine machine question check = (session : Session) (f : Flat) → Shows session machine f → check ≡ question_check session f question
+AsksMachine machine question check = (accounts : Accounts) (f : Flat) → Shows accounts machine f → check ≡ question_check accounts f question
 
 -- a check was counted, and nothing else was done
 pub record CountsCheck (old new : Run) (check : Check) : Type 0 where
@@ -81,37 +81,37 @@ pub record CountsCheck (old new : Run) (check : Check) : Type 0 where
   pub tally : new.tally ≡ tally_with old.tally (check ∷ [])
 
 -- a step was taken from a flat state, and its check was counted
-pub record IsTaken (session : Session) (f : Flat) (old new : Run) (step : Step) : Type 0 where
-  pub shows : Shows session new.machine (flat_at session f step)
-  pub last : new.last ≡ last_at session f old.last step
-  pub tally : new.tally ≡ tally_with old.tally (check_at session f old.last step)
+pub record IsTaken (accounts : Accounts) (f : Flat) (old new : Run) (step : Step) : Type 0 where
+  pub shows : Shows accounts new.machine (flat_at accounts f step)
+  pub last : new.last ≡ last_at accounts f old.last step
+  pub tally : new.tally ≡ tally_with old.tally (check_at accounts f old.last step)
 
 -- whatever flat state the machine represented, the step was taken from it
 abbrev pub TakesStep : Run → Run → Step → Type 0
-TakesStep old new step = (session : Session) (f : Flat) → Shows session old.machine f → IsTaken session f old new step
+TakesStep old new step = (accounts : Accounts) (f : Flat) → Shows accounts old.machine f → IsTaken accounts f old new step
 
 -- and its check was written
 abbrev pub WritesStep : List ℕ → Run → Step → Option (List ℕ) → Option (List ℕ) → Type 0
 WritesStep file old step before after =
-    (session : Session) (f : Flat) → Shows session old.machine f → Appends before after (step_text file session f old step)
+    (accounts : Accounts) (f : Flat) → Shows accounts old.machine f → Appends before after (step_text file accounts f old step)
 
 -- or a beginning of it was
 abbrev pub BeginsStep : List ℕ → Run → Step → Option (List ℕ) → Option (List ℕ) → Type 0
 BeginsStep file old step before after =
-    (session : Session) (f : Flat) → Shows session old.machine f → AppendsFront before after (step_text file session f old step)
+    (accounts : Accounts) (f : Flat) → Shows accounts old.machine f → AppendsFront before after (step_text file accounts f old step)
 
 -- steps were taken from a flat state: their checks were written, and counted
-pub record AreTaken (session : Session) (f : Flat) (file : List ℕ) (old new : Run) (steps : List Step) (before after : Option (List ℕ)) : Type 0 where
-  pub written : Appends before after (checks_text file (old.tally.count + 1) (checks_from session f old.last steps))
-  pub tally : new.tally ≡ tally_with old.tally (checks_from session f old.last steps)
+pub record AreTaken (accounts : Accounts) (f : Flat) (file : List ℕ) (old new : Run) (steps : List Step) (before after : Option (List ℕ)) : Type 0 where
+  pub written : Appends before after (checks_text file (old.tally.count + 1) (checks_from accounts f old.last steps))
+  pub tally : new.tally ≡ tally_with old.tally (checks_from accounts f old.last steps)
 
 -- whatever flat state the machine represented, the steps were taken from it
 abbrev pub TakesSteps : List ℕ → Run → Run → List Step → Option (List ℕ) → Option (List ℕ) → Type 0
 TakesSteps file old new steps before after =
-    (session : Session) (f : Flat) → Shows session old.machine f → AreTaken session f file old new steps before after
+    (accounts : Accounts) (f : Flat) → Shows accounts old.machine f → AreTaken accounts f file old new steps before after
 
 -- or a beginning of their checks was written
 abbrev pub BeginsSteps : List ℕ → Run → List Step → Option (List ℕ) → Option (List ℕ) → Type 0
 BeginsSteps file old steps before after =
-    (session : Session) (f : Flat) → Shows session old.machine f
-    → AppendsFront before after (checks_text file (old.tally.count + 1) (checks_from session f old.last steps))
+    (accounts : Accounts) (f : Flat) → Shows accounts old.machine f
+    → AppendsFront before after (checks_text file (old.tally.count + 1) (checks_from accounts f old.last steps))

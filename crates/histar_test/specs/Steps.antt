@@ -5,14 +5,14 @@ use Rattle.std.specs.List.{filter_map}
 use Rattle.std.specs.Str.{bytes_eq}
 use Rattle.std.specs.Global.{Vec}
 use Rattle.histar_flat.specs.declared.calls.CallLine.{CallLine}
-use Rattle.histar_flat.specs.Sessions.{Session}
+use Rattle.histar_flat.specs.Accounts.{Accounts}
 use Rattle.histar_script.specs.declared.fault.Fault.{Fault}
 use Rattle.histar_script.specs.declared.fault.Fault.TheVariants.{BadScript, TooLong, OutOfMemory, ReadFailed, WriteFailed}
 use Rattle.histar_script.specs.declared.items.Item.{Item}
 use Rattle.histar_script.specs.declared.items.Item.TheVariants as items
 use Rattle.histar_flat.specs.Words.{ProcName, path_of, process_of}
 use Rattle.histar_script.specs.Lines.{lines_of, split_word}
-use Rattle.histar_script.specs.Script.{Reading}
+use Rattle.histar_script.specs.Script.{ScriptModel}
 use Rattle.histar_script.specs.Reading.{◌>>=◌, item_of, script_of}
 use Rattle.histar_rights.specs.declared.rights.Rights.{Rights}
 use Rattle.histar_rights.specs.Rights.{rights_spelled}
@@ -110,13 +110,13 @@ steps_from n is_open (line ∷ lines) = steps_by n is_open (step_of n line) (λ 
 
 -- a session, and the steps of its script
 pub record Test : Type 0 where
-  pub session : Session
+  pub accounts : Accounts
   pub steps : List Step
 
 -- a script with its steps, where neither has a fault; that of the script comes first
-abbrev pub test_by : Result Reading Fault → Result (List Step) ℕ → Result Test Fault
+abbrev pub test_by : Result ScriptModel Fault → Result (List Step) ℕ → Result Test Fault
 test_by (Err fault) read = Err fault
-test_by (Ok script) (Ok steps) = Ok (record { session = script.session; steps = steps })
+test_by (Ok script) (Ok steps) = Ok (record { accounts = script.accounts; steps = steps })
 test_by (Ok script) (Err line) = Err (BadScript line)
 
 -- the test that a text is: a script, whose fault comes first, in which each expectation has its call and each question is one

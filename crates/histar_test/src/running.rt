@@ -1,8 +1,8 @@
 //! Running the steps of a script.
 ghost use Rattle.std.specs.Prelude.{◌≡◌, ◌+◌, IfErr, IfOk, OnErr, OnOk};
 ghost use Rattle.std.specs.Io.KnownBytes.{Appends};
-ghost use Rattle.histar_devices.specs.Device.{CountsFailure};
-ghost use Rattle.histar_devices.specs.Writing.{AppendsFront};
+ghost use Rattle.histar_io.specs.Device.{CountsFailure};
+ghost use Rattle.histar_io.specs.Writing.{AppendsFront};
 ghost use Rattle.histar_script.specs.Runs.{IsOutputFault, is_write_failed};
 ghost use Rattle.histar_script.specs.Script.{IsDeclared};
 ghost use Rattle.histar_test.specs.Checks.{check_text};
@@ -13,8 +13,8 @@ use crate::checks::{Check, Made, check_text};
 use crate::questions::{Question, ask};
 use crate::steps::Step;
 use histar_base::Bytes;
-use histar_devices::{Sink, write_bytes};
-use histar_flat::{CallLine, Session};
+use histar_flat::{Accounts, CallLine};
+use histar_io::{Sink, write_bytes};
 use histar_label::InternStore;
 use histar_script::Fault;
 use histar_shell::{Machine, reply_text};
@@ -41,13 +41,13 @@ pub(crate) struct Run {
 
 impl Run {
     /// Boots a machine for a script.
-    pub(crate) fn start(alloc: Global, session: Session, tally: Tally) -> Result<Run, Fault>
-        requires { IsDeclared session }
-        ensures ok { IfOk result (Starts session tally) }
+    pub(crate) fn start(alloc: Global, accounts: Accounts, tally: Tally) -> Result<Run, Fault>
+        requires { IsDeclared accounts }
+        ensures ok { IfOk result (Starts accounts tally) }
         ensures faults { IfErr result IsMemory }
     {
         let store = InternStore::new(alloc, REMEMBERED_ANSWERS)?;
-        let Ok(machine) = Machine::boot(alloc, store, session) else {
+        let Ok(machine) = Machine::boot(alloc, store, accounts) else {
             return Err(Fault::OutOfMemory);
         };
         Ok(Run {

@@ -1,8 +1,8 @@
 //! Testing files, from bytes to bytes.
 ghost use Rattle.std.specs.Prelude.{◌≡◌, ◌+◌, IfErr, IfOk, IfSome, OnErr, OnOk, map};
 ghost use Rattle.std.specs.Io.KnownBytes.{Appends};
-ghost use Rattle.histar_devices.specs.Device.{CountsFailure};
-ghost use Rattle.histar_devices.specs.Writing.{AppendsFront};
+ghost use Rattle.histar_io.specs.Device.{CountsFailure};
+ghost use Rattle.histar_io.specs.Writing.{AppendsFront};
 ghost use Rattle.histar_script.specs.Runs.{IsOutputFault, LeavesSink, is_write_failed};
 ghost use Rattle.histar_test.specs.Checks.{checks_of, checks_text};
 ghost use Rattle.histar_test.specs.Running.{tally_with};
@@ -14,7 +14,7 @@ use crate::checks::push_number;
 use crate::running::{Run, Tally};
 use crate::steps::{Step, TestScript, read_test};
 use histar_base::Bytes;
-use histar_devices::{Sink, write_bytes};
+use histar_io::{Sink, write_bytes};
 use histar_script::Fault;
 use std::alloc::{AllocError, Global};
 
@@ -159,8 +159,8 @@ fn test_file<W: Sink>(
         (is_write_failed result) }
 {
     let NamedTest { name, test } = named;
-    let (session, steps) = test.into_parts();
-    let mut run = Run::start(alloc, session, tally)?;
+    let (accounts, steps) = test.into_parts();
+    let mut run = Run::start(alloc, accounts, tally)?;
     run.take_steps(alloc, name.as_slice(), steps, writer)?;
     Ok(run.tally)
 }

@@ -9,7 +9,7 @@ ghost use Rattle.histar_test.specs.Steps.{is_call, open_after, step_of, steps_fr
 
 use crate::questions::{Question, asked_of, read_question};
 use histar_base::Bytes;
-use histar_flat::{CallLine, Session};
+use histar_flat::{Accounts, CallLine};
 use histar_script::{Fault, Item, read_item, read_script, split_line};
 use std::alloc::Global;
 use std::marker::Model;
@@ -28,7 +28,7 @@ pub enum Step {
 /// The session of a script, and its steps.
 #[derive(Drop)]
 pub struct TestScript {
-    session: Session,
+    accounts: Accounts,
     steps: Vec<Step>,
 }
 
@@ -38,9 +38,9 @@ impl Model for TestScript {
 
     ghost Value = { Test };
 
-    ghost view = { λ t. record { session = t.session; steps = t.steps.items } };
+    ghost view = { λ t. record { accounts = t.accounts; steps = t.steps.items } };
 
-    ghost invariant = { λ t. IsDeclared t.session };
+    ghost invariant = { λ t. IsDeclared t.accounts };
 }
 
 impl Step {
@@ -74,12 +74,12 @@ impl TestScript {
     }
 
     /// Returns the session, and the steps to be taken one by one.
-    pub fn into_parts(self) -> (Session, Vec<Step>)
-        ensures session { result.0 ≡ self.session }
+    pub fn into_parts(self) -> (Accounts, Vec<Step>)
+        ensures accounts { result.0 ≡ self.accounts }
         ensures steps { result.1.items ≡ self.steps }
         ensures declared { IsDeclared result.0 }
     {
-        (self.session, self.steps)
+        (self.accounts, self.steps)
     }
 }
 
@@ -89,9 +89,9 @@ pub fn read_test(alloc: Global, text: &[u8]) -> Result<TestScript, Fault>
     ensures { Gives result (test_of text.now) }
 {
     let script = read_script(alloc, text)?;
-    let (session, _calls) = script.into_parts();
+    let (accounts, _calls) = script.into_parts();
     let steps = read_steps(alloc, text)?;
-    Ok(TestScript { session, steps })
+    Ok(TestScript { accounts, steps })
 }
 
 /// Reads the steps that the lines of a text are.

@@ -4,7 +4,7 @@ use Rattle.std.specs.Prelude.{Bool, IfSome, IsOk}
 use Rattle.std.specs.Io.KnownBytes.{Keeps}
 use Rattle.histar_script.specs.declared.fault.Fault.{Fault}
 use Rattle.histar_script.specs.declared.fault.Fault.TheVariants.{BadScript, TooLong, OutOfMemory, ReadFailed, WriteFailed}
-use Rattle.histar_script.specs.Script.{Reading}
+use Rattle.histar_script.specs.Script.{ScriptModel}
 use Rattle.histar_script.specs.Reading.{script_of}
 use Rattle.histar_script.specs.Runs.{RunsInput, is_read_failed, is_write_failed}
 use Rattle.histar_script.proofs.Inputs.{AreLong, input_known}
@@ -51,7 +51,7 @@ is_script options false text output h = h.1.faults
 
 -- a text that is too long is none
 pub not_long : (text : List ℕ) → script_of text ≡ Err TooLong → IsOk (script_of text) → ⊥
-not_long text long is = let no : false ≡ true = subst (λ (read : Result Reading Fault). IsOk read) long is in absurd cc
+not_long text long is = let no : false ≡ true = subst (λ (read : Result ScriptModel Fault). IsOk read) long is in absurd cc
 
 -- what is said of a text that is too long is said of another one
 long_transcript : (options : Options) (explain : Bool) (old new : Option (List ℕ)) (result : Result (Unit {0}) Fault) (taken input : List ℕ)

@@ -1,11 +1,11 @@
 //! A run that is printed with its calls, from bytes to bytes.
 ghost use Rattle.std.specs.Prelude.{◌≡◌, false, true, IfErr, IfSome};
-ghost use Rattle.histar_devices.specs.Device.{CountsFailure};
+ghost use Rattle.histar_io.specs.Device.{CountsFailure};
 ghost use Rattle.histar_script.specs.Runs.{LeavesSink, RunsInput, is_read_failed, is_write_failed};
 ghost use Rattle.histar_transcript.specs.Session.{GivesOutput, WritesTranscript, in_memory};
 
 use crate::transcript::transcript_of;
-use histar_devices::{Sink, Source, read_input, write_bytes};
+use histar_io::{Sink, Source, read_input, write_bytes};
 use histar_run_explain::explain_script;
 use histar_script::Fault;
 use histar_shell::{Counted, Options, run};

@@ -11,7 +11,7 @@ mod script;
 mod trial;
 
 use crate::trial::{Kind, Trial, next_trial};
-use histar_devices::read_input;
+use histar_io::read_input;
 use histar_script::Fault;
 use histar_shell::Counted;
 use std::alloc::Global;

@@ -8,8 +8,8 @@ use Rattle.std.proofs.lemmas.Option.{none-some, same_Some}
 use Rattle.histar_flat.specs.declared.calls.User.{User}
 use Rattle.histar_flat.specs.Words.{Name, Path}
 use Rattle.histar_layout.specs.UserTable.{called}
-use Rattle.histar_secrecy.specs.declared.standing.Member.{Member}
-use Rattle.histar_tree.specs.declared.tree.TreeNode.{TreeNode}
+use Rattle.histar_secrecy.specs.declared.role.Member.{Member}
+use Rattle.histar_readout.specs.declared.tree.TreeNode.{TreeNode}
 use Rattle.histar_trust.specs.Findings.{Runner, class_there, classes_to, node_at, runner_of}
 
 -- one item more

@@ -5,7 +5,7 @@ use Rattle.std.specs.FinMap.{find}
 use Rattle.std.specs.Ordering.{eq_by_cmp}
 use Rattle.histar_flat.specs.Words.{Path, ProcName}
 use Rattle.histar_flat.specs.PathOrder.{path_cmp, same_path}
-use Rattle.histar_flat.specs.Sessions.{Session}
+use Rattle.histar_flat.specs.Accounts.{Accounts}
 use Rattle.histar_flat.specs.Files.{get}
 use Rattle.histar_flat.specs.Classes.{Class as FlatClass}
 use Rattle.histar_flat.specs.Classes.Class.{Private as FlatPrivate, Readable as FlatReadable, Open as FlatOpen, Scratch as FlatScratch, Grouped as FlatGrouped}
@@ -17,14 +17,14 @@ use Rattle.histar_refinement.specs.Categories.{Categories}
 use Rattle.histar_refinement.specs.Categories.CategoryName.{OfJob}
 use Rattle.histar_refinement.specs.NumberedClasses.{numbered_class}
 use Rattle.histar_refinement.specs.Represents.{ObjectsMatch}
-use Rattle.histar_refinement.proofs.LinesLaid.{node_there}
-use Rattle.histar_refinement.proofs.Standing.{parent_is_dir}
+use Rattle.histar_refinement.proofs.LinesMatched.{node_there}
+use Rattle.histar_refinement.proofs.Agreeing.{parent_is_dir}
 use Rattle.histar_secrecy.specs.declared.file_class.FileClass.{FileClass}
-use Rattle.histar_secrecy.specs.ShownStandings.{AreClassesTo, class_by_number, flat_class}
+use Rattle.histar_secrecy.specs.ShownRoles.{AreClassesTo, class_by_number, flat_class}
 use Rattle.histar_secrecy.proofs.NumberedJobs.{in_two_steps}
-use Rattle.histar_tree.specs.declared.tree.TreeNode.{TreeNode}
-use Rattle.histar_tree.specs.TreeEntries.{TreeEntry, flat_entry, tree_entry}
-use Rattle.histar_tree.specs.TreeLines.{TreeLine, flat_line, line_at, node_stat}
+use Rattle.histar_readout.specs.declared.tree.TreeNode.{TreeNode}
+use Rattle.histar_readout.specs.TreeEntries.{TreeEntry, flat_entry, tree_entry}
+use Rattle.histar_readout.specs.TreeLines.{TreeLine, flat_line, line_at, node_stat}
 use Rattle.histar_trust.specs.Findings.{class_flat, class_there, classes_to, node_at}
 use Rattle.histar_trust.specs.TrustText.{is_for_everyone}
 
@@ -101,7 +101,7 @@ module _ (s : State) (category : Categories) where
       subst (λ (p : Path). AreAlike q (if same_path q p then Some node else node_at q tree) (find path_cmp q (e ∷ es))) (sym path)
       (one_alike q node e (node_at q tree) (find path_cmp q es) path entry line rest)
 
-module _ (session : Session) (s : State) (f : Flat) (l : ObjectsMatch session s f) (tree : List TreeNode)
+module _ (accounts : Accounts) (s : State) (f : Flat) (l : ObjectsMatch accounts s f) (tree : List TreeNode)
     (each : (q : Path) → AreAlike s l.category q (node_at q tree) (get f.files q)) where
   -- what the tree has where the flat state has something
   pub found_at : (q : Path) (there : Node) → get f.files q ≡ Some there → (node : TreeNode) × (node_at q tree ≡ Some node)
@@ -136,7 +136,7 @@ module _ (session : Session) (s : State) (f : Flat) (l : ObjectsMatch session s 
   classes_are (n ∷ above) there at (c ∷ classes) same =
       let e : flat_class c ∷ map flat_class classes ≡ class_by_number (number_of l.category) there.class ∷ classes_to tree above = same
       ∙ ap (λ cs. cs ++ classes_to tree above) (class_is (n ∷ above) there at) in
-      let parent = node_there (get f.files above) (parent_is_dir session s f l n above there at) in (
+      let parent = node_there (get f.files above) (parent_is_dir accounts s f l n above there at) in (
         ap (option_map (λ (x : Node). class_by_number (number_of l.category) x.class)) at ∙ ap Some (sym (ap (first_of_list (flat_class c)) e)),
         classes_are above parent.0 parent.1 classes (ap rest_of_list e),
       )

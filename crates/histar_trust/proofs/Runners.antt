@@ -11,9 +11,9 @@ use Rattle.histar_flat.specs.FlatCalls.{if_running, running}
 use Rattle.histar_refinement.specs.Categories.{Categories}
 use Rattle.histar_refinement.specs.NumberedClasses.{job_numbers}
 use Rattle.histar_rights.specs.Running.{Named, and_children, itself, running_from}
-use Rattle.histar_secrecy.specs.declared.standing.Member.{Member}
-use Rattle.histar_secrecy.specs.ShownStandings.{with_user}
-use Rattle.histar_tree.specs.ProcessLines.{ProcessLine, flat_life, flat_processes, with_children}
+use Rattle.histar_secrecy.specs.declared.role.Member.{Member}
+use Rattle.histar_secrecy.specs.ShownRoles.{with_user}
+use Rattle.histar_readout.specs.ProcessLines.{ProcessLine, flat_life, flat_processes, with_children}
 use Rattle.histar_trust.specs.Findings.{Runner, living, runner_of, shown_runner}
 use Rattle.histar_trust.specs.Secrets.{runner_mark, running_mark}
 

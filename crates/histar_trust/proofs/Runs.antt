@@ -5,13 +5,13 @@ use Rattle.std.specs.Io.KnownBytes.{Appends, Keeps}
 use Rattle.std.proofs.lemmas.Bool.{cases_lt, false≢true}
 use Rattle.std.proofs.lemmas.List.{length-append}
 use Rattle.std.proofs.KnownBytes.{Keeps-refl}
-use Rattle.histar_devices.specs.declared.input.InputError.{InputError}
-use Rattle.histar_devices.specs.declared.input.InputError.TheVariants as input
-use Rattle.histar_devices.specs.Input.{most_taken, TakesAll, TakesSome}
-use Rattle.histar_devices.specs.Writing.{AppendsFront}
+use Rattle.histar_io.specs.declared.input.InputError.{InputError}
+use Rattle.histar_io.specs.declared.input.InputError.TheVariants as input
+use Rattle.histar_io.specs.Input.{most_taken, TakesAll, TakesSome}
+use Rattle.histar_io.specs.Writing.{AppendsFront}
 use Rattle.histar_script.specs.declared.fault.Fault.{Fault}
 use Rattle.histar_script.specs.declared.fault.Fault.TheVariants.{BadScript, TooLong, OutOfMemory, ReadFailed, WriteFailed}
-use Rattle.histar_script.specs.Script.{Reading}
+use Rattle.histar_script.specs.Script.{ScriptModel}
 use Rattle.histar_script.specs.Outcome.{Gives, input_fault}
 use Rattle.histar_script.specs.Lines.{most_script_bytes}
 use Rattle.histar_script.specs.Reading.{script_of}
@@ -27,14 +27,14 @@ abbrev Answer : Type 0
 Answer = Result (Unit {0}) Fault
 
 -- reading a script calls no device
-pub reads_none : (f : Fault) (read : Result Reading Fault) → Gives (Err f) read → is_read_failed {A = Unit {0}} (Err f) ≡ false
+pub reads_none : (f : Fault) (read : Result ScriptModel Fault) → Gives (Err f) read → is_read_failed {A = Unit {0}} (Err f) ≡ false
 reads_none (BadScript n) read given = refl
 reads_none TooLong read given = refl
 reads_none OutOfMemory read given = refl
 reads_none ReadFailed read given = absurd given
 reads_none WriteFailed read given = refl
 
-pub writes_none : (f : Fault) (read : Result Reading Fault) → Gives (Err f) read → is_write_failed {A = Unit {0}} (Err f) ≡ false
+pub writes_none : (f : Fault) (read : Result ScriptModel Fault) → Gives (Err f) read → is_write_failed {A = Unit {0}} (Err f) ≡ false
 writes_none (BadScript n) read given = refl
 writes_none TooLong read given = refl
 writes_none OutOfMemory read given = refl
@@ -43,23 +43,23 @@ writes_none WriteFailed read given = absurd given
 
 -- it represents a state that calls lead to
 pub shows_reached : (at : Option ℕ) (text : List ℕ) (m : MachineModel) (is : IsMachineOf at text m)
-    → ShowsReached is.script.session m (state_before at is.script)
+    → ShowsReached is.script.accounts m (state_before at is.script)
 shows_reached at text m is = record { shows = is.shows; reached = (calls_before at is.script.calls, refl) }
 
 pub has_state : (at : Option ℕ) (text : List ℕ) (m : MachineModel) → IsMachineOf at text m → HasState m
-has_state at text m is = (is.script.session, state_before at is.script, shows_reached at text m is)
+has_state at text m is = (is.script.accounts, state_before at is.script, shows_reached at text m is)
 
-module _ (text_of : Reading → List ℕ) where
+module _ (text_of : ScriptModel → List ℕ) where
   -- ---- a text that is a script or none
 
-  script_fault_agrees : (f : Fault) (read : Result Reading Fault) → Gives (Err f) read → IsFaultAt read f
+  script_fault_agrees : (f : Fault) (read : Result ScriptModel Fault) → Gives (Err f) read → IsFaultAt read f
   script_fault_agrees (BadScript n) read given = given
   script_fault_agrees TooLong read given = given
   script_fault_agrees OutOfMemory read given = tt
   script_fault_agrees ReadFailed read given = absurd given
   script_fault_agrees WriteFailed read given = absurd given
 
-  script_fault_writes : (f : Fault) (w : Option (List ℕ)) (read : Result Reading Fault) → Gives (Err f) read → WritesAtFault text_of w w read f
+  script_fault_writes : (f : Fault) (w : Option (List ℕ)) (read : Result ScriptModel Fault) → Gives (Err f) read → WritesAtFault text_of w w read f
   script_fault_writes (BadScript n) w read given = Keeps-refl w
   script_fault_writes TooLong w read given = Keeps-refl w
   script_fault_writes OutOfMemory w read given = Keeps-refl w
@@ -137,8 +137,8 @@ module _ (text_of : Reading → List ℕ) where
   same_run : (input taken : List ℕ) {old new : Option (List ℕ)} (result : Answer) → script_of taken ≡ script_of input
       → WritesOf text_of taken old new result → WritesOf text_of input old new result
   same_run input taken {old} {new} result same runs = record {
-    faults = subst (λ (read : Result Reading Fault). AgreesWith read result) same runs.faults;
-    writes = subst (λ (read : Result Reading Fault). MatchResult result (λ _. WritesText text_of old new read)
+    faults = subst (λ (read : Result ScriptModel Fault). AgreesWith read result) same runs.faults;
+    writes = subst (λ (read : Result ScriptModel Fault). MatchResult result (λ _. WritesText text_of old new read)
         (WritesAtFault text_of old new read)) same runs.writes;
   }
 

@@ -11,13 +11,13 @@ use Rattle.std.specs.Ordering.{is_lt}
 use Rattle.std.specs.declared.cmp.Ordering.TheVariants.{Less}
 use Rattle.histar_flat.specs.Words.{Path}
 use Rattle.histar_flat.specs.PathOrder.{path_cmp}
-use Rattle.histar_flat.specs.Sessions.{Session}
+use Rattle.histar_flat.specs.Accounts.{Accounts}
 use Rattle.histar_flat.specs.Files.{get}
 use Rattle.histar_flat.specs.Classes.{Class}
 use Rattle.histar_flat.specs.FlatState.{Flat, Node}
 use Rattle.histar_flat.specs.Texts.{path_text}
 use Rattle.histar_flat.proofs.Finding.{is_less}
-use Rattle.histar_isolation.proofs.Unions.{find_here, find_past, holds}
+use Rattle.histar_noninterference.proofs.Unions.{find_here, find_past, holds}
 use Rattle.histar_rights.specs.Running.{running_in}
 use Rattle.histar_object.specs.State.{State}
 use Rattle.histar_syscall.specs.KernelModel.{state}
@@ -25,13 +25,13 @@ use Rattle.histar_layout.specs.Listing.{is_directory}
 use Rattle.histar_layout.specs.UserTable.{without_passwords}
 use Rattle.histar_refinement.specs.Categories.{Categories}
 use Rattle.histar_secrecy.specs.declared.file_class.FileClass.{FileClass}
-use Rattle.histar_secrecy.specs.declared.standing.Member.{Member}
-use Rattle.histar_secrecy.specs.declared.standing.Standing.TheVariants.{Trusted, Confined}
-use Rattle.histar_secrecy.specs.Standings.{is_confined, is_trusted}
-use Rattle.histar_secrecy.specs.ShownStandings.{class_by_number, flat_class, has_standing}
-use Rattle.histar_tree.specs.declared.tree.TreeNode.{TreeNode}
-use Rattle.histar_tree.specs.TreeEntries.{TreeEntry, flat_entry, tree_entry}
-use Rattle.histar_tree.specs.TreeLines.{TreeLine, flat_line, line_at}
+use Rattle.histar_secrecy.specs.declared.role.Member.{Member}
+use Rattle.histar_secrecy.specs.declared.role.Role.TheVariants.{Trusted, Confined}
+use Rattle.histar_secrecy.specs.Roles.{is_confined, is_trusted}
+use Rattle.histar_secrecy.specs.ShownRoles.{class_by_number, flat_class, has_role}
+use Rattle.histar_readout.specs.declared.tree.TreeNode.{TreeNode}
+use Rattle.histar_readout.specs.TreeEntries.{TreeEntry, flat_entry, tree_entry}
+use Rattle.histar_readout.specs.TreeLines.{TreeLine, flat_line, line_at}
 use Rattle.histar_shell.specs.Ending.{IsTreeIn}
 use Rattle.histar_shell.specs.Machine.{MachineModel}
 use Rattle.histar_trust.specs.Findings.{AddsSecrets, ShowsReached, class_flat, shown_members, shown_runners, shown_secret}
@@ -71,11 +71,11 @@ each_found (e ∷ es) h =
 -- ---- what was added
 
 -- nothing was added
-pub adds_none : (users : Session) (members : List Member) (text : List ℕ) → AddsSecrets users members [] text text
+pub adds_none : (users : Accounts) (members : List Member) (text : List ℕ) → AddsSecrets users members [] text text
 adds_none users members text = record { classes = []; are = refl; added = sym (append-nil text) }
 
 -- what is printed of one more was added
-pub adds_more : {users : Session} {members : List Member} {done one all : List TreeNode} {old mid new : List ℕ} → all ≡ done ++ one
+pub adds_more : {users : Accounts} {members : List Member} {done one all : List TreeNode} {old mid new : List ℕ} → all ≡ done ++ one
     → AddsSecrets users members done old mid → AddsSecrets users members one mid new → AddsSecrets users members all old new
 adds_more {users} {members} {done} {one} {all} {old} is h k = rw is (record {
   classes = h.classes ++ k.classes;
@@ -89,12 +89,12 @@ adds_more {users} {members} {done} {one} {all} {old} is h k = rw is (record {
 })
 
 -- what was added by equal lists
-pub adds_as : {users others : Session} {members all : List Member} {tree nodes : List TreeNode} {old older new : List ℕ} → others ≡ users → all ≡ members
+pub adds_as : {users others : Accounts} {members all : List Member} {tree nodes : List TreeNode} {old older new : List ℕ} → others ≡ users → all ≡ members
     → nodes ≡ tree → older ≡ old → AddsSecrets others all nodes older new → AddsSecrets users members tree old new
 adds_as eu em et eo h = rw (← eu, ← em, ← et, ← eo) h
 
 -- what is printed of one was added
-pub adds_one : {users : Session} {members : List Member} {node : TreeNode} {old new : List ℕ} (class : FileClass) → flat_class class ≡ class_flat node.class
+pub adds_one : {users : Accounts} {members : List Member} {node : TreeNode} {old new : List ℕ} (class : FileClass) → flat_class class ≡ class_flat node.class
     → new ≡ old ++ shown_secret users members node → AddsSecrets users members (node ∷ []) old new
 adds_one {users} {members} {node} {old} class of_node e = record {
   classes = class ∷ [];
@@ -103,14 +103,14 @@ adds_one {users} {members} {node} {old} class of_node e = record {
 }
 
 -- of what is no secret nothing is printed
-pub none_shown : (users : Session) (members : List Member) (node : TreeNode) (class : FileClass) → flat_class class ≡ class_flat node.class
+pub none_shown : (users : Accounts) (members : List Member) (node : TreeNode) (class : FileClass) → flat_class class ≡ class_flat node.class
     → is_secret (is_directory node.target) (flat_class class) ≡ false → shown_secret users members node ≡ []
 none_shown users members node class of_node e =
     ap (λ b. if b then path_text node.path ++ shown_members users members (class_flat node.class) ++ codes "\n" else [])
     (ap (is_secret (is_directory node.target)) (sym of_node) ∙ e)
 
 -- and of a secret its path and its members
-pub one_shown : (users : Session) (members : List Member) (node : TreeNode) (class : FileClass) → flat_class class ≡ class_flat node.class
+pub one_shown : (users : Accounts) (members : List Member) (node : TreeNode) (class : FileClass) → flat_class class ≡ class_flat node.class
     → is_secret (is_directory node.target) (flat_class class) ≡ true
     → shown_secret users members node ≡ path_text node.path ++ shown_members users members (flat_class class) ++ codes "\n"
 one_shown users members node class of_node e =
@@ -133,7 +133,7 @@ from_not_false true h = refl
 from_not_false false h = sym h
 
 -- what is no secret was passed over
-pub nothing_added : (users : Session) (members : List Member) (node : TreeNode) (class : FileClass) (text : List ℕ)
+pub nothing_added : (users : Accounts) (members : List Member) (node : TreeNode) (class : FileClass) (text : List ℕ)
     → flat_class class ≡ class_flat node.class → is_secret (is_directory node.target) (flat_class class) ≡ false
     → AddsSecrets users members (node ∷ []) text text
 nothing_added users members node class text of_node is_none =
@@ -144,7 +144,7 @@ behind_three : (old p m n : List ℕ) → ((old ++ p) ++ m) ++ n ≡ old ++ ((p 
 behind_three old p m n = append_assoc (old ++ p) m n ∙ append_assoc old p (m ++ n) ∙ ap (λ t. old ++ t) (sym (append_assoc p m n))
 
 -- the path, the members and a line end were added
-pub secret_added : {users : Session} {members : List Member} {node : TreeNode} {old mid late new : List ℕ} (class : FileClass)
+pub secret_added : {users : Accounts} {members : List Member} {node : TreeNode} {old mid late new : List ℕ} (class : FileClass)
     → flat_class class ≡ class_flat node.class → is_secret (is_directory node.target) (flat_class class) ≡ true
     → mid ≡ old ++ path_text node.path → late ≡ mid ++ shown_members users members (flat_class class) → new ≡ late ++ codes "\n"
     → AddsSecrets users members (node ∷ []) old new
@@ -156,42 +156,42 @@ secret_added {users} {members} {node} {old} class of_node is_one path shown end 
 
 -- ---- a machine
 
-module _ {session : Session} {m : MachineModel} {f : Flat} (r : ShowsReached session m f) (members : List Member) (found : AreMembers m members) where
+module _ {accounts : Accounts} {m : MachineModel} {f : Flat} (r : ShowsReached accounts m f) (members : List Member) (found : AreMembers m members) where
   abbrev s : State
   s = state m.kernel
 
   abbrev category : Categories
-  category = r.shows.represents.laid.category
+  category = r.shows.represents.matched.category
 
   -- who has which standing to a file, and who could log in as a reader
   members_are : (e : Path × Node) → get f.files e.0 ≡ Some e.1 → (class : FileClass)
       → class_by_number (number_of category) e.1.class ≡ flat_class class
-      → shown_members (without_passwords session) members (flat_class class) ≡ members_text session f e.1.class
+      → shown_members (without_passwords accounts) members (flat_class class) ≡ members_text accounts f e.1.class
   members_are e at class of_class = λ i.
       flat_map (process_mark (codes "trusted")) (chosen r members found
-      (has_standing session.groups (flat_class class) Trusted) (is_trusted session e.1.class f)
+      (has_role accounts.groups (flat_class class) Trusted) (is_trusted accounts e.1.class f)
       (λ member c same runs. trusted_same r members found member c same runs e.0 e.1 at class of_class) i)
       ++ flat_map (process_mark (codes "confined")) (chosen r members found
-      (has_standing session.groups (flat_class class) Confined) (is_confined session e.1.class f)
+      (has_role accounts.groups (flat_class class) Confined) (is_confined accounts e.1.class f)
       (λ member c same runs. confined_same r members found member c same runs e.0 e.1 at class of_class) i)
-      ++ flat_map (user_mark (codes "login")) (filter (λ user. (is_so r).reader_login e.1.class class of_class user i) (same_names session.users i))
+      ++ flat_map (user_mark (codes "login")) (filter (λ user. (is_so r).reader_login e.1.class class of_class user i) (same_names accounts.users i))
 
   -- a file's line is that of the flat state
   one_secret : (node : TreeNode) (e : Path × Node) (class : FileClass) → IsAt s category e.0 node e.1 → get f.files e.0 ≡ Some e.1
-      → flat_class class ≡ class_flat node.class → shown_secret (without_passwords session) members node ≡ secret_text session f e
+      → flat_class class ≡ class_flat node.class → shown_secret (without_passwords accounts) members node ≡ secret_text accounts f e
   one_secret node e class is at of_node =
       let by_number : class_flat node.class ≡ class_by_number (number_of category) e.1.class = ap class_flat is.class ∙ same_class category e.1.class in
       let everyone : is_for_everyone (class_flat node.class) ≡ is_for_everyone e.1.class =
       ap (λ c. is_for_everyone (class_flat c)) is.class ∙ same_everyone category e.1.class in
-      let readers : shown_members (without_passwords session) members (class_flat node.class) ≡ members_text session f e.1.class =
-      ap (shown_members (without_passwords session) members) (sym of_node) ∙ members_are e at class (sym by_number ∙ sym of_node) in
+      let readers : shown_members (without_passwords accounts) members (class_flat node.class) ≡ members_text accounts f e.1.class =
+      ap (shown_members (without_passwords accounts) members) (sym of_node) ∙ members_are e at class (sym by_number ∙ sym of_node) in
       λ i. if (not (is.kind i) && not (everyone i)) then path_text (is.path i) ++ readers i ++ codes "\n" else []
 
   -- and so are the lines of all
   secrets_are : (nodes : List TreeNode) (es : List (Path × Node)) → map (tree_entry s) nodes ≡ map (flat_entry category) es
       → map (line_at s) nodes ≡ map flat_line es → AllOf (IsIn f.files.entries) es
       → (classes : List FileClass) → map flat_class classes ≡ map (λ (node : TreeNode). class_flat node.class) nodes
-      → flat_map (shown_secret (without_passwords session) members) nodes ≡ flat_map (secret_text session f) es
+      → flat_map (shown_secret (without_passwords accounts) members) nodes ≡ flat_map (secret_text accounts f) es
   unfolding first_of_list rest_of_list
   secrets_are [] [] entries lines all classes same = refl
   secrets_are [] (e ∷ es) entries lines all classes same = absurd (cc)
@@ -214,7 +214,7 @@ module _ {session : Session} {m : MachineModel} {f : Flat} (r : ShowsReached ses
   runners_are = λ i. codes "running" ++ runners_shown f category members (running_in f) (all_members r members found) i ++ codes "\n"
 
   pub secrets_there : (tree : List TreeNode) → IsTreeIn m tree → {text : List ℕ} → AddsSecrets m.users members tree (shown_runners members) text
-      → text ≡ secrets_text session f
+      → text ≡ secrets_text accounts f
   secrets_there tree is h =
       let same : (own_tree r tree is).tree ≡ tree = same_tree r tree is in
       h.added ∙ (λ i. runners_are i ++ flat_map (shown_secret (r.shows.users i) members) tree)

@@ -5,7 +5,7 @@ use Rattle.std.proofs.Common.{ap, sym, ◌∙◌, subst}
 use Rattle.std.proofs.lemmas.Option.{same_Some}
 use Rattle.histar_flat.specs.declared.calls.User.{User}
 use Rattle.histar_flat.specs.Words.{Name, Path, ProcName}
-use Rattle.histar_flat.specs.Sessions.{Session}
+use Rattle.histar_flat.specs.Accounts.{Accounts}
 use Rattle.histar_flat.specs.Files.{get}
 use Rattle.histar_flat.specs.Classes.{may_read}
 use Rattle.histar_flat.specs.FlatState.{Flat, Node}
@@ -13,8 +13,8 @@ use Rattle.histar_flat.specs.FlatCalls.{running}
 use Rattle.histar_object.specs.State.{State}
 use Rattle.histar_syscall.specs.KernelModel.{state}
 use Rattle.histar_layout.specs.UserTable.{without_password, without_passwords}
-use Rattle.histar_calls.specs.declared.places.Places.{Places}
-use Rattle.histar_login.specs.Start.{places_of}
+use Rattle.histar_calls.specs.declared.roots.Roots.{Roots}
+use Rattle.histar_login.specs.Start.{roots_of}
 use Rattle.histar_refinement.specs.Categories.{CategoryName, split_category}
 use Rattle.histar_refinement.specs.Categories.CategoryName.{OfJob}
 use Rattle.histar_refinement.specs.Represents.{ObjectsMatch}
@@ -22,24 +22,24 @@ use Rattle.histar_rights.specs.Running.{HaveShownNames, Named, running_in}
 use Rattle.histar_rights.specs.Table.{access_line_text, line_of}
 use Rattle.histar_rights.proofs.Named.{processes_are_named}
 use Rattle.histar_secrecy.specs.declared.file_class.FileClass.{FileClass}
-use Rattle.histar_secrecy.specs.declared.standing.Member.{Member}
-use Rattle.histar_secrecy.specs.declared.standing.Standing.{Standing}
-use Rattle.histar_secrecy.specs.declared.standing.Standing.TheVariants.{Trusted, Confined, Outside}
-use Rattle.histar_secrecy.specs.Standings.{is_bound, is_confined, is_outsider, is_trusted}
-use Rattle.histar_secrecy.specs.Noninterference.{ShowsStanding}
+use Rattle.histar_secrecy.specs.declared.role.Member.{Member}
+use Rattle.histar_secrecy.specs.declared.role.Role.{Role}
+use Rattle.histar_secrecy.specs.declared.role.Role.TheVariants.{Trusted, Confined, Outside}
+use Rattle.histar_secrecy.specs.Roles.{is_bound, is_confined, is_outsider, is_trusted}
+use Rattle.histar_secrecy.specs.Noninterference.{ShowsRole}
 use Rattle.histar_secrecy.specs.Changers.{is_changer}
-use Rattle.histar_secrecy.specs.ShownStandings.{AreClassesTo, AreNumbered, IsShownProcess, ShowsAState, class_by_number, flat_class, has_standing, is_same_standing, is_shown_changer, member_standing, standing_in, with_user}
-use Rattle.histar_secrecy.proofs.Learning.{standings_are_shown}
+use Rattle.histar_secrecy.specs.ShownRoles.{AreClassesTo, AreNumbered, IsShownProcess, ShowsAState, class_by_number, flat_class, has_role, is_same_role, is_shown_changer, member_role, role_in, with_user}
+use Rattle.histar_secrecy.proofs.Learning.{roles_are_shown}
 use Rattle.histar_secrecy.proofs.ShownProcesses.{shown_is_so}
-use Rattle.histar_tree.specs.declared.process.ProcessNode.{ProcessNode}
-use Rattle.histar_tree.specs.declared.tree.TreeNode.{TreeNode}
-use Rattle.histar_tree.specs.Laws.{HasProcessesOf, HasTreeOf}
-use Rattle.histar_tree.specs.Processes.{AreProcessesOf, levels_at}
-use Rattle.histar_tree.specs.ProcessLines.{process_line}
-use Rattle.histar_tree.specs.Tree.{IsTreeOf}
-use Rattle.histar_tree.proofs.OneTree.{states_have_one_tree}
-use Rattle.histar_tree.proofs.ProcessesLaid.{flat_states_have_their_processes}
-use Rattle.histar_tree.proofs.TreeLaid.{flat_states_have_their_trees}
+use Rattle.histar_readout.specs.declared.process.ProcessNode.{ProcessNode}
+use Rattle.histar_readout.specs.declared.tree.TreeNode.{TreeNode}
+use Rattle.histar_readout.specs.Laws.{HasProcessesOf, HasTreeOf}
+use Rattle.histar_readout.specs.Processes.{AreProcessesOf, levels_at}
+use Rattle.histar_readout.specs.ProcessLines.{process_line}
+use Rattle.histar_readout.specs.Tree.{IsTreeOf}
+use Rattle.histar_readout.proofs.OneTree.{states_have_one_tree}
+use Rattle.histar_readout.proofs.ProcessesMatched.{flat_states_have_their_processes}
+use Rattle.histar_readout.proofs.TreeMatched.{flat_states_have_their_trees}
 use Rattle.histar_shell.specs.Ending.{HasTree, IsTreeIn}
 use Rattle.histar_shell.specs.Machine.{MachineModel}
 use Rattle.histar_shell.proofs.SameUsers.{tree_unproved}
@@ -47,29 +47,29 @@ use Rattle.histar_access.specs.Shown.{AreProcessesIn, HasProcesses}
 use Rattle.histar_access.proofs.SameProcesses.{one_list, processes_unproved}
 use Rattle.histar_access.proofs.ShownTables.{processes_there, tree_there}
 use Rattle.histar_access.proofs.Visiting.{filter_map_map}
-use Rattle.histar_trust.specs.Findings.{ShowsReached, class_flat, classes_to, head_text, node_at, runner_of, running_node, shown_changers, shown_readers, shown_standings}
-use Rattle.histar_trust.specs.TrustText.{changers_text, is_for_everyone, process_lines, readers_text, running_where, standings_text, trust_text, user_lines}
+use Rattle.histar_trust.specs.Findings.{ShowsReached, class_flat, classes_to, head_text, node_at, runner_of, running_node, shown_changers, shown_readers, shown_roles}
+use Rattle.histar_trust.specs.TrustText.{changers_text, is_for_everyone, process_lines, readers_text, running_where, roles_text, trust_text, user_lines}
 use Rattle.histar_trust.proofs.Places.{AreAlike, IsAt, alike, classes_are, found_at, number_of, same_class, same_everyone}
 use Rattle.histar_trust.proofs.Runners.{AllOf, Runs, each_runs, numbered, picked, runners_listed, running_line}
 
 -- ---- standings
 
-trusted_is : (t c : Bool) → is_same_standing Trusted (if t then Trusted else if c then Confined else Outside) ≡ t
+trusted_is : (t c : Bool) → is_same_role Trusted (if t then Trusted else if c then Confined else Outside) ≡ t
 trusted_is true c = refl
 trusted_is false true = refl
 trusted_is false false = refl
 
-outside_is : (t c : Bool) → is_same_standing Outside (if t then Trusted else if c then Confined else Outside) ≡ (not t && not c)
+outside_is : (t c : Bool) → is_same_role Outside (if t then Trusted else if c then Confined else Outside) ≡ (not t && not c)
 outside_is true c = refl
 outside_is false true = refl
 outside_is false false = refl
 
 confined_is : (t c reads bound : Bool) → t ≡ (reads && not bound) → c ≡ bound
-    → is_same_standing Confined (if t then Trusted else if c then Confined else Outside) ≡ c
+    → is_same_role Confined (if t then Trusted else if c then Confined else Outside) ≡ c
 confined_is t c reads bound te ce =
-    (λ i. is_same_standing Confined (if te i then Trusted else if ce i then Confined else Outside)) ∙ by reads bound ∙ sym ce
+    (λ i. is_same_role Confined (if te i then Trusted else if ce i then Confined else Outside)) ∙ by reads bound ∙ sym ce
   where
-    by : (r b : Bool) → is_same_standing Confined (if (r && not b) then Trusted else if b then Confined else Outside) ≡ b
+    by : (r b : Bool) → is_same_role Confined (if (r && not b) then Trusted else if b then Confined else Outside) ≡ b
     by true true = refl
     by true false = refl
     by false true = refl
@@ -93,12 +93,12 @@ pub record IsFound (m : MachineModel) (path : Path) (node : TreeNode) (classes :
   pub found : node_at path tree ≡ Some node
   pub are_classes : map flat_class classes ≡ classes_to tree path
 
-module _ {session : Session} {m : MachineModel} {f : Flat} (r : ShowsReached session m f) where
+module _ {accounts : Accounts} {m : MachineModel} {f : Flat} (r : ShowsReached accounts m f) where
   abbrev s : State
   s = state m.kernel
 
-  abbrev l : ObjectsMatch session s f
-  l = r.shows.represents.laid
+  abbrev l : ObjectsMatch accounts s f
+  l = r.shows.represents.matched
 
   abbrev number : ProcName → ℕ
   number = number_of l.category
@@ -107,19 +107,19 @@ module _ {session : Session} {m : MachineModel} {f : Flat} (r : ShowsReached ses
   one_number : AreNumbered number
   one_number a b e = ap (λ (c : CategoryName). (split_category c).1) (l.different (OfJob a) (OfJob b) e)
 
-  pub is_so : ShowsAState number session f
-  is_so = shown_is_so session f number one_number
+  pub is_so : ShowsAState number accounts f
+  is_so = shown_is_so accounts f number one_number
 
   -- processes have names that can be shown
   pub named : HaveShownNames f
-  named = subst HaveShownNames r.reached.1 (processes_are_named session r.reached.0)
+  named = subst HaveShownNames r.reached.1 (processes_are_named accounts r.reached.0)
 
   -- the machine has a tree and processes
   pub has_tree : HasTree m
-  has_tree = tree_there session m f r.shows named
+  has_tree = tree_there accounts m f r.shows named
 
   pub has_processes : HasProcesses m
-  has_processes = processes_there session m f r.shows named
+  has_processes = processes_there accounts m f r.shows named
 
   -- ---- a path
 
@@ -127,46 +127,46 @@ module _ {session : Session} {m : MachineModel} {f : Flat} (r : ShowsReached ses
   abbrev text_at : Path → Option Node → List ℕ
   text_at path o = elim o [
     | None ↦ codes "no entry\n"
-    | Some node ↦ access_line_text (line_of session f [] (path, node)) ++ standings_text session f node ++ changers_text session f path
+    | Some node ↦ access_line_text (line_of accounts f [] (path, node)) ++ roles_text accounts f node ++ changers_text accounts f path
   ]
 
   module _ (tree : List TreeNode) (is : IsTreeIn m tree) where
-    pub own_tree : HasTreeOf session s f l.category
-    own_tree = flat_states_have_their_trees session s f r.shows.represents r.shows.shallow
+    pub own_tree : HasTreeOf accounts s f l.category
+    own_tree = flat_states_have_their_trees accounts s f r.shows.represents r.shows.shallow
 
     own_tree_here : IsTreeIn m own_tree.tree
     own_tree_here =
-        subst (λ (users : Session). IsTreeOf users s m.places own_tree.tree) (sym r.shows.users)
-        (tree_unproved session s m.places own_tree.tree
-        (subst (λ (places : Places). IsTreeOf session s places own_tree.tree) (sym r.shows.places) own_tree.is_tree))
+        subst (λ (users : Accounts). IsTreeOf users s m.roots own_tree.tree) (sym r.shows.users)
+        (tree_unproved accounts s m.roots own_tree.tree
+        (subst (λ (roots : Roots). IsTreeOf accounts s roots own_tree.tree) (sym r.shows.roots) own_tree.is_tree))
 
     pub same_tree : own_tree.tree ≡ tree
-    same_tree = states_have_one_tree m.users s m.places own_tree.tree tree own_tree_here is
+    same_tree = states_have_one_tree m.users s m.roots own_tree.tree tree own_tree_here is
 
     each : (q : Path) → AreAlike s l.category q (node_at q tree) (get f.files q)
     each q = subst (λ (t : List TreeNode). AreAlike s l.category q (node_at q t) (get f.files q)) same_tree
         (alike s l.category q own_tree.tree f.files.entries own_tree.same own_tree.lines)
 
     -- where nothing is in the tree, the flat state has nothing
-    pub nothing_there : (path : Path) → node_at path tree ≡ None → codes "no entry\n" ≡ trust_text session f path
+    pub nothing_there : (path : Path) → node_at path tree ≡ None → codes "no entry\n" ≡ trust_text accounts f path
     nothing_there path none = by (get f.files path) refl
       where
-        by : (o : Option Node) → get f.files path ≡ o → codes "no entry\n" ≡ trust_text session f path
+        by : (o : Option Node) → get f.files path ≡ o → codes "no entry\n" ≡ trust_text accounts f path
         by None e = sym (ap (text_at path) e)
-        by (Some there) e = let found = found_at session s f l tree each path there e in absurd
+        by (Some there) e = let found = found_at accounts s f l tree each path there e in absurd
             (let both : Some found.0 ≡ None = sym found.1 ∙ none in cc)
 
   -- ---- the processes
 
   module _ (members : List Member) (found_members : AreMembers m members) where
-    own : HasProcessesOf session s f l.category
-    own = flat_states_have_their_processes session s f r.shows.represents named
+    own : HasProcessesOf accounts s f l.category
+    own = flat_states_have_their_processes accounts s f r.shows.represents named
 
     same_processes : found_members.processes ≡ own.processes
-    same_processes = one_list session s (places_of (length session.users)) found_members.processes own.processes
-        (subst (λ (places : Places). AreProcessesOf session s places found_members.processes) r.shows.places
-        (processes_unproved session s m.places found_members.processes
-        (subst (λ (users : Session). AreProcessesOf users s m.places found_members.processes) r.shows.users found_members.are)))
+    same_processes = one_list accounts s (roots_of (length accounts.users)) found_members.processes own.processes
+        (subst (λ (roots : Roots). AreProcessesOf accounts s roots found_members.processes) r.shows.roots
+        (processes_unproved accounts s m.roots found_members.processes
+        (subst (λ (users : Accounts). AreProcessesOf users s m.roots found_members.processes) r.shows.users found_members.are)))
         own.are_processes
 
     -- the members are those that run
@@ -196,68 +196,68 @@ module _ {session : Session} {m : MachineModel} {f : Flat} (r : ShowsReached ses
       -- it has the standing that the flat state says
       module _ (path : Path) (there : Node) (at : get f.files path ≡ Some there) (class : FileClass)
           (of_class : class_by_number number there.class ≡ flat_class class) where
-        standing_is : member_standing session.groups (flat_class class) member ≡ standing_in session there.class f member.name
-        standing_is = is_so.standing r.reached path there class at of_class member c.1 shown
+        role_is : member_role accounts.groups (flat_class class) member ≡ role_in accounts there.class f member.name
+        role_is = is_so.role r.reached path there class at of_class member c.1 shown
 
-        by_tests : ShowsStanding session there.class f member.name c.1
-        by_tests = standings_are_shown session f r.reached path there at member.name c.1 shown.runs
+        by_tests : ShowsRole accounts there.class f member.name c.1
+        by_tests = roles_are_shown accounts f r.reached path there at member.name c.1 shown.runs
 
-        pub trusted_same : has_standing session.groups (flat_class class) Trusted member ≡ is_trusted session there.class f c.0
+        pub trusted_same : has_role accounts.groups (flat_class class) Trusted member ≡ is_trusted accounts there.class f c.0
         trusted_same =
-            ap (is_same_standing Trusted) standing_is
-            ∙ trusted_is (is_trusted session there.class f member.name) (is_confined session there.class f member.name)
-            ∙ ap (is_trusted session there.class f) name_is
+            ap (is_same_role Trusted) role_is
+            ∙ trusted_is (is_trusted accounts there.class f member.name) (is_confined accounts there.class f member.name)
+            ∙ ap (is_trusted accounts there.class f) name_is
 
-        pub confined_same : has_standing session.groups (flat_class class) Confined member ≡ is_confined session there.class f c.0
+        pub confined_same : has_role accounts.groups (flat_class class) Confined member ≡ is_confined accounts there.class f c.0
         confined_same =
-            ap (is_same_standing Confined) standing_is
-            ∙ confined_is (is_trusted session there.class f member.name) (is_confined session there.class f member.name)
-            (may_read session c.1 there.class) (is_bound session there.class c.1) by_tests.trusted by_tests.confined
-            ∙ ap (is_confined session there.class f) name_is
+            ap (is_same_role Confined) role_is
+            ∙ confined_is (is_trusted accounts there.class f member.name) (is_confined accounts there.class f member.name)
+            (may_read accounts c.1 there.class) (is_bound accounts there.class c.1) by_tests.trusted by_tests.confined
+            ∙ ap (is_confined accounts there.class f) name_is
 
-        outside_same : has_standing session.groups (flat_class class) Outside member ≡ is_outsider session there.class f c.0
+        outside_same : has_role accounts.groups (flat_class class) Outside member ≡ is_outsider accounts there.class f c.0
         outside_same =
-            ap (is_same_standing Outside) standing_is
-            ∙ outside_is (is_trusted session there.class f member.name) (is_confined session there.class f member.name)
-            ∙ ap (is_outsider session there.class f) name_is
+            ap (is_same_role Outside) role_is
+            ∙ outside_is (is_trusted accounts there.class f member.name) (is_confined accounts there.class f member.name)
+            ∙ ap (is_outsider accounts there.class f) name_is
 
       -- and is a changer where the flat state says so
       changer_same : (path : Path) (classes : List FileClass) → AreClassesTo number f path classes
-          → is_shown_changer session.groups classes member ≡ is_changer session f path c.0
-      changer_same path classes to = is_so.changer path classes to member c.1 shown ∙ ap (is_changer session f path) name_is
+          → is_shown_changer accounts.groups classes member ≡ is_changer accounts f path c.0
+      changer_same path classes to = is_so.changer path classes to member c.1 shown ∙ ap (is_changer accounts f path) name_is
 
     -- ---- what is printed
 
     -- the members that pass a test are the processes that pass one on their names, where the two tests agree
     pub chosen : (test : Member → Bool) (of_name : ProcName → Bool)
         → ((member : Member) (c : Named) → runner_of member ≡ numbered f l.category c → Runs f l.category c → test member ≡ of_name c.0)
-        → map with_user (filter test members) ≡ running_where session f of_name
+        → map with_user (filter test members) ≡ running_where accounts f of_name
     chosen test of_name agree = picked f l.category test (λ c. of_name c.0) agree members (running_in f) members_are all_run
 
     module _ (path : Path) (there : Node) (at : get f.files path ≡ Some there) (class : FileClass)
         (of_class : class_by_number number there.class ≡ flat_class class) where
       -- the members of a standing
-      abbrev has : Standing → Member → Bool
-      has = has_standing session.groups (flat_class class)
+      abbrev has : Role → Member → Bool
+      has = has_role accounts.groups (flat_class class)
 
       -- who has which standing, and who could log in as a reader
-      readers_are : shown_readers (without_passwords session) members (flat_class class) ≡ readers_text session f there.class
+      readers_are : shown_readers (without_passwords accounts) members (flat_class class) ≡ readers_text accounts f there.class
       readers_are = λ i.
-          process_lines (codes "trusted") (chosen (has Trusted) (is_trusted session there.class f)
+          process_lines (codes "trusted") (chosen (has Trusted) (is_trusted accounts there.class f)
           (λ member c same runs. trusted_same member c same runs path there at class of_class) i)
-          ++ process_lines (codes "confined") (chosen (has Confined) (is_confined session there.class f)
+          ++ process_lines (codes "confined") (chosen (has Confined) (is_confined accounts there.class f)
           (λ member c same runs. confined_same member c same runs path there at class of_class) i)
-          ++ process_lines (codes "outside") (chosen (has Outside) (is_outsider session there.class f)
+          ++ process_lines (codes "outside") (chosen (has Outside) (is_outsider accounts there.class f)
           (λ member c same runs. outside_same member c same runs path there at class of_class) i)
-          ++ user_lines (codes "login") (filter (λ user. is_so.reader_login there.class class of_class user i) (same_names session.users i))
+          ++ user_lines (codes "login") (filter (λ user. is_so.reader_login there.class class of_class user i) (same_names accounts.users i))
 
     -- who may change what is there, and as whom one could log in who may
     changers_are : (path : Path) (classes : List FileClass) → AreClassesTo number f path classes
-        → shown_changers (without_passwords session) members classes ≡ changers_text session f path
+        → shown_changers (without_passwords accounts) members classes ≡ changers_text accounts f path
     changers_are path classes to = λ i.
-        process_lines (codes "changer") (chosen (is_shown_changer session.groups classes) (is_changer session f path)
+        process_lines (codes "changer") (chosen (is_shown_changer accounts.groups classes) (is_changer accounts f path)
         (λ member c same runs. changer_same member c same runs path classes to) i)
-        ++ user_lines (codes "changer-login") (filter (λ user. is_so.changer_login path classes to user i) (same_names session.users i))
+        ++ user_lines (codes "changer-login") (filter (λ user. is_so.changer_login path classes to user i) (same_names accounts.users i))
 
     -- the class of what is there
     first_class : (path : Path) (classes : List FileClass) → AreClassesTo number f path classes → (there : Node) → get f.files path ≡ Some there
@@ -279,35 +279,35 @@ module _ {session : Session} {m : MachineModel} {f : Flat} (r : ShowsReached ses
         class_is : class_flat node.class ≡ class_by_number number there.class
         class_is = ap class_flat is_at.class ∙ same_class l.category there.class
 
-        head_is : head_text node ≡ access_line_text (line_of session f [] (path, there))
+        head_is : head_text node ≡ access_line_text (line_of accounts f [] (path, there))
         head_is = λ i. access_line_text (record { path = is_at.path i; stat = is_at.stat i; cells = [] })
 
         to : AreClassesTo number f path classes
-        to = classes_are session s f l seen.tree (each seen.tree seen.is) path there at classes seen.are_classes
+        to = classes_are accounts s f l seen.tree (each seen.tree seen.is) path there at classes seen.are_classes
 
-        standings_are : shown_standings (without_passwords session) members node ≡ standings_text session f there
-        standings_are =
+        roles_are : shown_roles (without_passwords accounts) members node ≡ roles_text accounts f there
+        roles_are =
             let first = first_class path classes to there at in
             let everyone : is_for_everyone (class_flat node.class) ≡ is_for_everyone there.class =
             ap (λ c. is_for_everyone (class_flat c)) is_at.class ∙ same_everyone l.category there.class in
-            let readers : shown_readers (without_passwords session) members (class_flat node.class) ≡ readers_text session f there.class =
-            ap (shown_readers (without_passwords session) members) (class_is ∙ first.1) ∙ readers_are path there at first.0 first.1 in
+            let readers : shown_readers (without_passwords accounts) members (class_flat node.class) ≡ readers_text accounts f there.class =
+            ap (shown_readers (without_passwords accounts) members) (class_is ∙ first.1) ∙ readers_are path there at first.0 first.1 in
             λ i. if is_at.kind i then [] else if everyone i then codes "everyone\n" else readers i
 
-        whole_is : head_text node ++ shown_standings m.users members node ++ shown_changers m.users members classes
-            ≡ access_line_text (line_of session f [] (path, there)) ++ standings_text session f there ++ changers_text session f path
+        whole_is : head_text node ++ shown_roles m.users members node ++ shown_changers m.users members classes
+            ≡ access_line_text (line_of accounts f [] (path, there)) ++ roles_text accounts f there ++ changers_text accounts f path
         whole_is =
-            ap (λ (users : Session). head_text node ++ shown_standings users members node ++ shown_changers users members classes) r.shows.users
-            ∙ (λ i. head_is i ++ standings_are i ++ changers_are path classes to i)
+            ap (λ (users : Accounts). head_text node ++ shown_roles users members node ++ shown_changers users members classes) r.shows.users
+            ∙ (λ i. head_is i ++ roles_are i ++ changers_are path classes to i)
 
       -- where the tree has something, the text is that of the flat state
-      pub something_there : head_text node ++ shown_standings m.users members node ++ shown_changers m.users members classes
-          ≡ trust_text session f path
+      pub something_there : head_text node ++ shown_roles m.users members node ++ shown_changers m.users members classes
+          ≡ trust_text accounts f path
       something_there = by (get f.files path) refl
           (subst (λ o. AreAlike s l.category path o (get f.files path)) seen.found (each seen.tree seen.is path))
         where
           by : (o : Option Node) → get f.files path ≡ o → AreAlike s l.category path (Some node) (get f.files path)
-              → head_text node ++ shown_standings m.users members node ++ shown_changers m.users members classes ≡ trust_text session f path
+              → head_text node ++ shown_roles m.users members node ++ shown_changers m.users members classes ≡ trust_text accounts f path
           by None e alike = absurd (subst (λ x. AreAlike s l.category path (Some node) x) e alike)
           by (Some there) e alike =
               whole_is there e (subst (λ x. AreAlike s l.category path (Some node) x) e alike) ∙ sym (ap (text_at path) e)

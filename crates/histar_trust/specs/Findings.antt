@@ -3,7 +3,7 @@ use Rattle.std.specs.Prelude.{◌≡◌, ℕ, ◌++◌, List, [], ◌∷◌, Opt
 use Rattle.histar_flat.specs.declared.calls.User.{User}
 use Rattle.histar_flat.specs.Words.{Name, Path, ProcName}
 use Rattle.histar_flat.specs.PathOrder.{same_path}
-use Rattle.histar_flat.specs.Sessions.{Session}
+use Rattle.histar_flat.specs.Accounts.{Accounts}
 use Rattle.histar_flat.specs.Classes.{Class as FlatClass}
 use Rattle.histar_flat.specs.Classes.Class.{Private as FlatPrivate, Readable as FlatReadable, Open as FlatOpen, Scratch as FlatScratch}
 use Rattle.histar_flat.specs.Classes.Class.{Grouped as FlatGrouped}
@@ -15,16 +15,16 @@ use Rattle.histar_layout.specs.Listing.{is_directory}
 use Rattle.histar_layout.specs.declared.class.Class.{Class}
 use Rattle.histar_layout.specs.declared.class.Class.TheVariants.{Private, Readable, Open, Scratch, Group}
 use Rattle.histar_secrecy.specs.declared.file_class.FileClass.{FileClass}
-use Rattle.histar_secrecy.specs.declared.standing.Member.{Member}
-use Rattle.histar_secrecy.specs.declared.standing.Standing.{Standing}
-use Rattle.histar_secrecy.specs.declared.standing.Standing.TheVariants.{Trusted, Confined, Outside}
+use Rattle.histar_secrecy.specs.declared.role.Member.{Member}
+use Rattle.histar_secrecy.specs.declared.role.Role.{Role}
+use Rattle.histar_secrecy.specs.declared.role.Role.TheVariants.{Trusted, Confined, Outside}
 use Rattle.histar_secrecy.specs.Noninterference.{IsReached}
-use Rattle.histar_secrecy.specs.ShownStandings.{flat_class, has_standing, is_login_changer, is_login_reader, is_shown_changer, job_numbered, with_user}
-use Rattle.histar_tree.specs.declared.process.Life.{Life}
-use Rattle.histar_tree.specs.declared.process.Life.TheVariants.{Running, Exited}
-use Rattle.histar_tree.specs.declared.process.ProcessNode.{ProcessNode}
-use Rattle.histar_tree.specs.declared.tree.TreeNode.{TreeNode}
-use Rattle.histar_tree.specs.TreeLines.{node_stat}
+use Rattle.histar_secrecy.specs.ShownRoles.{flat_class, has_role, is_login_changer, is_login_reader, is_shown_changer, job_numbered, with_user}
+use Rattle.histar_readout.specs.declared.process.Life.{Life}
+use Rattle.histar_readout.specs.declared.process.Life.TheVariants.{Running, Exited}
+use Rattle.histar_readout.specs.declared.process.ProcessNode.{ProcessNode}
+use Rattle.histar_readout.specs.declared.tree.TreeNode.{TreeNode}
+use Rattle.histar_readout.specs.TreeLines.{node_stat}
 use Rattle.histar_shell.specs.Machine.{MachineModel}
 use Rattle.histar_shell.specs.Meaning.{Shows}
 use Rattle.histar_trust.specs.Secrets.{is_secret, process_mark, runner_mark, secrets_text, user_mark}
@@ -59,8 +59,8 @@ abbrev pub shown_runners : List Member → List ℕ
 shown_runners members = codes "running" ++ flat_map shown_runner members ++ codes "\n"
 
 -- the names of users
-abbrev pub names_of : Session → List Name
-names_of session = map (λ (u : User). u.name) session.users
+abbrev pub names_of : Accounts → List Name
+names_of accounts = map (λ (u : User). u.name) accounts.users
 
 -- what a tree has at a path
 abbrev pub node_at : Path → List TreeNode → Option TreeNode
@@ -85,10 +85,10 @@ abbrev pub classes_to : List TreeNode → Path → List FlatClass
 classes_to tree [] = class_there (node_at [] tree)
 classes_to tree (n ∷ d) = class_there (node_at (n ∷ d) tree) ++ classes_to tree d
 
-module _ (session : Session) (members : List Member) where
+module _ (accounts : Accounts) (members : List Member) where
   -- those of the processes that have this standing to a file of the class
-  abbrev pub those_of : FlatClass → Standing → List (ProcName × Name)
-  those_of class standing = map with_user (filter (has_standing session.groups class standing) members)
+  abbrev pub those_of : FlatClass → Role → List (ProcName × Name)
+  those_of class role = map with_user (filter (has_role accounts.groups class role) members)
 
   -- who has which standing to a file of the class, as it is printed
   abbrev pub shown_readers : FlatClass → List ℕ
@@ -96,11 +96,11 @@ module _ (session : Session) (members : List Member) where
       process_lines (codes "trusted") (those_of class Trusted)
       ++ process_lines (codes "confined") (those_of class Confined)
       ++ process_lines (codes "outside") (those_of class Outside)
-      ++ user_lines (codes "login") (filter (is_login_reader session.groups class) (names_of session))
+      ++ user_lines (codes "login") (filter (is_login_reader accounts.groups class) (names_of accounts))
 
   -- and what is printed of a file or a directory of a tree
-  abbrev pub shown_standings : TreeNode → List ℕ
-  shown_standings node =
+  abbrev pub shown_roles : TreeNode → List ℕ
+  shown_roles node =
       let class = class_flat node.class in
       if is_directory node.target then [] else if is_for_everyone class then codes "everyone\n" else shown_readers class
 
@@ -109,7 +109,7 @@ module _ (session : Session) (members : List Member) where
   shown_members class =
       flat_map (process_mark (codes "trusted")) (those_of class Trusted)
       ++ flat_map (process_mark (codes "confined")) (those_of class Confined)
-      ++ flat_map (user_mark (codes "login")) (filter (is_login_reader session.groups class) (names_of session))
+      ++ flat_map (user_mark (codes "login")) (filter (is_login_reader accounts.groups class) (names_of accounts))
 
   -- and what is printed of a file or a directory of a tree
   abbrev pub shown_secret : TreeNode → List ℕ
@@ -126,26 +126,26 @@ module _ (session : Session) (members : List Member) where
   -- who may change what is of the first of these classes, and lies in directories of the others, as it is printed
   abbrev pub shown_changers : List FileClass → List ℕ
   shown_changers classes =
-      process_lines (codes "changer") (map with_user (filter (is_shown_changer session.groups classes) members))
-      ++ user_lines (codes "changer-login") (filter (is_login_changer session.groups classes) (names_of session))
+      process_lines (codes "changer") (map with_user (filter (is_shown_changer accounts.groups classes) members))
+      ++ user_lines (codes "changer-login") (filter (is_login_changer accounts.groups classes) (names_of accounts))
 
 -- the line of a file or a directory, with no process
 abbrev pub head_text : TreeNode → List ℕ
 head_text node = access_line_text (record { path = node.path; stat = node_stat node; cells = [] })
 
 -- a machine represents a flat state that calls lead to
-pub record ShowsReached (session : Session) (m : MachineModel) (f : Flat) : Type 0 where
-  pub shows : Shows session m f
-  pub reached : IsReached session f
+pub record ShowsReached (accounts : Accounts) (m : MachineModel) (f : Flat) : Type 0 where
+  pub shows : Shows accounts m f
+  pub reached : IsReached accounts f
 
 -- a machine represents some such state
 abbrev pub HasState : MachineModel → Type 0
-HasState m = (session : Session) × (f : Flat) × ShowsReached session m f
+HasState m = (accounts : Accounts) × (f : Flat) × ShowsReached accounts m f
 
 -- whatever such state a machine represents, this is the text of that for the path
 abbrev pub ShowsTrust : MachineModel → Path → List ℕ → Type 0
-ShowsTrust m path text = (session : Session) (f : Flat) → ShowsReached session m f → text ≡ trust_text session f path
+ShowsTrust m path text = (accounts : Accounts) (f : Flat) → ShowsReached accounts m f → text ≡ trust_text accounts f path
 
 -- whatever such state a machine represents, this is the text on its processes and files
 abbrev pub ShowsSecrets : MachineModel → List ℕ → Type 0
-ShowsSecrets m text = (session : Session) (f : Flat) → ShowsReached session m f → text ≡ secrets_text session f
+ShowsSecrets m text = (accounts : Accounts) (f : Flat) → ShowsReached accounts m f → text ≡ secrets_text accounts f

@@ -2,12 +2,12 @@
 use Rattle.std.specs.Prelude.{ℕ, Bool, not, ◌&&◌, List, [], ◌++◌, codes, None, if◌then◌else◌}
 use Rattle.std.specs.List.{flat_map}
 use Rattle.histar_flat.specs.Words.{Name, Path, ProcName}
-use Rattle.histar_flat.specs.Sessions.{Session}
+use Rattle.histar_flat.specs.Accounts.{Accounts}
 use Rattle.histar_flat.specs.Classes.{Class}
 use Rattle.histar_flat.specs.FlatState.{Flat, Node, is_dir}
 use Rattle.histar_flat.specs.Texts.{path_text, process_text}
 use Rattle.histar_rights.specs.Running.{Named, running_in}
-use Rattle.histar_script.specs.Script.{Reading}
+use Rattle.histar_script.specs.Script.{ScriptModel}
 use Rattle.histar_access.specs.Session.{state_before}
 use Rattle.histar_trust.specs.TrustText.{confined_by, is_for_everyone, login_readers, trusted_with}
 
@@ -35,13 +35,13 @@ running_mark c = runner_mark c.0 c.1.user
 abbrev pub runners_line : Flat → List ℕ
 runners_line f = codes "running" ++ flat_map running_mark (running_in f) ++ codes "\n"
 
-module _ (session : Session) (f : Flat) where
+module _ (accounts : Accounts) (f : Flat) where
   -- who `trust` says is trusted with what is of the class, who is confined, and who could log in as a reader
   abbrev pub members_text : Class → List ℕ
   members_text class =
-      flat_map (process_mark (codes "trusted")) (trusted_with session f class)
-      ++ flat_map (process_mark (codes "confined")) (confined_by session f class)
-      ++ flat_map (user_mark (codes "login")) (login_readers session f class)
+      flat_map (process_mark (codes "trusted")) (trusted_with accounts f class)
+      ++ flat_map (process_mark (codes "confined")) (confined_by accounts f class)
+      ++ flat_map (user_mark (codes "login")) (login_readers accounts f class)
 
   -- of a file that not each process may read its path and these, and of all else nothing
   abbrev pub secret_text : Path × Node → List ℕ
@@ -52,5 +52,5 @@ module _ (session : Session) (f : Flat) where
   secrets_text = runners_line f ++ flat_map secret_text f.files.entries
 
 -- the text of the flat state after all calls of a script
-abbrev pub secrets_after : Reading → List ℕ
-secrets_after script = secrets_text script.session (state_before None script)
+abbrev pub secrets_after : ScriptModel → List ℕ
+secrets_after script = secrets_text script.accounts (state_before None script)

@@ -1,9 +1,9 @@
 -- What is written of a script that was read: a text of its flat state, as that on one path before a line, or that on all files after all.
 use Rattle.std.specs.Prelude.{◌≡◌, ℕ, List, Option, Result, Ok, MatchResult}
 use Rattle.std.specs.Io.KnownBytes.{Appends, Keeps}
-use Rattle.histar_devices.specs.Writing.{AppendsFront}
+use Rattle.histar_io.specs.Writing.{AppendsFront}
 use Rattle.histar_flat.specs.Words.{Path}
-use Rattle.histar_script.specs.Script.{Reading}
+use Rattle.histar_script.specs.Script.{ScriptModel}
 use Rattle.histar_script.specs.Reading.{script_of}
 use Rattle.histar_script.specs.declared.fault.Fault.{Fault}
 use Rattle.histar_script.specs.declared.fault.Fault.TheVariants.{WriteFailed}
@@ -12,32 +12,32 @@ use Rattle.histar_access.specs.Session.{state_before}
 use Rattle.histar_trust.specs.Secrets.{secrets_after}
 use Rattle.histar_trust.specs.TrustText.{trust_text}
 
-module _ (text_of : Reading → List ℕ) (old new : Option (List ℕ)) where
+module _ (text_of : ScriptModel → List ℕ) (old new : Option (List ℕ)) where
   -- the reading is of a script, and its text was written
-  pub record WritesText (read : Result Reading Fault) : Type 0 where
-    pub script : Reading
+  pub record WritesText (read : Result ScriptModel Fault) : Type 0 where
+    pub script : ScriptModel
     pub is_read : read ≡ Ok script
     pub written : Appends old new (text_of script)
 
   -- the reading is of a script, and a beginning of its text was written
-  pub record BeginsText (read : Result Reading Fault) : Type 0 where
-    pub script : Reading
+  pub record BeginsText (read : Result ScriptModel Fault) : Type 0 where
+    pub script : ScriptModel
     pub is_read : read ≡ Ok script
     pub written : AppendsFront old new (text_of script)
 
   -- at a failed write a beginning of the text was written, and at the other faults nothing
-  abbrev pub WritesAtFault : Result Reading Fault → Fault → Type 0
+  abbrev pub WritesAtFault : Result ScriptModel Fault → Fault → Type 0
   WritesAtFault read WriteFailed = BeginsText read
   WritesAtFault read fault = Keeps old new
 
 -- A text was read as a script: its fault is answered, or exactly the text of the script was written.
-pub record WritesOf (text_of : Reading → List ℕ) (text : List ℕ) (old new : Option (List ℕ)) (result : Result (Unit {0}) Fault) : Type 0 where
+pub record WritesOf (text_of : ScriptModel → List ℕ) (text : List ℕ) (old new : Option (List ℕ)) (result : Result (Unit {0}) Fault) : Type 0 where
   pub faults : AgreesWith (script_of text) result
   pub writes : MatchResult result (λ _. WritesText text_of old new (script_of text)) (WritesAtFault text_of old new (script_of text))
 
 -- the text of the flat state of a script before this line, for a path
-abbrev pub text_before : Option ℕ → Path → Reading → List ℕ
-text_before at path script = trust_text script.session (state_before at script) path
+abbrev pub text_before : Option ℕ → Path → ScriptModel → List ℕ
+text_before at path script = trust_text script.accounts (state_before at script) path
 
 -- The text was read as a script: its fault is answered, or exactly the text of its state for a path was written.
 abbrev pub TrustText : Option ℕ → Path → List ℕ → Option (List ℕ) → Option (List ℕ) → Result (Unit {0}) Fault → Type 0

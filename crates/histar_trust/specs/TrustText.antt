@@ -3,7 +3,7 @@ use Rattle.std.specs.Prelude.{ℕ, Bool, true, false, List, [], ◌++◌, None, 
 use Rattle.std.specs.List.{flat_map}
 use Rattle.histar_flat.specs.declared.calls.User.{User}
 use Rattle.histar_flat.specs.Words.{Name, Path, ProcName}
-use Rattle.histar_flat.specs.Sessions.{Session}
+use Rattle.histar_flat.specs.Accounts.{Accounts}
 use Rattle.histar_flat.specs.Files.{get}
 use Rattle.histar_flat.specs.Classes.{Class, may_read}
 use Rattle.histar_flat.specs.Classes.Class.{Readable, Open}
@@ -12,7 +12,7 @@ use Rattle.histar_flat.specs.Texts.{process_text}
 use Rattle.histar_rights.specs.Running.{Named, running_in}
 use Rattle.histar_rights.specs.Table.{access_line_text, line_of}
 use Rattle.histar_secrecy.specs.Logins.{logged_in}
-use Rattle.histar_secrecy.specs.Standings.{is_confined, is_outsider, is_trusted}
+use Rattle.histar_secrecy.specs.Roles.{is_confined, is_outsider, is_trusted}
 use Rattle.histar_secrecy.specs.Changers.{is_changer, may_change}
 
 -- a word, a process and its user on a line
@@ -37,48 +37,48 @@ is_for_everyone (Readable owner) = true
 is_for_everyone Open = true
 is_for_everyone class = false
 
-module _ (session : Session) (f : Flat) where
+module _ (accounts : Accounts) (f : Flat) where
   -- the processes that run and whose names pass the test, in the order of names, each with its user
   abbrev pub running_where : (ProcName → Bool) → List (ProcName × Name)
   running_where test = map (λ (c : Named). (c.0, c.1.user)) (filter (λ (c : Named). test c.0) (running_in f))
 
   -- the users that are declared and pass the test, in the order of the script
   abbrev pub users_where : (Name → Bool) → List Name
-  users_where test = filter test (map (λ (u : User). u.name) session.users)
+  users_where test = filter test (map (λ (u : User). u.name) accounts.users)
 
   -- who is trusted with what is of the class
   abbrev pub trusted_with : Class → List (ProcName × Name)
-  trusted_with class = running_where (is_trusted session class f)
+  trusted_with class = running_where (is_trusted accounts class f)
 
   -- who is confined by it
   abbrev pub confined_by : Class → List (ProcName × Name)
-  confined_by class = running_where (is_confined session class f)
+  confined_by class = running_where (is_confined accounts class f)
 
   -- who could log in as a reader
   abbrev pub login_readers : Class → List Name
-  login_readers class = users_where (λ user. may_read session (logged_in user) class)
+  login_readers class = users_where (λ user. may_read accounts (logged_in user) class)
 
   -- who is trusted with what is of the class, who is confined, who is an outsider, and who could log in as a reader
   abbrev pub readers_text : Class → List ℕ
   readers_text class =
       process_lines (codes "trusted") (trusted_with class)
       ++ process_lines (codes "confined") (confined_by class)
-      ++ process_lines (codes "outside") (running_where (is_outsider session class f))
+      ++ process_lines (codes "outside") (running_where (is_outsider accounts class f))
       ++ user_lines (codes "login") (login_readers class)
 
   -- of a directory nothing, and of a file `everyone` where each process may read it, and else who has which standing
-  abbrev pub standings_text : Node → List ℕ
-  standings_text node = if is_dir node then [] else if is_for_everyone node.class then codes "everyone\n" else readers_text node.class
+  abbrev pub roles_text : Node → List ℕ
+  roles_text node = if is_dir node then [] else if is_for_everyone node.class then codes "everyone\n" else readers_text node.class
 
   -- who may change what is at the path, and as whom one could log in who may
   abbrev pub changers_text : Path → List ℕ
   changers_text path =
-      process_lines (codes "changer") (running_where (is_changer session f path))
-      ++ user_lines (codes "changer-login") (users_where (λ user. may_change session f (logged_in user) path))
+      process_lines (codes "changer") (running_where (is_changer accounts f path))
+      ++ user_lines (codes "changer-login") (users_where (λ user. may_change accounts f (logged_in user) path))
 
   -- `no entry` where nothing is at the path; else its line of the table of rights with no process, the standings, and the changers
   abbrev pub trust_text : Path → List ℕ
   trust_text path = elim (get f.files path) [
     | None ↦ codes "no entry\n"
-    | Some node ↦ access_line_text (line_of session f [] (path, node)) ++ standings_text node ++ changers_text path
+    | Some node ↦ access_line_text (line_of accounts f [] (path, node)) ++ roles_text node ++ changers_text path
   ]

@@ -2,7 +2,7 @@
 ghost use Rattle.std.specs.Prelude.{◌≡◌, ◌++◌, [], ◌∷◌, codes, IfOk, OnOk};
 ghost use Rattle.std.specs.List.{flat_map};
 ghost use Rattle.histar_layout.specs.Listing.{is_directory};
-ghost use Rattle.histar_secrecy.specs.ShownStandings.{flat_class};
+ghost use Rattle.histar_secrecy.specs.ShownRoles.{flat_class};
 ghost use Rattle.histar_trust.specs.Findings.{AddsSecrets, HasState, ShowsSecrets, shown_members, shown_runner, shown_runners};
 ghost use Rattle.histar_trust.specs.Secrets.{is_secret, process_mark, user_mark};
 
@@ -12,9 +12,9 @@ use crate::way::file_class;
 use histar_flat::{Name, ProcName};
 use histar_label::LabelStore;
 use histar_layout::UserTable;
-use histar_secrecy::{FileClass, Member, Standing, login_readers, with_standing};
+use histar_readout::TreeNode;
+use histar_secrecy::{FileClass, Member, Role, login_readers, with_role};
 use histar_shell::{Machine, push_path, push_process};
-use histar_tree::TreeNode;
 use std::alloc::{AllocError, Global};
 
 /// Returns a line with the processes that run on a machine, and then one for each file that not every process
@@ -128,9 +128,9 @@ fn push_members(
         ≡ text.old.items ++ shown_members users.now members.now (flat_class class.now)) }
 {
     let groups = users.groups();
-    let trusted = with_standing(alloc, groups, class, Standing::Trusted, members)?;
+    let trusted = with_role(alloc, groups, class, Role::Trusted, members)?;
     push_processes(text, b"trusted", trusted.as_slice())?;
-    let confined = with_standing(alloc, groups, class, Standing::Confined, members)?;
+    let confined = with_role(alloc, groups, class, Role::Confined, members)?;
     push_processes(text, b"confined", confined.as_slice())?;
     let names = user_names(alloc, users)?;
     let readers = login_readers(alloc, groups, class, names.as_slice())?;

@@ -7,9 +7,9 @@ ghost use Rattle.histar_trust.specs.Findings.{names_of, runner_of, running_node}
 use histar_flat::Name;
 use histar_label::{Category, LabelStore};
 use histar_layout::UserTable;
+use histar_readout::{Life, ProcessNode, procs_of};
 use histar_secrecy::Member;
 use histar_shell::Machine;
-use histar_tree::{Life, ProcessNode, procs_of};
 use std::alloc::{AllocError, Global};
 
 /// Returns the processes of a machine, in the order of their names.
@@ -20,7 +20,7 @@ pub fn processes<S: LabelStore + Drop>(
     requires { HasProcesses machine.now }
     ensures { IfOk result (λ processes. AreProcessesIn machine.now processes.items) }
 {
-    match procs_of(alloc, machine.kernel(), machine.places(), machine.users())? {
+    match procs_of(alloc, machine.kernel(), machine.roots(), machine.users())? {
         Some(processes) => Ok(processes),
         None => unreachable!(),
     }

@@ -1,7 +1,7 @@
 //! The lines on who has to be trusted.
 ghost use Rattle.std.specs.Prelude.{◌≡◌, ◌++◌, IfOk, OnOk};
-ghost use Rattle.histar_secrecy.specs.ShownStandings.{flat_class};
-ghost use Rattle.histar_trust.specs.Findings.{HasState, ShowsTrust, head_text, shown_changers, shown_readers, shown_standings};
+ghost use Rattle.histar_secrecy.specs.ShownRoles.{flat_class};
+ghost use Rattle.histar_trust.specs.Findings.{HasState, ShowsTrust, head_text, shown_changers, shown_readers, shown_roles};
 ghost use Rattle.histar_trust.specs.TrustText.{is_for_everyone, process_line, process_lines, user_lines};
 
 use crate::members::{members_among, processes, user_names};
@@ -9,11 +9,11 @@ use crate::way::{file_class, node_at, push_classes};
 use histar_flat::{Name, Path, ProcName};
 use histar_label::LabelStore;
 use histar_layout::UserTable;
+use histar_readout::TreeNode;
 use histar_secrecy::{
-    FileClass, Member, Standing, changers_of, login_changers, login_readers, with_standing,
+    FileClass, Member, Role, changers_of, login_changers, login_readers, with_role,
 };
 use histar_shell::{Machine, push_path, push_process, push_stat};
-use histar_tree::TreeNode;
 use std::alloc::{AllocError, Global};
 
 /// Returns the lines on what is at a path of a machine.
@@ -38,7 +38,7 @@ pub fn trust_lines<S: LabelStore + Drop>(
     let members = members_among(alloc, processes.as_slice())?;
     let mut text = Vec::new(alloc);
     push_head(&mut text, node)?;
-    push_standings(alloc, &mut text, machine.users(), members.as_slice(), node)?;
+    push_roles(alloc, &mut text, machine.users(), members.as_slice(), node)?;
     push_changers(
         alloc,
         &mut text,
@@ -61,7 +61,7 @@ fn push_head(text: &mut Vec<u8>, node: &TreeNode) -> Result<(), AllocError>
 
 /// Adds what is known of who may read a file: a line for each process by its standing, and for each user who
 /// could log in as a reader, or one line where each process may read it. Of a directory nothing is added.
-fn push_standings(
+fn push_roles(
     alloc: Global,
     text: &mut Vec<u8>,
     users: &UserTable,
@@ -69,7 +69,7 @@ fn push_standings(
     node: &TreeNode,
 ) -> Result<(), AllocError>
     ensures { OnOk result (text.new.items
-        ≡ text.old.items ++ shown_standings users.now members.now node.now) }
+        ≡ text.old.items ++ shown_roles users.now members.now node.now) }
 {
     if node.stat().is_directory {
         return Ok(());
@@ -101,11 +101,11 @@ fn push_readers(
         ≡ text.old.items ++ shown_readers users.now members.now (flat_class class.now)) }
 {
     let groups = users.groups();
-    let trusted = with_standing(alloc, groups, class, Standing::Trusted, members)?;
+    let trusted = with_role(alloc, groups, class, Role::Trusted, members)?;
     push_processes(text, b"trusted", trusted.as_slice())?;
-    let confined = with_standing(alloc, groups, class, Standing::Confined, members)?;
+    let confined = with_role(alloc, groups, class, Role::Confined, members)?;
     push_processes(text, b"confined", confined.as_slice())?;
-    let outside = with_standing(alloc, groups, class, Standing::Outside, members)?;
+    let outside = with_role(alloc, groups, class, Role::Outside, members)?;
     push_processes(text, b"outside", outside.as_slice())?;
     let names = user_names(alloc, users)?;
     let readers = login_readers(alloc, groups, class, names.as_slice())?;

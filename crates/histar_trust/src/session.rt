@@ -1,14 +1,14 @@
 //! Who has to be trusted after the calls of a script, from bytes to bytes.
 ghost use Rattle.std.specs.Prelude.{◌≡◌, false, IfErr, IfSome};
-ghost use Rattle.histar_devices.specs.Device.{CountsFailure};
+ghost use Rattle.histar_io.specs.Device.{CountsFailure};
 ghost use Rattle.histar_script.specs.Runs.{LeavesSink, is_read_failed, is_write_failed, RunsInput};
 ghost use Rattle.histar_trust.specs.Session.{SecretsText, TrustText};
 
 use crate::files::secret_lines;
 use crate::output::trust_lines;
 use histar_access::machine_before;
-use histar_devices::{Sink, Source, read_input, write_bytes};
 use histar_flat::Path;
+use histar_io::{Sink, Source, read_input, write_bytes};
 use histar_script::Fault;
 use std::alloc::Global;
 

@@ -1,14 +1,14 @@
 //! What is at a path, and the directories above it.
 ghost use Rattle.std.specs.Prelude.{◌≡◌, ◌++◌, IfOk, map, OnOk};
 ghost use Rattle.std.specs.Option.{option_copied};
-ghost use Rattle.histar_secrecy.specs.ShownStandings.{flat_class};
+ghost use Rattle.histar_secrecy.specs.ShownRoles.{flat_class};
 ghost use Rattle.histar_trust.specs.Findings.{class_flat, class_there, classes_to, node_at};
 
 use crate::members::numbers;
 use histar_flat::Name;
 use histar_layout::Class;
+use histar_readout::TreeNode;
 use histar_secrecy::FileClass;
-use histar_tree::TreeNode;
 use std::alloc::{AllocError, Global};
 
 /// Returns what a tree has at the path of these names, of which the last stands first.

@@ -10,9 +10,9 @@ use Rattle.histar_rules.specs.declared.raw.Refusal.{Refusal}
 use Rattle.histar_rules.specs.declared.raw.Refusal.TheVariants as refusals
 use Rattle.histar_syscall.specs.KernelModel.{KernelModel, state, Called, Answered}
 use Rattle.histar_syscall.proofs.Runs.{same_kernel}
-use Rattle.histar_calls.specs.declared.ending.Ending.{Ending}
-use Rattle.histar_calls.specs.declared.ending.Ending.TheVariants.{Refused, Stopped}
-use Rattle.histar_calls.specs.Refusals.{errno_for, ending_of, ending_with}
+use Rattle.histar_calls.specs.declared.call_error.CallError.{CallError}
+use Rattle.histar_calls.specs.declared.call_error.CallError.TheVariants.{Refused, Stopped}
+use Rattle.histar_calls.specs.Refusals.{errno_for, call_error_of, call_error_with}
 use Rattle.histar_calls.specs.Programs.{AnswerOf, IsAnswer, Program, Part, LeadsTo, RunsPart}
 use Rattle.histar_calls.specs.Programs.Program.{Answers}
 use Rattle.histar_calls.proofs.Running.{asked, onward, then_part, part_fails}
@@ -20,16 +20,16 @@ use Rattle.histar_wrap.specs.Scratch.{ask_or_give_back, give_back, gives_back_wi
 use Rattle.histar_wrap.specs.Steps.{ask_or_stop, restore, stopping}
 
 -- an ending with an errno comes of that errno
-of_errno : (o : Option Errno) (errno : Errno) → ending_with o ≡ Refused errno → o ≡ Some errno
+of_errno : (o : Option Errno) (errno : Errno) → call_error_with o ≡ Refused errno → o ≡ Some errno
 of_errno None errno e = absurd cc
 of_errno (Some other) errno e = ap Some (ap errno_in e)
   where
-    errno_in : Ending → Errno
+    errno_in : CallError → Errno
     errno_in (Refused found) = found
     errno_in Stopped = other
 
 -- an ending without one comes of none
-of_none : (o : Option Errno) → ending_with o ≡ Stopped → o ≡ None
+of_none : (o : Option Errno) → call_error_with o ≡ Stopped → o ≡ None
 of_none None e = refl
 of_none (Some errno) e = absurd cc
 
@@ -61,13 +61,13 @@ module _ (t : ℕ) (call : RawCall) (old new : KernelModel) where
         subst (λ (e : Option Errno). LeadsTo (ask_or_give_back own call rest) old (gives_back_with own e) new t) is (asked t call (or_given_back own (errno_for call) rest) old new (Err denied) called)
 
     -- it was refused, and there is no errno to tell
-    pub stops_there : {A : Type 0} (P : A → Type 0) (refusal : Refusal) → Answered {A = A} old new t call (Err refusal) P → ending_of (errno_for call) refusal ≡ Stopped → RunsPart (ask_or_give_back own call) old new t (Err Stopped)
+    pub stops_there : {A : Type 0} (P : A → Type 0) (refusal : Refusal) → Answered {A = A} old new t call (Err refusal) P → call_error_of (errno_for call) refusal ≡ Stopped → RunsPart (ask_or_give_back own call) old new t (Err Stopped)
     unfolding RunsPart
     stops_there P (refusals.Denied denied) called is = λ rest. (to_give_back rest denied None (of_none (errno_for call denied) is) called).begins new (same_kernel new)
     stops_there P refusals.OutOfMemory same is = λ rest. inl same
 
     -- it was denied with this errno
-    pub leads_back : {A : Type 0} (P : A → Type 0) (refusal : Refusal) (errno : Errno) → Answered {A = A} old new t call (Err refusal) P → ending_of (errno_for call) refusal ≡ Refused errno → (rest : AnswerOf call → Program) → LeadsTo (ask_or_give_back own call rest) old (give_back own errno) new t
+    pub leads_back : {A : Type 0} (P : A → Type 0) (refusal : Refusal) (errno : Errno) → Answered {A = A} old new t call (Err refusal) P → call_error_of (errno_for call) refusal ≡ Refused errno → (rest : AnswerOf call → Program) → LeadsTo (ask_or_give_back own call rest) old (give_back own errno) new t
     leads_back P (refusals.Denied denied) errno called is = λ rest. to_give_back rest denied (Some errno) (of_errno (errno_for call denied) errno is) called
     leads_back P refusals.OutOfMemory errno same is = absurd cc
 
@@ -80,7 +80,7 @@ before_asking t call k = λ rest. inl (same_kernel k)
 
 module _ (t : ℕ) (old new : KernelModel) where
   -- the thread was given the label that is due
-  pub label_given : (label due : Levels) → label ≡ due → (answer : Result (Unit {0}) Refusal) → Answered old new t (SetLabel label) answer (λ _. Unit {0}) → (result : Result (Unit {0}) Ending) → result ≡ stopping answer → RunsPart (ask_or_stop (SetLabel due)) old new t result
+  pub label_given : (label due : Levels) → label ≡ due → (answer : Result (Unit {0}) Refusal) → Answered old new t (SetLabel label) answer (λ _. Unit {0}) → (result : Result (Unit {0}) CallError) → result ≡ stopping answer → RunsPart (ask_or_stop (SetLabel due)) old new t result
   label_given label due same answer answered result is =
       subst (λ (l : Levels). RunsPart {A = Unit {0}} (ask_or_stop (SetLabel l)) old new t result) same
       (subst (RunsPart {A = Unit {0}} (ask_or_stop (SetLabel label)) old new t) (sym is) (by answer answered))
@@ -90,7 +90,7 @@ module _ (t : ℕ) (old new : KernelModel) where
       by (Err refusal) given = is_refused t (SetLabel label) old new (λ _. Unit {0}) refusal given
 
   -- and the clearance
-  pub clearance_given : (clearance due : Levels) → clearance ≡ due → (answer : Result (Unit {0}) Refusal) → Answered old new t (SetClearance clearance) answer (λ _. Unit {0}) → (result : Result (Unit {0}) Ending) → result ≡ stopping answer → RunsPart (ask_or_stop (SetClearance due)) old new t result
+  pub clearance_given : (clearance due : Levels) → clearance ≡ due → (answer : Result (Unit {0}) Refusal) → Answered old new t (SetClearance clearance) answer (λ _. Unit {0}) → (result : Result (Unit {0}) CallError) → result ≡ stopping answer → RunsPart (ask_or_stop (SetClearance due)) old new t result
   clearance_given clearance due same answer answered result is =
       subst (λ (l : Levels). RunsPart {A = Unit {0}} (ask_or_stop (SetClearance l)) old new t result) same
       (subst (RunsPart {A = Unit {0}} (ask_or_stop (SetClearance clearance)) old new t) (sym is) (by answer answered))
@@ -105,11 +105,11 @@ module _ (t : ℕ) (old new : KernelModel) where
     after_label done = ask_or_stop (SetClearance own.1)
 
     -- the label was not given
-    pub label_fails : (ending : Ending) → RunsPart (ask_or_stop (SetLabel own.0)) old new t (Err ending) → RunsPart (restore own) old new t (Err ending)
-    label_fails ending first = part_fails t (ask_or_stop (SetLabel own.0)) old new after_label ending first
+    pub label_fails : (call_error : CallError) → RunsPart (ask_or_stop (SetLabel own.0)) old new t (Err call_error) → RunsPart (restore own) old new t (Err call_error)
+    label_fails call_error first = part_fails t (ask_or_stop (SetLabel own.0)) old new after_label call_error first
 
     -- it was
-    pub label_then : (mid : KernelModel) → RunsPart (ask_or_stop (SetLabel own.0)) old mid t (Ok tt) → (result : Result (Unit {0}) Ending) → RunsPart (ask_or_stop (SetClearance own.1)) mid new t result → RunsPart (restore own) old new t result
+    pub label_then : (mid : KernelModel) → RunsPart (ask_or_stop (SetLabel own.0)) old mid t (Ok tt) → (result : Result (Unit {0}) CallError) → RunsPart (ask_or_stop (SetClearance own.1)) mid new t result → RunsPart (restore own) old new t result
     label_then mid first result second = then_part t (ask_or_stop (SetLabel own.0)) old new after_label mid tt first result second
 
     -- what was taken was given back, or that stopped the call
@@ -117,7 +117,7 @@ module _ (t : ℕ) (old new : KernelModel) where
     unfolding RunsPart
     gives_back A part mid errno first second = λ rest. onward t (first rest) (second (λ _. Answers (replies.Refused errno)))
 
-    pub gives_back_not : (A : Type 0) (part : Part A) (mid : KernelModel) (errno : Errno) → ((rest : A → Program) → LeadsTo (part rest) old (give_back own errno) mid t) → (ending : Ending) → RunsPart (restore own) mid new t (Err ending) → RunsPart part old new t (Err ending)
+    pub gives_back_not : (A : Type 0) (part : Part A) (mid : KernelModel) (errno : Errno) → ((rest : A → Program) → LeadsTo (part rest) old (give_back own errno) mid t) → (call_error : CallError) → RunsPart (restore own) mid new t (Err call_error) → RunsPart part old new t (Err call_error)
     unfolding RunsPart
     gives_back_not A part mid errno first (Refused other) second = λ rest. onward t (first rest) (second (λ _. Answers (replies.Refused errno)))
     gives_back_not A part mid errno first Stopped second = λ rest. (first rest).begins new (second (λ _. Answers (replies.Refused errno)))

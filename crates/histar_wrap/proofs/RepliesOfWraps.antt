@@ -1,7 +1,7 @@
 -- The program of a wrap replies to its refusals.
 use Rattle.std.proofs.Common.{ℕ, ◌+◌, [], ◌∷◌, refl}
 use Rattle.std.specs.FinMap as map
-use Rattle.histar_flat.specs.Sessions.{Session}
+use Rattle.histar_flat.specs.Accounts.{Accounts}
 use Rattle.histar_flat.specs.Words.{Path, ProcName}
 use Rattle.histar_flat.specs.declared.replies.Reply.TheVariants.{Child}
 use Rattle.histar_label.specs.declared.levels.Level.TheVariants.{Star, L3}
@@ -18,8 +18,8 @@ use Rattle.histar_calls.specs.Programs.{Program}
 use Rattle.histar_calls.specs.Programs.Program.{Answers}
 use Rattle.histar_calls.specs.Refusals.{errno_of}
 use Rattle.histar_calls.specs.declared.find.Room.{Room}
-use Rattle.histar_calls.specs.declared.places.Home.{Home}
-use Rattle.histar_calls.specs.declared.places.Places.{Places}
+use Rattle.histar_calls.specs.declared.roots.Home.{Home}
+use Rattle.histar_calls.specs.declared.roots.Roots.{Roots}
 use Rattle.histar_calls.proofs.RepliesOfPrograms.{ask_replies, room_replies}
 use Rattle.histar_process.specs.Birth.{birth}
 use Rattle.histar_process.proofs.RepliesOfProcessCalls.{birth_replies, child_replies}
@@ -38,7 +38,7 @@ denial_has_reply own NoThread = tt
 denial_has_reply own BadKind = tt
 denial_has_reply own TooBig = tt
 
-module _ (own : Levels × Levels) (rest : Program) (tells : RepliesToRefusals rest) where
+module _ (own : Levels × Levels) (rest : Program) (obeys : RepliesToRefusals rest) where
   module _ (label : Levels) (room : Room) where
     -- what comes after the directory segment of a scratch directory
     abbrev listed : ℕ → ℕ → Program
@@ -49,7 +49,7 @@ module _ (own : Levels × Levels) (rest : Program) (tells : RepliesToRefusals re
     unfolding make_scratch
     scratch_replies = (
       (λ container. ask_replies (MakeSegment container label []) (listed container) (λ listing.
-          ask_replies (Write room.place.container room.place.listing 0 (spelling (map.insert room.entries room.name (Directory container listing)))) (λ _. rest) (λ _. tells))),
+          ask_replies (Write room.place.container room.place.listing 0 (spelling (map.insert room.entries room.name (Directory container listing)))) (λ _. rest) (λ _. obeys))),
       denial_has_reply own,
     )
 
@@ -58,34 +58,34 @@ module _ (own : Levels × Levels) (rest : Program) (tells : RepliesToRefusals re
   unfolding hold_job
   hold_replies job =
       ask_replies (SetLabel (with_level own.0 job Star)) (λ _. ask (SetClearance (with_level own.1 job L3)) (λ _. rest)) (λ _.
-      ask_replies (SetClearance (with_level own.1 job L3)) (λ _. rest) (λ _. tells))
+      ask_replies (SetClearance (with_level own.1 job L3)) (λ _. rest) (λ _. obeys))
 
-module _ (session : Session) (places : Places) (name : ProcName) (me : Home) (path : Path) where
+module _ (accounts : Accounts) (roots : Roots) (name : ProcName) (me : Home) (path : Path) where
   -- what comes after the birth
   abbrev held : ProcessStatus → Levels × Levels → ℕ → Program
   held status own job = hold_job own job (λ _. Answers (Child ((status.born + 1) ∷ name)))
 
   -- what comes after the scratch directory
   abbrev born : ProcessStatus → Levels × Levels → ℕ → Program
-  born status own job = birth me status (kin_in session own.0 job) (λ _. held status own job)
+  born status own job = birth me status (kin_in accounts own.0 job) (λ _. held status own job)
 
   -- what comes after the category
   abbrev scratched : ProcessStatus → Room → Levels × Levels → ℕ → Program
-  scratched status room own job = make_scratch own (directory_label session own.0 job) room (λ _. born status own job)
+  scratched status room own job = make_scratch own (directory_label accounts own.0 job) room (λ _. born status own job)
 
   -- and after there is room for a child
   abbrev found : ProcessStatus → Program
-  found status = find_room places path (λ room. ask OwnLabel (λ own. ask MakeCategory (scratched status room own)))
+  found status = find_room roots path (λ room. ask OwnLabel (λ own. ask MakeCategory (scratched status room own)))
 
   job_replies : (status : ProcessStatus) (room : Room) (own : Levels × Levels) (job : ℕ) → RepliesToRefusals (scratched status room own job)
   job_replies status room own job =
-      scratch_replies own (born status own job) (birth_replies me status (kin_in session own.0 job) (λ _. held status own job) (hold_replies own (Answers (Child ((status.born + 1) ∷ name))) (refl, refl) job)) (directory_label session own.0 job) room
+      scratch_replies own (born status own job) (birth_replies me status (kin_in accounts own.0 job) (λ _. held status own job) (hold_replies own (Answers (Child ((status.born + 1) ∷ name))) (refl, refl) job)) (directory_label accounts own.0 job) room
 
   found_replies : (status : ProcessStatus) → RepliesToRefusals (found status)
   found_replies status =
-      room_replies places path _ (λ room. ask_replies OwnLabel (λ own. ask MakeCategory (scratched status room own)) (λ own. ask_replies MakeCategory (scratched status room own) (λ job. job_replies status room own job)))
+      room_replies roots path _ (λ room. ask_replies OwnLabel (λ own. ask MakeCategory (scratched status room own)) (λ own. ask_replies MakeCategory (scratched status room own) (λ job. job_replies status room own job)))
 
-  wrap_replies : RepliesToRefusals (wrap_program session places name me path)
+  wrap_replies : RepliesToRefusals (wrap_program accounts roots name me path)
   unfolding wrap_program
   wrap_replies = child_replies name me found found_replies
 

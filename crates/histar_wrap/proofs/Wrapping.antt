@@ -1,7 +1,7 @@
 -- How the code of `wrap` runs its program, from one part to the next.
 use Rattle.std.proofs.Common.{◌≡◌, ℕ, ◌+◌, List, ◌∷◌, Result, Ok, Err, length, inl, sym, ap, ◌∙◌}
 use Rattle.std.specs.Prelude.{false}
-use Rattle.histar_flat.specs.Sessions.{Session}
+use Rattle.histar_flat.specs.Accounts.{Accounts}
 use Rattle.histar_flat.specs.Words.{Path, ProcName}
 use Rattle.histar_flat.specs.declared.replies.Reply.TheVariants.{Child}
 use Rattle.histar_label.specs.Levels.{Levels}
@@ -13,11 +13,11 @@ use Rattle.histar_layout.specs.Categories.{IsUserOf, scratch_label}
 use Rattle.histar_calls.specs.Parts.{ask, find_room}
 use Rattle.histar_calls.specs.Programs.{Part, Program, RunsPart}
 use Rattle.histar_calls.specs.Programs.Program.{Answers}
-use Rattle.histar_calls.specs.declared.ending.Ending.{Ending}
-use Rattle.histar_calls.specs.declared.ending.Ending.TheVariants.{Stopped as HasStopped}
+use Rattle.histar_calls.specs.declared.call_error.CallError.{CallError}
+use Rattle.histar_calls.specs.declared.call_error.CallError.TheVariants.{Stopped as HasStopped}
 use Rattle.histar_calls.specs.declared.find.Room.{Room}
-use Rattle.histar_calls.specs.declared.places.Home.{Home}
-use Rattle.histar_calls.specs.declared.places.Places.{Places}
+use Rattle.histar_calls.specs.declared.roots.Home.{Home}
+use Rattle.histar_calls.specs.declared.roots.Roots.{Roots}
 use Rattle.histar_calls.proofs.Exits.{Leaves}
 use Rattle.histar_calls.proofs.Running.{then_part, part_fails}
 use Rattle.histar_layout.proofs.UserOf.{user_is}
@@ -39,15 +39,15 @@ module _ (t : ℕ) (own : Levels × Levels) (label : Levels) (room : Room) (k : 
   pub before_scratch : RunsPart (make_scratch own label room) k k t (Err HasStopped)
   before_scratch = without_container t own label room k k HasStopped before_container
 
-module _ (session : Session) (own : Levels) (job user : ℕ) (jobs : List ℕ) (is : IsUserOf own (length session.users) user) (jobs_are : jobs ≡ jobs_with own job) where
+module _ (accounts : Accounts) (own : Levels) (job user : ℕ) (jobs : List ℕ) (is : IsUserOf own (length accounts.users) user) (jobs_are : jobs ≡ jobs_with own job) where
   -- the label of the scratch directory is what the thread's own label says
-  pub directory_is : (label : Levels) → label ≡ scratch_label user jobs → label ≡ directory_label session own job
-  directory_is label label_is = label_is ∙ (λ i. scratch_label (sym (user_is own (length session.users) user is) i) (jobs_are i))
+  pub directory_is : (label : Levels) → label ≡ scratch_label user jobs → label ≡ directory_label accounts own job
+  directory_is label label_is = label_is ∙ (λ i. scratch_label (sym (user_is own (length accounts.users) user is) i) (jobs_are i))
 
   -- and so is what the first process gets
-  pub kin_is : (owned : List ℕ) → owned ≡ owned_by session user false → record { owned = owned; jobs = jobs } ≡ kin_in session own job
+  pub kin_is : (owned : List ℕ) → owned ≡ owned_by accounts user false → record { owned = owned; jobs = jobs } ≡ kin_in accounts own job
   kin_is owned owned_is = λ i. record {
-    owned = (owned_is ∙ ap (λ (u : ℕ). owned_by session u false) (sym (user_is own (length session.users) user is))) i;
+    owned = (owned_is ∙ ap (λ (u : ℕ). owned_by accounts u false) (sym (user_is own (length accounts.users) user is))) i;
     jobs = jobs_are i;
   }
 
@@ -58,19 +58,19 @@ module _ (t : ℕ) (me : Home) (status : ProcessStatus) (room : Room) (plan : Jo
   born rest = birth me status plan.kin (λ _. hold_job plan.own plan.job rest)
 
   -- no scratch directory is made
-  pub no_scratch : (new : KernelModel) (ending : Ending) → RunsPart (make_scratch plan.own plan.label room) old new t (Err ending) → RunsPart (fill_job me status room plan) old new t (Err ending)
-  no_scratch new ending first = part_fails t (make_scratch plan.own plan.label room) old new (λ (done : Unit {0}). born) ending first
+  pub no_scratch : (new : KernelModel) (call_error : CallError) → RunsPart (make_scratch plan.own plan.label room) old new t (Err call_error) → RunsPart (fill_job me status room plan) old new t (Err call_error)
+  no_scratch new call_error first = part_fails t (make_scratch plan.own plan.label room) old new (λ (done : Unit {0}). born) call_error first
 
   module _ (mid : KernelModel) (made : RunsPart (make_scratch plan.own plan.label room) old mid t (Ok tt)) where
-    after_scratch : (new : KernelModel) (result : Result (Unit {0}) Ending) → RunsPart born mid new t result → RunsPart (fill_job me status room plan) old new t result
+    after_scratch : (new : KernelModel) (result : Result (Unit {0}) CallError) → RunsPart born mid new t result → RunsPart (fill_job me status room plan) old new t result
     after_scratch new result rest = then_part t (make_scratch plan.own plan.label room) old new (λ (done : Unit {0}). born) mid tt made result rest
 
     -- no process is born
-    pub no_birth : (new : KernelModel) (ending : Ending) → RunsPart (birth me status plan.kin) mid new t (Err ending) → RunsPart (fill_job me status room plan) old new t (Err ending)
-    no_birth new ending first = after_scratch new (Err ending) (part_fails t (birth me status plan.kin) mid new (λ (done : Unit {0}). hold_job plan.own plan.job) ending first)
+    pub no_birth : (new : KernelModel) (call_error : CallError) → RunsPart (birth me status plan.kin) mid new t (Err call_error) → RunsPart (fill_job me status room plan) old new t (Err call_error)
+    no_birth new call_error first = after_scratch new (Err call_error) (part_fails t (birth me status plan.kin) mid new (λ (done : Unit {0}). hold_job plan.own plan.job) call_error first)
 
     -- the thread holds the job, or doesn't
-    pub held : (late new : KernelModel) → RunsPart (birth me status plan.kin) mid late t (Ok tt) → (result : Result (Unit {0}) Ending) → RunsPart (hold_job plan.own plan.job) late new t result → RunsPart (fill_job me status room plan) old new t result
+    pub held : (late new : KernelModel) → RunsPart (birth me status plan.kin) mid late t (Ok tt) → (result : Result (Unit {0}) CallError) → RunsPart (hold_job plan.own plan.job) late new t result → RunsPart (fill_job me status room plan) old new t result
     held late new first result second =
         after_scratch new result (then_part t (birth me status plan.kin) mid new (λ (done : Unit {0}). hold_job plan.own plan.job) late tt first result second)
 
@@ -78,14 +78,14 @@ module _ (t : ℕ) (me : Home) (status : ProcessStatus) (room : Room) (plan : Jo
 pub before_filling : (t : ℕ) (me : Home) (status : ProcessStatus) (room : Room) (plan : JobPlan) (k : KernelModel) → RunsPart (fill_job me status room plan) k k t (Err HasStopped)
 before_filling t me status room plan k = no_scratch t me status room plan k k HasStopped (before_scratch t plan.own plan.label room k)
 
-module _ (session : Session) (places : Places) (name : ProcName) (me : Home) (path : Path) where
+module _ (accounts : Accounts) (roots : Roots) (name : ProcName) (me : Home) (path : Path) where
   -- what is still to do once the job is filled
   abbrev pub after_filling : ProcessStatus → Program
   after_filling status = Answers (Child ((status.born + 1) ∷ name))
 
   -- once the category is made
   abbrev pub after_job : ProcessStatus → Room → Levels × Levels → ℕ → Program
-  after_job status room own job = fill_job me status room (plan_for session own job) (λ (done : Unit {0}). after_filling status)
+  after_job status room own job = fill_job me status room (plan_for accounts own job) (λ (done : Unit {0}). after_filling status)
 
   -- once the thread's labels are known
   abbrev pub after_own : ProcessStatus → Room → Levels × Levels → Program
@@ -97,9 +97,9 @@ module _ (session : Session) (places : Places) (name : ProcName) (me : Home) (pa
 
   -- and once there is room for a child
   abbrev pub after_status : ProcessStatus → Program
-  after_status status = find_room places path (after_room status)
+  after_status status = find_room roots path (after_room status)
 
   -- at first all is left
-  pub begun : (t : ℕ) (old : KernelModel) → Leaves t (wrap_program session places name me path) old (room_for_child name me after_status) old
+  pub begun : (t : ℕ) (old : KernelModel) → Leaves t (wrap_program accounts roots name me path) old (room_for_child name me after_status) old
   unfolding wrap_program
   begun t old = record { leads = λ new result on. on }

@@ -1,12 +1,12 @@
 -- A job, once its category is made: what it is made of, and the part of the program that makes it.
 use Rattle.std.specs.Prelude.{◌≡◌, ℕ, List, Option, Some, Result}
-use Rattle.histar_flat.specs.Sessions.{Session}
+use Rattle.histar_flat.specs.Accounts.{Accounts}
 use Rattle.histar_label.specs.Levels.{Levels}
 use Rattle.histar_syscall.specs.KernelModel.{KernelModel}
 use Rattle.histar_layout.specs.Status.{ProcessStatus, status_in}
-use Rattle.histar_calls.specs.declared.ending.Ending.{Ending}
+use Rattle.histar_calls.specs.declared.call_error.CallError.{CallError}
 use Rattle.histar_calls.specs.declared.find.Room.{Room}
-use Rattle.histar_calls.specs.declared.places.Home.{Home}
+use Rattle.histar_calls.specs.declared.roots.Home.{Home}
 use Rattle.histar_calls.specs.Parts.{◌>>◌}
 use Rattle.histar_calls.specs.Programs.{Part, RunsPart}
 use Rattle.histar_process.specs.declared.caller.Caller.{Caller}
@@ -23,8 +23,8 @@ pub record JobPlan : Type 0 where
   pub kin : Kin
 
 -- the plan of a new job of a thread with this label and clearance
-abbrev pub plan_for : Session → Levels × Levels → ℕ → JobPlan
-plan_for session own job = record { own = own; job = job; label = directory_label session own.0 job; kin = kin_in session own.0 job }
+abbrev pub plan_for : Accounts → Levels × Levels → ℕ → JobPlan
+plan_for accounts own job = record { own = own; job = job; label = directory_label accounts own.0 job; kin = kin_in accounts own.0 job }
 
 -- the plan that the code keeps
 abbrev pub planned : Plan → JobPlan
@@ -39,6 +39,6 @@ fill_job me status room plan rest = do
   rest tt
 
 -- a job was filled by a caller whose process segment has these bytes, whatever status they show
-abbrev pub FillsJob : Caller → List ℕ → Room → JobPlan → KernelModel → KernelModel → Result (Unit {0}) Ending → Type 0
+abbrev pub FillsJob : Caller → List ℕ → Room → JobPlan → KernelModel → KernelModel → Result (Unit {0}) CallError → Type 0
 FillsJob caller bytes room plan old new result =
     (status : ProcessStatus) → status_in bytes ≡ Some status → RunsPart (fill_job caller.home status room plan) old new caller.thread result

@@ -1,7 +1,7 @@
 -- The scratch directory of a job, and who holds the job.
 use Rattle.std.specs.Prelude.{ℕ, false, List, [], ◌∷◌, ◌++◌, length, Option, None, Some, Result, Ok, Err}
 use Rattle.std.specs.FinMap as map
-use Rattle.histar_flat.specs.Sessions.{Session}
+use Rattle.histar_flat.specs.Accounts.{Accounts}
 use Rattle.histar_flat.specs.declared.replies.Errno.{Errno}
 use Rattle.histar_flat.specs.declared.replies.Reply.TheVariants.{Refused}
 use Rattle.histar_label.specs.declared.levels.Level.TheVariants.{Star, L3}
@@ -24,12 +24,12 @@ abbrev pub jobs_with : Levels → ℕ → List ℕ
 jobs_with own job = jobs_in own ++ job ∷ []
 
 -- the label of a scratch directory that a thread of this label makes for a new job: it is secret to its user and to the jobs
-abbrev pub directory_label : Session → Levels → ℕ → Levels
-directory_label session own job = scratch_label (user_of own (length session.users)) (jobs_with own job)
+abbrev pub directory_label : Accounts → Levels → ℕ → Levels
+directory_label accounts own job = scratch_label (user_of own (length accounts.users)) (jobs_with own job)
 
 -- what the first process of a new job gets from its wrapper: it reads as its user, and is in one job more
-abbrev pub kin_in : Session → Levels → ℕ → Kin
-kin_in session own job = record { owned = owned_by session (user_of own (length session.users)) false; jobs = jobs_with own job }
+abbrev pub kin_in : Accounts → Levels → ℕ → Kin
+kin_in accounts own job = record { owned = owned_by accounts (user_of own (length accounts.users)) false; jobs = jobs_with own job }
 
 -- a raw call that may not be refused: its denial stops the program
 abbrev pub or_stops : {A : Type 0} → (A → Program) → Result A Denied → Program

@@ -4,8 +4,8 @@ use Rattle.histar_label.specs.Levels.{Levels}
 use Rattle.histar_rules.specs.declared.raw.RawCall.{RawCall}
 use Rattle.histar_rules.specs.declared.raw.RawCall.TheVariants.{SetLabel, SetClearance}
 use Rattle.histar_rules.specs.declared.raw.Refusal.{Refusal}
-use Rattle.histar_calls.specs.declared.ending.Ending.{Ending}
-use Rattle.histar_calls.specs.declared.ending.Ending.TheVariants.{Stopped}
+use Rattle.histar_calls.specs.declared.call_error.CallError.{CallError}
+use Rattle.histar_calls.specs.declared.call_error.CallError.TheVariants.{Stopped}
 use Rattle.histar_calls.specs.Parts.{◌>>◌}
 use Rattle.histar_calls.specs.Programs.{AnswerOf, Part}
 use Rattle.histar_calls.specs.Programs.Program.{Asks}
@@ -23,6 +23,6 @@ restore own rest = do
   rest tt
 
 -- what was answered, or the end of the call without a reply
-abbrev pub stopping : Result (Unit {0}) Refusal → Result (Unit {0}) Ending
+abbrev pub stopping : Result (Unit {0}) Refusal → Result (Unit {0}) CallError
 stopping (Ok done) = Ok done
 stopping (Err refusal) = Err Stopped

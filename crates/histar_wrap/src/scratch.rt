@@ -8,7 +8,7 @@ ghost use Rattle.histar_wrap.specs.Scratch.{ask_or_give_back, hold_job, make_scr
 ghost use Rattle.histar_wrap.specs.Steps.{restore, stopping};
 
 use histar_base::Bytes;
-use histar_calls::{Ending, Room, write_entries};
+use histar_calls::{CallError, Room, write_entries};
 use histar_label::{Category, Label, LabelStore, Level};
 use histar_layout::Target;
 use histar_object::ObjId;
@@ -24,12 +24,12 @@ pub fn make_scratch<S: LabelStore + Drop>(
     kernel: &mut Kernel<S>,
     thread: ObjId,
     own: &Label,
-    most: &Label,
+    own_clearance: &Label,
     label: Label,
     room: Room,
-) -> Result<(), Ending>
+) -> Result<(), CallError>
     requires { map.len room.entries < most_entries }
-    ensures { RunsPart (make_scratch (own.now, most.now) label room) kernel.old kernel.new thread result }
+    ensures { RunsPart (make_scratch (own.now, own_clearance.now) label room) kernel.old kernel.new thread result }
 {
     let Room {
         place,
@@ -38,7 +38,7 @@ pub fn make_scratch<S: LabelStore + Drop>(
     } = room;
     let same = label.copy()?;
     let above = place.container;
-    let container = make_or_give_back(alloc, kernel, thread, own, most, above, label)?;
+    let container = make_or_give_back(alloc, kernel, thread, own, own_clearance, above, label)?;
     let empty = Bytes::new(alloc);
     let listing = kernel.make_segment(alloc, thread, container, same, empty)?;
     entries.insert(alloc, &name, Target::Directory(container, listing))?;
@@ -53,11 +53,11 @@ fn make_or_give_back<S: LabelStore + Drop>(
     kernel: &mut Kernel<S>,
     thread: ObjId,
     own: &Label,
-    most: &Label,
+    own_clearance: &Label,
     above: ObjId,
     label: Label,
-) -> Result<ObjId, Ending>
-    ensures runs { RunsPart (ask_or_give_back (own.now, most.now) (calls.MakeContainer above label))
+) -> Result<ObjId, CallError>
+    ensures runs { RunsPart (ask_or_give_back (own.now, own_clearance.now) (calls.MakeContainer above label))
         kernel.old kernel.new thread result }
     ensures number { IfOk result (λ container. 0 < container) }
 {
@@ -65,11 +65,11 @@ fn make_or_give_back<S: LabelStore + Drop>(
         Ok(container) => return Ok(container),
         Err(refusal) => refusal,
     };
-    let Ending::Refused(errno) = Ending::from(refusal) else {
-        return Err(Ending::Stopped);
+    let CallError::Refused(errno) = CallError::from(refusal) else {
+        return Err(CallError::Stopped);
     };
-    restore(kernel, thread, own, most)?;
-    Err(Ending::Refused(errno))
+    restore(kernel, thread, own, own_clearance)?;
+    Err(CallError::Refused(errno))
 }
 
 // The thread takes its own label and clearance again.
@@ -77,21 +77,21 @@ fn restore<S: LabelStore + Drop>(
     kernel: &mut Kernel<S>,
     thread: ObjId,
     own: &Label,
-    most: &Label,
-) -> Result<(), Ending>
-    ensures { RunsPart (restore (own.now, most.now)) kernel.old kernel.new thread result }
+    own_clearance: &Label,
+) -> Result<(), CallError>
+    ensures { RunsPart (restore (own.now, own_clearance.now)) kernel.old kernel.new thread result }
 {
     stopping(kernel.set_label(thread, own.copy()?))?;
-    stopping(kernel.set_clearance(thread, most.copy()?))
+    stopping(kernel.set_clearance(thread, own_clearance.copy()?))
 }
 
 // What a raw call was answered that may not be refused: a refusal ends the call without a reply.
-fn stopping(answer: Result<(), Refusal>) -> Result<(), Ending>
+fn stopping(answer: Result<(), Refusal>) -> Result<(), CallError>
     ensures { result ≡ stopping answer }
 {
     match answer {
         Ok(()) => Ok(()),
-        Err(_) => Err(Ending::Stopped),
+        Err(_) => Err(CallError::Stopped),
     }
 }
 
@@ -101,14 +101,14 @@ pub fn hold_job<S: LabelStore + Drop>(
     kernel: &mut Kernel<S>,
     thread: ObjId,
     own: &Label,
-    most: &Label,
+    own_clearance: &Label,
     job: Category,
-) -> Result<(), Ending>
-    ensures { RunsPart (hold_job (own.now, most.now) job) kernel.old kernel.new thread result }
+) -> Result<(), CallError>
+    ensures { RunsPart (hold_job (own.now, own_clearance.now) job) kernel.old kernel.new thread result }
 {
     let label = own.with(job, Level::Star)?;
     kernel.set_label(thread, label)?;
-    let clearance = most.with(job, Level::L3)?;
+    let clearance = own_clearance.with(job, Level::L3)?;
     kernel.set_clearance(thread, clearance)?;
     Ok(())
 }

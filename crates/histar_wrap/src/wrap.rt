@@ -10,7 +10,7 @@ ghost use Rattle.histar_wrap.specs.Scratch.{jobs_with};
 ghost use Rattle.histar_wrap.specs.WrapCall.{wrap_program};
 
 use crate::scratch::{hold_job, make_scratch};
-use histar_calls::{Ending, Places, Room, Stopped, find_room, settle};
+use histar_calls::{CallError, Room, Roots, Stopped, find_room, settle};
 use histar_flat::{Name, ProcName, Reply};
 use histar_label::{Category, Label, LabelStore};
 use histar_layout::{UserTable, jobs_in, scratch_label, user_of};
@@ -47,33 +47,33 @@ struct Plan {
 pub fn wrap<S: LabelStore + Drop>(
     alloc: Global,
     kernel: &mut Kernel<S>,
-    places: &Places,
+    roots: &Roots,
     users: &UserTable,
     name: &ProcName,
     caller: &Caller,
     path: &[Name],
 ) -> Result<Reply, Stopped>
-    ensures { Runs (wrap_program users.now places.now name.now caller.now.home path.now) kernel.old
+    ensures { Runs (wrap_program users.now roots.now name.now caller.now.home path.now) kernel.old
         kernel.new caller.now.thread result }
 {
-    settle(start_job(alloc, kernel, places, users, name, caller, path))
+    settle(start_job(alloc, kernel, roots, users, name, caller, path))
 }
 
 fn start_job<S: LabelStore + Drop>(
     alloc: Global,
     kernel: &mut Kernel<S>,
-    places: &Places,
+    roots: &Roots,
     users: &UserTable,
     name: &ProcName,
     caller: &Caller,
     path: &[Name],
-) -> Result<Reply, Ending>
-    ensures { Runs (wrap_program users.now places.now name.now caller.now.home path.now) kernel.old
+) -> Result<Reply, CallError>
+    ensures { Runs (wrap_program users.now roots.now name.now caller.now.home path.now) kernel.old
         kernel.new caller.now.thread (settled result) }
 {
     let thread = caller.thread;
     let Segment { head, bytes } = room_for_child(alloc, kernel, thread, name, &caller.home)?;
-    let room = find_room(alloc, kernel, places, thread, path)?;
+    let room = find_room(alloc, kernel, roots, thread, path)?;
     let (own, clearance) = kernel.own_label(thread)?;
     let job = kernel.make_category(thread)?;
     let plan = plan_job(alloc, users, own, clearance, job)?;
@@ -114,7 +114,7 @@ fn fill_job<S: LabelStore + Drop>(
     bytes: &[u8],
     room: Room,
     plan: Plan,
-) -> Result<(), Ending>
+) -> Result<(), CallError>
     requires entries { map.len room.entries < most_entries }
     requires child { HasRoomForChild bytes.now }
     ensures { FillsJob caller.now bytes.now room (planned plan) kernel.old kernel.new result }

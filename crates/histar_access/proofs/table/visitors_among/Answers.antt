@@ -11,8 +11,8 @@ use Rattle.histar_access.proofs.table.visitors_among.Goals.{in-Some+in_ok-push, 
 pub loop-process-preserved : goal.loop-process-preserved
 loop-process-preserved g c =
     let s = state c.args.machine.now.kernel in
-    let places = c.args.machine.now.places in
-    let more = kept_more (visitor_of s places) c.args.processes.now c.loop-process.process-index c.process-item.result (search rules)
+    let roots = c.args.machine.now.roots in
+    let more = kept_more (visitor_of s roots) c.args.processes.now c.loop-process.process-index c.process-item.result (search rules)
     (search rules) in
     elim c.match-visitor_at.branch [
       | in-Some+in_ok-push w ↦ let is = sym c.visitor_at.ensures ∙ w.in-Some.is in ap (λ (v : Vec Cell). v.items) w.visitors-is

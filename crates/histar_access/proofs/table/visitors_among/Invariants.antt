@@ -5,4 +5,4 @@ use Rattle.histar_access.specs.Cells.{visitor_of}
 use Rattle.histar_access.proofs.table.visitors_among.Given as goal
 
 abbrev pub invariant-loop-process : goal.invariant-loop-process
-invariant-loop-process g l = l.visitors.items ≡ filter_map (visitor_of (state l.machine.kernel) l.machine.places) (take l.process-index l.processes)
+invariant-loop-process g l = l.visitors.items ≡ filter_map (visitor_of (state l.machine.kernel) l.machine.roots) (take l.process-index l.processes)

@@ -36,7 +36,7 @@ returns-clause-ok g c =
       c.in_ok-processes.processes.items,
       c.in_ok-processes.ensures,
       c.as_slice-2.ensures.value
-          ∙ c.in_ok-visitors.ensures ∙ ap (visitors_among (state m.kernel) m.places) c.as_slice.ensures.value,
+          ∙ c.in_ok-visitors.ensures ∙ ap (visitors_among (state m.kernel) m.roots) c.as_slice.ensures.value,
     ) in
     on_ok_weaker c.write_lines.result (table_written m c.as_slice-3.result.now is c.as_slice-2.result.now are _ _) c.write_lines.ensures.ok
 
@@ -48,6 +48,6 @@ returns-clause-err g c =
       c.in_ok-processes.processes.items,
       c.in_ok-processes.ensures,
       c.as_slice-2.ensures.value
-          ∙ c.in_ok-visitors.ensures ∙ ap (visitors_among (state m.kernel) m.places) c.as_slice.ensures.value,
+          ∙ c.in_ok-visitors.ensures ∙ ap (visitors_among (state m.kernel) m.roots) c.as_slice.ensures.value,
     ) in
     on_err_weaker c.write_lines.result (table_begun m c.as_slice-3.result.now is c.as_slice-2.result.now are _ _) c.write_lines.ensures.err

@@ -1,7 +1,7 @@
 use Rattle.std.proofs.Common.{Err, sym, ap, refl}
 use Rattle.histar_rules.specs.declared.raw.RawCall.TheVariants.{MakeSegment, Write}
 use Rattle.histar_layout.specs.Directory.{spelling}
-use Rattle.histar_calls.specs.declared.ending.Ending.TheVariants.{Stopped}
+use Rattle.histar_calls.specs.declared.call_error.CallError.TheVariants.{Stopped}
 use Rattle.histar_calls.specs.Parts.{write_entries}
 use Rattle.histar_calls.specs.Create.{add_file}
 use Rattle.histar_calls.proofs.Making.{makes}

@@ -1,7 +1,7 @@
 use Rattle.std.proofs.Common.{◌≡◌, true, false, sym, ap, subst, ◌∙◌, rules}
 use Rattle.histar_script.specs.Script.{without_job}
-use Rattle.histar_isolation.proofs.Isolated.{isolates_jobs}
-use Rattle.histar_isolation.proofs.TreeLines.{finds_first_path}
+use Rattle.histar_noninterference.proofs.Isolated.{isolates_jobs}
+use Rattle.histar_noninterference.proofs.TreeLines.{finds_first_path}
 use Rattle.histar_comparison.specs.Observation.{CanRun, ObservationModel, observation}
 use Rattle.histar_comparison.proofs.Verdicts.{can_run, compared_found, compared_none, quiet_is_same, read_again, rest_runs}
 use Rattle.histar_comparison.proofs.comparison.compare.Goals as goal

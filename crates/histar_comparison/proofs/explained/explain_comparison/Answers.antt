@@ -1,7 +1,7 @@
 use Rattle.std.proofs.Common.{◌≡◌, true, false, sym, ap, subst, ◌∙◌, rules}
 use Rattle.histar_script.specs.Script.{without_job}
-use Rattle.histar_isolation.proofs.TreeLines.{finds_first_path}
-use Rattle.histar_isolation.specs.declared.verdict.Verdict.TheVariants.{NoJob}
+use Rattle.histar_noninterference.proofs.TreeLines.{finds_first_path}
+use Rattle.histar_noninterference.specs.declared.verdict.Verdict.TheVariants.{NoJob}
 use Rattle.histar_comparison.specs.Explained.{seen_of}
 use Rattle.histar_comparison.specs.Observation.{CanRun, ObservationModel, observation}
 use Rattle.histar_comparison.proofs.Explanations.{explained_as, seen_printed, verdict_is}

@@ -1,6 +1,6 @@
 use Rattle.std.proofs.Common.{◌≡◌, map, take}
 use Rattle.histar_syscall.specs.KernelModel.{state}
-use Rattle.histar_tree.specs.TreeLines.{line_at}
+use Rattle.histar_readout.specs.TreeLines.{line_at}
 use Rattle.histar_comparison.specs.Observation.{line_text}
 use Rattle.histar_comparison.proofs.observation.show_tree.Given as goal
 

@@ -1,5 +1,5 @@
 use Rattle.std.proofs.Common.{◌≡◌, ◌++◌, List, [], ◌∷◌, true, false, ap, sym, ◌∙◌}
-use Rattle.histar_flat.specs.Sessions.{Group, has}
+use Rattle.histar_flat.specs.Accounts.{Group, has}
 use Rattle.std.proofs.lemmas.List.{take_all}
 use Rattle.histar_layout.specs.Categories.{owners_among}
 use Rattle.histar_layout.proofs.OwnersOf.{owners_more, owners_same}

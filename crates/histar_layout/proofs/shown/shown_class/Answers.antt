@@ -4,7 +4,7 @@ use Rattle.std.proofs.lemmas.Option.{get_or_from_slice_get, slice_get-get_or}
 use Rattle.histar_label.specs.Levels.{level_of}
 use Rattle.histar_layout.specs.ShownClass.{class_at, class_shown, group_class_from, is_plain_level, is_unnamed}
 use Rattle.histar_layout.specs.UserTable.{called}
-use Rattle.histar_layout.proofs.ShownSteps.{passed_over, told_here, told_last}
+use Rattle.histar_layout.proofs.ShownSteps.{passed_over, revealed_here, revealed_last}
 use Rattle.histar_layout.proofs.shown.shown_class.Goals as goal
 
 pub loop-place-preserved : goal.loop-place-preserved
@@ -29,7 +29,7 @@ returns-then-not-are_plain c =
     let write = c.get-write.ensures ∙ ap (level_of c.args.label.now) c.write_category.ensures in
     let named : is_unnamed c.args.label.now (c.loop-place.place + 1) ≡ false = (λ i. is_plain_level (sym read i) && is_plain_level (sym write i)) ∙ sym c.are_plain.ensures ∙ c.if-not-are_plain.true in
     c.class_at.ensures ∙ (λ i. class_at user.name (read i) (write i))
-    ∙ sym (c.loop-place.invariant ∙ told_here c.args.label.now c.args.users.now.groups users c.loop-place.place user below at named)
+    ∙ sym (c.loop-place.invariant ∙ revealed_here c.args.label.now c.args.users.now.groups users c.loop-place.place user below at named)
 
 pub returns : goal.returns
 unfolding class_shown
@@ -39,4 +39,4 @@ returns c =
     let last : c.loop-place.place ≤ length users = subst (λ (n : ℕ). c.loop-place.place ≤ n) c.len-place-end.ensures.len c.loop-place.auto.place-end in
     let place : c.loop-place.place ≡ length users = omega (arith, end, last) in
     c.shown_group.ensures ∙ ap (λ (k : ℕ). group_class_from c.args.label.now (k + 1) c.args.users.now.groups) (sym place)
-    ∙ sym (c.loop-place.invariant ∙ told_last c.args.label.now c.args.users.now.groups users c.loop-place.place end)
+    ∙ sym (c.loop-place.invariant ∙ revealed_last c.args.label.now c.args.users.now.groups users c.loop-place.place end)

@@ -1,13 +1,13 @@
 use Rattle.std.proofs.Common.{◌≡◌, ℕ, List, [], suc, ◌+◌, ◌<◌, ◌≤◌, length, sym, ap, subst, ◌∙◌, rules, arith}
 use Rattle.std.proofs.lemmas.Bool.{cases_lt}
 use Rattle.std.proofs.Common.{inl, inr}
-use Rattle.histar_script.specs.Script.{Reading}
+use Rattle.histar_script.specs.Script.{ScriptModel}
 use Rattle.histar_script.proofs.LineLemmas.{no_lines}
 use Rattle.histar_lint.proofs.LinesBefore.{IsAt, at_start, has_line, is_ahead, is_finding, is_right, is_said_of, went_on}
 use Rattle.histar_lint.proofs.session.said_at.Goals as goal
 
 pub right-init : goal.right-init
-right-init c = subst (λ (s : Reading). IsAt c.args.text.now c.args.text.now s 0 c.args.bad) (sym c.new-script.ensures) (at_start c.args.text.now c.args.bad c.requires.bad)
+right-init c = subst (λ (s : ScriptModel). IsAt c.args.text.now c.args.text.now s 0 c.args.bad) (sym c.new-script.ensures) (at_start c.args.text.now c.args.bad c.requires.bad)
 
 pub overflow_add-count : goal.overflow_add-count
 overflow_add-count c =

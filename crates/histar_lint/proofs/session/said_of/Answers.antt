@@ -15,13 +15,13 @@ returns-then-is_empty c =
 pub unreachable-requires : goal.unreachable-requires
 unreachable-requires c =
     let said =
-    said_is (lines_of c.args.text.now) (lines_of c.args.rest.now) _ c.args.script _ _ c.split_line.result.0.now _ c.into_parts-session.ensures.session
-    (c.as_slice-2.ensures.value ∙ c.into_parts-session.ensures.calls) c.split_line.ensures.first c.in_ok-said.ensures in
+    said_is (lines_of c.args.text.now) (lines_of c.args.rest.now) _ c.args.script _ _ c.split_line.result.0.now _ c.into_parts-accounts.ensures.accounts
+    (c.as_slice-2.ensures.value ∙ c.into_parts-accounts.ensures.calls) c.split_line.ensures.first c.in_ok-said.ensures in
     none_unpacked _ c.in_ok-said.field-0 _ said c.in-None.is c.requires
 
 pub returns : goal.returns
 returns c =
     let said =
-    said_is (lines_of c.args.text.now) (lines_of c.args.rest.now) _ c.args.script _ _ c.split_line.result.0.now _ c.into_parts-session.ensures.session
-    (c.as_slice-2.ensures.value ∙ c.into_parts-session.ensures.calls) c.split_line.ensures.first c.in_ok-said.ensures in
+    said_is (lines_of c.args.text.now) (lines_of c.args.rest.now) _ c.args.script _ _ c.split_line.result.0.now _ c.into_parts-accounts.ensures.accounts
+    (c.as_slice-2.ensures.value ∙ c.into_parts-accounts.ensures.calls) c.split_line.ensures.first c.in_ok-said.ensures in
     unpacked _ c.in_ok-said.field-0 c.in-Some.said _ said c.in-Some.is

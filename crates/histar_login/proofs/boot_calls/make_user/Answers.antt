@@ -9,43 +9,43 @@ use Rattle.histar_login.proofs.boot_calls.make_user.Goals as goal
 
 pub returns-in_err-owners-clause-err : goal.returns-in_err-owners-clause-err
 returns-in_err-owners-clause-err g c =
-    let begun : BeginsUser c.args.kernel.now c.args.kernel.now c.args.session.now c.args.number c.args.user.now = λ first p at b.
-    user_begun_none c.args.session.now c.args.number c.args.user.now first c.args.kernel.now p b c.args.kernel.now (same_kernel c.args.kernel.now) in
+    let begun : BeginsUser c.args.kernel.now c.args.kernel.now c.args.accounts.now c.args.number c.args.user.now = λ first p at b.
+    user_begun_none c.args.accounts.now c.args.number c.args.user.now first c.args.kernel.now p b c.args.kernel.now (same_kernel c.args.kernel.now) in
     on_err _ _ begun
 
 pub make_password-requires : goal.make_password-requires
 make_password-requires g c =
     let way = c.requires.begins in
     rw c.as_bytes.ensures.value
-    (password_allowed c.args.session.now c.args.number c.args.user.now way.0 c.args.kernel.now way.1 way.3 way.2 c.ranges.number.fits c.requires.number
+    (password_allowed c.args.accounts.now c.args.number c.args.user.now way.0 c.args.kernel.now way.1 way.3 way.2 c.ranges.number.fits c.requires.number
     (omega (arith, short_password c.args.user.now.password c.as_bytes.ensures.right)))
 
 pub returns-in_err-make_password-clause-err : goal.returns-in_err-make_password-clause-err
 returns-in_err-make_password-clause-err g c =
-    let begun : BeginsUser c.args.kernel.now c.make_password.new.kernel c.args.session.now c.args.number c.args.user.now = λ first p at b.
-    user_begun_none c.args.session.now c.args.number c.args.user.now first c.args.kernel.now p b c.make_password.new.kernel c.in_err-make_password.ensures in
+    let begun : BeginsUser c.args.kernel.now c.make_password.new.kernel c.args.accounts.now c.args.number c.args.user.now = λ first p at b.
+    user_begun_none c.args.accounts.now c.args.number c.args.user.now first c.args.kernel.now p b c.make_password.new.kernel c.in_err-make_password.ensures in
     on_err _ _ begun
 
 pub make_login_gate-requires : goal.make_login_gate-requires
 make_login_gate-requires g c =
     let way = c.requires.begins in
-    gate_allowed_for c.make_password.new.kernel c.args.number c.as_slice.result.now c.in_ok-owners.owners.items (owners_of c.args.session.now c.args.number c.args.user.now.name)
+    gate_allowed_for c.make_password.new.kernel c.args.number c.as_slice.result.now c.in_ok-owners.owners.items (owners_of c.args.accounts.now c.args.number c.args.user.now.name)
     c.as_slice.ensures.value (c.in_ok-owners.ensures ∙ (λ i. owners_among (length (c.users-users.ensures.users i)) (c.groups-groups.ensures.groups i) c.args.number c.args.user.now.name))
-    (login_allowed c.args.session.now c.args.number c.args.user.now way.0 c.args.kernel.now way.1 way.3 c.make_password.new.kernel
+    (login_allowed c.args.accounts.now c.args.number c.args.user.now way.0 c.args.kernel.now way.1 way.3 c.make_password.new.kernel
     (password_made c.args.kernel.now c.make_password.new.kernel c.args.number _ _ c.as_bytes.ensures.value c.in_ok-make_password.ensures.0)
     way.2 c.ranges.number.fits c.requires.number)
 
 pub returns-in_err-make_login_gate-clause-err : goal.returns-in_err-make_login_gate-clause-err
 returns-in_err-make_login_gate-clause-err g c =
-    let begun : BeginsUser c.args.kernel.now c.make_login_gate.new.kernel c.args.session.now c.args.number c.args.user.now = λ first p at b.
-    user_begun_one c.args.session.now c.args.number c.args.user.now first c.args.kernel.now p b c.make_password.new.kernel
+    let begun : BeginsUser c.args.kernel.now c.make_login_gate.new.kernel c.args.accounts.now c.args.number c.args.user.now = λ first p at b.
+    user_begun_one c.args.accounts.now c.args.number c.args.user.now first c.args.kernel.now p b c.make_password.new.kernel
     (password_made c.args.kernel.now c.make_password.new.kernel c.args.number _ _ c.as_bytes.ensures.value c.in_ok-make_password.ensures.0)
     c.make_login_gate.new.kernel c.in_err-make_login_gate.ensures in
     on_err _ _ begun
 
 pub returns-clause-ok : goal.returns-clause-ok
 returns-clause-ok g c = λ first p at b.
-    user_boots c.args.session.now c.args.number c.args.user.now first c.args.kernel.now p b c.make_password.new.kernel
+    user_boots c.args.accounts.now c.args.number c.args.user.now first c.args.kernel.now p b c.make_password.new.kernel
     (password_made c.args.kernel.now c.make_password.new.kernel c.args.number _ _ c.as_bytes.ensures.value c.in_ok-make_password.ensures.0)
     c.make_login_gate.new.kernel at
-    (gate_made c.make_password.new.kernel c.make_login_gate.new.kernel c.args.number c.as_slice.result.now (owners_of c.args.session.now c.args.number c.args.user.now.name) (c.as_slice.ensures.value ∙ c.in_ok-owners.ensures ∙ (λ i. owners_among (length (c.users-users.ensures.users i)) (c.groups-groups.ensures.groups i) c.args.number c.args.user.now.name)) c.in_ok-make_login_gate.ensures.0)
+    (gate_made c.make_password.new.kernel c.make_login_gate.new.kernel c.args.number c.as_slice.result.now (owners_of c.args.accounts.now c.args.number c.args.user.now.name) (c.as_slice.ensures.value ∙ c.in_ok-owners.ensures ∙ (λ i. owners_among (length (c.users-users.ensures.users i)) (c.groups-groups.ensures.groups i) c.args.number c.args.user.now.name)) c.in_ok-make_login_gate.ensures.0)

@@ -5,8 +5,8 @@ use Rattle.histar_flat.specs.declared.replies.Reply.TheVariants.{Refused}
 use Rattle.histar_flat.specs.declared.replies.Reply.{Reply}
 use Rattle.histar_rules.specs.declared.raw.RawCall.TheVariants.{OwnLabel}
 use Rattle.histar_layout.specs.Categories.{owners_of}
-use Rattle.histar_calls.specs.declared.ending.Ending.TheVariants.{Stopped}
-use Rattle.histar_calls.specs.declared.ending.Stopped.{Stopped as HasStopped}
+use Rattle.histar_calls.specs.declared.call_error.CallError.TheVariants.{Stopped}
+use Rattle.histar_calls.specs.declared.call_error.Stopped.{Stopped as HasStopped}
 use Rattle.histar_calls.specs.Programs.Program.{Answers}
 use Rattle.histar_calls.specs.Parts.{ask}
 use Rattle.histar_calls.specs.Programs.{Runs}
@@ -17,10 +17,10 @@ use Rattle.histar_login.proofs.login.login.Goals as goal
 
 pub returns-in_default : goal.returns-in_default
 returns-in_default g c =
-    let session = c.args.users.now in
+    let accounts = c.args.users.now in
     let caller = c.args.caller.now in
-    runs_as caller.thread (login_program session caller c.args.name c.args.password) (Answers (Refused ENOENT)) c.args.kernel.now c.args.kernel.now (Ok (Refused ENOENT))
-    (login_numbered session caller c.args.name c.args.password ∙ ap (login_of session caller c.args.name c.args.password) (sym c.number_of.ensures.number ∙ c.in_default.is))
+    runs_as caller.thread (login_program accounts caller c.args.name c.args.password) (Answers (Refused ENOENT)) c.args.kernel.now c.args.kernel.now (Ok (Refused ENOENT))
+    (login_numbered accounts caller c.args.name c.args.password ∙ ap (login_of accounts caller c.args.name c.args.password) (sym c.number_of.ensures.number ∙ c.in_default.is))
     (says caller.thread c.args.kernel.now (Refused ENOENT))
 
 pub returns-in_err-owners : goal.returns-in_err-owners
@@ -28,12 +28,12 @@ unfolding login_as_program
 returns-in_err-owners g c =
     let t = c.args.caller.now.thread in
     let old = c.args.kernel.now in
-    let session = c.args.users.now in
+    let accounts = c.args.users.now in
     let caller = c.args.caller.now in
     let number = c.in-Some.number in
-    let program = login_as_program caller number (owners_of session number c.args.name) c.args.password in
-    let at_number : login_program session caller c.args.name c.args.password ≡ program =
-    login_numbered session caller c.args.name c.args.password ∙ ap (login_of session caller c.args.name c.args.password) (sym c.number_of.ensures.number ∙ c.in-Some.is) in
+    let program = login_as_program caller number (owners_of accounts number c.args.name) c.args.password in
+    let at_number : login_program accounts caller c.args.name c.args.password ≡ program =
+    login_numbered accounts caller c.args.name c.args.password ∙ ap (login_of accounts caller c.args.name c.args.password) (sym c.number_of.ensures.number ∙ c.in-Some.is) in
     let error = err_from_is_err_and c.from_residual.result c.from_residual.ensures.1 in
-    runs_as t (login_program session caller c.args.name c.args.password) program old old c.from_residual.result at_number
+    runs_as t (login_program accounts caller c.args.name c.args.password) program old old c.from_residual.result at_number
     (subst (λ (result : Result Reply HasStopped). Runs program old old t result) (sym error.1) (call_fails t (ask OwnLabel) old old _ Stopped (before_ask t OwnLabel old)))

@@ -1,7 +1,7 @@
 use Rattle.std.proofs.Common.{◌≡◌, ◌<◌, ◌≤◌, ◌++◌, List, get_or, subst, length, sym, ap, [], ◌∷◌, ◌∙◌, append-nil, arith}
 use Rattle.std.proofs.lemmas.Bool.Decides.{nat_tests}
 use Rattle.std.proofs.lemmas.List.{take_all, length-append}
-use Rattle.histar_flat.specs.Sessions.{Group}
+use Rattle.histar_flat.specs.Accounts.{Group}
 use Rattle.histar_login.specs.Start.{numbered, group_entry}
 use Rattle.histar_login.proofs.GroupLemmas.{groups_next, groups_all}
 use Rattle.histar_login.proofs.table.push_groups.Goals as goal
@@ -12,7 +12,7 @@ loop-k-init c = record { adds = sym (append-nil c.push.new.self.items); few = om
 pub loop-k-preserved : goal.loop-k-preserved
 loop-k-preserved c = record {
   adds =
-      groups_next c.args.session.now.users c.args.session.now.groups c.loop-k.k c.index-groups-k.result c.push.new.self.items c.loop-k.table.items c.push_group.new.table.items
+      groups_next c.args.accounts.now.users c.args.accounts.now.groups c.loop-k.k c.index-groups-k.result c.push.new.self.items c.loop-k.table.items c.push_group.new.table.items
       (subst (λ (groups : List Group). c.loop-k.k < length groups) c.groups-groups.ensures.groups c.loop-k-test.true)
       (subst (λ (groups : List Group). c.index-groups-k.result ≡ get_or groups c.loop-k.k c.index-groups-k.result) c.groups-groups.ensures.groups c.index-groups-k.is) c.loop-k.invariant.adds c.in_ok-push_group.ensures.adds;
   few = omega (arith, c.loop-k.invariant.few, c.in_ok-push_group.ensures.few);
@@ -20,9 +20,9 @@ loop-k-preserved c = record {
 
 pub returns-clause-adds : goal.returns-clause-adds
 returns-clause-adds c =
-    let some : 0 < length c.args.session.now.groups = subst (λ (groups : List Group). 0 < length groups) c.groups-groups.ensures.groups (grind (arith, nat_tests, c.is_empty.ensures, c.if-is_empty.false)) in
-    groups_all c.args.session.now.users c.args.session.now.groups c.args.table.now.items c.loop-k.table.items some
-    (c.loop-k.invariant.adds ∙ (λ j. c.in_ok-push.ensures.items j ++ numbered (group_entry c.args.session.now.users) 1 (take_all c.loop-k.k c.args.session.now.groups (subst (λ (groups : List Group). length groups ≤ c.loop-k.k) c.groups-groups.ensures.groups c.loop-k-test.false) j)))
+    let some : 0 < length c.args.accounts.now.groups = subst (λ (groups : List Group). 0 < length groups) c.groups-groups.ensures.groups (grind (arith, nat_tests, c.is_empty.ensures, c.if-is_empty.false)) in
+    groups_all c.args.accounts.now.users c.args.accounts.now.groups c.args.table.now.items c.loop-k.table.items some
+    (c.loop-k.invariant.adds ∙ (λ j. c.in_ok-push.ensures.items j ++ numbered (group_entry c.args.accounts.now.users) 1 (take_all c.loop-k.k c.args.accounts.now.groups (subst (λ (groups : List Group). length groups ≤ c.loop-k.k) c.groups-groups.ensures.groups c.loop-k-test.false) j)))
 
 pub returns-clause-few : goal.returns-clause-few
 returns-clause-few c =

@@ -1,7 +1,7 @@
 use Rattle.std.proofs.Common.{Err}
 use Rattle.histar_rules.specs.declared.raw.RawCall.TheVariants.{Write}
 use Rattle.histar_layout.specs.Status.{status_bytes, with_child_listed}
-use Rattle.histar_calls.specs.declared.ending.Ending.TheVariants.{Stopped}
+use Rattle.histar_calls.specs.declared.call_error.CallError.TheVariants.{Stopped}
 use Rattle.histar_calls.proofs.Running.{before_ask, fails_so}
 use Rattle.histar_process.specs.Birth.{birth}
 use Rattle.histar_process.specs.Kin.{Kin}
@@ -9,7 +9,7 @@ use Rattle.histar_process.proofs.Births.{with_categories, without_categories, wi
 use Rattle.histar_process.proofs.birth.give_birth.Goals as goal
 
 pub returns-in_err-read : goal.returns-in_err-read
-returns-in_err-read g c = λ status told.
+returns-in_err-read g c = λ status revealed.
     let t = c.args.thread in
     let old = c.args.kernel.now in
     let parent = c.args.parent.now in
@@ -22,7 +22,7 @@ returns-in_err-read g c = λ status told.
     (without_categories t parent status kin old end c.in_err-read.field-0.0 c.in_err-read.ensures)
 
 pub returns-in_err-container : goal.returns-in_err-container
-returns-in_err-container g c = λ status told.
+returns-in_err-container g c = λ status revealed.
     let t = c.args.thread in
     let old = c.args.kernel.now in
     let parent = c.args.parent.now in
@@ -39,7 +39,7 @@ returns-in_err-container g c = λ status told.
     (without_containers t parent status kin old end k1 read write c.in_err-container.field-0.0 c.in_err-container.ensures))
 
 pub returns-in_err-child : goal.returns-in_err-child
-returns-in_err-child g c = λ status told.
+returns-in_err-child g c = λ status revealed.
     let t = c.args.thread in
     let old = c.args.kernel.now in
     let parent = c.args.parent.now in
@@ -60,7 +60,7 @@ returns-in_err-child g c = λ status told.
     (without_thread t parent status kin old end k2 read write container internal c.in_err-child.field-0.0 c.in_err-child.ensures)))
 
 pub returns-in_err-its : goal.returns-in_err-its
-returns-in_err-its g c = λ status told.
+returns-in_err-its g c = λ status revealed.
     let t = c.args.thread in
     let old = c.args.kernel.now in
     let parent = c.args.parent.now in
@@ -84,7 +84,7 @@ returns-in_err-its g c = λ status told.
     (without_segment t parent status kin old end k3 read write container internal child c.in_err-its.field-0.0 c.in_err-its.ensures))))
 
 pub returns-in_err-grown : goal.returns-in_err-grown
-returns-in_err-grown g c = λ status told.
+returns-in_err-grown g c = λ status revealed.
     let t = c.args.thread in
     let old = c.args.kernel.now in
     let parent = c.args.parent.now in
@@ -110,7 +110,7 @@ returns-in_err-grown g c = λ status told.
     (all_written t parent status kin old end k4 container its (Err Stopped) (before_ask t (Write parent.container parent.segment 0 (status_bytes (with_child_listed container its status))) k4))))))
 
 pub returns : goal.returns
-returns g c = λ status told.
+returns g c = λ status revealed.
     let t = c.args.thread in
     let old = c.args.kernel.now in
     let parent = c.args.parent.now in
@@ -133,4 +133,4 @@ returns g c = λ status told.
     (with_thread t parent status kin old end k2 k3 read write container internal child c.in_ok-child.ensures _
     (with_segment t parent status kin old end k3 k4 read write container internal child its c.in_ok-its.ensures _
     (all_written t parent status kin old end k4 container its c.write_segment.result
-    (written_so t k4 end parent _ _ (c.in_ok-grown.ensures status told) c.write_segment.result c.write_segment.ensures)))))
+    (written_so t k4 end parent _ _ (c.in_ok-grown.ensures status revealed) c.write_segment.result c.write_segment.ensures)))))

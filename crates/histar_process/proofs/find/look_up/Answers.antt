@@ -1,7 +1,7 @@
 use Rattle.std.proofs.Common.{Result, subst}
 use Rattle.histar_rules.specs.declared.raw.RawCall.TheVariants.{Read}
 use Rattle.histar_syscall.specs.KernelModel.{ReadsLent}
-use Rattle.histar_calls.specs.declared.ending.Ending.TheVariants.{Stopped}
+use Rattle.histar_calls.specs.declared.call_error.CallError.TheVariants.{Stopped}
 use Rattle.histar_calls.proofs.Running.{grants, refuses, fails_so}
 use Rattle.histar_process.specs.Reading.{look_up}
 use Rattle.histar_process.proofs.Segments.{look_fails, look_none, looks}

@@ -2,8 +2,8 @@ use Rattle.std.proofs.Common.{ℕ, Ok, Err, refl, ap, ◌∙◌, subst}
 use Rattle.histar_rules.specs.declared.raw.RawCall.TheVariants.{Unlink}
 use Rattle.histar_layout.specs.Status.{status_bytes, without_child}
 use Rattle.histar_calls.specs.Programs.{RunsPart}
-use Rattle.histar_calls.specs.declared.ending.Ending.TheVariants.{Refused, Stopped}
-use Rattle.histar_calls.specs.declared.places.Home.{Home}
+use Rattle.histar_calls.specs.declared.call_error.CallError.TheVariants.{Refused, Stopped}
+use Rattle.histar_calls.specs.declared.roots.Home.{Home}
 use Rattle.histar_calls.proofs.Running.{before_ask, fails_so, grants, refuses}
 use Rattle.histar_process.specs.KillCall.{kill_known}
 use Rattle.histar_process.specs.Parts.{must_be_there}
@@ -36,9 +36,9 @@ returns-in_err-read_head g c status is =
     let child_is = c.in_ok-child.ensures ∙ ap must_be_there (found_is c.args.bytes.now status n c.in_ok-found.found is c.in_ok-found.ensures) in
     let its_is = c.home_of-its.ensures in
     let k1 = c.read_head.new.kernel in
-    let ending = c.in_err-read_head.field-0.0 in
-    fails_so t (kill_known home status n) old k1 ending _ c.from_residual-in_err-read_head.ensures.1
-    (not_read t home status n old k1 child child_is ending (subst (λ (h : Home). RunsPart (read_head h) old k1 t (Err ending)) its_is c.in_err-read_head.ensures))
+    let call_error = c.in_err-read_head.field-0.0 in
+    fails_so t (kill_known home status n) old k1 call_error _ c.from_residual-in_err-read_head.ensures.1
+    (not_read t home status n old k1 child child_is call_error (subst (λ (h : Home). RunsPart (read_head h) old k1 t (Err call_error)) its_is c.in_err-read_head.ensures))
 
 pub returns-in_err-without : goal.returns-in_err-without
 returns-in_err-without g c status is =

@@ -1,6 +1,6 @@
 use Rattle.std.proofs.Common.{◌∙◌}
 use Rattle.histar_calls.proofs.Running.{fails_so}
-use Rattle.histar_calls.specs.declared.ending.Ending.TheVariants.{Stopped}
+use Rattle.histar_calls.specs.declared.call_error.CallError.TheVariants.{Stopped}
 use Rattle.histar_process.specs.Birth.{birth}
 use Rattle.histar_process.specs.Kin.{kin_of}
 use Rattle.histar_process.proofs.Calling.{before_birth, born_so, kin_is}
@@ -26,7 +26,7 @@ pub returns : goal.returns
 returns g c status is =
     let t = c.args.caller.now.thread in
     let me = c.args.caller.now.home in
-    let session = c.args.users.now in
+    let accounts = c.args.users.now in
     let own = c.args.own.now in
-    let kin_so = kin_is own session c.user_of.result c.is_in_job.result c.as_slice.result.now c.as_slice-2.result.now c.user_of.ensures c.is_in_job.ensures (c.as_slice.ensures.value ∙ c.in_ok-owned.ensures) (c.as_slice-2.ensures.value ∙ c.in_ok-jobs.ensures) in
-    born_so t c.args.kernel.now c.give_birth.new.kernel me status _ (kin_of session own) kin_so c.give_birth.result (c.give_birth.ensures status is)
+    let kin_so = kin_is own accounts c.user_of.result c.is_in_job.result c.as_slice.result.now c.as_slice-2.result.now c.user_of.ensures c.is_in_job.ensures (c.as_slice.ensures.value ∙ c.in_ok-owned.ensures) (c.as_slice-2.ensures.value ∙ c.in_ok-jobs.ensures) in
+    born_so t c.args.kernel.now c.give_birth.new.kernel me status _ (kin_of accounts own) kin_so c.give_birth.result (c.give_birth.ensures status is)

@@ -19,12 +19,12 @@ returns-in_err-head g c =
     let t = c.args.caller.now.thread in
     let me = c.args.caller.now.home in
     let name = c.args.name.now in
-    let session = c.args.users.now in
+    let accounts = c.args.users.now in
     let old = c.args.kernel.now in
-    let whole = spawn_program session name me in
+    let whole = spawn_program accounts name me in
     let k1 = c.room_for_child.new.kernel in
-    let to_room = after_room session name me in
-    let begin = begun session name me t old in
+    let to_room = after_room accounts name me in
+    let begin = begun accounts name me t old in
     call_fails_so t whole old k1 c.in_err-head.field-0.0 _ c.from_residual.ensures.1
     (ends (room_for_child name me) to_room begin k1 c.in_err-head.field-0.0 c.in_err-head.ensures.runs)
 
@@ -33,14 +33,14 @@ returns-in_err-own g c =
     let t = c.args.caller.now.thread in
     let me = c.args.caller.now.home in
     let name = c.args.name.now in
-    let session = c.args.users.now in
+    let accounts = c.args.users.now in
     let old = c.args.kernel.now in
-    let whole = spawn_program session name me in
+    let whole = spawn_program accounts name me in
     let k1 = c.room_for_child.new.kernel in
-    let to_room = after_room session name me in
-    let begin = begun session name me t old in
+    let to_room = after_room accounts name me in
+    let begin = begun accounts name me t old in
     let status = c.in_ok-head.ensures.runs.0 in
-    let to_labels = after_labels session name me status in
+    let to_labels = after_labels accounts name me status in
     let at_own = further (room_for_child name me) to_room begin k1 status c.in_ok-head.ensures.runs.2 in
     let k2 = c.own_label.new.self in
     call_fails_so t whole old k2 _ _ c.from_residual-in_err-own.ensures.1
@@ -51,72 +51,72 @@ returns-in_err-bear_child g c =
     let t = c.args.caller.now.thread in
     let me = c.args.caller.now.home in
     let name = c.args.name.now in
-    let session = c.args.users.now in
+    let accounts = c.args.users.now in
     let old = c.args.kernel.now in
-    let whole = spawn_program session name me in
+    let whole = spawn_program accounts name me in
     let k1 = c.room_for_child.new.kernel in
-    let to_room = after_room session name me in
-    let begin = begun session name me t old in
+    let to_room = after_room accounts name me in
+    let begin = begun accounts name me t old in
     let status = c.in_ok-head.ensures.runs.0 in
-    let to_labels = after_labels session name me status in
+    let to_labels = after_labels accounts name me status in
     let at_own = further (room_for_child name me) to_room begin k1 status c.in_ok-head.ensures.runs.2 in
     let k2 = c.own_label.new.self in
     let own : Levels × Levels = (c.in_ok-own.own, c.in_ok-own.clearance) in
-    let kin = kin_of session own.0 in
-    let born = after_birth session name me status own in
+    let kin = kin_of accounts own.0 in
+    let born = after_birth accounts name me status own in
     let at_birth = further (ask OwnLabel) to_labels at_own k2 own (grants t OwnLabel k1 k2 own c.in_ok-own.ensures.0 c.in_ok-own.ensures.1) in
     let status_is = subst (λ (bytes : List ℕ). status_in bytes ≡ Some status) (sym c.as_slice.ensures) c.in_ok-head.ensures.runs.1.status_is in
     let k3 = c.bear_child.new.kernel in
-    let ending = c.in_err-bear_child.field-0.0 in
-    call_fails_so t whole old k3 ending _ c.from_residual-in_err-bear_child.ensures.1
-    (ends (birth me status kin) (λ (done : Unit {0}). born) at_birth k3 ending (c.in_err-bear_child.ensures status status_is))
+    let call_error = c.in_err-bear_child.field-0.0 in
+    call_fails_so t whole old k3 call_error _ c.from_residual-in_err-bear_child.ensures.1
+    (ends (birth me status kin) (λ (done : Unit {0}). born) at_birth k3 call_error (c.in_err-bear_child.ensures status status_is))
 
 pub returns-in_err-take_labels : goal.returns-in_err-take_labels
 returns-in_err-take_labels g c =
     let t = c.args.caller.now.thread in
     let me = c.args.caller.now.home in
     let name = c.args.name.now in
-    let session = c.args.users.now in
+    let accounts = c.args.users.now in
     let old = c.args.kernel.now in
-    let whole = spawn_program session name me in
+    let whole = spawn_program accounts name me in
     let k1 = c.room_for_child.new.kernel in
-    let to_room = after_room session name me in
-    let begin = begun session name me t old in
+    let to_room = after_room accounts name me in
+    let begin = begun accounts name me t old in
     let status = c.in_ok-head.ensures.runs.0 in
-    let to_labels = after_labels session name me status in
+    let to_labels = after_labels accounts name me status in
     let at_own = further (room_for_child name me) to_room begin k1 status c.in_ok-head.ensures.runs.2 in
     let k2 = c.own_label.new.self in
     let own : Levels × Levels = (c.in_ok-own.own, c.in_ok-own.clearance) in
-    let kin = kin_of session own.0 in
-    let born = after_birth session name me status own in
+    let kin = kin_of accounts own.0 in
+    let born = after_birth accounts name me status own in
     let at_birth = further (ask OwnLabel) to_labels at_own k2 own (grants t OwnLabel k1 k2 own c.in_ok-own.ensures.0 c.in_ok-own.ensures.1) in
     let status_is = subst (λ (bytes : List ℕ). status_in bytes ≡ Some status) (sym c.as_slice.ensures) c.in_ok-head.ensures.runs.1.status_is in
     let k3 = c.bear_child.new.kernel in
     let at_end = further (birth me status kin) (λ (done : Unit {0}). born) at_birth k3 tt (c.in_ok-bear_child.ensures status status_is) in
     let k4 = c.take_labels.new.kernel in
     let reply = Answers (Child ((status.born + 1) ∷ name)) in
-    let ending = c.in_err-take_labels.field-0.0 in
-    call_fails_so t whole old k4 ending _ c.from_residual-in_err-take_labels.ensures.1
-    (ends (take_labels own) (λ (done : Unit {0}). reply) at_end k4 ending c.in_err-take_labels.ensures)
+    let call_error = c.in_err-take_labels.field-0.0 in
+    call_fails_so t whole old k4 call_error _ c.from_residual-in_err-take_labels.ensures.1
+    (ends (take_labels own) (λ (done : Unit {0}). reply) at_end k4 call_error c.in_err-take_labels.ensures)
 
 pub returns : goal.returns
 returns g c =
     let t = c.args.caller.now.thread in
     let me = c.args.caller.now.home in
     let name = c.args.name.now in
-    let session = c.args.users.now in
+    let accounts = c.args.users.now in
     let old = c.args.kernel.now in
-    let whole = spawn_program session name me in
+    let whole = spawn_program accounts name me in
     let k1 = c.room_for_child.new.kernel in
-    let to_room = after_room session name me in
-    let begin = begun session name me t old in
+    let to_room = after_room accounts name me in
+    let begin = begun accounts name me t old in
     let status = c.in_ok-head.ensures.runs.0 in
-    let to_labels = after_labels session name me status in
+    let to_labels = after_labels accounts name me status in
     let at_own = further (room_for_child name me) to_room begin k1 status c.in_ok-head.ensures.runs.2 in
     let k2 = c.own_label.new.self in
     let own : Levels × Levels = (c.in_ok-own.own, c.in_ok-own.clearance) in
-    let kin = kin_of session own.0 in
-    let born = after_birth session name me status own in
+    let kin = kin_of accounts own.0 in
+    let born = after_birth accounts name me status own in
     let at_birth = further (ask OwnLabel) to_labels at_own k2 own (grants t OwnLabel k1 k2 own c.in_ok-own.ensures.0 c.in_ok-own.ensures.1) in
     let status_is = subst (λ (bytes : List ℕ). status_in bytes ≡ Some status) (sym c.as_slice.ensures) c.in_ok-head.ensures.runs.1.status_is in
     let k3 = c.bear_child.new.kernel in

@@ -2,4 +2,4 @@ use Rattle.histar_refinement.proofs.ReachedObjects.{objects_reached}
 use Rattle.histar_refinement.proofs.refinement_laws.each_object_is_reached.Goals as goal
 
 pub returns : goal.returns
-returns c = λ session s f l. objects_reached session s f l.laid
+returns c = λ accounts s f l. objects_reached accounts s f l.matched

@@ -2,4 +2,4 @@ use Rattle.histar_refinement.proofs.ClassLaws.{observes_path}
 use Rattle.histar_refinement.proofs.refinement_laws.threads_observe_what_is_read.Goals as goal
 
 pub returns : goal.returns
-returns c = λ session s f l ok me p t runs q there o at stands. observes_path session s f l ok me p runs.0 runs.1 t runs.2 q there at o stands
+returns c = λ accounts s f l ok me p t runs q there o at agrees. observes_path accounts s f l ok me p runs.0 runs.1 t runs.2 q there at o agrees

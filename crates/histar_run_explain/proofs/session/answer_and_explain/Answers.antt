@@ -32,7 +32,7 @@ returns-clause-ok g c =
 pub returns-clause-births : goal.returns-clause-births
 returns-clause-births g c =
     c.in_ok-explain_line.ensures.births ∙ c.in_ok-note_births.ensures
-    ∙ ap (λ (clue : Clue). births_after (state c.answer_call.new.machine.kernel) c.answer_call.new.machine.places clue.caller c.args.explainer.now.births.items) c.clue_of-clue.ensures
+    ∙ ap (λ (clue : Clue). births_after (state c.answer_call.new.machine.kernel) c.answer_call.new.machine.roots clue.caller c.args.explainer.now.births.items) c.clue_of-clue.ensures
 
 pub returns-clause-same : goal.returns-clause-same
 returns-clause-same g c = same_end c.args.machine.now c.answer_call.new.machine _ _ c.args.call c.in_ok-answer_call.ensures.ok _ refl _ (ap length c.trace-before.ensures) _ c.requires _ c.in_ok-explain_line.ensures.ends

@@ -6,7 +6,7 @@ use Rattle.histar_run_explain.proofs.TextRuns.{begun_ending, begun_replies, has_
 use Rattle.histar_run_explain.proofs.session.explain_text.Goals as goal
 
 pub second_kernel-requires : goal.second_kernel-requires
-second_kernel-requires g c = start_traced c.args.options c.args.text.now c.in_ok-script.script c.in_ok-script.ensures.exact _ c.into_parts-session.ensures.session _ c.into_parts-session.ensures.calls c.in-Ok.machine c.in-Ok.ensures.starts
+second_kernel-requires g c = start_traced c.args.options c.args.text.now c.in_ok-script.script c.in_ok-script.ensures.exact _ c.into_parts-accounts.ensures.accounts _ c.into_parts-accounts.ensures.calls c.in-Ok.machine c.in-Ok.ensures.starts
 
 pub returns-in_err-second-clause-reads : goal.returns-in_err-second-clause-reads
 returns-in_err-second-clause-reads g c =
@@ -25,7 +25,7 @@ returns-in_err-second-clause-runs g c =
 
 pub write_ending-requires : goal.write_ending-requires
 write_ending-requires g c =
-    has_tree c.args.options c.args.text.now c.in_ok-script.script c.in_ok-script.ensures.exact _ c.into_parts-session.ensures.session _ c.into_parts-session.ensures.calls c.in-Ok.machine c.in-Ok.ensures.starts _ _ _ _ _ c.in_ok-answer_calls.ensures.ok
+    has_tree c.args.options c.args.text.now c.in_ok-script.script c.in_ok-script.ensures.exact _ c.into_parts-accounts.ensures.accounts _ c.into_parts-accounts.ensures.calls c.in-Ok.machine c.in-Ok.ensures.starts _ _ _ _ _ c.in_ok-answer_calls.ensures.ok
 
 pub returns-in_err-answer_calls-clause-nothing : goal.returns-in_err-answer_calls-clause-nothing
 returns-in_err-answer_calls-clause-nothing g c =
@@ -41,7 +41,7 @@ pub returns-in_err-answer_calls-clause-runs : goal.returns-in_err-answer_calls-c
 returns-in_err-answer_calls-clause-runs g c =
     let p = err_from_is_err_and c.from_residual-in_err-answer_calls.result c.from_residual-in_err-answer_calls.ensures.1 in
     rw (p.1, p.2)
-    (begun_replies c.args.options c.args.text.now c.in_ok-script.script c.in_ok-script.ensures.exact _ c.into_parts-session.ensures.session _ c.into_parts-session.ensures.calls c.in-Ok.machine c.in-Ok.ensures.starts
+    (begun_replies c.args.options c.args.text.now c.in_ok-script.script c.in_ok-script.ensures.exact _ c.into_parts-accounts.ensures.accounts _ c.into_parts-accounts.ensures.calls c.in-Ok.machine c.in-Ok.ensures.starts
     c.in_err-answer_calls.field-0.0 _ _ c.in_err-answer_calls.ensures.faults c.in_err-answer_calls.ensures.err)
 
 pub returns-in_err-write_ending-clause-nothing : goal.returns-in_err-write_ending-clause-nothing
@@ -63,7 +63,7 @@ pub returns-in_err-write_ending-clause-runs : goal.returns-in_err-write_ending-c
 returns-in_err-write_ending-clause-runs g c =
     let p = err_from_is_err_and c.from_residual-in_err-write_ending.result c.from_residual-in_err-write_ending.ensures.1 in
     rw (p.1, p.2)
-    (begun_ending c.args.options c.args.text.now c.in_ok-script.script c.in_ok-script.ensures.exact _ c.into_parts-session.ensures.session _ c.into_parts-session.ensures.calls c.in-Ok.machine c.in-Ok.ensures.starts
+    (begun_ending c.args.options c.args.text.now c.in_ok-script.script c.in_ok-script.ensures.exact _ c.into_parts-accounts.ensures.accounts _ c.into_parts-accounts.ensures.calls c.in-Ok.machine c.in-Ok.ensures.starts
     _ _ _ _ _ c.in_ok-answer_calls.ensures.ok c.in_err-write_ending.field-0.0 _ c.in_err-write_ending.ensures.faults c.in_err-write_ending.ensures.err)
 
 pub returns-in_err-answer_calls-clause-writes : goal.returns-in_err-answer_calls-clause-writes
@@ -82,5 +82,5 @@ returns-clause-writes g c = counts_on _ _ _ _ (c.in_ok-write_ending.ensures.coun
 
 pub returns-clause-runs : goal.returns-clause-runs
 returns-clause-runs g c =
-    last_written c.args.options c.args.text.now c.in_ok-script.script c.in_ok-script.ensures.exact _ c.into_parts-session.ensures.session _ c.into_parts-session.ensures.calls c.in-Ok.machine c.in-Ok.ensures.starts
+    last_written c.args.options c.args.text.now c.in_ok-script.script c.in_ok-script.ensures.exact _ c.into_parts-accounts.ensures.accounts _ c.into_parts-accounts.ensures.calls c.in-Ok.machine c.in-Ok.ensures.starts
     _ _ _ _ _ c.in_ok-answer_calls.ensures.ok _ _ _ c.as_slice.ensures.value c.write_explanations.result c.in_ok-write_ending.ensures.ok c.write_explanations.ensures.ok c.write_explanations.ensures.err c.write_explanations.ensures.faults

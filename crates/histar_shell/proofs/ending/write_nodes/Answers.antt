@@ -3,7 +3,7 @@ use Rattle.std.specs.List.{flat_map}
 use Rattle.std.specs.Io.KnownBytes.{Appends}
 use Rattle.std.proofs.lemmas.List.{take_all}
 use Rattle.std.proofs.lemmas.Result.{err_from_is_err_and}
-use Rattle.histar_devices.specs.Writing.{AppendsFront}
+use Rattle.histar_io.specs.Writing.{AppendsFront}
 use Rattle.histar_syscall.specs.KernelModel.{state}
 use Rattle.histar_shell.specs.TreeText.{tree_line_text}
 use Rattle.histar_shell.proofs.EachLine.{node_text, nodes_text, line_begun, line_more, line_unwritten}

@@ -1,7 +1,7 @@
 use Rattle.std.proofs.Common.{rules, tests, subst, sym}
 use Rattle.std.proofs.lemmas.Result.{err_from_is_err_and, on_ok_weaker, on_err_weaker}
 use Rattle.histar_shell.specs.Ending.{IsTreeIn}
-use Rattle.histar_shell.proofs.EachLine.{tree_told, tree_unwritten}
+use Rattle.histar_shell.proofs.EachLine.{tree_revealed, tree_unwritten}
 use Rattle.histar_shell.proofs.ending.write_tree.Goals as goal
 
 pub returns-in_err-tree-clause-err : goal.returns-in_err-tree-clause-err
@@ -12,9 +12,9 @@ returns-in_err-tree-clause-err g c =
 pub returns-clause-ok : goal.returns-clause-ok
 returns-clause-ok g c =
     let is : IsTreeIn c.args.machine.now c.as_slice.result.now = subst (IsTreeIn c.args.machine.now) (sym c.as_slice.ensures.value) c.in_ok-tree.ensures in
-    on_ok_weaker c.write_nodes.result (λ whole. (_, tree_told c.args.options.tree c.args.machine.now c.as_slice.result.now (search (rules, tests)) is, whole)) c.write_nodes.ensures.ok
+    on_ok_weaker c.write_nodes.result (λ whole. (_, tree_revealed c.args.options.tree c.args.machine.now c.as_slice.result.now (search (rules, tests)) is, whole)) c.write_nodes.ensures.ok
 
 pub returns-clause-err : goal.returns-clause-err
 returns-clause-err g c =
     let is : IsTreeIn c.args.machine.now c.as_slice.result.now = subst (IsTreeIn c.args.machine.now) (sym c.as_slice.ensures.value) c.in_ok-tree.ensures in
-    on_err_weaker c.write_nodes.result (λ front. (_, tree_told c.args.options.tree c.args.machine.now c.as_slice.result.now (search (rules, tests)) is, front)) c.write_nodes.ensures.err
+    on_err_weaker c.write_nodes.result (λ front. (_, tree_revealed c.args.options.tree c.args.machine.now c.as_slice.result.now (search (rules, tests)) is, front)) c.write_nodes.ensures.err

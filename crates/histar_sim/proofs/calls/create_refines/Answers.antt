@@ -1,5 +1,5 @@
-use Rattle.histar_sim.proofs.Create as row
+use Rattle.histar_sim.proofs.Create as refined
 use Rattle.histar_sim.proofs.calls.create_refines.Goals as goal
 
 pub returns : goal.returns
-returns c = row.create_refines
+returns c = refined.create_refines

@@ -1,5 +1,5 @@
-use Rattle.histar_sim.proofs.ExitCall as row
+use Rattle.histar_sim.proofs.ExitCall as refined
 use Rattle.histar_sim.proofs.calls.exit_refines.Goals as goal
 
 pub returns : goal.returns
-returns c = row.exit_refines
+returns c = refined.exit_refines

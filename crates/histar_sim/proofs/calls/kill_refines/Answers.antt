@@ -1,5 +1,5 @@
-use Rattle.histar_sim.proofs.KillCall as row
+use Rattle.histar_sim.proofs.KillCall as refined
 use Rattle.histar_sim.proofs.calls.kill_refines.Goals as goal
 
 pub returns : goal.returns
-returns c = row.kill_refines
+returns c = refined.kill_refines

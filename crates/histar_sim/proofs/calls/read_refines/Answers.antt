@@ -1,5 +1,5 @@
-use Rattle.histar_sim.proofs.Read as row
+use Rattle.histar_sim.proofs.Read as refined
 use Rattle.histar_sim.proofs.calls.read_refines.Goals as goal
 
 pub returns : goal.returns
-returns c = row.read_refines
+returns c = refined.read_refines

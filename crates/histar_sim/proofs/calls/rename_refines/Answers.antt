@@ -1,5 +1,5 @@
-use Rattle.histar_sim.proofs.RenameCall as row
+use Rattle.histar_sim.proofs.RenameCall as refined
 use Rattle.histar_sim.proofs.calls.rename_refines.Goals as goal
 
 pub returns : goal.returns
-returns c = row.rename_refines
+returns c = refined.rename_refines

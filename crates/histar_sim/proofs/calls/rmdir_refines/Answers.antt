@@ -1,5 +1,5 @@
-use Rattle.histar_sim.proofs.RmdirCall as row
+use Rattle.histar_sim.proofs.RmdirCall as refined
 use Rattle.histar_sim.proofs.calls.rmdir_refines.Goals as goal
 
 pub returns : goal.returns
-returns c = row.rmdir_refines
+returns c = refined.rmdir_refines

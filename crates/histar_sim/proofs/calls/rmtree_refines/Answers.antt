@@ -1,5 +1,5 @@
-use Rattle.histar_sim.proofs.RmtreeCall as row
+use Rattle.histar_sim.proofs.RmtreeCall as refined
 use Rattle.histar_sim.proofs.calls.rmtree_refines.Goals as goal
 
 pub returns : goal.returns
-returns c = row.rmtree_refines
+returns c = refined.rmtree_refines

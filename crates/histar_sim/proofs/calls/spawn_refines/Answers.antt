@@ -1,5 +1,5 @@
-use Rattle.histar_sim.proofs.SpawnCall as row
+use Rattle.histar_sim.proofs.SpawnCall as refined
 use Rattle.histar_sim.proofs.calls.spawn_refines.Goals as goal
 
 pub returns : goal.returns
-returns c = row.spawn_refines
+returns c = refined.spawn_refines

@@ -1,5 +1,5 @@
-use Rattle.histar_sim.proofs.UnlinkCall as row
+use Rattle.histar_sim.proofs.UnlinkCall as refined
 use Rattle.histar_sim.proofs.calls.unlink_refines.Goals as goal
 
 pub returns : goal.returns
-returns c = row.unlink_refines
+returns c = refined.unlink_refines

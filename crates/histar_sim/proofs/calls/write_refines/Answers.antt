@@ -1,5 +1,5 @@
-use Rattle.histar_sim.proofs.Write as row
+use Rattle.histar_sim.proofs.Write as refined
 use Rattle.histar_sim.proofs.calls.write_refines.Goals as goal
 
 pub returns : goal.returns
-returns c = row.write_refines
+returns c = refined.write_refines

@@ -1,7 +1,7 @@
 use Rattle.std.proofs.Common.{subst, ◌∙◌}
 use Rattle.std.proofs.lemmas.Result.{err_from_is_err_and}
-use Rattle.histar_devices.specs.Writing.{AppendsFront}
-use Rattle.histar_devices.proofs.WritingLemmas.{sent_none}
+use Rattle.histar_io.specs.Writing.{AppendsFront}
+use Rattle.histar_io.proofs.WritingLemmas.{sent_none}
 use Rattle.histar_test.specs.Checks.{check_text}
 use Rattle.histar_test.proofs.running.write_check.Goals as goal
 

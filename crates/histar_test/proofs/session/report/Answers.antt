@@ -2,8 +2,8 @@ use Rattle.std.proofs.Common.{◌∙◌, subst}
 use Rattle.std.specs.Prelude.{map}
 use Rattle.std.specs.Io.KnownBytes.{Appends}
 use Rattle.std.proofs.lemmas.Result.{err_from_is_err_and}
-use Rattle.histar_devices.specs.Writing.{AppendsFront}
-use Rattle.histar_devices.proofs.WritingLemmas.{sent_none}
+use Rattle.histar_io.specs.Writing.{AppendsFront}
+use Rattle.histar_io.proofs.WritingLemmas.{sent_none}
 use Rattle.histar_test.specs.Session.{checked_of, files_text}
 use Rattle.histar_test.proofs.FileLemmas.{both_begun, both_written, front_first, planned}
 use Rattle.histar_test.proofs.session.report.Goals as goal

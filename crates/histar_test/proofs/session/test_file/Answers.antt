@@ -1,10 +1,10 @@
 use Rattle.std.proofs.Common.{◌≡◌, ℕ, ◌+◌, List, None, subst}
 use Rattle.std.specs.Io.KnownBytes.{Appends}
 use Rattle.std.proofs.lemmas.Result.{err_from_is_err_and}
-use Rattle.histar_devices.specs.Writing.{AppendsFront}
-use Rattle.histar_devices.proofs.WritingLemmas.{sent_none}
+use Rattle.histar_io.specs.Writing.{AppendsFront}
+use Rattle.histar_io.proofs.WritingLemmas.{sent_none}
 use Rattle.histar_flat.specs.Meaning.{boot}
-use Rattle.histar_flat.specs.Sessions.{Session}
+use Rattle.histar_flat.specs.Accounts.{Accounts}
 use Rattle.histar_test.specs.declared.steps.Step.{Step}
 use Rattle.histar_test.specs.Checks.{checks_from, checks_text}
 use Rattle.histar_test.specs.Running.{tally_with}
@@ -19,12 +19,12 @@ returns-in_err-run-clause-err g c =
 pub returns-in_err-take_steps-clause-err : goal.returns-in_err-take_steps-clause-err
 returns-in_err-take_steps-clause-err g c =
     let p = err_from_is_err_and c.from_residual-in_err-take_steps.result c.from_residual-in_err-take_steps.ensures.1 in
-    let parts = c.into_parts-session.ensures in
-    let begun = test_begun (g.W.Sink.written c.args.writer.now) (g.W.Sink.written c.take_steps.new.writer) c.as_slice.result.now c.into_parts-session.result.1.items c.in_ok-run.ensures.ok c.in_err-take_steps.ensures.err in
+    let parts = c.into_parts-accounts.ensures in
+    let begun = test_begun (g.W.Sink.written c.args.writer.now) (g.W.Sink.written c.take_steps.new.writer) c.as_slice.result.now c.into_parts-accounts.result.1.items c.in_ok-run.ensures.ok c.in_err-take_steps.ensures.err in
     rw p.1
-    (subst (λ (t : List ℕ × (Session × List Step)). AppendsFront (g.W.Sink.written c.args.writer.now) (g.W.Sink.written c.take_steps.new.writer)
+    (subst (λ (t : List ℕ × (Accounts × List Step)). AppendsFront (g.W.Sink.written c.args.writer.now) (g.W.Sink.written c.take_steps.new.writer)
     (checks_text t.0 (c.args.tally.count + 1) (checks_from t.1.0 (boot t.1.0) None t.1.1)))
-    (λ i. (c.as_slice.ensures i, (parts.session i, parts.steps i))) begun)
+    (λ i. (c.as_slice.ensures i, (parts.accounts i, parts.steps i))) begun)
 
 pub returns-in_err-take_steps-clause-count : goal.returns-in_err-take_steps-clause-count
 returns-in_err-take_steps-clause-count g c =
@@ -40,16 +40,16 @@ pub returns-clause-ok : goal.returns-clause-ok
 returns-clause-ok g c =
     let old = g.W.Sink.written c.args.writer.now in
     let new = g.W.Sink.written c.take_steps.new.writer in
-    let parts = c.into_parts-session.ensures in
-    let taken = test_taken old new c.as_slice.result.now c.into_parts-session.result.1.items c.in_ok-run.ensures.ok c.in_ok-take_steps.ensures.ok in
-    subst (λ (t : List ℕ × (Session × List Step)). Appends old new (checks_text t.0 (c.args.tally.count + 1) (checks_from t.1.0 (boot t.1.0) None t.1.1)))
-    (λ i. (c.as_slice.ensures i, (parts.session i, parts.steps i))) taken.0
+    let parts = c.into_parts-accounts.ensures in
+    let taken = test_taken old new c.as_slice.result.now c.into_parts-accounts.result.1.items c.in_ok-run.ensures.ok c.in_ok-take_steps.ensures.ok in
+    subst (λ (t : List ℕ × (Accounts × List Step)). Appends old new (checks_text t.0 (c.args.tally.count + 1) (checks_from t.1.0 (boot t.1.0) None t.1.1)))
+    (λ i. (c.as_slice.ensures i, (parts.accounts i, parts.steps i))) taken.0
 
 pub returns-clause-tally : goal.returns-clause-tally
 returns-clause-tally g c =
     let old = g.W.Sink.written c.args.writer.now in
     let new = g.W.Sink.written c.take_steps.new.writer in
-    let parts = c.into_parts-session.ensures in
-    let taken = test_taken old new c.as_slice.result.now c.into_parts-session.result.1.items c.in_ok-run.ensures.ok c.in_ok-take_steps.ensures.ok in
-    subst (λ (t : Session × List Step). c.take_steps.new.self.tally ≡ tally_with c.args.tally (checks_from t.0 (boot t.0) None t.1))
-    (λ i. (parts.session i, parts.steps i)) taken.1
+    let parts = c.into_parts-accounts.ensures in
+    let taken = test_taken old new c.as_slice.result.now c.into_parts-accounts.result.1.items c.in_ok-run.ensures.ok c.in_ok-take_steps.ensures.ok in
+    subst (λ (t : Accounts × List Step). c.take_steps.new.self.tally ≡ tally_with c.args.tally (checks_from t.0 (boot t.0) None t.1))
+    (λ i. (parts.accounts i, parts.steps i)) taken.1

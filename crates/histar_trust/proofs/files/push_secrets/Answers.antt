@@ -1,6 +1,6 @@
 use Rattle.std.proofs.Common.{[], ◌∷◌, ◌++◌, ◌∙◌, List, ap, sym, subst, take}
 use Rattle.std.proofs.lemmas.List.{take_all, take_more}
-use Rattle.histar_tree.specs.declared.tree.TreeNode.{TreeNode}
+use Rattle.histar_readout.specs.declared.tree.TreeNode.{TreeNode}
 use Rattle.histar_trust.specs.Findings.{AddsSecrets}
 use Rattle.histar_trust.proofs.ShownSecrets.{adds_more, adds_none}
 use Rattle.histar_trust.proofs.files.push_secrets.Goals as goal

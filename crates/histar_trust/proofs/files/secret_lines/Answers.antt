@@ -12,7 +12,7 @@ pub processes-requires : goal.processes-requires
 processes-requires g c = has_processes c.requires.2
 
 pub returns : goal.returns
-returns g c session f r =
+returns g c accounts f r =
     let members = c.in_ok-members.members.items in
     let runners = c.in_ok-members.ensures ∙ ap (filter_map running_node) c.as_slice.ensures.value in
     let shown : c.push_runners.new.text.items ≡ shown_runners members =

@@ -2,7 +2,7 @@ use Rattle.std.proofs.Common.{rules, sym, ap, ◌∙◌, ◌++◌, [], append-ni
 use Rattle.std.specs.Prelude.{Option}
 use Rattle.std.specs.Global.{Vec}
 use Rattle.std.specs.List.{cons_option}
-use Rattle.histar_secrecy.specs.declared.standing.Member.{Member}
+use Rattle.histar_secrecy.specs.declared.role.Member.{Member}
 use Rattle.histar_trust.specs.Findings.{running_node}
 use Rattle.histar_trust.proofs.Pieces.{kept_more, members_more}
 use Rattle.histar_trust.proofs.members.members_among.Goals as goal

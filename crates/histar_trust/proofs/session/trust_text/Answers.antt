@@ -49,7 +49,7 @@ returns-in_err-write_bytes-clause-runs g c =
     let is = c.in_ok-machine.ensures in
     let shown : c.as_slice.result.now ≡ text_before c.args.at c.args.path.now is.script =
     c.as_slice.ensures.value
-    ∙ c.in_ok-lines.ensures is.script.session (state_before c.args.at is.script)
+    ∙ c.in_ok-lines.ensures is.script.accounts (state_before c.args.at is.script)
     (shows_reached c.args.at c.args.text.now c.in_ok-machine.machine is) in
     rw (p.1, p.2) (begun_text (text_before c.args.at c.args.path.now) c.in_ok-machine.ensures _ shown _ _ c.in_err-write_bytes.ensures.err)
 
@@ -58,6 +58,6 @@ returns-clause-runs g c =
     let is = c.in_ok-machine.ensures in
     let shown : c.as_slice.result.now ≡ text_before c.args.at c.args.path.now is.script =
     c.as_slice.ensures.value
-    ∙ c.in_ok-lines.ensures is.script.session (state_before c.args.at is.script)
+    ∙ c.in_ok-lines.ensures is.script.accounts (state_before c.args.at is.script)
     (shows_reached c.args.at c.args.text.now c.in_ok-machine.machine is) in
     written_text (text_before c.args.at c.args.path.now) c.in_ok-machine.ensures _ shown _ _ c.in_ok-write_bytes.ensures.ok

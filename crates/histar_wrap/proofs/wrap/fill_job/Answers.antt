@@ -13,9 +13,9 @@ returns-in_err-make_scratch g c status is =
     let plan = planned c.args.plan in
     let old = c.args.kernel.now in
     let k1 = c.make_scratch.new.kernel in
-    let ending = c.in_err-make_scratch.field-0.0 in
-    fails_so t (fill_job me status room plan) old k1 ending _ c.from_residual.ensures.1
-    (no_scratch t me status room plan old k1 ending c.in_err-make_scratch.ensures)
+    let call_error = c.in_err-make_scratch.field-0.0 in
+    fails_so t (fill_job me status room plan) old k1 call_error _ c.from_residual.ensures.1
+    (no_scratch t me status room plan old k1 call_error c.in_err-make_scratch.ensures)
 
 pub returns-in_err-give_birth : goal.returns-in_err-give_birth
 returns-in_err-give_birth g c status is =
@@ -26,10 +26,10 @@ returns-in_err-give_birth g c status is =
     let old = c.args.kernel.now in
     let k1 = c.make_scratch.new.kernel in
     let k2 = c.give_birth.new.kernel in
-    let ending = c.in_err-give_birth.field-0.0 in
-    let born = born_so t k1 k2 me status _ plan.kin (λ i. record { owned = c.as_slice.ensures.value i; jobs = c.as_slice-2.ensures.value i }) (Err ending) (c.in_err-give_birth.ensures status is) in
-    fails_so t (fill_job me status room plan) old k2 ending _ c.from_residual-in_err-give_birth.ensures.1
-    (no_birth t me status room plan old k1 c.in_ok-make_scratch.ensures k2 ending born)
+    let call_error = c.in_err-give_birth.field-0.0 in
+    let born = born_so t k1 k2 me status _ plan.kin (λ i. record { owned = c.as_slice.ensures.value i; jobs = c.as_slice-2.ensures.value i }) (Err call_error) (c.in_err-give_birth.ensures status is) in
+    fails_so t (fill_job me status room plan) old k2 call_error _ c.from_residual-in_err-give_birth.ensures.1
+    (no_birth t me status room plan old k1 c.in_ok-make_scratch.ensures k2 call_error born)
 
 pub returns : goal.returns
 returns g c status is =

@@ -3,7 +3,7 @@ use Rattle.std.specs.Prelude.{MatchOption}
 use Rattle.std.proofs.lemmas.Option.{MatchOption-at_some}
 use Rattle.histar_rules.specs.declared.raw.RawCall.TheVariants.{Read}
 use Rattle.histar_layout.specs.Directory.{Entries, IsDirectory}
-use Rattle.histar_calls.specs.declared.ending.Ending.TheVariants.{Stopped}
+use Rattle.histar_calls.specs.declared.call_error.CallError.TheVariants.{Stopped}
 use Rattle.histar_calls.specs.Parts.{read_directory}
 use Rattle.histar_calls.proofs.Running.{grants, refuses, lists, lists_none, fails_so}
 use Rattle.histar_calls.proofs.Directories.{read_fails, list_fails, reads}

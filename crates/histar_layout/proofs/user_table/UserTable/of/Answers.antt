@@ -6,7 +6,7 @@ use Rattle.histar_layout.proofs.user_table.UserTable.of.Goals as goal
 
 pub returns : goal.returns
 returns c =
-    let users : map known c.in_ok-names_of.field-0.keys ≡ map without_password c.args.session.now.users =
-    ap (map known) (c.in_ok-names_of.ensures ∙ ap (map key) c.users.ensures.users) ∙ known_again c.args.session.now.users in
-    let groups : c.in_ok-copies_of.field-0.items ≡ c.args.session.now.groups = c.in_ok-copies_of.ensures ∙ c.groups.ensures.groups in
+    let users : map known c.in_ok-names_of.field-0.keys ≡ map without_password c.args.accounts.now.users =
+    ap (map known) (c.in_ok-names_of.ensures ∙ ap (map key) c.users.ensures.users) ∙ known_again c.args.accounts.now.users in
+    let groups : c.in_ok-copies_of.field-0.items ≡ c.args.accounts.now.groups = c.in_ok-copies_of.ensures ∙ c.groups.ensures.groups in
     λ i. record { users = users i; groups = groups i }

@@ -5,14 +5,14 @@ use Rattle.histar_container.specs.ObjectsModel.{ObjectsModel}
 use Rattle.histar_container.specs.Tree.{AreTree}
 use Rattle.histar_container.proofs.Keeping.{copied_some}
 use Rattle.histar_rules.specs.Finds.{state_shown}
-use Rattle.histar_rules.proofs.Passing.{label_told}
+use Rattle.histar_rules.proofs.Passing.{label_revealed}
 use Rattle.histar_rules.proofs.LinkedObjects.{no_label_shown, found_stands}
 use Rattle.histar_rules.proofs.labelled.LabelledObjects.label_of.Goals as goal
 
 pub returns-in_default : goal.returns-in_default
 returns-in_default g c =
     let labels = g.S.LabelStore.labels c.self.inside.store in
-    absurd (label_told (state_shown labels c.self.inside.table) c.args.thread c.args.container c.args.object
+    absurd (label_revealed (state_shown labels c.self.inside.table) c.args.thread c.args.container c.args.object
     (subst (λ (k : ObjectsModel). AreTree (objects_of k.objects)) (sym c.self.view_is) c.requires) c.in_ok-label.ensures.answer
     (no_label_shown labels c.self.inside.table c.args.object (sym c.in_ok-label.ensures.label ∙ c.in_default.is)))
 

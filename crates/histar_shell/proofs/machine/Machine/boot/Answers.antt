@@ -6,20 +6,20 @@ use Rattle.histar_shell.proofs.machine.Machine.boot.Goals as goal
 
 -- a machine that was booted by its raw calls alone has a trace of them
 pub invariant_of-result : goal.invariant_of-result
-invariant_of-result g c = booted_traced c.args.session c.in_ok-kernel.kernel c.in_ok-kernel.ensures.booted
+invariant_of-result g c = booted_traced c.args.accounts c.in_ok-kernel.kernel c.in_ok-kernel.ensures.booted
 
 pub returns-clause-starts : goal.returns-clause-starts
 returns-clause-starts g c = record {
   users = c.in_ok-users.ensures;
-  places = c.in_ok-kernel.ensures.places;
+  roots = c.in_ok-kernel.ensures.roots;
   state = c.in_ok-kernel.ensures.state;
   booted = c.in_ok-kernel.ensures.booted;
-  line = booted_line c.args.session c.in_ok-kernel.kernel c.in_ok-kernel.ensures.booted;
+  line = booted_line c.args.accounts c.in_ok-kernel.kernel c.in_ok-kernel.ensures.booted;
   runs = refl;
 }
 
 pub returns-clause-shows : goal.returns-clause-shows
-returns-clause-shows g c = start_shows c.args.session c.requires _ (returns-clause-starts g c)
+returns-clause-shows g c = start_shows c.args.accounts c.requires _ (returns-clause-starts g c)
 
 pub of-requires : goal.of-requires
 of-requires g c = c.requires.users.distinct

@@ -1,0 +1,100 @@
+//! What a script declares.
+ghost use Rattle.std.specs.Prelude.{◌≡◌, ◌<◌, ◌≤◌, length, position, IfSome, OnOk};
+ghost use Rattle.histar_flat.specs.PathOrder.{same};
+ghost use Rattle.histar_flat.specs.Accounts.{IsSmall, group_number, is_group, most_users, most_groups, no_accounts, with_user, with_group};
+
+use crate::calls::User;
+use crate::groups::Group;
+use crate::names::Name;
+use std::alloc::{AllocError, Global};
+use std::marker::Model;
+
+/// The users of a machine and the groups of these, at most 16 users and 8 groups. Each has a number, from
+/// 1 on in the order in which they were declared.
+#[derive(Drop)]
+pub struct Accounts {
+    users: Vec<User>,
+    groups: Vec<Group>,
+}
+
+impl Model for Accounts {
+    ghost use Rattle.histar_flat.specs.Accounts.{Accounts, IsSmall};
+
+    ghost Value = { Accounts };
+
+    ghost view = { λ s. record { users = s.users.items; groups = s.groups.items } };
+
+    ghost invariant = { λ s. IsSmall (record { users = s.users.items; groups = s.groups.items }) };
+}
+
+impl Accounts {
+    /// A session in which nothing is declared.
+    pub fn new(alloc: Global) -> Accounts
+        ensures { result ≡ no_accounts }
+    {
+        Accounts {
+            users: Vec::new(alloc),
+            groups: Vec::new(alloc),
+        }
+    }
+
+    /// The users, in the order in which they were declared.
+    pub fn users(&self) -> &[User]
+        ensures users { result.now ≡ self.now.users }
+        ensures few { IsSmall self.now }
+    {
+        self.users.as_slice()
+    }
+
+    /// The groups, in the order in which they were declared.
+    pub fn groups(&self) -> &[Group]
+        ensures groups { result.now ≡ self.now.groups }
+        ensures few { IsSmall self.now }
+    {
+        self.groups.as_slice()
+    }
+
+    /// Declares a user, behind the others.
+    pub fn add_user(&mut self, user: User) -> Result<(), AllocError>
+        requires { length self.old.users < most_users }
+        ensures { OnOk result (self.new ≡ with_user self.old user) }
+    {
+        self.users.push(user)?;
+        Ok(())
+    }
+
+    /// Declares a group, behind the others.
+    pub fn add_group(&mut self, group: Group) -> Result<(), AllocError>
+        requires { length self.old.groups < most_groups }
+        ensures { OnOk result (self.new ≡ with_group self.old group) }
+    {
+        self.groups.push(group)?;
+        Ok(())
+    }
+
+    /// The number of the group of this name.
+    pub fn group_number(&self, name: Name) -> Option<u8>
+        ensures number { result ≡ group_number self.now name }
+        ensures small { IfSome result (λ number. number ≤ most_groups) }
+    {
+        match place_of(self.groups.as_slice(), name) {
+            None => None,
+            Some(place) => Some(place as u8 + 1),
+        }
+    }
+
+    /// Whether a group has this name.
+    pub fn has_group(&self, name: Name) -> bool
+        ensures { result ≡ is_group self.now name }
+    {
+        self.groups.iter().any(|group| group.name() == name)
+    }
+}
+
+/// The place of the group of this name.
+fn place_of(groups: &[Group], name: Name) -> Option<usize>
+    ensures place { result ≡ position (λ group. same group.name name) groups.now }
+    ensures within { IfSome result (λ place. place < length groups.now) }
+{
+    groups.iter().position(|group| group.name() == name)
+}

@@ -1,5 +1,0 @@
-use Rattle.histar_isolation.proofs.ShownReplies.{finds_first_line}
-use Rattle.histar_isolation.proofs.isolation_laws.replies_are_compared_as_they_are_printed.Goals as goal
-
-pub returns : goal.returns
-returns c = finds_first_line

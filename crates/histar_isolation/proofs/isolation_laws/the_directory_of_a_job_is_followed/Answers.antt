@@ -1,5 +1,0 @@
-use Rattle.histar_isolation.proofs.Followed.{finds_left_out}
-use Rattle.histar_isolation.proofs.isolation_laws.the_directory_of_a_job_is_followed.Goals as goal
-
-pub returns : goal.returns
-returns c = finds_left_out

@@ -1,5 +1,0 @@
-use Rattle.histar_isolation.proofs.TreeLines.{finds_first_path}
-use Rattle.histar_isolation.proofs.isolation_laws.trees_are_compared_by_their_lines.Goals as goal
-
-pub returns : goal.returns
-returns c = finds_first_path

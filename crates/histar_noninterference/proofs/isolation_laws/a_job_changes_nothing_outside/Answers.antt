@@ -1,0 +1,5 @@
+use Rattle.histar_noninterference.proofs.Isolated.{isolates_jobs}
+use Rattle.histar_noninterference.proofs.isolation_laws.a_job_changes_nothing_outside.Goals as goal
+
+pub returns : goal.returns
+returns c = isolates_jobs

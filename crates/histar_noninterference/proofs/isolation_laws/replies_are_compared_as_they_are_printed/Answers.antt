@@ -1,0 +1,5 @@
+use Rattle.histar_noninterference.proofs.ShownReplies.{finds_first_line}
+use Rattle.histar_noninterference.proofs.isolation_laws.replies_are_compared_as_they_are_printed.Goals as goal
+
+pub returns : goal.returns
+returns c = finds_first_line

@@ -1,0 +1,31 @@
+//! What a job can't change outside itself. Each law is the contract of a function that does nothing.
+ghost use Rattle.histar_noninterference.specs.Following.{FindsLeftOut};
+ghost use Rattle.histar_noninterference.specs.Isolation.{IsolatesJobs};
+ghost use Rattle.histar_noninterference.specs.Replies.{FindsFirstLine};
+ghost use Rattle.histar_noninterference.specs.Trees.{FindsFirstPath};
+
+/// Where a `wrap` started a job, and who called it has no later line that is a `rmdir` or a `wrap`, a
+/// script and the script without the job's lines tell outsiders the same, and leave the same tree
+/// outside the job.
+pub fn a_job_changes_nothing_outside()
+    ensures { IsolatesJobs }
+{}
+
+/// What lies below a directory of a job is what lies below the one directory that is followed by calls
+/// and replies: from the `wrap` that started the job on, through renames of it and of the directories
+/// above it, until it is taken away.
+pub fn the_directory_of_a_job_is_followed()
+    ensures { FindsLeftOut }
+{}
+
+/// The first path at which the trees of two runs differ is the first at which their lines differ, where
+/// the lines are gone through side by side and what lies below the followed directories is left out.
+pub fn trees_are_compared_by_their_lines()
+    ensures { FindsFirstPath }
+{}
+
+/// The first line at which the replies of two runs differ is the first at which what is printed of them
+/// differs.
+pub fn replies_are_compared_as_they_are_printed()
+    ensures { FindsFirstLine }
+{}

@@ -1,0 +1,5 @@
+use Rattle.histar_readout.proofs.OneTarget.{paths_lead_to_one_target}
+use Rattle.histar_readout.proofs.tree_laws.paths_lead_to_one_target.Goals as goal
+
+pub returns : goal.returns
+returns c = paths_lead_to_one_target

@@ -1,0 +1,5 @@
+use Rattle.histar_readout.proofs.OneTree.{states_have_one_tree}
+use Rattle.histar_readout.proofs.tree_laws.states_have_one_tree.Goals as goal
+
+pub returns : goal.returns
+returns c = states_have_one_tree

@@ -1,0 +1,37 @@
+-- What stands at the paths of a tree.
+use Rattle.std.specs.Prelude.{ℕ, Bool, List, [], Some}
+use Rattle.histar_flat.specs.Words.{Path}
+use Rattle.histar_flat.specs.FlatState.{Node, is_dir, bytes_of}
+use Rattle.histar_object.specs.Objects.{bytes_in}
+use Rattle.histar_object.specs.State.{State}
+use Rattle.histar_layout.specs.Listing.{is_directory}
+use Rattle.histar_layout.specs.declared.class.Class.{Class}
+use Rattle.histar_layout.specs.declared.entry.Target.{Target}
+use Rattle.histar_layout.specs.declared.entry.Target.TheVariants.{File, Directory}
+use Rattle.histar_refinement.specs.Categories.{Categories}
+use Rattle.histar_refinement.specs.NumberedClasses.{numbered_class}
+use Rattle.histar_readout.specs.declared.tree.TreeNode.{TreeNode}
+
+-- what stands at a path: its class, with each job by the number of its category, its kind, and the bytes of a file
+pub record TreeEntry : Type 0 where
+  pub path : Path
+  pub class : Class
+  pub is_directory : Bool
+  pub bytes : List ℕ
+
+-- the bytes that an entry leads to; of a directory there are none
+abbrev pub file_bytes_at : State → Target → List ℕ
+file_bytes_at s (File file) = bytes_in (s.objects file)
+file_bytes_at s (Directory container listing) = []
+
+-- the bytes that a node of a tree leads to
+abbrev pub node_bytes : State → TreeNode → List ℕ
+node_bytes s node = file_bytes_at s node.target
+
+-- what stands there in a state
+abbrev pub tree_entry : State → TreeNode → TreeEntry
+tree_entry s node = record { path = node.path; class = node.class; is_directory = is_directory node.target; bytes = node_bytes s node }
+
+-- what stands there in a flat state
+abbrev pub flat_entry : Categories → Path × Node → TreeEntry
+flat_entry category e = record { path = e.0; class = numbered_class category e.1.class; is_directory = is_dir e.1; bytes = bytes_of (Some e.1) }

@@ -1,0 +1,188 @@
+//! Reading one process.
+ghost use Rattle.std.specs.Prelude.{◌≡◌, ◌&&◌, not, nat_eq, IfOk};
+ghost use Rattle.std.specs.Set.{is_member};
+ghost use Rattle.std.specs.Option.{option_copied};
+ghost use Rattle.histar_label.specs.Level.{is_star};
+ghost use Rattle.histar_object.specs.Objects.{objects_of};
+ghost use Rattle.histar_syscall.specs.KernelModel.{state};
+ghost use Rattle.histar_readout.specs.Process.{ReadsFrom, container_label, life_in, node_in, owned_beside, running_by, thread_label};
+
+use histar_calls::Home;
+use histar_flat::{Name, ProcName};
+use histar_label::{Category, Label, LabelStore, Level};
+use histar_layout::{Chain, UserTable, is_in_job, jobs_in, read_status, user_of};
+use histar_object::ObjId;
+use histar_process::{Caller, caller_in, joined, owned_by, user_name};
+use histar_syscall::Kernel;
+use std::alloc::{AllocError, AllocFailed, Global};
+
+/// A process that was not killed.
+#[derive(Drop)]
+pub struct ProcessNode {
+    pub name: ProcName,
+    /// Where it is found.
+    pub home: Home,
+    /// The jobs that it is in.
+    pub chain: Chain,
+    pub life: Life,
+    /// How many children were born to it.
+    pub born: u8,
+}
+
+/// Whether a process runs.
+#[derive(Drop)]
+pub enum Life {
+    /// It runs.
+    Running {
+        /// Its user; nobody, where it has not logged in.
+        user: Name,
+        /// The jobs that it holds.
+        held: Chain,
+    },
+    /// It has exited with this number.
+    Exited(u8),
+}
+
+/// Why a process is not read.
+pub enum ProcessError {
+    /// The objects are no process: bytes are no process segment's, a container or a thread is not
+    /// there, or a name is too long.
+    NoProcess,
+    OutOfMemory,
+}
+
+impl From<AllocError> for ProcessError {
+    ghost use Rattle.std.specs.Prelude.{◌≡◌};
+    ghost use Rattle.histar_readout.specs.declared.process.ProcessError.TheVariants.{OutOfMemory};
+
+    ghost from_gives = { λ _ e. e ≡ OutOfMemory };
+
+    fn from(_error: AllocError) -> Self {
+        ProcessError::OutOfMemory
+    }
+}
+
+impl<T: Drop> From<AllocFailed<T>> for ProcessError {
+    ghost use Rattle.std.specs.Prelude.{◌≡◌};
+    ghost use Rattle.histar_readout.specs.declared.process.ProcessError.TheVariants.{OutOfMemory};
+
+    ghost from_gives = { λ _ e. e ≡ OutOfMemory };
+
+    fn from(_failed: AllocFailed<T>) -> Self {
+        ProcessError::OutOfMemory
+    }
+}
+
+/// Reads the process of this name, which is found there.
+pub fn read_process<S: LabelStore + Drop>(
+    alloc: Global,
+    kernel: &Kernel<S>,
+    users: &UserTable,
+    name: &ProcName,
+    home: &Home,
+) -> Result<ProcessNode, ProcessError>
+    ensures { ReadsFrom (node_in users.now (state kernel.now) name.now home.now) result }
+{
+    let Some(head) = read_status(kernel.bytes(home.segment)) else {
+        return Err(ProcessError::NoProcess);
+    };
+    let Some(outer) = container_label(kernel, home.container) else {
+        return Err(ProcessError::NoProcess);
+    };
+    Ok(ProcessNode {
+        name: *name,
+        home: *home,
+        chain: Chain::new(jobs_in(alloc, outer)?),
+        life: read_life(alloc, kernel, users, home, head.exited)?,
+        born: head.born,
+    })
+}
+
+/// Reads whether a process runs, and as what, whose segment has this number if it has exited.
+fn read_life<S: LabelStore + Drop>(
+    alloc: Global,
+    kernel: &Kernel<S>,
+    users: &UserTable,
+    home: &Home,
+    exited: Option<u8>,
+) -> Result<Life, ProcessError>
+    ensures { ReadsFrom (life_in users.now (state kernel.now) home.now exited) result }
+{
+    if let Some(number) = exited {
+        return Ok(Life::Exited(number));
+    }
+    let Some(caller) = caller_in(kernel, *home) else {
+        return Err(ProcessError::NoProcess);
+    };
+    let Some(own) = thread_label(kernel, caller.thread) else {
+        return Err(ProcessError::NoProcess);
+    };
+    Ok(running_by(alloc, users, &caller, own)?)
+}
+
+/// Returns as what a process runs, by the label of its thread.
+fn running_by(
+    alloc: Global,
+    users: &UserTable,
+    caller: &Caller,
+    own: &Label,
+) -> Result<Life, AllocError>
+    ensures { IfOk result (λ life. life ≡ running_by users.now caller.now own.now) }
+{
+    let number = user_of(own, users);
+    let as_user = owned_by(alloc, users, number, !is_in_job(own))?;
+    let known = joined(alloc, &[caller.read, caller.write], as_user.as_slice())?;
+    let held = owned_beside(alloc, own, known.as_slice())?;
+    Ok(Life::Running {
+        user: user_name(users, number),
+        held: Chain::new(held),
+    })
+}
+
+/// Returns the categories that a label owns but for these.
+fn owned_beside(alloc: Global, own: &Label, known: &[Category]) -> Result<Vec<Category>, AllocError>
+    ensures { IfOk result (λ owned. owned.items ≡ owned_beside known.now own.now) }
+{
+    let mut owned = Vec::new(alloc);
+    let exceptions = own.exceptions();
+    for &(category, level) in exceptions {
+        if is_owned_beside(known, category, level) {
+            owned.push(category)?;
+        }
+    }
+    Ok(owned)
+}
+
+/// Checks whether a category is owned at this level, and is none of these.
+fn is_owned_beside(known: &[Category], category: Category, level: Level) -> bool
+    ensures { result ≡ (is_star level && not (is_member nat_eq known.now category)) }
+{
+    level.is_star() && !is_among(known, category)
+}
+
+/// Checks whether a category is one of these.
+fn is_among(known: &[Category], category: Category) -> bool
+    ensures { result ≡ is_member nat_eq known.now category }
+{
+    known.iter().any(|other| category == *other)
+}
+
+/// Returns the label of a container.
+fn container_label<S: LabelStore + Drop>(kernel: &Kernel<S>, container: ObjId) -> Option<&Label>
+    ensures { option_copied result ≡ container_label (objects_of kernel.now.kept.objects container) }
+{
+    if !kernel.is_container(container) {
+        return None;
+    }
+    kernel.label(container)
+}
+
+/// Returns the label of a thread.
+fn thread_label<S: LabelStore + Drop>(kernel: &Kernel<S>, thread: ObjId) -> Option<&Label>
+    ensures { option_copied result ≡ thread_label (objects_of kernel.now.kept.objects thread) }
+{
+    if !kernel.is_thread(thread) {
+        return None;
+    }
+    kernel.label(thread)
+}

@@ -1,0 +1,98 @@
+//! Reading the processes.
+ghost use Rattle.std.specs.Prelude.{◌≡◌, ◌≤◌, IfOk, length};
+ghost use Rattle.histar_flat.specs.Words.{most_numbers};
+ghost use Rattle.histar_syscall.specs.KernelModel.{state};
+ghost use Rattle.histar_process.specs.Parts.{home_of};
+ghost use Rattle.histar_readout.specs.Processes.{AddsProcesses, FindsProcesses, child_of};
+
+use crate::process::{ProcessError, ProcessNode, read_process};
+use histar_calls::{Home, Roots};
+use histar_flat::{MOST_NUMBERS, ProcName};
+use histar_label::LabelStore;
+use histar_layout::{Child, UserTable, find_child};
+use histar_object::ObjId;
+use histar_syscall::Kernel;
+use std::alloc::{AllocError, Global};
+
+/// A process by its name, and where it is found.
+#[derive(Clone, Copy)]
+struct NamedHome {
+    name: ProcName,
+    home: Home,
+}
+
+/// The processes of a kernel: those that the process segments list from that of process 0 on, each
+/// before its children, which stand by rising numbers. They are read out of the kernel's table, with
+/// no raw call. None where a segment on the way tells of no process, a container or a thread is not
+/// there, or a name is too long.
+pub fn procs_of<S: LabelStore + Drop>(
+    alloc: Global,
+    kernel: &Kernel<S>,
+    roots: &Roots,
+    users: &UserTable,
+) -> Result<Option<Vec<ProcessNode>>, AllocError>
+    ensures { IfOk result (FindsProcesses users.now (state kernel.now) roots.now) }
+{
+    let zero = NamedHome {
+        name: ProcName::zero(),
+        home: roots.home,
+    };
+    let mut processes = Vec::new(alloc);
+    match push_process(alloc, kernel, users, &zero, &mut processes) {
+        Ok(()) => Ok(Some(processes)),
+        Err(ProcessError::NoProcess) => Ok(None),
+        Err(ProcessError::OutOfMemory) => Err(AllocError),
+    }
+}
+
+/// Adds a process, and then its children, each with its own.
+fn push_process<S: LabelStore + Drop>(
+    alloc: Global,
+    kernel: &Kernel<S>,
+    users: &UserTable,
+    found: &NamedHome,
+    processes: &mut Vec<ProcessNode>,
+) -> Result<(), ProcessError>
+    requires { length found.now.name ≤ most_numbers }
+    ensures { AddsProcesses users.now (state kernel.now) found.now.name found.now.home
+        processes.old.items processes.new.items result }
+{
+    let (name, segment) = (&found.name, found.home.segment);
+    let node = read_process(alloc, kernel, users, name, &found.home)?;
+    let born = node.born;
+    processes.push(node)?;
+    'births: for births in 0..born {
+        let Some(child) = child_of(kernel, segment, births + 1) else {
+            continue;
+        };
+        if name.numbers().len() == MOST_NUMBERS {
+            return Err(ProcessError::NoProcess);
+        }
+        let inner = NamedHome {
+            name: name.child(child.number),
+            home: home_of(child),
+        };
+        push_process(alloc, kernel, users, &inner, processes)?;
+    }
+    Ok(())
+}
+
+/// The child of this number that a process segment lists.
+fn child_of<S: LabelStore + Drop>(kernel: &Kernel<S>, segment: ObjId, number: u8) -> Option<Child>
+    ensures { result ≡ child_of (state kernel.now) segment number }
+{
+    let Ok(found) = find_child(kernel.bytes(segment), number) else {
+        return None;
+    };
+    found
+}
+
+/// Where a child is found.
+fn home_of(child: Child) -> Home
+    ensures { result ≡ home_of child }
+{
+    Home {
+        container: child.container,
+        segment: child.segment,
+    }
+}

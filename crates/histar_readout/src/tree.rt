@@ -1,0 +1,176 @@
+//! Reading the tree.
+ghost use Rattle.std.specs.Prelude.{◌≡◌, ◌≤◌, length, IfOk};
+ghost use Rattle.histar_flat.specs.Words.{most_names};
+ghost use Rattle.histar_layout.specs.Listing.{object_of};
+ghost use Rattle.histar_syscall.specs.KernelModel.{state};
+ghost use Rattle.histar_readout.specs.TreeEntries.{node_bytes};
+ghost use Rattle.histar_readout.specs.TreeLines.{node_stat};
+ghost use Rattle.histar_readout.specs.Tree.{AddsBelow, AddsTree, FindsNode, FindsTree};
+
+use histar_calls::Roots;
+use histar_flat::{Path, Stat};
+use histar_label::LabelStore;
+use histar_layout::{Class, Target, UserTable, class_of, read_dir};
+use histar_object::ObjId;
+use histar_syscall::Kernel;
+use std::alloc::{AllocError, AllocFailed, Global};
+
+/// The most names of a path.
+const MOST_NAMES: usize = 8;
+
+/// A file or a directory of a tree.
+#[derive(Drop)]
+pub struct TreeNode {
+    pub path: Path,
+    /// Whose it is and for whom, as its label has it.
+    pub class: Class,
+    /// Where its entry leads. A tree alone makes nodes, so that who has one has read it off a tree.
+    pub(crate) target: Target,
+}
+
+impl TreeNode {
+    /// Returns what is shown of it: its kind, its owner and its mode.
+    pub fn stat(&self) -> Stat
+        ensures { result ≡ node_stat self.now }
+    {
+        self.class.stat(self.target.is_directory())
+    }
+
+    /// Returns the object that stands there: a file's segment, or a directory's container.
+    pub fn object(&self) -> ObjId
+        ensures { result ≡ object_of self.now.target }
+    {
+        self.target.object()
+    }
+}
+
+/// Why no tree is read.
+enum TreeError {
+    /// The objects are no tree: bytes are no directory, a label is of no class, or a path is too long.
+    NotATree,
+    OutOfMemory,
+}
+
+impl From<AllocError> for TreeError {
+    ghost use Rattle.std.specs.Prelude.{◌≡◌};
+    ghost use Rattle.histar_readout.specs.declared.tree.TreeError.TheVariants.{OutOfMemory};
+
+    ghost from_gives = { λ _ e. e ≡ OutOfMemory };
+
+    fn from(_error: AllocError) -> Self {
+        TreeError::OutOfMemory
+    }
+}
+
+impl<T: Drop> From<AllocFailed<T>> for TreeError {
+    ghost use Rattle.std.specs.Prelude.{◌≡◌};
+    ghost use Rattle.histar_readout.specs.declared.tree.TreeError.TheVariants.{OutOfMemory};
+
+    ghost from_gives = { λ _ e. e ≡ OutOfMemory };
+
+    fn from(_failed: AllocFailed<T>) -> Self {
+        TreeError::OutOfMemory
+    }
+}
+
+/// The files and directories of a kernel, by rising paths: those that the directory segments list from
+/// that of `/` on. It is read out of the kernel's table, with no raw call. None where the segments don't
+/// list a tree of files and directories whose labels are of classes, at paths that can be named.
+pub fn tree_of<S: LabelStore + Drop>(
+    alloc: Global,
+    kernel: &Kernel<S>,
+    roots: &Roots,
+    users: &UserTable,
+) -> Result<Option<Vec<TreeNode>>, AllocError>
+    ensures { IfOk result (FindsTree users.now (state kernel.now) roots.now) }
+{
+    let mut tree = Vec::new(alloc);
+    let slash = Target::Directory(roots.slash.container, roots.slash.listing);
+    match push_tree(alloc, kernel, users, &Path::root(), slash, &mut tree) {
+        Ok(()) => Ok(Some(tree)),
+        Err(TreeError::NotATree) => Ok(None),
+        Err(TreeError::OutOfMemory) => Err(AllocError),
+    }
+}
+
+/// Returns the bytes of a file of the tree, lent by the kernel's table. Of a directory there are none.
+pub fn bytes_of<'a, S: LabelStore + Drop>(kernel: &'a Kernel<S>, node: &TreeNode) -> &'a [u8]
+    ensures { result.now ≡ node_bytes (state kernel.now) node.now }
+{
+    match &node.target {
+        Target::File(file) => kernel.bytes(*file),
+        Target::Directory(_, _) => &[],
+    }
+}
+
+/// Adds what stands at a path, and then what stands below it.
+#[cycle(tree)]
+fn push_tree<S: LabelStore + Drop>(
+    alloc: Global,
+    kernel: &Kernel<S>,
+    users: &UserTable,
+    path: &Path,
+    target: Target,
+    tree: &mut Vec<TreeNode>,
+) -> Result<(), TreeError>
+    requires { length path.now ≤ most_names }
+    ensures { AddsTree users.now (state kernel.now) path.now target tree.old.items tree.new.items result }
+{
+    let node = node_at(alloc, kernel, users, path, target)?;
+    tree.push(node)?;
+    match &target {
+        Target::File(_) => Ok(()),
+        Target::Directory(_, listing) => push_below(alloc, kernel, users, path, *listing, tree),
+    }
+}
+
+/// Adds what stands below a directory, of which this is the directory segment.
+#[cycle(tree)]
+fn push_below<S: LabelStore + Drop>(
+    alloc: Global,
+    kernel: &Kernel<S>,
+    users: &UserTable,
+    path: &Path,
+    listing: ObjId,
+    tree: &mut Vec<TreeNode>,
+) -> Result<(), TreeError>
+    requires { length path.now ≤ most_names }
+    ensures { AddsBelow users.now (state kernel.now) path.now listing tree.old.items tree.new.items result }
+{
+    let Some(directory) = read_dir(alloc, kernel.bytes(listing))? else {
+        return Err(TreeError::NotATree);
+    };
+    let entries = directory.entries(alloc)?;
+    'entries: for entry in &entries {
+        let (name, target) = *entry;
+        if path.depth() == MOST_NAMES {
+            return Err(TreeError::NotATree);
+        }
+        let inner = path.entry(name);
+        push_tree(alloc, kernel, users, &inner, target, tree)?;
+    }
+    Ok(())
+}
+
+/// What stands at a path where its entry leads: its object has a label, which is of a class.
+fn node_at<S: LabelStore + Drop>(
+    alloc: Global,
+    kernel: &Kernel<S>,
+    users: &UserTable,
+    path: &Path,
+    target: Target,
+) -> Result<TreeNode, TreeError>
+    ensures { FindsNode users.now (state kernel.now) path.now target result }
+{
+    let Some(label) = kernel.label(target.object()) else {
+        return Err(TreeError::NotATree);
+    };
+    let Some(class) = class_of(alloc, label, users)? else {
+        return Err(TreeError::NotATree);
+    };
+    Ok(TreeNode {
+        path: *path,
+        class,
+        target,
+    })
+}

@@ -1,0 +1,26 @@
+-- Objects that stand at addresses: what a state shows under a naming, but for links.
+use Rattle.std.specs.Prelude.{◌≡◌, Bool, is_some, option_map}
+use Rattle.std.specs.FinSet as set
+use Rattle.histar_label.specs.Levels.{Levels}
+use Rattle.histar_object.specs.declared.objects.Kind.{Kind}
+use Rattle.histar_object.specs.declared.objects.Kind.TheVariants.{Segment, Container, Thread, Gate}
+use Rattle.histar_object.specs.declared.objects.Object.{Object}
+use Rattle.histar_object.specs.Objects.{is_present}
+use Rattle.histar_object.specs.State.{State, Found}
+use Rattle.histar_container.specs.Tree.{Address, Naming, MatchesNaming, objects_at}
+
+-- a container that links nothing, and any other kind as it is
+abbrev pub kind_bare : Kind Levels → Kind Levels
+kind_bare (Container links) = Container set.empty
+kind_bare kind = kind
+
+-- an object but for its links
+abbrev pub bare : Found → Found
+bare found = option_map (λ (o : Object Levels). record { label = o.label; kind = kind_bare o.kind }) found
+
+-- Under this naming each object of the state stands at an address and links exactly what stands one step below it; and at each
+-- address stands, but for links, what is asked for there, and nothing where nothing is asked for.
+pub record Agrees {X : Type 0} (same_step : X → X → Bool) (s : State) (naming : Naming X) (asked : Address X → Found) : Type 0 where
+  pub tree : MatchesNaming same_step s.objects s.next_object (objects_at s.objects naming) naming
+  pub objects : (a : Address X) → bare (objects_at s.objects naming a) ≡ asked a
+  pub named : (a : Address X) → is_some (naming.number a) ≡ is_present (asked a)

@@ -1,0 +1,5 @@
+use Rattle.std.proofs.Common.{length}
+use Rattle.histar_run_explain.proofs.location.+target_at.Given as goal
+
+abbrev pub decreases-target_at : goal.decreases-target_at
+decreases-target_at g l = length l.names.now

@@ -1,5 +1,0 @@
-use Rattle.std.proofs.Common.{length}
-use Rattle.histar_run_explain.proofs.standing.+path_among.Given as goal
-
-abbrev pub decreases-path_among : goal.decreases-path_among
-decreases-path_among g l = length l.names.now

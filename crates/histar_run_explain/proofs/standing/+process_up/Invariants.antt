@@ -1,5 +1,0 @@
-use Rattle.std.proofs.Common.{length}
-use Rattle.histar_run_explain.proofs.standing.+process_up.Given as goal
-
-abbrev pub decreases-process_up : goal.decreases-process_up
-decreases-process_up g l = length l.numbers.now

@@ -1,5 +1,0 @@
-use Rattle.std.proofs.Common.{length}
-use Rattle.histar_run_explain.proofs.standing.+target_at.Given as goal
-
-abbrev pub decreases-target_at : goal.decreases-target_at
-decreases-target_at g l = length l.names.now

@@ -1,9 +1,0 @@
-use Rattle.std.proofs.Common.{length, ap, ◌∙◌, arith}
-use Rattle.histar_flat.specs.Sessions.{Session, with_user}
-use Rattle.histar_sessions.proofs.processes.session.Goals as goal
-
--- one user has a name alone
-pub returns : goal.returns
-returns c =
-    let few = ap (λ (s : Session). length s.users) (c.in_ok-add_user.ensures ∙ ap (λ (s : Session). with_user s (record { name = c.in_ok-name.name; password = c.in_ok-name.password })) c.new-session.ensures) in
-    λ i j d lt below same. absurd (omega (arith, lt, below, few))

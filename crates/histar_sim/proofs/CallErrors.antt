@@ -1,0 +1,222 @@
+-- How a call ends: it has replied what its flat rule says, or it was refused nowhere.
+use Rattle.std.proofs.Common.{◌≡◌, ◌≢◌, ℕ, ◌||◌, Bool, true, false, List, [], ◌∷◌, ◌++◌, Option, None, Some, Ok, refl, sym, ap, ◌∙◌, subst}
+use Rattle.std.proofs.lemmas.List.{map-append}
+use Rattle.std.specs.Prelude.{option_map}
+use Rattle.std.specs.List.{AllByRecursion}
+use Rattle.std.proofs.Math.Bool.{or-false}
+use Rattle.histar_flat.specs.declared.calls.UnixCall.{UnixCall}
+use Rattle.histar_flat.specs.declared.replies.Errno.{Errno}
+use Rattle.histar_flat.specs.declared.replies.Reply.{Reply}
+use Rattle.histar_flat.specs.declared.replies.Reply.TheVariants.{Done, Data, Entries, Stats, Refused, Gone}
+use Rattle.histar_flat.specs.Words.{ProcName}
+use Rattle.histar_flat.specs.Accounts.{Accounts}
+use Rattle.histar_flat.specs.Classes.{Process}
+use Rattle.histar_flat.specs.FlatState.{Flat, is_some_and}
+use Rattle.histar_flat.specs.FlatCalls as flat
+use Rattle.histar_flat.specs.FlatCalls.{refused, changed, reply_or, flat_or, if_running, running, reply_by, flat_by, reply_to, flat_after}
+use Rattle.histar_object.specs.Objects.{bytes_in}
+use Rattle.histar_object.specs.State.{State}
+use Rattle.histar_rules.specs.declared.raw.Denied.{Denied}
+use Rattle.histar_rules.specs.declared.raw.Denied.TheVariants.{Observe, TooBig}
+use Rattle.histar_rules.specs.declared.raw.RawCall.{RawCall}
+use Rattle.histar_rules.specs.declared.raw.RawCall.TheVariants.{Read, Write}
+use Rattle.histar_syscall.specs.declared.trace.TraceEntry.{TraceEntry}
+use Rattle.histar_syscall.specs.KernelModel.{KernelModel, state}
+use Rattle.histar_syscall.specs.Runs.{is_label_refusal, is_range_refusal, some_label_refusal, some_range_refusal}
+use Rattle.histar_syscall.proofs.Runs.{entry_of}
+use Rattle.histar_calls.specs.Refusals.{errno_for, errno_of, write_errno_of}
+use Rattle.histar_calls.specs.Replies.{is_access, is_permission, is_no_access, is_no_permission, IsRefusedOnce, sets_labels}
+use Rattle.histar_refinement.specs.Represents.{Represents}
+use Rattle.histar_refinement.specs.Lines.{IsThreadOf}
+use Rattle.histar_sim.specs.Simulation.{IsRunning, IsReplyOfDenial, EndsWithRead, IsLine, IsUnanswered, IsBrokenOff, FollowsRule}
+use Rattle.histar_sim.specs.Reads.{HasReads}
+use Rattle.histar_sim.proofs.ReadsByCall.{HasReadsByCall, reads_due}
+use Rattle.histar_sim.proofs.Chains.{Step, all_granted, entries_of, Chain, chain_run, chain_own, all_restoring}
+
+-- what a reply needs where no raw call was refused: bytes were read last, an errno is neither EACCES nor EPERM, and it is not `gone`
+abbrev pub IsBacked : State → List TraceEntry → Reply → Type 0
+IsBacked s entries Done = Unit {0}
+IsBacked s entries (Data bytes) = EndsWithRead s entries bytes
+IsBacked s entries (Entries listing) = Unit {0}
+IsBacked s entries (Stats stat) = Unit {0}
+IsBacked s entries (Refused errno) = (is_access errno ≡ false) × (is_permission errno ≡ false)
+IsBacked s entries Gone = ⊥
+IsBacked s entries _ = Unit {0}
+
+module _ (s : State) (entries : List TraceEntry) where
+  backed_plain : (r : Reply) → IsBacked s entries r → (is_no_access r ≡ false) × (is_no_permission r ≡ false)
+  backed_plain (Refused errno) backed = backed
+  backed_plain r backed = (refl, refl)
+
+  backed_runs : (r : Reply) → IsBacked s entries r → r ≢ Gone
+  backed_runs Gone backed e = backed
+  backed_runs r backed e = absurd cc
+
+  backed_revealed : (r : Reply) → IsBacked s entries r → (bytes : List ℕ) → r ≡ Data bytes → EndsWithRead s entries bytes
+  backed_revealed (Data held) backed bytes e = let same : held ≡ bytes = cc in subst (EndsWithRead s entries) same backed
+  backed_revealed r backed bytes e = absurd cc
+
+-- a reply that tells a refusal is EACCES exactly where the refusal is by label, and EPERM exactly where it is by range
+revealed_by : (denied : Denied) → (is_label_refusal (Some denied) ≡ is_some_and (write_errno_of denied) is_access) × (is_range_refusal (Some denied) ≡ is_some_and (write_errno_of denied) is_permission)
+revealed_by Observe = (refl, refl)
+revealed_by denied = (refl, refl)
+
+-- what any raw call's refusal is told as, a write's is told as too
+shown_by : (denied : Denied) (errno : Errno) → errno_of denied ≡ Some errno → write_errno_of denied ≡ Some errno
+shown_by TooBig errno revealed = absurd cc
+shown_by denied errno revealed = revealed
+
+pub revealed_shown : (call : RawCall) (denied : Denied) (errno : Errno) → errno_for call denied ≡ Some errno → write_errno_of denied ≡ Some errno
+revealed_shown (Write container segment keep bytes) denied errno revealed = revealed
+revealed_shown call denied errno revealed = shown_by denied errno revealed
+
+-- the refusals among these entries are what the reply tells
+pub record Agrees (r : Reply) (entries : List TraceEntry) : Type 0 where
+  pub access : some_label_refusal entries ≡ is_no_access r
+  pub permission : some_range_refusal entries ≡ is_no_permission r
+  pub denials : AllByRecursion (λ (e : TraceEntry). IsReplyOfDenial r e.denied) entries
+  pub once : IsRefusedOnce entries
+
+module _ (line t : ℕ) where
+  -- a granted raw call more before them changes nothing
+  after_granted : (r : Reply) (call : RawCall) (entries : List TraceEntry) → Agrees r entries → Agrees r (entry_of line t call None ∷ entries)
+  after_granted r call entries a = record { access = a.access; permission = a.permission; denials = (tt, a.denials); once = a.once }
+
+  -- granted raw calls agree with a reply that is neither EACCES nor EPERM
+  granted_agree : (r : Reply) → (is_no_access r ≡ false) × (is_no_permission r ≡ false) → (calls : List RawCall) → Agrees r (entries_of line t (all_granted calls))
+  granted_agree r plain [] = record { access = sym plain.0; permission = sym plain.1; denials = tt; once = tt }
+  granted_agree r plain (call ∷ calls) = after_granted r call (entries_of line t (all_granted calls)) (granted_agree r plain calls)
+
+  -- granted raw calls are refused neither by label nor by range, and no reply has a denial of them to tell
+  none_refused : (r : Reply) (calls : List RawCall)
+      → (some_label_refusal (entries_of line t (all_granted calls)) ≡ false) × (some_range_refusal (entries_of line t (all_granted calls)) ≡ false) × AllByRecursion (λ (e : TraceEntry). IsReplyOfDenial r e.denied) (entries_of line t (all_granted calls))
+  none_refused r [] = (refl, refl, tt)
+  none_refused r (call ∷ calls) = let later = none_refused r calls in (later.0, later.1, (tt, later.2))
+
+  -- granted raw calls, then one that was refused, then some that give the thread labels: they agree with what the refusal is told as
+  refused_agree : (last : RawCall) (denied : Denied) (errno : Errno) → write_errno_of denied ≡ Some errno → (restoring : List RawCall) → AllByRecursion (λ (c : RawCall). sets_labels c ≡ true) restoring
+      → (calls : List RawCall) → Agrees (Refused errno) (entries_of line t (all_granted calls ++ (last, Some denied) ∷ all_granted restoring))
+  refused_agree last denied errno revealed restoring sets [] =
+      let none = none_refused (Refused errno) restoring in
+      record {
+        access = ap (λ (b : Bool). is_label_refusal (Some denied) || b) none.0 ∙ or-false (is_label_refusal (Some denied)) ∙ (revealed_by denied).0 ∙ ap (λ (o : Option Errno). is_some_and o is_access) revealed;
+        permission = ap (λ (b : Bool). is_range_refusal (Some denied) || b) none.1 ∙ or-false (is_range_refusal (Some denied)) ∙ (revealed_by denied).1 ∙ ap (λ (o : Option Errno). is_some_and o is_permission) revealed;
+        denials = (ap (option_map Refused) revealed, none.2);
+        once = all_restoring t line restoring sets;
+      }
+  refused_agree last denied errno revealed restoring sets (call ∷ calls) =
+      after_granted (Refused errno) call (entries_of line t (all_granted calls ++ (last, Some denied) ∷ all_granted restoring)) (refused_agree last denied errno revealed restoring sets calls)
+
+-- granted raw calls, and behind them a read that is granted too: what it tells is what the segment held then
+pub read_last : (old mid : KernelModel) (t : ℕ) (calls : List RawCall) → Chain old t (all_granted calls) mid → (container segment : ℕ)
+    → EndsWithRead (state old) (entries_of old.line t (all_granted calls ++ (Read container segment, None) ∷ [])) (bytes_in ((state mid).objects segment))
+read_last old mid t calls chain container segment = record {
+  front = entries_of old.line t (all_granted calls);
+  last = entry_of old.line t (Read container segment) None;
+  parts = map-append (λ (s : Step). entry_of old.line t s.0 s.1) (all_granted calls) ((Read container segment, None) ∷ []);
+  before = state mid;
+  run = (chain_run t old mid (all_granted calls) chain).run;
+  granted = refl;
+  answers = refl;
+}
+
+module _ (accounts : Accounts) (f : Flat) (me : ProcName) (caller : IsRunning f me) (call : UnixCall) (old new : KernelModel) (t : ℕ) (named : IsThreadOf accounts (state old) me t) where
+  -- the process runs
+  runs : running f me ≡ Some caller.process
+  runs = ap if_running caller.agrees ∙ ap (λ (x : Option ℕ). elim x as (λ _. Option Process) [ None ↦ Some caller.process | Some n ↦ None ]) caller.runs
+
+  -- so its call is answered by its flat rule, and the state after it is the rule's too
+  pub reply_is : (refusal : Option Errno) → refused accounts f me caller.process call ≡ refusal → reply_to accounts f me call ≡ reply_or refusal (flat.answer f me caller.process call)
+  reply_is refusal e = ap (λ (r : Option Process). reply_by accounts f me r call) runs ∙ ap (λ (r : Option Errno). reply_or r (flat.answer f me caller.process call)) e
+
+  after_is : (refusal : Option Errno) → refused accounts f me caller.process call ≡ refusal → flat_after accounts f me call ≡ flat_or refusal f (changed accounts f me caller.process call)
+  after_is refusal e = ap (λ (r : Option Process). flat_by accounts f me r call) runs ∙ ap (λ (r : Option Errno). flat_or r f (changed accounts f me caller.process call)) e
+
+  -- a chain that was broken off before that reply ends without one
+  pub chain_unanswered : (steps : List Step) → Chain old t steps new → IsBrokenOff (reply_to accounts f me call) (state old) (entries_of old.line t steps) (state new) → IsUnanswered accounts f me call old new t
+  chain_unanswered steps chain run =
+      let part = chain_run t old new steps chain in
+      record {
+        entries = entries_of old.line t steps;
+        trace = part.trace;
+        line = part.line;
+        run = run;
+        own = chain_own t old.line steps;
+      }
+
+  -- the reads that the call cannot do without, where it is answered so, are among these raw calls
+  abbrev pub ReadsAmong : List Step → Reply → Type 0
+  ReadsAmong steps r = HasReadsByCall accounts (state old) f caller.process call r (entries_of old.line t steps)
+
+  -- what the flat rules answer where they allow the call
+  abbrev pub allowed : Reply
+  allowed = flat.answer f me caller.process call
+
+  -- each entry is of the line's thread
+  all_own : (line : ℕ) (steps : List Step) → AllByRecursion (λ (e : TraceEntry). (e.line ≡ line) × IsThreadOf accounts (state old) me e.thread) (entries_of line t steps)
+  all_own line [] = tt
+  all_own line (s ∷ steps) = ((refl, named), all_own line steps)
+
+  -- where the raw calls agree with the reply of the flat rules, and the state represents the flat state after the call, a call is answered so
+  agreed_refined : (steps : List Step) → Chain old t steps new → (refusal : Option Errno) → refused accounts f me caller.process call ≡ refusal → (r : Reply) → reply_or refusal allowed ≡ r
+      → Agrees r (entries_of old.line t steps) → ((bytes : List ℕ) → r ≡ Data bytes → EndsWithRead (state old) (entries_of old.line t steps) bytes) → ReadsAmong steps r → r ≢ Gone
+      → Represents accounts (state new) (flat_or refusal f (changed accounts f me caller.process call)) → FollowsRule accounts f me call old new t (Ok r)
+  agreed_refined steps chain refusal is r r_is reply_agrees revealed reads lives represents =
+      let part = chain_run t old new steps chain in
+      let reply = reply_is refusal is ∙ r_is in
+      let entries = entries_of old.line t steps in
+      let is_line : IsLine accounts (state old) old.line me r entries (state new) = record {
+        run = part.run;
+        own = all_own old.line steps;
+        access = reply_agrees.access;
+        permission = reply_agrees.permission;
+        denials = reply_agrees.denials;
+        once = reply_agrees.once;
+        ends_with_read = revealed;
+        gone = λ e. absurd (lives e);
+      } in (
+        sym reply,
+        record {
+          entries = entries;
+          trace = part.trace;
+          line = part.line;
+          refined = record {
+            line = subst (λ (x : Reply). IsLine accounts (state old) old.line me x entries (state new)) (sym reply) is_line;
+            reads = subst (λ (o : Option Process). HasReads accounts (state old) f o call (reply_to accounts f me call) entries) (sym runs)
+                (reads_due accounts (state old) f caller.process call (reply_to accounts f me call) entries
+                (subst (λ (x : Reply). HasReadsByCall accounts (state old) f caller.process call x entries) (sym reply) reads));
+            represents = subst (Represents accounts (state new)) (sym (after_is refusal is)) represents;
+          };
+        },
+      )
+
+  -- where every raw call was granted, a call that the flat rules allow is answered what they answer
+  pub granted_refined : (calls : List RawCall) → Chain old t (all_granted calls) new → refused accounts f me caller.process call ≡ None → IsBacked (state old) (entries_of old.line t (all_granted calls)) allowed → ReadsAmong (all_granted calls) allowed
+      → Represents accounts (state new) (changed accounts f me caller.process call) → FollowsRule accounts f me call old new t (Ok allowed)
+  granted_refined calls chain is backed reads represents =
+      let entries = entries_of old.line t (all_granted calls) in
+      agreed_refined (all_granted calls) chain None is allowed refl (granted_agree old.line t allowed (backed_plain (state old) entries allowed backed) calls)
+      (backed_revealed (state old) entries allowed backed) reads (backed_runs (state old) entries allowed backed) represents
+
+  -- Where one raw call was refused and those behind it give the thread labels, a call that the flat rules refuse as that refusal is told is
+  -- answered so, if the state still represents the flat state.
+  pub given_back_refined : (calls : List RawCall) (last : RawCall) (denied : Denied) (restoring : List RawCall) → AllByRecursion (λ (c : RawCall). sets_labels c ≡ true) restoring
+      → Chain old t (all_granted calls ++ (last, Some denied) ∷ all_granted restoring) new → (errno : Errno) → write_errno_of denied ≡ Some errno → refused accounts f me caller.process call ≡ Some errno
+      → ReadsAmong (all_granted calls ++ (last, Some denied) ∷ all_granted restoring) (Refused errno) → Represents accounts (state new) f → FollowsRule accounts f me call old new t (Ok (Refused errno))
+  given_back_refined calls last denied restoring sets chain errno revealed is reads represents =
+      agreed_refined (all_granted calls ++ (last, Some denied) ∷ all_granted restoring) chain (Some errno) is (Refused errno) refl (refused_agree old.line t last denied errno revealed restoring sets calls) (λ bytes e. absurd cc) reads (λ e. absurd cc) represents
+
+  module _ (stays : state new ≡ state old) (represents : Represents accounts (state old) f) where
+    still : Represents accounts (state new) f
+    still = subst (λ (s : State). Represents accounts s f) (sym stays) represents
+
+    -- where every raw call was granted and nothing has changed, a call that the flat rules refuse is answered their errno, if it is neither EACCES nor EPERM
+    pub unchanged_refined : (calls : List RawCall) → Chain old t (all_granted calls) new → (errno : Errno) → is_access errno ≡ false → is_permission errno ≡ false → refused accounts f me caller.process call ≡ Some errno
+        → ReadsAmong (all_granted calls) (Refused errno) → FollowsRule accounts f me call old new t (Ok (Refused errno))
+    unchanged_refined calls chain errno no_access no_permission is reads =
+        agreed_refined (all_granted calls) chain (Some errno) is (Refused errno) refl (granted_agree old.line t (Refused errno) (no_access, no_permission) calls) (λ bytes e. absurd cc) reads (λ e. absurd cc) still
+
+    -- where the last raw call was refused, the others granted and nothing has changed, a call that the flat rules refuse as that refusal is told is answered so
+    pub refused_refined : (calls : List RawCall) (last : RawCall) (denied : Denied) → Chain old t (all_granted calls ++ (last, Some denied) ∷ []) new
+        → (errno : Errno) → write_errno_of denied ≡ Some errno → refused accounts f me caller.process call ≡ Some errno → ReadsAmong (all_granted calls ++ (last, Some denied) ∷ []) (Refused errno) → FollowsRule accounts f me call old new t (Ok (Refused errno))
+    refused_refined calls last denied chain errno revealed is reads = given_back_refined calls last denied [] tt chain errno revealed is reads still

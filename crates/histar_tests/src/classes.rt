@@ -1,0 +1,59 @@
+//! Classes that are read off labels, with their jobs, and of a label with a category more none.
+use crate::processes::accounts;
+use histar_flat::FileMode;
+use histar_label::{Category, Label, Level};
+use histar_layout::{Class, UserTable, class_of};
+use std::alloc::Global;
+use std::test::Fail;
+
+/// The two categories of the first user, who is number 1.
+const READ: u64 = 4;
+
+const WRITE: u64 = 5;
+
+/// The mode of what has a label with these levels and else 1, and how many jobs it is for.
+fn class_at(alloc: Global, levels: &[(u64, Level)]) -> Result<Option<(FileMode, usize)>, Fail> {
+    let accounts = accounts(alloc)?;
+    let users = UserTable::of(alloc, &accounts)?;
+    let mut label = Label::new(alloc, Level::L1);
+    for &(category, level) in levels {
+        label.set(Category::new(category), level)?;
+    }
+    let Some(class) = class_of(alloc, &label, &users)? else {
+        return Ok(None);
+    };
+    Ok(Some((class.stat(false).mode, jobs_of(&class))))
+}
+
+/// How many jobs a class is for.
+fn jobs_of(class: &Class) -> usize {
+    match class {
+        Class::Scratch(_, chain) => chain.as_slice().len(),
+        _ => 0,
+    }
+}
+
+#[test]
+fn a_private_file_has_no_jobs(rt: HostRuntime) -> Result<(), Fail> {
+    let levels = [(READ, Level::L3), (WRITE, Level::L0)];
+    let (mode, jobs) = class_at(rt.alloc(), &levels)?.ok_or("a class")?;
+    assert!(rt; matches!(mode, FileMode::Private));
+    assert_eq!(rt; jobs, 0);
+    Ok(())
+}
+
+#[test]
+fn a_scratch_file_has_its_jobs(rt: HostRuntime) -> Result<(), Fail> {
+    let levels = [(50, Level::L3), (READ, Level::L3), (99, Level::L3)];
+    let (mode, jobs) = class_at(rt.alloc(), &levels)?.ok_or("a class")?;
+    assert!(rt; matches!(mode, FileMode::Scratch));
+    assert_eq!(rt; jobs, 2);
+    Ok(())
+}
+
+#[test]
+fn a_label_with_a_category_more_is_of_none(rt: HostRuntime) -> Result<(), Fail> {
+    let levels = [(READ, Level::L3), (WRITE, Level::L0), (99, Level::L3)];
+    assert!(rt; class_at(rt.alloc(), &levels)?.is_none());
+    Ok(())
+}

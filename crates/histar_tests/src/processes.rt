@@ -1,0 +1,151 @@
+//! What is found in a kernel's own objects: `/` after boot, and the processes before and after births,
+//! a login and an exit.
+ghost use Rattle.std.specs.Prelude.{IfOk};
+ghost use Rattle.histar_layout.specs.UserTable.{HaveOwnNames};
+
+use histar_calls::Roots;
+use histar_flat::{
+    Accounts, Name, Password, Path, ProcName, User, read_name, read_password, read_user_name,
+};
+use histar_label::PlainStore;
+use histar_layout::{Chain, Target, UserTable};
+use histar_login::{boot, login};
+use histar_process::{exit, find_caller, spawn};
+use histar_readout::{Life, ProcessNode, procs_of, resolve};
+use histar_syscall::Kernel;
+use histar_wrap::wrap;
+use std::alloc::Global;
+use std::process::Abort;
+use std::test::Fail;
+
+/// What is expected of a process.
+struct Row {
+    /// The numbers of its name, of which the last stands first.
+    numbers: &'static [u8],
+    /// The categories of the jobs that it is in.
+    chain: &'static [u64],
+    life: Expected,
+    /// How many children were born to it.
+    born: u8,
+}
+
+/// Whether a process is expected to run.
+enum Expected {
+    /// It runs as this user, and holds the jobs of these categories.
+    Running(&'static [u8], &'static [u64]),
+    /// It has exited with this number.
+    Exited(u8),
+}
+
+/// Boot made categories 1 to 7: its own, two for nobody, two for `root` and two for process 0.
+const AFTER_BOOT: &[Row] = &[Row {
+    numbers: &[],
+    chain: &[],
+    life: Expected::Running(b"nobody", &[]),
+    born: 0,
+}];
+
+/// Child 1 has categories 8 and 9. Category 10 is the job's, whose first process is child 2.
+const AT_THE_END: &[Row] = &[
+    Row {
+        numbers: &[],
+        chain: &[],
+        life: Expected::Running(b"root", &[10]),
+        born: 2,
+    },
+    Row {
+        numbers: &[1],
+        chain: &[],
+        life: Expected::Exited(5),
+        born: 0,
+    },
+    Row {
+        numbers: &[2],
+        chain: &[10],
+        life: Expected::Running(b"root", &[]),
+        born: 0,
+    },
+];
+
+/// A session with one user, `root`.
+pub fn accounts(alloc: Global) -> Result<Accounts, Fail>
+    ensures { IfOk result (λ accounts. HaveOwnNames accounts.users) }
+{
+    let mut accounts = Accounts::new(alloc);
+    let (name, password) = root()?;
+    accounts.add_user(User { name, password })?;
+    Ok(accounts)
+}
+
+/// The user's name and password.
+fn root() -> Result<(Name, Password), Fail> {
+    let name = read_user_name(b"root").ok_or("a name")?;
+    let password = read_password(b"rr").ok_or("a password")?;
+    Ok((name, password))
+}
+
+/// Checks that these are the processes that are expected.
+fn check_processes(rt: &impl Abort, processes: &[ProcessNode], rows: &[Row]) {
+    assert_eq!(rt; processes.len(), rows.len());
+    for (node, row) in processes.iter().zip(rows.iter()) {
+        assert_eq!(rt; node.name.numbers(), row.numbers);
+        assert!(rt; are_jobs(&node.chain, row.chain));
+        assert!(rt; is_life(&node.life, &row.life));
+        assert_eq!(rt; node.born, row.born);
+    }
+}
+
+/// Checks whether the jobs have these categories.
+fn are_jobs(jobs: &Chain, numbers: &[u64]) -> bool {
+    let categories = jobs.as_slice();
+    let mut pairs = categories.iter().zip(numbers.iter());
+    categories.len() == numbers.len() && pairs.all(|(c, number)| c.number() == *number)
+}
+
+/// Checks whether a process lives as expected.
+fn is_life(life: &Life, expected: &Expected) -> bool {
+    match (life, expected) {
+        (Life::Running { user, held }, Expected::Running(name, numbers)) => {
+            user.as_bytes() == *name && are_jobs(held, numbers)
+        }
+        (Life::Exited(number), Expected::Exited(other)) => number == other,
+        _ => false,
+    }
+}
+
+/// Has a child be born and exit, then has process 0 log in and begin a job.
+fn make_calls(
+    alloc: Global,
+    kernel: &mut Kernel<PlainStore>,
+    roots: &Roots,
+    users: &UserTable,
+) -> Result<(), Fail> {
+    let zero = ProcName::zero();
+    let caller = find_caller(kernel, roots.home, &zero).ok_or("process 0")?;
+    spawn::spawn(alloc, kernel, users, &zero, &caller)?;
+    let child = find_caller(kernel, roots.home, &zero.child(1)).ok_or("child 1")?;
+    exit::exit(alloc, kernel, &child, 5)?;
+    let (name, password) = root()?;
+    login::login(alloc, kernel, users, &caller, name, password)?;
+    let scratch = [read_name(b"scratch").ok_or("a name")?];
+    wrap::wrap(alloc, kernel, roots, users, &zero, &caller, &scratch)?;
+    Ok(())
+}
+
+#[test]
+fn slash_and_the_processes_are_found(rt: HostRuntime) -> Result<(), Fail> {
+    let alloc = rt.alloc();
+    let accounts = accounts(alloc)?;
+    assert!(rt; !accounts.users().is_empty());
+    let users = UserTable::of(alloc, &accounts)?;
+    let (mut kernel, roots) = boot(alloc, PlainStore::new(alloc), &accounts)?;
+    let place = roots.slash;
+    let found = resolve::resolve(&kernel, &roots, &Path::root());
+    assert!(rt; found == Some(Target::Directory(place.container, place.listing)));
+    let first = procs_of(alloc, &kernel, &roots, &users)?.ok_or("processes")?;
+    check_processes(&rt, first.as_slice(), AFTER_BOOT);
+    make_calls(alloc, &mut kernel, &roots, &users)?;
+    let last = procs_of(alloc, &kernel, &roots, &users)?.ok_or("processes")?;
+    check_processes(&rt, last.as_slice(), AT_THE_END);
+    Ok(())
+}

@@ -1,5 +1,0 @@
-use Rattle.histar_tree.proofs.PathsLaid.{flat_states_are_resolved}
-use Rattle.histar_tree.proofs.tree_laws.flat_states_are_resolved.Goals as goal
-
-pub returns : goal.returns
-returns c = flat_states_are_resolved

@@ -1,5 +1,0 @@
-use Rattle.histar_tree.proofs.TreeLaid.{flat_states_have_their_trees}
-use Rattle.histar_tree.proofs.tree_laws.flat_states_have_their_trees.Goals as goal
-
-pub returns : goal.returns
-returns c = flat_states_have_their_trees

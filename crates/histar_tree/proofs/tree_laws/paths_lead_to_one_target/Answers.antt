@@ -1,5 +1,0 @@
-use Rattle.histar_tree.proofs.OneTarget.{paths_lead_to_one_target}
-use Rattle.histar_tree.proofs.tree_laws.paths_lead_to_one_target.Goals as goal
-
-pub returns : goal.returns
-returns c = paths_lead_to_one_target
