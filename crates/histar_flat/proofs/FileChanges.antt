@@ -14,7 +14,7 @@ use Rattle.histar_flat.specs.Classes.{Process}
 use Rattle.histar_flat.specs.FlatState.{Flat, writes, moved, without_below}
 use Rattle.histar_flat.specs.FlatCalls.{running, reply_to, flat_after}
 use Rattle.histar_flat.specs.Laws.{private_file}
-use Rattle.histar_flat.specs.FileLaws.{RemovalsTakeWhatIsBelow, RenamesKeepWhatStands, WritersTakePrivateFiles}
+use Rattle.histar_flat.specs.FileLaws.{RemovalsTakeWhatIsBelow, RenamesKeepWhatIsThere, WritersTakePrivateFiles}
 use Rattle.histar_flat.proofs.Answered.{IsAnswered, is_answered, changed_after}
 use Rattle.histar_flat.proofs.Changes.{EachChange, by_line, rename_tests}
 use Rattle.histar_flat.proofs.FileLemmas.{get_other, get-keep}
@@ -47,8 +47,8 @@ removals_take_what_is_below accounts f me call q (inr (inr e)) said r =
     ap (λ (c : UnixCall). get (flat_after accounts f me c).files r) e ∙ ap (λ (g : Flat). get g.files r) (changed_after accounts f me (Rmtree q) Done is) ∙ left_without f q r
 
 -- a rename keeps everything
-pub renames_keep_what_stands : RenamesKeepWhatStands
-renames_keep_what_stands accounts f tree me n k d said r node =
+pub renames_keep_what_is_there : RenamesKeepWhatIsThere
+renames_keep_what_is_there accounts f tree me n k d said r node =
     ((λ at. (after (to r) ∙ ap (λ b. cond b None (get f.files (from (to r)))) (leaves n k d apart r)) ∙ ap (get f.files) (returns_from n k d apart r (outside at)) ∙ at), (λ at. kept (under_path (n ∷ d) r) (sym (after r) ∙ at)))
   where
     is : IsAnswered accounts f me (Rename (n ∷ d) k) Done

@@ -14,7 +14,7 @@ use Rattle.histar_flat.specs.Words.{Name, Path}
 use Rattle.histar_flat.specs.PathOrder.{path_cmp}
 use Rattle.histar_flat.specs.PathOrderLaws.{path_cmp_total, path_cmp_exact}
 use Rattle.histar_flat.specs.FlatState.{Node, Entry, is_dir, entry_in, entries_in}
-use Rattle.histar_flat.specs.FileLaws.{ListingsShowWhatStands}
+use Rattle.histar_flat.specs.FileLaws.{ListingsShowWhatIsThere}
 use Rattle.histar_flat.proofs.Answered.{is_answered}
 use Rattle.histar_flat.proofs.FileLemmas.{same_name_found, same_path_found}
 use Rattle.histar_flat.proofs.Finding.{first, second, both, find_first, find_behind, names_decide}
@@ -101,8 +101,8 @@ same_entries : (a b : List Entry) → Entries a ≡ Entries b → a ≡ b
 same_entries a b e = cc
 
 -- a listing shows what stands there
-pub listings_show_what_stands : ListingsShowWhatStands
-listings_show_what_stands accounts f me d entries said =
+pub listings_show_what_is_there : ListingsShowWhatIsThere
+listings_show_what_is_there accounts f me d entries said =
     let is = is_answered accounts f me (ListCall d) (Entries entries) (λ e. cc) (λ (errno : Errno) e. cc) said in
     let same : entries_in f d ≡ entries = same_entries (entries_in f d) entries is.answers in (
       subst (λ (l : List Entry). T (is_sorted by_bytes l)) same (sorted_listed d f.files.entries f.files.sorted),

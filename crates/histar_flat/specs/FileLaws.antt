@@ -17,8 +17,8 @@ use Rattle.histar_flat.specs.FlatCalls.{running, reply_to, flat_after}
 use Rattle.histar_flat.specs.Laws.{private_file}
 
 -- In a listing the names rise; a name is in it exactly where something stands there, and as a directory exactly where that is one.
-abbrev pub ListingsShowWhatStands : Type 0
-ListingsShowWhatStands = (accounts : Accounts) (f : Flat) (me : ProcName) (d : Path) (entries : List Entry) → reply_to accounts f me (ListCall d) ≡ Entries entries
+abbrev pub ListingsShowWhatIsThere : Type 0
+ListingsShowWhatIsThere = (accounts : Accounts) (f : Flat) (me : ProcName) (d : Path) (entries : List Entry) → reply_to accounts f me (ListCall d) ≡ Entries entries
     → T (is_sorted (slice_cmp nat_cmp) entries) × ((n : Name) → find (slice_cmp nat_cmp) n entries ≡ option_map is_dir (get f.files (n ∷ d)))
 
 -- the call takes away what stands at the path
@@ -32,8 +32,8 @@ RemovalsTakeWhatIsBelow = (accounts : Accounts) (f : Flat) (me : ProcName) (call
 
 -- In a tree a rename keeps everything, with its class and its bytes: what stood at a path stands where that leads with the new name,
 -- and nothing else does.
-abbrev pub RenamesKeepWhatStands : Type 0
-RenamesKeepWhatStands = (accounts : Accounts) (f : Flat) → IsTree f → (me : ProcName) (n k : Name) (d : Path) → reply_to accounts f me (Rename (n ∷ d) k) ≡ Done → (r : Path) (node : Node)
+abbrev pub RenamesKeepWhatIsThere : Type 0
+RenamesKeepWhatIsThere = (accounts : Accounts) (f : Flat) → IsTree f → (me : ProcName) (n k : Name) (d : Path) → reply_to accounts f me (Rename (n ∷ d) k) ≡ Done → (r : Path) (node : Node)
     → (get f.files r ≡ Some node → get (flat_after accounts f me (Rename (n ∷ d) k)).files (moved (n ∷ d) (k ∷ d) r) ≡ Some node)
     × (get (flat_after accounts f me (Rename (n ∷ d) k)).files r ≡ Some node → get f.files (moved (k ∷ d) (n ∷ d) r) ≡ Some node)
 

@@ -3,7 +3,7 @@ ghost use Rattle.histar_flat.specs.Laws.{RefusalsChangeNothing, WritesAreReadBac
 ghost use Rattle.histar_flat.specs.Laws.{PrivateFilesStay, PrivateFilesAreHidden};
 ghost use Rattle.histar_flat.specs.Laws.{PrivateBytesAreHidden, GroupBytesAreHidden, GroupBytesStayHidden};
 ghost use Rattle.histar_flat.specs.Laws.{PathsAreATree, NamesAreGivenOnce, NobodyHasAJob};
-ghost use Rattle.histar_flat.specs.FileLaws.{ListingsShowWhatStands, RemovalsTakeWhatIsBelow, RenamesKeepWhatStands};
+ghost use Rattle.histar_flat.specs.FileLaws.{ListingsShowWhatIsThere, RemovalsTakeWhatIsBelow, RenamesKeepWhatIsThere};
 ghost use Rattle.histar_flat.specs.FileLaws.{WritersTakePrivateFiles, UnreadDirectoriesAreHidden};
 ghost use Rattle.histar_flat.specs.JobLaws.{WrappedJobsStayInside, JobsStayInside};
 ghost use Rattle.histar_flat.specs.JobLaws.{CallsChangeTheirOwnTree, JobsReadAsTheirUser};
@@ -50,8 +50,8 @@ pub fn what_is_written_is_read_back()
 
 /// In a listing the names rise; a name is in it exactly where something stands there, and is told as a
 /// directory's exactly where that is one.
-pub fn a_listing_shows_what_stands()
-    ensures { ListingsShowWhatStands }
+pub fn a_listing_shows_what_is_there()
+    ensures { ListingsShowWhatIsThere }
 {}
 
 /// An `unlink`, a `rmdir` or a `rmtree` takes exactly what stands at its path and below it.
@@ -61,8 +61,8 @@ pub fn a_removal_takes_what_is_below()
 
 /// A `rename` keeps everything, with its class and its bytes: what stood at a path stands where that
 /// leads with the new name, and nothing else does.
-pub fn a_rename_keeps_what_stands()
-    ensures { RenamesKeepWhatStands }
+pub fn a_rename_keeps_what_is_there()
+    ensures { RenamesKeepWhatIsThere }
 {}
 
 /// No call of another user's process takes a private file away, or changes it, unless the process may

@@ -37,7 +37,7 @@ use Rattle.histar_readout.proofs.TreeMatched.{led_to_directory, led_to_file}
 use Rattle.histar_run_explain.specs.declared.location.Location.{Location}
 use Rattle.histar_run_explain.specs.declared.location.Location.TheVariants.{Password, Gate, Users}
 use Rattle.histar_run_explain.specs.Location.{users_own, left_location, listing_in, target_at, is_target, path_up, is_inside, is_part, process_up, at_path, of_process}
-use Rattle.histar_run_explain.specs.Laws.{IsLeft, IsPartOf, StandsAs, StandingsAreRight}
+use Rattle.histar_run_explain.specs.Laws.{IsLeft, IsPartOf, StandsAs, LocationsAreRight}
 use Rattle.histar_run_explain.proofs.Parts.{either_there, step_there, tested, both, one_of}
 
 module _ (accounts : Accounts) (s : State) (f : Flat) (l : ObjectsMatch accounts s f) where
@@ -216,7 +216,7 @@ module _ (accounts : Accounts) (s : State) (f : Flat) (l : ObjectsMatch accounts
   of_process_is q None location is e = absurd (none-some location e)
   of_process_is q (Some me) location is e = subst (Agrees q) (same_Some _ location e) (is me refl)
 
-pub locations_are_right : StandingsAreRight
+pub locations_are_right : LocationsAreRight
 locations_are_right accounts s f l clue q location e = elim (either_there (left_location (length (without_passwords accounts).users) q) _ location e) [
   | inl left ↦ left_is accounts s f l q location (ap (λ n. left_location n q) (sym (length-map accounts.users without_password)) ∙ left)
   | inr more ↦ elim (either_there (at_path (path_up s (roots_of (length accounts.users)) q clue.path)) _ location more) [

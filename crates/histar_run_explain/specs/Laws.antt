@@ -77,8 +77,8 @@ module _ (accounts : Accounts) (s : State) (f : Flat) (l : ObjectsMatch accounts
   StandsAs q (Part me) = IsPartOf me q
 
 -- Whatever naming represents the flat state: what an object is said to be is what it is at the address that has its number.
-abbrev pub StandingsAreRight : Type 0
-StandingsAreRight =
+abbrev pub LocationsAreRight : Type 0
+LocationsAreRight =
     (accounts : Accounts) (s : State) (f : Flat) (l : ObjectsMatch accounts s f) (clue : Clue) (q : ℕ) (location : Location)
     → location_of (without_passwords accounts) (roots_of (length accounts.users)) s clue q ≡ Some location
     → StandsAs accounts s f l q location

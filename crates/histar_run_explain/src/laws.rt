@@ -1,5 +1,5 @@
 //! What names amount to. Each law is the contract of a function that does nothing.
-ghost use Rattle.histar_run_explain.specs.Laws.{PurposesAreRight, StandingsAreRight};
+ghost use Rattle.histar_run_explain.specs.Laws.{PurposesAreRight, LocationsAreRight};
 
 /// What a category is said to be for is what it is for, under each naming by which the state represents a flat
 /// state.
@@ -10,5 +10,5 @@ pub fn purposes_are_right()
 /// What an object is said to be is what stands at the address that has its number, under each naming by which
 /// the state represents a flat state.
 pub fn locations_are_right()
-    ensures { StandingsAreRight }
+    ensures { LocationsAreRight }
 {}

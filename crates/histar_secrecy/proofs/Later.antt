@@ -36,14 +36,14 @@ module _ (accounts : Accounts) (class : Class) (f : Flat) where
     pub outside : is_confined accounts class f x ≡ false → is_trusted accounts class f x ≡ false → may_read accounts p class ≡ false
 
   -- each process that runs is what its name says
-  abbrev pub AreStanding : Flat → Type 0
-  AreStanding s = (x : ProcName) (p : Process) → running s x ≡ Some p → IsRole x p
+  abbrev pub HaveRoles : Flat → Type 0
+  HaveRoles s = (x : ProcName) (p : Process) → running s x ≡ Some p → IsRole x p
 
   -- a later state
   pub record IsLater (s : Flat) : Type 0 where
     pub given : (x : ProcName) → is_given f.processes x ≡ true → is_given s.processes x ≡ true
     pub root : is_scratch class ≡ true → HasRoot accounts s class
-    pub role : AreStanding s
+    pub role : HaveRoles s
 
 -- Who is of the same user, in the jobs that the other is in, and knows no more of the jobs of the class, is what the other is.
 is_as : {accounts : Accounts} {class : Class} {f : Flat} {x : ProcName} {a : Process} (b : Process) → IsRole accounts class f x a → a.user ≡ b.user
@@ -85,14 +85,14 @@ module _ {accounts : Accounts} {class : Class} {f : Flat} (begun : IsBegun accou
         ap (λ b. b || is_confined accounts class f me) none in
         record { confined = λ c. is.confined (sym as' ∙ c); outside = λ c t. is.outside (sym as' ∙ c) silent }
 
-    put_is : (q : Process) → IsRole accounts class f me q → AreStanding accounts class f (with_process s me q)
+    put_is : (q : Process) → IsRole accounts class f me q → HaveRoles accounts class f (with_process s me q)
     put_is q is x y e = elim (runs_put s me q x y e) [
       | inl t ↦ subst (λ z. IsRole accounts class f z y) t.0 (subst (IsRole accounts class f me) t.1 is)
       | inr t ↦ later.role x y t
     ]
 
     birth_is : (q child : Process) → IsRole accounts class f me q → IsRole accounts class f me child
-        → AreStanding accounts class f (with_process (with_process s me q) (next_child me p) child)
+        → HaveRoles accounts class f (with_process (with_process s me q) (next_child me p) child)
     birth_is q child is is_child x y e = elim (runs_put (with_process s me q) (next_child me p) child x y e) [
       | inl t ↦ subst (λ z. IsRole accounts class f z y) t.0 (subst (IsRole accounts class f (next_child me p)) t.1 (child_is child is_child))
       | inr t ↦ put_is q is x y t
@@ -132,7 +132,7 @@ module _ {accounts : Accounts} {class : Class} {f : Flat} (begun : IsBegun accou
         ]
 
     role_changes : (call : UnixCall) → IsQuiet (λ q. may_read accounts q class) (is_confined accounts class f me ≡ false) call
-        → EachChange accounts s me p call (AreStanding accounts class f)
+        → EachChange accounts s me p call (HaveRoles accounts class f)
     unfolding put_is birth_is
     role_changes call quiet = record {
       stays = later.role;
@@ -156,7 +156,7 @@ module _ {accounts : Accounts} {class : Class} {f : Flat} (begun : IsBegun accou
   later_after call quiet = record {
     given = λ x h. given_stays accounts s me call x (later.given x h);
     root = λ scratch. root_after accounts class s (later.root scratch) me call;
-    role = by_quiet_line {test = λ q. may_read accounts q class} (record { quiet = quiet }) s me (AreStanding accounts class f) later.role
+    role = by_quiet_line {test = λ q. may_read accounts q class} (record { quiet = quiet }) s me (HaveRoles accounts class f) later.role
         (λ p runs unread. role_changes p runs call unread);
   }
 

@@ -21,7 +21,7 @@ use Rattle.histar_noninterference.specs.Comparison.{is_dir_of}
 use Rattle.histar_noninterference.proofs.Kept.{kept_put}
 use Rattle.histar_flat.proofs.Secrecy.{IsAlikeBut, other_bytes_alike}
 use Rattle.histar_secrecy.specs.Roles.{is_bound, is_confined, is_outsider, is_trusted, logs_in_as_reader}
-use Rattle.histar_secrecy.specs.Noninterference.{HasFile, IsReached, ShowsRole, OutsidersCallTheSame, OutsidersLearnNothing, StandingsAreShown, no_reader_logs_in, outside_calls, outside_replies, trusted_are_silent}
+use Rattle.histar_secrecy.specs.Noninterference.{HasFile, IsReached, ShowsRole, OutsidersCallTheSame, OutsidersLearnNothing, RolesAreShown, no_reader_logs_in, outside_calls, outside_replies, trusted_are_silent}
 use Rattle.histar_secrecy.proofs.Knowing.{AreJobs, jobs_at_end}
 use Rattle.histar_secrecy.proofs.Links.{IsChain, IsLed, IsUntrusted, confined_line, led_after, outside_line}
 use Rattle.histar_secrecy.proofs.Roots.{AreRooted, HasRoot, rooted_at_end}
@@ -213,6 +213,6 @@ module _ (accounts : Accounts) (class : Class) (f : Flat) (l : IsLater accounts 
   pub shown : ShowsRole accounts class f me p
   shown = record { trusted = trusted_is; confined = confined_is; outside = outside_is }
 
-pub roles_are_shown : StandingsAreShown
+pub roles_are_shown : RolesAreShown
 roles_are_shown accounts f reached path node at me p runs =
     shown accounts node.class f (later_itself (begun_there accounts f reached path node at)) me p runs

@@ -108,6 +108,6 @@ pub record ShowsRole (accounts : Accounts) (class : Class) (f : Flat) (me : Proc
   pub outside : is_outsider accounts class f me ≡ not (may_read accounts p class)
 
 -- In each state that calls lead to, each process that runs shows by itself whether it is trusted, confined or an outsider.
-abbrev pub StandingsAreShown : Type 0
-StandingsAreShown = (accounts : Accounts) (f : Flat) → IsReached accounts f → (path : Path) (node : Node) → get f.files path ≡ Some node
+abbrev pub RolesAreShown : Type 0
+RolesAreShown = (accounts : Accounts) (f : Flat) → IsReached accounts f → (path : Path) (node : Node) → get f.files path ≡ Some node
     → (me : ProcName) (p : Process) → running f me ≡ Some p → ShowsRole accounts node.class f me p

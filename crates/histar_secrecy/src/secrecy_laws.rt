@@ -1,7 +1,7 @@
 //! On whom it depends that a file stays secret, and as it is. Each law is the contract of a function
 //! that does nothing.
 ghost use Rattle.histar_secrecy.specs.Changers.{OthersChangeNothing};
-ghost use Rattle.histar_secrecy.specs.Noninterference.{BoundWriteForReaders, OutsidersLearnNothing, ProgramsLearnNothing, StandingsAreShown, WhatIsWrittenStaysSecret};
+ghost use Rattle.histar_secrecy.specs.Noninterference.{BoundWriteForReaders, OutsidersLearnNothing, ProgramsLearnNothing, RolesAreShown, WhatIsWrittenStaysSecret};
 ghost use Rattle.histar_secrecy.specs.ShownRoles.{ShownIsSo};
 
 /// The secret in a file depends on the processes alone that are trusted with it: while these call nothing,
@@ -28,7 +28,7 @@ pub fn bound_processes_write_for_readers()
 
 /// Each process that runs shows by itself whether it is trusted with a file, confined or an outsider.
 pub fn roles_are_shown()
-    ensures { StandingsAreShown }
+    ensures { RolesAreShown }
 {}
 
 /// What is shown of processes and of users is so.

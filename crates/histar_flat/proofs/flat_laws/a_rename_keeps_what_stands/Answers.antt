@@ -1,5 +1,0 @@
-use Rattle.histar_flat.proofs.FileChanges.{renames_keep_what_stands}
-use Rattle.histar_flat.proofs.flat_laws.a_rename_keeps_what_stands.Goals as goal
-
-pub returns : goal.returns
-returns c = renames_keep_what_stands
