@@ -38,7 +38,7 @@ details[open] > summary::before { content: '-' }
 table { border-collapse: collapse }
 th, td { padding: .2rem .6rem .2rem 0; border-top: 1px solid var(--line); text-align: left; vertical-align: top; white-space: nowrap }
 thead th { border: 0; color: var(--dim); font-weight: normal; font-size: .85rem }
-tbody th { font: .85rem/1.7 ui-monospace, monospace; white-space: normal; overflow-wrap: anywhere }
+tbody th { min-width: 12rem; font: .85rem/1.7 ui-monospace, monospace; white-space: normal; overflow-wrap: anywhere }
 .stat, small { color: var(--dim) }
 .users th, .users + tr th:nth-child(n + 5), .rights { padding: .2rem .3rem }
 thead .users td { border: 0 }
