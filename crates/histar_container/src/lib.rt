@@ -6,6 +6,3 @@ mod removal;
 
 pub use container::{link_new, linked};
 pub use removal::remove_tree;
-
-#[cfg(test)]
-mod tests;

@@ -11,6 +11,3 @@ pub use ids::ObjId;
 pub use links::Links;
 pub use objects::{Entry, Kind, Object};
 pub use table::{Table, slots_are_apart};
-
-#[cfg(test)]
-mod tests;

@@ -1,6 +1,6 @@
 use Rattle.histar_object.specs.Objects.{objects_of}
 use Rattle.histar_container.specs.Tree.{IsTree}
-use Rattle.histar_container.proofs.tests.tree_of.Given as goal
+use Rattle.histar_kernel_tests.proofs.containers.tree_of.Given as goal
 
 -- the containers so far are a tree
 abbrev pub invariant-loop-number : goal.invariant-loop-number

@@ -2,7 +2,7 @@ use Rattle.std.proofs.Common.{◌≡◌, true, rules}
 use Rattle.std.specs.FinSet as set
 use Rattle.histar_object.specs.Objects.{objects_of, links_in}
 use Rattle.histar_container.proofs.Trees.{trees_cut}
-use Rattle.histar_container.proofs.tests.cut.Goals as goal
+use Rattle.histar_kernel_tests.proofs.containers.cut.Goals as goal
 
 pub returns : goal.returns
 returns g c =

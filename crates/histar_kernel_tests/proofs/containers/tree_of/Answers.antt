@@ -2,7 +2,7 @@ use Rattle.std.proofs.Common.{◌≡◌, true, rules, lit<, ap, ◌∙◌}
 use Rattle.histar_object.specs.Objects.{objects_of, put, is_container}
 use Rattle.histar_container.proofs.Trees.{tree_linked}
 use Rattle.histar_container.proofs.Roots.{tree_first}
-use Rattle.histar_container.proofs.tests.tree_of.Goals as goal
+use Rattle.histar_kernel_tests.proofs.containers.tree_of.Goals as goal
 
 pub add-requires : goal.add-requires
 add-requires g c = λ i. c.new-table.ensures i c.new.result

@@ -1,9 +1,10 @@
+//! Removals from trees of containers of several shapes, and a link that finds no memory.
 ghost use Rattle.std.specs.Prelude.{◌≡◌, ℕ, ◌+◌, ◌<◌, ◌≤◌, false, IfOk, OnOk};
 ghost use Rattle.std.specs.FinSet as set;
 ghost use Rattle.histar_object.specs.Objects.{objects_of, kind_links, is_container};
 ghost use Rattle.histar_container.specs.Tree.{IsTree, AreTree};
 
-use super::*;
+use histar_container::{link_new, linked, remove_tree};
 use histar_object::{Kind, Links, ObjId, Object, Table};
 use std::alloc::{AllocError, Global};
 use std::process::Abort;

@@ -2,7 +2,7 @@
 //! J.
 ghost use Rattle.std.specs.Prelude.{◌≡◌, IsSome};
 
-use crate::{Category, InternStore, Label, LabelStore, Level, OutOfMemory, PlainStore};
+use histar_label::{Category, InternStore, Label, LabelStore, Level, OutOfMemory, PlainStore};
 use std::alloc::Global;
 use std::process::Abort;
 use std::test::Fail;

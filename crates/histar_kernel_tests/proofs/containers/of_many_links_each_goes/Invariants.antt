@@ -1,6 +1,6 @@
 use Rattle.histar_object.specs.Objects.{objects_of}
 use Rattle.histar_container.specs.Tree.{AreTree}
-use Rattle.histar_container.proofs.tests.of_many_links_each_goes.Given as goal
+use Rattle.histar_kernel_tests.proofs.containers.of_many_links_each_goes.Given as goal
 
 -- what is left is a tree
 abbrev pub invariant-numbers : goal.invariant-numbers

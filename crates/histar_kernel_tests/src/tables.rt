@@ -1,4 +1,5 @@
-use super::*;
+//! Tables of objects and sets of links, whose slots are used again, and what want of memory leaves.
+use histar_object::{Kind, Links, ObjId, Object, Table};
 use std::alloc::AllocError;
 use std::test::Fail;
 
