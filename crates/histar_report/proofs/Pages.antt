@@ -6,7 +6,7 @@ use Rattle.histar_script.specs.declared.fault.Fault.{Fault}
 use Rattle.histar_script.specs.declared.fault.Fault.TheVariants.{BadScript, TooLong, OutOfMemory, ReadFailed, WriteFailed}
 use Rattle.histar_script.specs.Runs.{RunsInput}
 use Rattle.histar_script.proofs.Inputs.{AreLong, input_known}
-use Rattle.histar_transcript.proofs.Outputs.{not_long}
+use Rattle.histar_run_explain.proofs.Outputs.{not_long}
 use Rattle.histar_report.specs.Session.{WritesPage}
 
 -- what is said of a text that is too long is said of another one

@@ -7,7 +7,7 @@ use Rattle.histar_script.specs.declared.fault.Fault.{Fault}
 use Rattle.histar_script.specs.declared.fault.Fault.TheVariants.{BadScript, TooLong, OutOfMemory, ReadFailed, WriteFailed}
 use Rattle.histar_script.specs.Reading.{script_of}
 use Rattle.histar_shell.specs.declared.session.Options.{Options}
-use Rattle.histar_run_explain.specs.Run.{ExplainsText}
+use Rattle.histar_run_explain.specs.Output.{IsExplainedOutput}
 use Rattle.histar_access.specs.Session.{AccessText}
 use Rattle.histar_trust.specs.Session.{SecretsText}
 use Rattle.histar_page.specs.Page.{IsPage}
@@ -15,10 +15,6 @@ use Rattle.histar_page.specs.Page.{IsPage}
 -- a run is asked for its raw calls
 abbrev pub with_trace : Options
 with_trace = record { tree = false; trace = true }
-
--- this is the output of a run of the script that a text is, with its trace and its explanations
-abbrev pub IsExplainedOutput : List ℕ → List ℕ → Type 0
-IsExplainedOutput text output = ExplainsText with_trace text (Some []) (Some output) (Ok tt)
 
 -- this is the table of rights after the script that a text is
 abbrev pub IsTable : List ℕ → List ℕ → Type 0
@@ -32,7 +28,7 @@ AreSecrets text secrets = SecretsText text (Some []) (Some secrets) (Ok tt)
 -- whom its secret files rest.
 pub record WritesPageAs (Writes : List ℕ → Type 0) (name version text : List ℕ) : Type 0 where
   pub output : List ℕ
-  pub is_output : IsExplainedOutput text output
+  pub is_output : IsExplainedOutput with_trace text output
   pub table : List ℕ
   pub is_table : IsTable text table
   pub secrets : List ℕ
@@ -50,12 +46,3 @@ WritesPage name version text old new (Err OutOfMemory) = Keeps old new
 WritesPage name version text old new (Err (BadScript n)) = (script_of text ≡ Err (BadScript n)) × Keeps old new
 WritesPage name version text old new (Err TooLong) = (script_of text ≡ Err TooLong) × Keeps old new
 WritesPage name version text old new (Err ReadFailed) = Keeps old new
-
--- the text that is this of the script that a text is, or the fault of the script, or that memory ran out
-abbrev pub GivesText : (List ℕ → List ℕ → Type 0) → List ℕ → Result (Vec ℕ) Fault → Type 0
-GivesText Is text (Ok found) = Is text found.items
-GivesText Is text (Err (BadScript n)) = script_of text ≡ Err (BadScript n)
-GivesText Is text (Err TooLong) = script_of text ≡ Err TooLong
-GivesText Is text (Err OutOfMemory) = Unit {0}
-GivesText Is text (Err ReadFailed) = ⊥
-GivesText Is text (Err WriteFailed) = ⊥

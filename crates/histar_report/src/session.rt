@@ -2,14 +2,15 @@
 ghost use Rattle.std.specs.Prelude.{◌≡◌, false, None, IfErr, IfSome};
 ghost use Rattle.histar_io.specs.Device.{CountsFailure};
 ghost use Rattle.histar_script.specs.Runs.{LeavesSink, RunsInput, is_read_failed, is_write_failed};
-ghost use Rattle.histar_report.specs.Session.{AreSecrets, GivesText, IsTable, WritesPage};
+ghost use Rattle.histar_report.specs.Session.{AreSecrets, IsTable, WritesPage};
+ghost use Rattle.histar_run_explain.specs.Output.{GivesText};
 
 use histar_access::access;
 use histar_io::{Sink, Source, read_input, write_bytes};
 use histar_page::{Texts, page_text};
+use histar_run_explain::{explained_output, in_memory};
 use histar_script::Fault;
 use histar_shell::{Counted, Options};
-use histar_transcript::{explained_output, in_memory};
 use histar_trust::secrets;
 use std::alloc::Global;
 

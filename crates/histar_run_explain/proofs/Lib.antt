@@ -6,3 +6,4 @@ pub mod Scripts
 pub mod TextRuns
 pub mod NamedCategories
 pub mod NamedObjects
+pub mod Outputs

@@ -6,4 +6,5 @@ pub mod NamedWords
 pub mod Entries
 pub mod Session
 pub mod Run
+pub mod Output
 pub mod Laws

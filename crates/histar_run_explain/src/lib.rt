@@ -10,8 +10,10 @@ mod homes;
 pub mod laws;
 mod location;
 mod named_words;
+mod output;
 mod purposes;
 mod replaying;
 mod session;
 
+pub use output::{explained_output, in_memory};
 pub use session::explain_script;

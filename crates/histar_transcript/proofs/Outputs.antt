@@ -8,9 +8,11 @@ use Rattle.histar_script.specs.Script.{ScriptModel}
 use Rattle.histar_script.specs.Reading.{script_of}
 use Rattle.histar_script.specs.Runs.{RunsInput, is_read_failed, is_write_failed}
 use Rattle.histar_script.proofs.Inputs.{AreLong, input_known}
+use Rattle.histar_run_explain.proofs.Outputs.{not_long}
 use Rattle.histar_shell.specs.declared.session.Options.{Options}
 use Rattle.histar_shell.specs.Outcome.{IsFaultAt}
-use Rattle.histar_transcript.specs.Session.{GivesOutput, IsOutput, WritesTranscript, in_memory}
+use Rattle.histar_transcript.specs.Session.{GivesOutput, IsOutput, WritesTranscript}
+use Rattle.histar_run_explain.specs.Output.{in_memory}
 
 -- a fault of the run is the script's, or memory ran out
 pub fault_given : (options : Options) (explain : Bool) (text : List ℕ) (fault : Fault) → IsFaultAt (script_of text) fault
@@ -48,10 +50,6 @@ nothing_written options explain text written WriteFailed h = absurd h
 is_script : (options : Options) (explain : Bool) (text output : List ℕ) → IsOutput options explain text output → IsOk (script_of text)
 is_script options true text output h = h.faults
 is_script options false text output h = h.1.faults
-
--- a text that is too long is none
-pub not_long : (text : List ℕ) → script_of text ≡ Err TooLong → IsOk (script_of text) → ⊥
-not_long text long is = let no : false ≡ true = subst (λ (read : Result ScriptModel Fault). IsOk read) long is in absurd cc
 
 -- what is said of a text that is too long is said of another one
 long_transcript : (options : Options) (explain : Bool) (old new : Option (List ℕ)) (result : Result (Unit {0}) Fault) (taken input : List ℕ)

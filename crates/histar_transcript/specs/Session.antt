@@ -9,12 +9,12 @@ use Rattle.histar_script.specs.Reading.{script_of}
 use Rattle.histar_syscall.specs.declared.trace.TraceEntry.{TraceEntry}
 use Rattle.histar_shell.specs.declared.session.Options.{Options}
 use Rattle.histar_shell.specs.Run.{RunsText}
-use Rattle.histar_run_explain.specs.Run.{ExplainsText}
+use Rattle.histar_run_explain.specs.Output.{GivesText, IsExplainedOutput}
 use Rattle.histar_transcript.specs.Transcript.{transcript_of}
 
 -- this is the output of a run of the script that a text is, with explanations or without
 abbrev pub IsOutput : Options → Bool → List ℕ → List ℕ → Type 0
-IsOutput options true text output = ExplainsText options text (Some []) (Some output) (Ok tt)
+IsOutput options true text output = IsExplainedOutput options text output
 IsOutput options false text output = (trace : List TraceEntry) × RunsText options text (Some []) (Some output) (Ok trace)
 
 -- the text is run, and the transcript of its output was written as far as this says
@@ -31,17 +31,6 @@ WritesTranscript options explain text old new (Err (BadScript n)) = (script_of t
 WritesTranscript options explain text old new (Err TooLong) = (script_of text ≡ Err TooLong) × Keeps old new
 WritesTranscript options explain text old new (Err ReadFailed) = Keeps old new
 
--- the fault of a run whose devices are memory: a device fails only where memory runs out
-abbrev pub in_memory : Fault → Fault
-in_memory ReadFailed = OutOfMemory
-in_memory WriteFailed = OutOfMemory
-in_memory fault = fault
-
 -- the output of a run of a text is answered, or the fault of the script, or that memory ran out
 abbrev pub GivesOutput : Options → Bool → List ℕ → Result (Vec ℕ) Fault → Type 0
-GivesOutput options explain text (Ok output) = IsOutput options explain text output.items
-GivesOutput options explain text (Err (BadScript n)) = script_of text ≡ Err (BadScript n)
-GivesOutput options explain text (Err TooLong) = script_of text ≡ Err TooLong
-GivesOutput options explain text (Err OutOfMemory) = Unit {0}
-GivesOutput options explain text (Err ReadFailed) = ⊥
-GivesOutput options explain text (Err WriteFailed) = ⊥
+GivesOutput options explain text result = GivesText (IsOutput options explain) text result

@@ -4,4 +4,4 @@
 mod session;
 mod transcript;
 
-pub use session::{explained_output, in_memory, transcribe};
+pub use session::transcribe;

@@ -1,12 +1,12 @@
 //! A run that is printed with its calls, from bytes to bytes.
-ghost use Rattle.std.specs.Prelude.{◌≡◌, false, true, IfErr, IfSome};
+ghost use Rattle.std.specs.Prelude.{◌≡◌, false, IfErr, IfSome};
 ghost use Rattle.histar_io.specs.Device.{CountsFailure};
 ghost use Rattle.histar_script.specs.Runs.{LeavesSink, RunsInput, is_read_failed, is_write_failed};
-ghost use Rattle.histar_transcript.specs.Session.{GivesOutput, WritesTranscript, in_memory};
+ghost use Rattle.histar_transcript.specs.Session.{GivesOutput, WritesTranscript};
 
 use crate::transcript::transcript_of;
 use histar_io::{Sink, Source, read_input, write_bytes};
-use histar_run_explain::explain_script;
+use histar_run_explain::{explained_output, in_memory};
 use histar_script::Fault;
 use histar_shell::{Counted, Options, run};
 use std::alloc::Global;
@@ -81,27 +81,5 @@ fn plain_output(alloc: Global, text: &[u8], options: Options) -> Result<Vec<u8>,
     match run(alloc, &mut reader, &mut writer, options) {
         Ok(_trace) => Ok(writer.into_inner()),
         Err(fault) => Err(in_memory(fault)),
-    }
-}
-
-/// Returns the output of a run of the script that a text is, with the explanations of its denials.
-pub fn explained_output(alloc: Global, text: &[u8], options: Options) -> Result<Vec<u8>, Fault>
-    ensures { GivesOutput options true text.now result }
-{
-    let mut reader = Counted::new(text);
-    let mut writer = Counted::new(Vec::new(alloc));
-    match explain_script(alloc, &mut reader, &mut writer, options) {
-        Ok(()) => Ok(writer.into_inner()),
-        Err(fault) => Err(in_memory(fault)),
-    }
-}
-
-/// Returns the fault of a run whose devices are memory, which fail only where that runs out.
-pub fn in_memory(fault: Fault) -> Fault
-    ensures { result ≡ in_memory fault }
-{
-    match fault {
-        Fault::ReadFailed | Fault::WriteFailed => Fault::OutOfMemory,
-        _ => fault,
     }
 }
