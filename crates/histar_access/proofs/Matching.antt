@@ -109,7 +109,8 @@ module _ (accounts : Accounts) (s : State) (f : Flat) (l : ObjectsMatch accounts
   -- the label of a node is that of the class that the flat state has
   labelled_so : (node : TreeNode) (q : Path) (there : Node) (at : get f.files q ≡ Some there) → node.class ≡ numbered_class l.category there.class
       → IsLabelled accounts s node
-      → (g : Guard) × (class_guard accounts there.class ≡ Some g) × (label_there (s.objects (object_of node.target)) ≡ Some (guard_label l.category g))
+      → (g : Guard) × (class_guard accounts there.class ≡ Some g)
+      × (label_there (s.objects (object_of node.target)) ≡ Some (guard_label l.category g))
   labelled_so node q there at class labelled =
       let g = guard_at accounts s f l q there at in
       let same = sym labelled.of_class.is ∙ ap (class_label accounts) class ∙ (label_of_class accounts s f l q there at g.0 g.1).is in

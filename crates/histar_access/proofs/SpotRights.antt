@@ -171,7 +171,8 @@ found_there m q kernel at names start found same_kernel same_roots same_names is
     subst (λ (x : KernelModel × Roots × Path). FindsSpot (state x.0) x.1 start x.2 found) (λ i. (same_kernel i, same_roots i, same_names i)) is
 
 -- where nothing stands there are no rights
-none_there : (accounts : Accounts) (f : Flat) (q : Path) (me : ProcName) (process : Option Process) → no_rights ≡ rights_if accounts f q me None process
+none_there : (accounts : Accounts) (f : Flat) (q : Path) (me : ProcName) (process : Option Process)
+    → no_rights ≡ rights_if accounts f q me None process
 none_there accounts f q me process = refl
 
 -- nor are there any of who doesn't run
@@ -230,9 +231,14 @@ module _ (m : MachineModel) (q : Path) (me : ProcName) where
         by : (o : Option Node) → get f.files q ≡ o → MatchOption o (LeadsNowhere s (roots accounts s) q) (LeadsToNode s (roots accounts s) q)
             → spot.cell.rights ≡ rights_if accounts f q me (get f.files q) (running f me)
         by None e none =
-            absurd (none spot.target (leads_there s (roots accounts s) (start_cell accounts s f shows.represents.matched found_so.visitor) q spot led))
+            absurd (none spot.target (leads_there s (roots accounts s)
+            (start_cell accounts s f shows.represents.matched found_so.visitor) q spot led))
         by (Some node) e resolved =
-            let there = rights_reached accounts s f shows.represents.matched (few_bytes f shows.small) (is_accounts accounts shows.declared) found_so.visitor q spot led node e in
-            let runs = runs_there accounts s f shows.represents.matched found_so.visitor.name found_so.visitor.process found_so.visitor.runs.0 found_so.visitor.runs.1 in
+            let there =
+            rights_reached accounts s f shows.represents.matched (few_bytes f shows.small)
+            (is_accounts accounts shows.declared) found_so.visitor q spot led node e in
+            let runs =
+            runs_there accounts s f shows.represents.matched found_so.visitor.name found_so.visitor.process
+            found_so.visitor.runs.0 found_so.visitor.runs.1 in
             ap (λ (c : Cell). c.rights) there ∙ (λ i. rights_if accounts f q found_so.visitor.name (sym e i) (sym runs i))
             ∙ ap (λ (n : ProcName). rights_if accounts f q n (get f.files q) (running f n)) found_so.name

@@ -31,7 +31,8 @@ last_made : {A B : Type 0} (g : A → B) (x : A) (xs : List A) → last_or (g x)
 last_made g x [] = refl
 last_made g x (y ∷ ys) = last_made g y ys
 
-module _ (accounts : Accounts) (s : State) (f : Flat) (l : ObjectsMatch accounts s f) (ok : AreAccounts accounts) (vs : List (Visitor accounts s f l)) where
+module _ (accounts : Accounts) (s : State) (f : Flat) (l : ObjectsMatch accounts s f) (ok : AreAccounts accounts)
+    (vs : List (Visitor accounts s f l)) where
   -- the rights of each process at a path
   abbrev pub Row : Type 0
   Row = Visitor accounts s f l → Rights

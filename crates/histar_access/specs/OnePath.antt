@@ -23,7 +23,8 @@ use Rattle.histar_access.specs.Cells.{cell_below}
 -- what an entry leads to lists this name, with where that entry leads
 abbrev pub Lists : State → Target → Name → Target → Type 0
 Lists s (File file) name target = ⊥
-Lists s (Directory container listing) name target = (dir : Entries) × IsDirectory (bytes_in (s.objects listing)) dir × (map.get dir name ≡ Some target)
+Lists s (Directory container listing) name target =
+    (dir : Entries) × IsDirectory (bytes_in (s.objects listing)) dir × (map.get dir name ≡ Some target)
 
 -- what was found is where it lists the name, and nothing was found exactly where it doesn't
 abbrev pub FindsEntry : State → Target → Name → Option Target → Type 0

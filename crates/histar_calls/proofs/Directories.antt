@@ -1,5 +1,6 @@
 -- How the code that reads and writes directories, and walks to them, runs its parts.
-use Rattle.std.proofs.Common.{◌≡◌, ℕ, ◌≤◌, List, [], ◌∷◌, length, get_or, take, drop, ◌-◌, Option, Result, Ok, Err, inl, refl, sym, ap, ◌∙◌, subst, arith}
+use Rattle.std.proofs.Common.{◌≡◌, ℕ, ◌≤◌, List, [], ◌∷◌, length, get_or, take, drop, ◌-◌, Option, Result, Ok, Err, inl, refl, sym, ap, ◌∙◌, subst}
+use Rattle.std.proofs.Common.{arith}
 use Rattle.histar_flat.specs.Words.{Name, Path}
 use Rattle.histar_flat.specs.declared.replies.Errno.{Errno}
 use Rattle.histar_rules.specs.declared.raw.RawCall.TheVariants.{Read, Write}
@@ -25,31 +26,40 @@ after_bytes place bytes rest = list bytes (λ entries. rest (record { place = pl
 
 module _ (t : ℕ) (old new : KernelModel) (place : Place) where
   -- the directory segment was not read
-  pub read_fails : (call_error : CallError) → RunsPart (ask (Read place.container place.listing)) old new t (Err call_error) → RunsPart (read_directory place) old new t (Err call_error)
+  pub read_fails : (call_error : CallError)
+      → RunsPart (ask (Read place.container place.listing)) old new t (Err call_error)
+      → RunsPart (read_directory place) old new t (Err call_error)
   unfolding read_directory
   read_fails call_error first = part_fails t (ask (Read place.container place.listing)) old new (after_bytes place) call_error first
 
   module _ (bytes : List ℕ) (first : RunsPart (ask (Read place.container place.listing)) old new t (Ok bytes)) where
     -- its bytes are no directory, or memory ran out
-    pub list_fails : (call_error : CallError) → RunsPart (list bytes) new new t (Err call_error) → RunsPart (read_directory place) old new t (Err call_error)
+    pub list_fails : (call_error : CallError) → RunsPart (list bytes) new new t (Err call_error)
+        → RunsPart (read_directory place) old new t (Err call_error)
     unfolding read_directory
     list_fails call_error second =
         then_part t (ask (Read place.container place.listing)) old new (after_bytes place) new bytes first (Err call_error)
-        (part_fails t (list bytes) new new (λ (entries : Entries) (rest : Directory → _). rest (record { place = place; entries = entries })) call_error second)
+        (part_fails t (list bytes) new new
+        (λ (entries : Entries) (rest : Directory → _). rest (record { place = place; entries = entries }))
+        call_error second)
 
     -- its bytes are a directory
-    pub reads : (entries : Entries) → RunsPart (list bytes) new new t (Ok entries) → RunsPart (read_directory place) old new t (Ok (record { place = place; entries = entries }))
+    pub reads : (entries : Entries) → RunsPart (list bytes) new new t (Ok entries)
+        → RunsPart (read_directory place) old new t (Ok (record { place = place; entries = entries }))
     unfolding read_directory
     reads entries second =
         then_part t (ask (Read place.container place.listing)) old new (after_bytes place) new bytes first (Ok _)
-        (then_part t (list bytes) new new (λ (entries : Entries) (rest : Directory → _). rest (record { place = place; entries = entries })) new entries second (Ok _) (hands t new _))
+        (then_part t (list bytes) new new
+        (λ (entries : Entries) (rest : Directory → _). rest (record { place = place; entries = entries })) new
+        entries second (Ok _) (hands t new _))
 
 take_all : (xs : List Name) → take (length xs) xs ≡ xs
 take_all [] = refl
 take_all (x ∷ xs) = ap (λ ys. x ∷ ys) (take_all xs)
 
 -- names that are at least one are a first name and the others
-pub first_of_names : (names : List Name) (name : Name) → 1 ≤ length names → name ≡ get_or names 0 name → names ≡ name ∷ take (length names - 1) (drop 1 names)
+pub first_of_names : (names : List Name) (name : Name) → 1 ≤ length names → name ≡ get_or names 0 name
+    → names ≡ name ∷ take (length names - 1) (drop 1 names)
 first_of_names [] name some is = absurd (omega arith)
 first_of_names (x ∷ xs) name some is =
     let count : length (x ∷ xs) - 1 ≡ length xs = omega arith in
@@ -64,16 +74,23 @@ no_names (x ∷ xs) none = absurd (omega arith)
 
 module _ (t : ℕ) (old new : KernelModel) (place : Place) (name : Name) where
   -- its segment was not read
-  pub look_refused : (call_error : CallError) → RunsPart (ask (Read place.container place.listing)) old new t (Err call_error) → RunsPart (look_in place name) old new t (Err call_error)
+  pub look_refused : (call_error : CallError)
+      → RunsPart (ask (Read place.container place.listing)) old new t (Err call_error)
+      → RunsPart (look_in place name) old new t (Err call_error)
   unfolding look_in
-  look_refused call_error first = part_fails t (ask (Read place.container place.listing)) old new (λ bytes (rest : Option Target → _). rest (found_in bytes name)) call_error first
+  look_refused call_error first =
+      part_fails t (ask (Read place.container place.listing)) old new
+      (λ bytes (rest : Option Target → _). rest (found_in bytes name)) call_error first
 
   -- it was read, and the name leads there
-  pub looks : (bytes : List ℕ) → RunsPart (ask (Read place.container place.listing)) old new t (Ok bytes) → (found : Option Target) → found ≡ found_in bytes name → RunsPart (look_in place name) old new t (Ok found)
+  pub looks : (bytes : List ℕ) → RunsPart (ask (Read place.container place.listing)) old new t (Ok bytes)
+      → (found : Option Target) → found ≡ found_in bytes name → RunsPart (look_in place name) old new t (Ok found)
   unfolding look_in
   looks bytes first found is =
       subst (λ (o : Option Target). RunsPart (look_in place name) old new t (Ok o)) (sym is)
-      (then_part t (ask (Read place.container place.listing)) old new (λ bytes (rest : Option Target → _). rest (found_in bytes name)) new bytes first (Ok _) (hands t new (found_in bytes name)))
+      (then_part t (ask (Read place.container place.listing)) old new
+      (λ bytes (rest : Option Target → _). rest (found_in bytes name)) new bytes first (Ok _)
+      (hands t new (found_in bytes name)))
 
 -- ---- the place of a directory is found
 
@@ -83,11 +100,13 @@ into name above rest = look_in above name (λ target. given (directory_at target
 
 module _ (t : ℕ) (old new : KernelModel) (name : Name) (above : Place) where
   -- the name was not looked up
-  pub into_fails : (call_error : CallError) → RunsPart (look_in above name) old new t (Err call_error) → RunsPart (into name above) old new t (Err call_error)
+  pub into_fails : (call_error : CallError) → RunsPart (look_in above name) old new t (Err call_error)
+      → RunsPart (into name above) old new t (Err call_error)
   into_fails call_error first = part_fails t (look_in above name) old new (λ target. given (directory_at target)) call_error first
 
   module _ (target : Option Target) (first : RunsPart (look_in above name) old new t (Ok target)) where
-    then_given : (found : Result Place Errno) → found ≡ directory_at target → (result : Result Place CallError) → RunsPart (given found) new new t result → RunsPart (into name above) old new t result
+    then_given : (found : Result Place Errno) → found ≡ directory_at target → (result : Result Place CallError)
+        → RunsPart (given found) new new t result → RunsPart (into name above) old new t result
     then_given found is result runs =
         then_part t (look_in above name) old new (λ target. given (directory_at target)) new target first result
         (subst (λ (f : Result Place Errno). RunsPart (given f) new new t result) is runs)
@@ -107,40 +126,54 @@ module _ (t : ℕ) (roots : Roots) (old new : KernelModel) (names : List Name) w
   finds_slash none = subst (λ (n : List Name). RunsPart (find_place roots n) old old t (Ok roots.slash)) (sym none) (hands t old roots.slash)
 
   module _ (name : Name) (parent : Path) (split : names ≡ name ∷ parent) where
-    here : (result : Result Place CallError) → RunsPart (λ rest. find_place roots parent (λ above. into name above rest)) old new t result → RunsPart (find_place roots names) old new t result
+    here : (result : Result Place CallError)
+        → RunsPart (λ rest. find_place roots parent (λ above. into name above rest)) old new t result
+        → RunsPart (find_place roots names) old new t result
     unfolding find_place
     here result runs = subst (λ (n : List Name). RunsPart (find_place roots n) old new t result) (sym split) runs
 
     -- the place of the parent was not found
-    pub find_fails : (call_error : CallError) → RunsPart (find_place roots parent) old new t (Err call_error) → RunsPart (find_place roots names) old new t (Err call_error)
+    pub find_fails : (call_error : CallError) → RunsPart (find_place roots parent) old new t (Err call_error)
+        → RunsPart (find_place roots names) old new t (Err call_error)
     find_fails call_error first = here (Err call_error) (part_fails t (find_place roots parent) old new (into name) call_error first)
 
     -- it was found, and the name is looked up there
-    pub finds_on : (mid : KernelModel) (above : Place) → RunsPart (find_place roots parent) old mid t (Ok above) → (result : Result Place CallError) → RunsPart (into name above) mid new t result → RunsPart (find_place roots names) old new t result
+    pub finds_on : (mid : KernelModel) (above : Place) → RunsPart (find_place roots parent) old mid t (Ok above)
+        → (result : Result Place CallError) → RunsPart (into name above) mid new t result
+        → RunsPart (find_place roots names) old new t result
     finds_on mid above first result second = here result (then_part t (find_place roots parent) old new (into name) mid above first result second)
 
 -- ---- a walk
 
 module _ (t : ℕ) (roots : Roots) (old new : KernelModel) (names : Path) where
   -- the place was not found
-  pub walk_fails : (call_error : CallError) → RunsPart (find_place roots names) old new t (Err call_error) → RunsPart (walk_to roots names) old new t (Err call_error)
+  pub walk_fails : (call_error : CallError) → RunsPart (find_place roots names) old new t (Err call_error)
+      → RunsPart (walk_to roots names) old new t (Err call_error)
   unfolding walk_to
   walk_fails call_error first = part_fails t (find_place roots names) old new (λ (place : Place). read_directory place) call_error first
 
   -- it was found, and the directory is read
-  pub walk_ends : (mid : KernelModel) (place : Place) → RunsPart (find_place roots names) old mid t (Ok place) → (result : Result Directory CallError) → RunsPart (read_directory place) mid new t result → RunsPart (walk_to roots names) old new t result
+  pub walk_ends : (mid : KernelModel) (place : Place) → RunsPart (find_place roots names) old mid t (Ok place)
+      → (result : Result Directory CallError) → RunsPart (read_directory place) mid new t result
+      → RunsPart (walk_to roots names) old new t result
   unfolding walk_to
-  walk_ends mid place first result second = then_part t (find_place roots names) old new (λ (place : Place). read_directory place) mid place first result second
+  walk_ends mid place first result second =
+      then_part t (find_place roots names) old new (λ (place : Place). read_directory place) mid place first result
+      second
 
 -- bytes that spell a directory's entries are written
-pub writes : (t : ℕ) (old new : KernelModel) (place : Place) (entries : Entries) (bytes : List ℕ) → IsDirectory bytes entries → (answer : Result (Unit {0}) Refusal) → Answered old new t (Write place.container place.listing 0 bytes) answer (λ _. Unit {0})
+pub writes : (t : ℕ) (old new : KernelModel) (place : Place) (entries : Entries) (bytes : List ℕ)
+    → IsDirectory bytes entries → (answer : Result (Unit {0}) Refusal)
+    → Answered old new t (Write place.container place.listing 0 bytes) answer (λ _. Unit {0})
     → (result : Result (Unit {0}) CallError) → result ≡ or_call_error write_errno_of answer → RunsPart (write_entries place entries) old new t result
 writes t old new place entries bytes spells answer answered result is =
-    part_as t (write_entries place entries) old new (ask (Write place.container place.listing 0 bytes)) (λ i. ask (Write place.container place.listing 0 (sym spells.spelled i))) result
+    part_as t (write_entries place entries) old new (ask (Write place.container place.listing 0 bytes))
+    (λ i. ask (Write place.container place.listing 0 (sym spells.spelled i))) result
     (asks t (Write place.container place.listing 0 bytes) old new answer answered result is)
 
 -- memory ran out before the place of a directory is found
-before_place : (t : ℕ) (roots : Roots) (path : Path) (k : KernelModel) (first : Place → Program) → ((place : Place) → Begins (first place) k k t) → Begins (find_place roots path first) k k t
+before_place : (t : ℕ) (roots : Roots) (path : Path) (k : KernelModel) (first : Place → Program)
+    → ((place : Place) → Begins (first place) k k t) → Begins (find_place roots path first) k k t
 unfolding find_place look_in
 before_place t roots [] k first begins = begins roots.slash
 before_place t roots (name ∷ parent) k first begins =

@@ -12,7 +12,8 @@ use Rattle.histar_calls.proofs.Running.{then_call, call_fails}
 pub record Leaves (t : ℕ) (whole : Program) (old : KernelModel) (rest : Program) (k : KernelModel) : Type 0 where
   pub leads : (new : KernelModel) (result : Result Reply Stopped) → Runs rest k new t result → Runs whole old new t result
 
-module _ {t : ℕ} {whole : Program} {old k : KernelModel} {A : Type 0} (part : Part A) (rest : A → Program) (way : Leaves t whole old (part rest) k) where
+module _ {t : ℕ} {whole : Program} {old k : KernelModel} {A : Type 0} (part : Part A) (rest : A → Program)
+    (way : Leaves t whole old (part rest) k) where
   -- the next part was run
   pub further : (mid : KernelModel) (x : A) → RunsPart part k mid t (Ok x) → Leaves t whole old (rest x) mid
   further mid x first = record { leads = λ new result on. way.leads new result (then_call t part k new rest mid x first result on) }

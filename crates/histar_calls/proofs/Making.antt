@@ -10,4 +10,5 @@ use Rattle.histar_calls.specs.Parts.{ask}
 -- an empty segment is made with the label that is due
 pub makes : (t : ℕ) (old new : KernelModel) (d : ℕ) (label due : Levels) (empty : List ℕ) → label ≡ due → empty ≡ [] → (result : Result ℕ CallError)
     → RunsPart {A = ℕ} (ask (MakeSegment d label empty)) old new t result → RunsPart {A = ℕ} (ask (MakeSegment d due [])) old new t result
-makes t old new d label due empty same none result runs = subst (λ (part : Part ℕ). RunsPart {A = ℕ} part old new t result) (λ i. ask (MakeSegment d (same i) (none i))) runs
+makes t old new d label due empty same none result runs =
+    subst (λ (part : Part ℕ). RunsPart {A = ℕ} part old new t result) (λ i. ask (MakeSegment d (same i) (none i))) runs

@@ -25,7 +25,9 @@ use Rattle.histar_calls.proofs.Running.{before_ask, part_fails, then_part}
 -- a container is made with the label that is due
 pub makes_container : (t : ℕ) (old new : KernelModel) (d : ℕ) (label due : Levels) → label ≡ due → (result : Result ℕ CallError)
     → RunsPart {A = ℕ} (ask (MakeContainer d label)) old new t result → RunsPart {A = ℕ} (ask (MakeContainer d due)) old new t result
-makes_container t old new d label due same result runs = subst (λ (part : Part ℕ). RunsPart {A = ℕ} part old new t result) (ap (λ (x : Levels). ask (MakeContainer d x)) same) runs
+makes_container t old new d label due same result runs =
+    subst (λ (part : Part ℕ). RunsPart {A = ℕ} part old new t result)
+    (ap (λ (x : Levels). ask (MakeContainer d x)) same) runs
 
 -- the parts of adding a directory, one after another
 module _ (t : ℕ) (label : Levels) (room : Room) (old new : KernelModel) where
@@ -42,22 +44,35 @@ module _ (t : ℕ) (label : Levels) (room : Room) (old new : KernelModel) where
   after_container container rest = ask (MakeSegment container label []) (λ listing. after_listing container listing rest)
 
   -- no container was made
-  pub without_container : (call_error : CallError) → RunsPart (ask (MakeContainer room.place.container label)) old new t (Err call_error) → RunsPart (add_directory label room) old new t (Err call_error)
+  pub without_container : (call_error : CallError)
+      → RunsPart (ask (MakeContainer room.place.container label)) old new t (Err call_error)
+      → RunsPart (add_directory label room) old new t (Err call_error)
   without_container call_error first = part_fails t (ask (MakeContainer room.place.container label)) old new after_container call_error first
 
   module _ (mid : KernelModel) (container : ℕ) (first : RunsPart (ask (MakeContainer room.place.container label)) old mid t (Ok container)) where
     -- one was
-    with_container : (result : Result (Unit {0}) CallError) → RunsPart (after_container container) mid new t result → RunsPart (add_directory label room) old new t result
-    with_container result second = then_part t (ask (MakeContainer room.place.container label)) old new after_container mid container first result second
+    with_container : (result : Result (Unit {0}) CallError) → RunsPart (after_container container) mid new t result
+        → RunsPart (add_directory label room) old new t result
+    with_container result second =
+        then_part t (ask (MakeContainer room.place.container label)) old new after_container mid container first result
+        second
 
     -- no directory segment was made
-    pub without_listing : (call_error : CallError) → RunsPart (ask (MakeSegment container label [])) mid new t (Err call_error) → RunsPart (add_directory label room) old new t (Err call_error)
-    without_listing call_error second = with_container (Err call_error) (part_fails t (ask (MakeSegment container label [])) mid new (after_listing container) call_error second)
+    pub without_listing : (call_error : CallError)
+        → RunsPart (ask (MakeSegment container label [])) mid new t (Err call_error)
+        → RunsPart (add_directory label room) old new t (Err call_error)
+    without_listing call_error second =
+        with_container (Err call_error)
+        (part_fails t (ask (MakeSegment container label [])) mid new (after_listing container) call_error second)
 
     -- one was, and the entry is made, or not
-    pub with_listing : (late : KernelModel) (listing : ℕ) → RunsPart (ask (MakeSegment container label [])) mid late t (Ok listing) → (result : Result (Unit {0}) CallError)
+    pub with_listing : (late : KernelModel) (listing : ℕ)
+        → RunsPart (ask (MakeSegment container label [])) mid late t (Ok listing)
+        → (result : Result (Unit {0}) CallError)
         → RunsPart (write_entries room.place (grown container listing)) late new t result → RunsPart (add_directory label room) old new t result
-    with_listing late listing second result third = with_container result (then_part t (ask (MakeSegment container label [])) mid new (after_listing container) late listing second result third)
+    with_listing late listing second result third =
+        with_container result (then_part t (ask (MakeSegment container label [])) mid new (after_listing container) late listing second
+        result third)
 
 -- memory ran out before a directory was added
 pub before_adding : (t : ℕ) (label : Levels) (room : Room) (k : KernelModel) → RunsPart (add_directory label room) k k t (Err Stopped)

@@ -33,13 +33,18 @@ module _ (t : ℕ) (label : Levels) (room : Room) (old new : KernelModel) where
   after_segment file = write_entries room.place (grown file)
 
   -- no segment was made
-  pub without_segment : (call_error : CallError) → RunsPart (ask (MakeSegment room.place.container label [])) old new t (Err call_error) → RunsPart (add_file label room) old new t (Err call_error)
+  pub without_segment : (call_error : CallError)
+      → RunsPart (ask (MakeSegment room.place.container label [])) old new t (Err call_error)
+      → RunsPart (add_file label room) old new t (Err call_error)
   without_segment call_error first = part_fails t (ask (MakeSegment room.place.container label [])) old new after_segment call_error first
 
   -- one was, and the entry is made, or not
-  pub with_segment : (mid : KernelModel) (file : ℕ) → RunsPart (ask (MakeSegment room.place.container label [])) old mid t (Ok file) → (result : Result (Unit {0}) CallError)
+  pub with_segment : (mid : KernelModel) (file : ℕ)
+      → RunsPart (ask (MakeSegment room.place.container label [])) old mid t (Ok file)
+      → (result : Result (Unit {0}) CallError)
       → RunsPart (write_entries room.place (grown file)) mid new t result → RunsPart (add_file label room) old new t result
-  with_segment mid file first result second = then_part t (ask (MakeSegment room.place.container label [])) old new after_segment mid file first result second
+  with_segment mid file first result second =
+      then_part t (ask (MakeSegment room.place.container label [])) old new after_segment mid file first result second
 
 -- memory ran out before a file was added
 pub before_adding : (t : ℕ) (label : Levels) (room : Room) (k : KernelModel) → RunsPart (add_file label room) k k t (Err Stopped)

@@ -7,7 +7,8 @@ use Rattle.histar_flat.specs.declared.calls.Mode.{Mode}
 use Rattle.histar_rules.specs.declared.raw.Denied.{Denied}
 use Rattle.histar_rules.specs.declared.raw.Denied.TheVariants.{Observe, Modify, Range, Gate, NoEntry, NoThread, BadKind, TooBig}
 use Rattle.histar_rules.specs.declared.raw.RawCall.{RawCall}
-use Rattle.histar_rules.specs.declared.raw.RawCall.TheVariants.{MakeCategory, OwnLabel, SetLabel, SetClearance, MakeSegment, MakeContainer, MakeThread, MakeGate, Enter, Read, Write, Unlink, LabelOf}
+use Rattle.histar_rules.specs.declared.raw.RawCall.TheVariants.{MakeCategory, OwnLabel, SetLabel, SetClearance, MakeSegment, MakeContainer}
+use Rattle.histar_rules.specs.declared.raw.RawCall.TheVariants.{MakeThread, MakeGate, Enter, Read, Write, Unlink, LabelOf}
 use Rattle.histar_rules.specs.Sound.{root_number}
 use Rattle.histar_layout.specs.Directory.{Entries}
 use Rattle.histar_flat.specs.FlatCalls.{most_entries}
@@ -25,7 +26,8 @@ use Rattle.histar_calls.specs.declared.stat.FoundObject.{FoundObject}
 use Rattle.histar_layout.specs.declared.shown.ShownClass.{ShownClass}
 use Rattle.histar_calls.specs.Refusals.{errno_of, write_errno_of, errno_for}
 use Rattle.histar_calls.specs.Programs.{AnswerOf, Program}
-use Rattle.histar_calls.specs.Parts.{refused_with, ask, if_there, read_directory, directory_at, file_at, entry_at, room_at, target_named, given, look_in, find_place, walk_to, find_file, find_room}
+use Rattle.histar_calls.specs.Parts.{refused_with, ask, if_there, read_directory, directory_at, file_at, entry_at, room_at, target_named, given}
+use Rattle.histar_calls.specs.Parts.{look_in, find_place, walk_to, find_file, find_room}
 use Rattle.histar_calls.specs.Read.{read_program}
 use Rattle.histar_calls.specs.Write.{write_program}
 use Rattle.histar_calls.specs.Create.{create_program}
@@ -73,10 +75,12 @@ denial_of_call_has_reply (Unlink container object) d = denial_has_reply d
 denial_of_call_has_reply (LabelOf container object) d = denial_has_reply d
 
 -- a raw call that is asked, where what follows its answer replies to its refusals
-pub ask_replies : (call : RawCall) (rest : AnswerOf call → Program) → ((answer : AnswerOf call) → RepliesToRefusals (rest answer)) → RepliesToRefusals (ask call rest)
+pub ask_replies : (call : RawCall) (rest : AnswerOf call → Program)
+    → ((answer : AnswerOf call) → RepliesToRefusals (rest answer)) → RepliesToRefusals (ask call rest)
 ask_replies call rest obeys = (obeys, denial_of_call_has_reply call)
 
-pub read_replies : (place : Place) (rest : Directory → Program) → ((directory : Directory) → RepliesToRefusals (rest directory)) → RepliesToRefusals (read_directory place rest)
+pub read_replies : (place : Place) (rest : Directory → Program)
+    → ((directory : Directory) → RepliesToRefusals (rest directory)) → RepliesToRefusals (read_directory place rest)
 unfolding read_directory
 read_replies place rest obeys = ((λ bytes listed. by listed), denial_of_call_has_reply (Read place.container place.listing))
   where
@@ -85,55 +89,74 @@ read_replies place rest obeys = ((λ bytes listed. by listed), denial_of_call_ha
     by (Some entries) = obeys (record { place = place; entries = entries })
 
 -- a look-up replies to its refusals
-pub look_replies : (place : Place) (name : Name) (rest : Option Target → Program) → ((target : Option Target) → RepliesToRefusals (rest target)) → RepliesToRefusals (look_in place name rest)
+pub look_replies : (place : Place) (name : Name) (rest : Option Target → Program)
+    → ((target : Option Target) → RepliesToRefusals (rest target)) → RepliesToRefusals (look_in place name rest)
 unfolding look_in
 look_replies place name rest obeys = ((λ bytes. obeys (found_in bytes name)), denial_of_call_has_reply (Read place.container place.listing))
 
-into_replies : (target : Option Target) (rest : Place → Program) → ((place : Place) → RepliesToRefusals (rest place)) → RepliesToRefusals (given (directory_at target) rest)
+into_replies : (target : Option Target) (rest : Place → Program) → ((place : Place) → RepliesToRefusals (rest place))
+    → RepliesToRefusals (given (directory_at target) rest)
 into_replies None rest obeys = (refl, refl)
 into_replies (Some (targets.File file)) rest obeys = (refl, refl)
 into_replies (Some (targets.Directory container listing)) rest obeys = obeys (record { container = container; listing = listing })
 
 -- and so does the search for the place of a directory
-pub place_replies : (roots : Roots) (path : Path) (rest : Place → Program) → ((place : Place) → RepliesToRefusals (rest place)) → RepliesToRefusals (find_place roots path rest)
+pub place_replies : (roots : Roots) (path : Path) (rest : Place → Program)
+    → ((place : Place) → RepliesToRefusals (rest place)) → RepliesToRefusals (find_place roots path rest)
 unfolding find_place
 place_replies roots [] rest obeys = obeys roots.slash
-place_replies roots (name ∷ parent) rest obeys = place_replies roots parent _ (λ above. look_replies above name _ (λ target. into_replies target rest obeys))
+place_replies roots (name ∷ parent) rest obeys =
+    place_replies roots parent _ (λ above. look_replies above name _ (λ target. into_replies target rest obeys))
 
 -- a walk replies to its refusals
-pub walk_replies : (roots : Roots) (path : Path) (rest : Directory → Program) → ((directory : Directory) → RepliesToRefusals (rest directory)) → RepliesToRefusals (walk_to roots path rest)
+pub walk_replies : (roots : Roots) (path : Path) (rest : Directory → Program)
+    → ((directory : Directory) → RepliesToRefusals (rest directory)) → RepliesToRefusals (walk_to roots path rest)
 unfolding walk_to
 walk_replies roots path rest obeys = place_replies roots path _ (λ place. read_replies place rest obeys)
 
 -- and so does the search for a file
-pub file_replies : (roots : Roots) (path : Path) (rest : FoundFile → Program) → ((file : FoundFile) → RepliesToRefusals (rest file)) → RepliesToRefusals (find_file roots path rest)
+pub file_replies : (roots : Roots) (path : Path) (rest : FoundFile → Program)
+    → ((file : FoundFile) → RepliesToRefusals (rest file)) → RepliesToRefusals (find_file roots path rest)
 unfolding find_file
 file_replies roots [] rest obeys = (refl, refl)
 file_replies roots (name ∷ parent) rest obeys = place_replies roots parent _ (λ place. look_replies place name _ (λ target. by place target))
   where
-    by : (place : Place) (target : Option Target) → RepliesToRefusals (given (file_at target) (λ segment. rest (record { container = place.container; segment = segment })))
+    by : (place : Place) (target : Option Target)
+        → RepliesToRefusals
+        (given (file_at target) (λ segment. rest (record { container = place.container; segment = segment })))
     by place None = (refl, refl)
     by place (Some (targets.File file)) = obeys (record { container = place.container; segment = file })
     by place (Some (targets.Directory container listing)) = (refl, refl)
 
 -- and for room
-pub room_replies : (roots : Roots) (path : Path) (rest : Room → Program) → ((room : Room) → RepliesToRefusals (rest room)) → RepliesToRefusals (find_room roots path rest)
+pub room_replies : (roots : Roots) (path : Path) (rest : Room → Program)
+    → ((room : Room) → RepliesToRefusals (rest room)) → RepliesToRefusals (find_room roots path rest)
 unfolding find_room
 room_replies roots [] rest obeys = (refl, refl)
-room_replies roots (name ∷ parent) rest obeys = walk_replies roots parent _ (λ directory. by directory (target_named directory name) (map.len directory.entries == most_entries))
+room_replies roots (name ∷ parent) rest obeys =
+    walk_replies roots parent _
+    (λ directory. by directory (target_named directory name) (map.len directory.entries == most_entries))
   where
-    by : (directory : Directory) (target : Option Target) (full : Bool) → RepliesToRefusals (given (room_at target full) (λ _. rest (record { place = directory.place; entries = directory.entries; name = name })))
+    by : (directory : Directory) (target : Option Target) (full : Bool)
+        → RepliesToRefusals (given (room_at target full)
+        (λ _. rest (record { place = directory.place; entries = directory.entries; name = name })))
     by directory (Some target) full = (refl, refl)
     by directory None true = (refl, refl)
     by directory None false = obeys (record { place = directory.place; entries = directory.entries; name = name })
 
 -- and for an object
-object_replies : (roots : Roots) (path : Path) (rest : FoundObject → Program) → ((object : FoundObject) → RepliesToRefusals (rest object)) → RepliesToRefusals (find_object roots path rest)
+object_replies : (roots : Roots) (path : Path) (rest : FoundObject → Program)
+    → ((object : FoundObject) → RepliesToRefusals (rest object)) → RepliesToRefusals (find_object roots path rest)
 unfolding find_object
 object_replies roots [] rest obeys = obeys (record { container = root_number; object = roots.slash.container; is_directory = true })
 object_replies roots (name ∷ parent) rest obeys = place_replies roots parent _ (λ place. look_replies place name _ (λ target. by place target))
   where
-    by : (place : Place) (target : Option Target) → RepliesToRefusals (given (entry_at target) (λ found. rest (record { container = place.container; object = object_of found; is_directory = is_directory found })))
+    by : (place : Place) (target : Option Target)
+        → RepliesToRefusals (given (entry_at target) (λ found. rest (record {
+          container = place.container;
+          object = object_of found;
+          is_directory = is_directory found;
+        })))
     by place None = (refl, refl)
     by place (Some target) = obeys (record { container = place.container; object = object_of target; is_directory = is_directory target })
 
@@ -150,9 +173,14 @@ write_program_replies : (roots : Roots) (path : Path) (bytes : List ℕ) → Rep
 unfolding write_program
 write_program_replies roots path bytes = file_replies roots path _ (λ file. ((λ done. (refl, refl)), denial_of_write_has_reply))
 
-create_program_replies : (accounts : Accounts) (roots : Roots) (path : Path) (mode : Mode) → RepliesToRefusals (create_program accounts roots path mode)
+create_program_replies : (accounts : Accounts) (roots : Roots) (path : Path) (mode : Mode)
+    → RepliesToRefusals (create_program accounts roots path mode)
 unfolding create_program
-create_program_replies accounts roots path mode = room_replies roots path _ (λ room. ((λ own. ((λ file. ((λ done. (refl, refl)), denial_of_write_has_reply)), denial_has_reply)), denial_has_reply))
+create_program_replies accounts roots path mode =
+    room_replies roots path _ (λ room. (
+      (λ own. ((λ file. ((λ done. (refl, refl)), denial_of_write_has_reply)), denial_has_reply)),
+      denial_has_reply,
+    ))
 
 append_program_replies : (roots : Roots) (path : Path) (bytes : List ℕ) → RepliesToRefusals (append_program roots path bytes)
 unfolding append_program
@@ -160,7 +188,14 @@ append_program_replies roots path bytes = file_replies roots path _ (λ file. ((
 
 mkdir_program_replies : (accounts : Accounts) (roots : Roots) (path : Path) (mode : Mode) → RepliesToRefusals (mkdir_program accounts roots path mode)
 unfolding mkdir_program
-mkdir_program_replies accounts roots path mode = room_replies roots path _ (λ room. ((λ own. ((λ container. ((λ listing. ((λ done. (refl, refl)), denial_of_write_has_reply)), denial_has_reply)), denial_has_reply)), denial_has_reply))
+mkdir_program_replies accounts roots path mode =
+    room_replies roots path _ (λ room. (
+      (λ own. (
+        (λ container. ((λ listing. ((λ done. (refl, refl)), denial_of_write_has_reply)), denial_has_reply)),
+        denial_has_reply,
+      )),
+      denial_has_reply,
+    ))
 
 list_program_replies : (roots : Roots) (path : Path) → RepliesToRefusals (list_program roots path)
 unfolding list_program
@@ -168,7 +203,9 @@ list_program_replies roots path = walk_replies roots path _ (λ directory. (refl
 
 stat_program_replies : (accounts : Accounts) (roots : Roots) (path : Path) → RepliesToRefusals (stat_program accounts roots path)
 unfolding stat_program
-stat_program_replies accounts roots path = object_replies roots path _ (λ object. ((λ label. class_replies object.is_directory (class_shown accounts label)), denial_has_reply))
+stat_program_replies accounts roots path =
+    object_replies roots path _
+    (λ object. ((λ label. class_replies object.is_directory (class_shown accounts label)), denial_has_reply))
 
 -- the programs of the calls reply to their refusals
 pub calls_reply_to_refusals : CallsReplyToRefusals

@@ -32,31 +32,39 @@ module _ (t : ℕ) where
   }
 
   -- a raw call leads to what comes after its outcome
-  pub asked : (call : RawCall) (next : Outcome call → Program) (old mid : KernelModel) (outcome : Outcome call) → Asked old mid t call outcome → LeadsTo (Asks call next) old (next outcome) mid t
+  pub asked : (call : RawCall) (next : Outcome call → Program) (old mid : KernelModel) (outcome : Outcome call)
+      → Asked old mid t call outcome → LeadsTo (Asks call next) old (next outcome) mid t
   asked call next old mid outcome is = record {
     completes = λ new reply c. (mid, outcome, is, c);
     begins = λ new b. inr (mid, outcome, is, b);
   }
 
   -- bytes lead to what comes after the directory that they are
-  listed : (bytes : List ℕ) (next : Option Entries → Program) (k : KernelModel) (found : Option Entries) → IsListed bytes found → LeadsTo (Lists bytes next) k (next found) k t
+  listed : (bytes : List ℕ) (next : Option Entries → Program) (k : KernelModel) (found : Option Entries)
+      → IsListed bytes found → LeadsTo (Lists bytes next) k (next found) k t
   listed bytes next k found is = record {
     completes = λ new reply c. (found, is, c);
     begins = λ new b. inr (found, is, b);
   }
 
   -- a raw call that was granted
-  pub grants : (call : RawCall) (old new : KernelModel) (answer : AnswerOf call) → Called old new t call None → IsAnswer (state old) t call answer → RunsPart (ask call) old new t (Ok answer)
+  pub grants : (call : RawCall) (old new : KernelModel) (answer : AnswerOf call) → Called old new t call None
+      → IsAnswer (state old) t call answer → RunsPart (ask call) old new t (Ok answer)
   unfolding RunsPart
   grants call old new answer called right = λ rest. asked call (or_refused (errno_for call) rest) old new (Ok answer) (called, right)
 
   -- a raw call that was refused
-  pub refuses : {A : Type 0} (call : RawCall) (old new : KernelModel) (P : A → Type 0) (refusal : Refusal) → Answered {A = A} old new t call (Err refusal) P → RunsPart (ask call) old new t (Err (call_error_of (errno_for call) refusal))
+  pub refuses : {A : Type 0} (call : RawCall) (old new : KernelModel) (P : A → Type 0) (refusal : Refusal)
+      → Answered {A = A} old new t call (Err refusal) P
+      → RunsPart (ask call) old new t (Err (call_error_of (errno_for call) refusal))
   unfolding RunsPart
   refuses call old new P (refusals.Denied denied) called = by (errno_for call denied) refl
     where
-      to : (rest : AnswerOf call → Program) (errno : Option Errno) → errno_for call denied ≡ errno → LeadsTo (ask call rest) old (refused_with errno) new t
-      to rest errno is = subst (λ (e : Option Errno). LeadsTo (ask call rest) old (refused_with e) new t) is (asked call (or_refused (errno_for call) rest) old new (Err denied) called)
+      to : (rest : AnswerOf call → Program) (errno : Option Errno) → errno_for call denied ≡ errno
+          → LeadsTo (ask call rest) old (refused_with errno) new t
+      to rest errno is =
+          subst (λ (e : Option Errno). LeadsTo (ask call rest) old (refused_with e) new t) is
+          (asked call (or_refused (errno_for call) rest) old new (Err denied) called)
 
       by : (errno : Option Errno) → errno_for call denied ≡ errno → RunsPart (ask call) old new t (Err (call_error_with errno))
       by None is = λ rest. (to rest None is).begins new (same_kernel new)
@@ -64,9 +72,13 @@ module _ (t : ℕ) where
   refuses call old new P refusals.OutOfMemory same = λ rest. inl same
 
   -- a raw call, by what the kernel answered
-  pub asks : (call : RawCall) (old new : KernelModel) (answer : Result (AnswerOf call) Refusal) → Answered old new t call answer (IsAnswer (state old) t call) → (result : Result (AnswerOf call) CallError) → result ≡ or_call_error (errno_for call) answer → RunsPart (ask call) old new t result
+  pub asks : (call : RawCall) (old new : KernelModel) (answer : Result (AnswerOf call) Refusal)
+      → Answered old new t call answer (IsAnswer (state old) t call) → (result : Result (AnswerOf call) CallError)
+      → result ≡ or_call_error (errno_for call) answer → RunsPart (ask call) old new t result
   asks call old new (Ok answer) answered result is = subst (RunsPart (ask call) old new t) (sym is) (grants call old new answer answered.0 answered.1)
-  asks call old new (Err refusal) answered result is = subst (RunsPart (ask call) old new t) (sym is) (refuses call old new (IsAnswer (state old) t call) refusal answered)
+  asks call old new (Err refusal) answered result is =
+      subst (RunsPart (ask call) old new t) (sym is)
+      (refuses call old new (IsAnswer (state old) t call) refusal answered)
 
   -- memory ran out before a raw call
   pub before_ask : (call : RawCall) (k : KernelModel) → RunsPart (ask call) k k t (Err HasStopped)
@@ -96,13 +108,15 @@ module _ (t : ℕ) where
   unfolding RunsPart
   hands k x = λ rest. here (rest x) k
 
-  pub refuses_at_once : (A : Type 0) (k : KernelModel) (errno : Errno) → RunsPart {A = A} (λ rest. Answers (replies.Refused errno)) k k t (Err (Refused errno))
+  pub refuses_at_once : (A : Type 0) (k : KernelModel) (errno : Errno)
+      → RunsPart {A = A} (λ rest. Answers (replies.Refused errno)) k k t (Err (Refused errno))
   unfolding RunsPart
   refuses_at_once A k errno = λ rest. here (Answers (replies.Refused errno)) k
 
   module _ {A : Type 0} (part : Part A) (old new : KernelModel) where
     -- an error that came by `?`
-    pub fails_so : (call_error : CallError) (result : Result A CallError) → IsErrAnd result (λ e. e ≡ call_error) → RunsPart part old new t (Err call_error) → RunsPart part old new t result
+    pub fails_so : (call_error : CallError) (result : Result A CallError) → IsErrAnd result (λ e. e ≡ call_error)
+        → RunsPart part old new t (Err call_error) → RunsPart part old new t result
     fails_so call_error result gave fails =
         let error = err_from_is_err_and result gave in
         subst (RunsPart part old new t) (sym (error.1 ∙ ap Err error.2)) fails
@@ -113,20 +127,23 @@ module _ (t : ℕ) where
 
     -- a part, and a part after it
     module _ {B : Type 0} (after : A → Part B) where
-      pub then_part : (mid : KernelModel) (x : A) → RunsPart part old mid t (Ok x) → (result : Result B CallError) → RunsPart (after x) mid new t result → RunsPart (λ rest. part (λ y. after y rest)) old new t result
+      pub then_part : (mid : KernelModel) (x : A) → RunsPart part old mid t (Ok x) → (result : Result B CallError)
+          → RunsPart (after x) mid new t result → RunsPart (λ rest. part (λ y. after y rest)) old new t result
       unfolding RunsPart
       then_part mid x first (Ok y) second = λ rest. onward (first (λ z. after z rest)) (second rest)
       then_part mid x first (Err (Refused errno)) second = λ rest. onward (first (λ z. after z rest)) (second rest)
       then_part mid x first (Err HasStopped) second = λ rest. (first (λ z. after z rest)).begins new (second rest)
 
-      pub part_fails : (call_error : CallError) → RunsPart part old new t (Err call_error) → RunsPart (λ rest. part (λ y. after y rest)) old new t (Err call_error)
+      pub part_fails : (call_error : CallError) → RunsPart part old new t (Err call_error)
+          → RunsPart (λ rest. part (λ y. after y rest)) old new t (Err call_error)
       unfolding RunsPart
       part_fails (Refused errno) first = λ rest. first (λ z. after z rest)
       part_fails HasStopped first = λ rest. first (λ z. after z rest)
 
     -- a part, and the rest of the call after it
     module _ (rest : A → Program) where
-      pub then_call : (mid : KernelModel) (x : A) → RunsPart part old mid t (Ok x) → (result : Result Reply Stopped) → Runs (rest x) mid new t result → Runs (part rest) old new t result
+      pub then_call : (mid : KernelModel) (x : A) → RunsPart part old mid t (Ok x) → (result : Result Reply Stopped)
+          → Runs (rest x) mid new t result → Runs (part rest) old new t result
       unfolding RunsPart Runs
       then_call mid x first (Ok reply) second = (first rest).completes new reply second
       then_call mid x first (Err stopped) second = (first rest).begins new second
@@ -142,7 +159,9 @@ module _ (t : ℕ) where
   says k reply = (same_kernel k, refl)
 
   -- an error of a whole call that came by `?`
-  pub call_fails_so : (p : Program) (old new : KernelModel) (call_error : CallError) (result : Result Reply CallError) → IsErrAnd result (λ e. e ≡ call_error) → Runs p old new t (settled (Err call_error)) → Runs p old new t (settled result)
+  pub call_fails_so : (p : Program) (old new : KernelModel) (call_error : CallError) (result : Result Reply CallError)
+      → IsErrAnd result (λ e. e ≡ call_error) → Runs p old new t (settled (Err call_error))
+      → Runs p old new t (settled result)
   call_fails_so p old new call_error result gave fails =
       let error = err_from_is_err_and result gave in
       subst (λ (r : Result Reply CallError). Runs p old new t (settled r)) (sym (error.1 ∙ ap Err error.2)) fails

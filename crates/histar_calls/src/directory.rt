@@ -3,7 +3,8 @@ ghost use Rattle.std.specs.Prelude.{◌≡◌, ◌==◌};
 ghost use Rattle.std.specs.FinMap as map;
 ghost use Rattle.histar_flat.specs.FlatCalls.{most_entries};
 ghost use Rattle.histar_calls.specs.Programs.{RunsPart};
-ghost use Rattle.histar_calls.specs.Parts.{read_directory, walk_to, directory_at, file_at, entry_at, look_in, find_place, room_at, target_named, write_entries};
+ghost use Rattle.histar_calls.specs.Parts.{read_directory, walk_to, directory_at, file_at, entry_at, look_in, find_place};
+ghost use Rattle.histar_calls.specs.Parts.{room_at, target_named, write_entries};
 
 use crate::call_error::{CallError, written};
 use crate::roots::{Place, Roots};

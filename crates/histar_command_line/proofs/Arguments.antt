@@ -17,10 +17,12 @@ pub record Has (command : Command) (bare : App) (arguments : List Argument) : Ty
 
 -- one argument more
 pub has_more : (old new : Command) (arg : Arg) (bare : App) (arguments : List Argument) (argument : Argument)
-    → Has old bare arguments → AddsArg old arg new → rule_of arg ≡ argument_rule argument → arg.global ≡ false → Has new bare (arguments ++ argument ∷ [])
+    → Has old bare arguments → AddsArg old arg new → rule_of arg ≡ argument_rule argument → arg.global ≡ false
+    → Has new bare (arguments ++ argument ∷ [])
 has_more old new arg bare arguments argument has adds rule local = record {
   app =
       adds.shape local ∙ ap₂ with_rule has.app rule
-      ∙ sym (ap (fold with_rule bare) (map-append argument_rule arguments (argument ∷ [])) ∙ fold-append with_rule bare (map argument_rule arguments) (argument_rule argument ∷ []));
+      ∙ sym (ap (fold with_rule bare) (map-append argument_rule arguments (argument ∷ []))
+      ∙ fold-append with_rule bare (map argument_rule arguments) (argument_rule argument ∷ []));
   local = adds.globals ∙ ap₂ ◌||◌ has.local local;
 }

@@ -1,6 +1,7 @@
 //! The forms of the subcommands: their names, their arguments and their help.
 ghost use Rattle.std.specs.Prelude.{◌≡◌};
-ghost use Rattle.histar_command_line.specs.Forms.{form_app, run_app, raw_app, check_app, access_app, diff_app, lint_app, report_app, test_app, trust_app};
+ghost use Rattle.histar_command_line.specs.Forms.{form_app, run_app, raw_app, check_app, access_app, diff_app, lint_app};
+ghost use Rattle.histar_command_line.specs.Forms.{report_app, test_app, trust_app};
 
 /// An argument of a subcommand.
 #[derive(Clone, Copy)]

@@ -48,7 +48,8 @@ module _ (job : ProcName) where
   seen_printed script Same = refl
   seen_printed script NoJob = refl
   seen_printed script (Line n) =
-      ap (kept_on n) (kept job no_replies (meaning script.accounts script.calls)) ∙ kept_reply (outsiders job (meaning script.accounts script.calls)) n
+      ap (kept_on n) (kept job no_replies (meaning script.accounts script.calls))
+      ∙ kept_reply (outsiders job (meaning script.accounts script.calls)) n
   seen_printed script (Tree q) = refl
 
   module _ (text : List ℕ) (script : ScriptModel) (is_read : script_of text ≡ Ok script) where
@@ -62,7 +63,8 @@ module _ (job : ProcName) where
         → explanation job text ≡ Ok (record { verdict = v; with_job = a; without_job = b })
     explained_as v a b is first second =
         ap (explanation_of job) is_read
-        ∙ ap (λ (x : Verdict). explained_by x (printed_of job script.accounts script.calls x) (printed_of job script.accounts (without job script.calls) x)) is
+        ∙ ap (λ (x : Verdict). explained_by x (printed_of job script.accounts script.calls x)
+        (printed_of job script.accounts (without job script.calls) x)) is
         ∙ (λ i. explained_by v (sym first i) (sym second i))
       where
         explained_by : Verdict → List ℕ → List ℕ → Result Explained Fault

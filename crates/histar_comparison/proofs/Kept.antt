@@ -31,7 +31,8 @@ module _ (job : ProcName) where
   start_is _ reply = refl
 
   -- a call that is no `wrap` moves the directory once it is granted
-  once_granted : (directory granted : Option Path) (reply : Reply) → directory_after job directory None granted reply ≡ cond (is_done reply) granted directory
+  once_granted : (directory granted : Option Path) (reply : Reply)
+      → directory_after job directory None granted reply ≡ cond (is_done reply) granted directory
   once_granted directory granted Done = refl
   once_granted directory granted (Data bytes) = refl
   once_granted directory granted (Entries entries) = refl
@@ -44,7 +45,9 @@ module _ (job : ProcName) where
   once_granted directory granted Gone = refl
 
   -- a `wrap` that is no answer to the job leaves it where it was
-  once_wrapped : (directory : Option Path) (q : Path) (reply : Reply) → directory_after job directory (Some q) directory reply ≡ cond (is_wrap_reply job (Wrap q) reply) (Some q) directory
+  once_wrapped : (directory : Option Path) (q : Path) (reply : Reply)
+      → directory_after job directory (Some q) directory reply
+      ≡ cond (is_wrap_reply job (Wrap q) reply) (Some q) directory
   once_wrapped directory q Done = refl
   once_wrapped directory q (Data bytes) = refl
   once_wrapped directory q (Entries entries) = refl
@@ -66,7 +69,9 @@ module _ (job : ProcName) where
   stays directory reply = once_granted directory directory reply ∙ either (is_done reply) directory
 
   -- so the directory is followed
-  directory_is : (directory : Option Path) (call : UnixCall) (reply : Reply) → directory_after job directory (wrap_path call) (once_done directory call) reply ≡ after_reply job directory call reply
+  directory_is : (directory : Option Path) (call : UnixCall) (reply : Reply)
+      → directory_after job directory (wrap_path call) (once_done directory call) reply
+      ≡ after_reply job directory call reply
   directory_is directory (Unlink q) reply = once_granted directory (left_without q directory) reply
   directory_is directory (Rmdir q) reply = once_granted directory (left_without q directory) reply
   directory_is directory (Rmtree q) reply = once_granted directory (left_without q directory) reply
@@ -75,8 +80,14 @@ module _ (job : ProcName) where
   directory_is directory _ reply = stays directory reply
 
   -- a reply that was followed and shown is kept
-  pub reply_kept : (old mid new : RepliesModel) (a : RepliedCall) (wraps granted : Option Path) → wraps ≡ wrap_path a.call.call → granted ≡ once_done old.directory a.call.call
-      → mid ≡ record { is_started = old.is_started || is_start job wraps a.reply; shown = old.shown; directory = directory_after job old.directory wraps granted a.reply }
+  pub reply_kept : (old mid new : RepliesModel) (a : RepliedCall) (wraps granted : Option Path)
+      → wraps ≡ wrap_path a.call.call → granted ≡ once_done old.directory a.call.call
+      → mid
+      ≡ record {
+        is_started = old.is_started || is_start job wraps a.reply;
+        shown = old.shown;
+        directory = directory_after job old.directory wraps granted a.reply;
+      }
       → new ≡ record mid { shown = shown_by job mid.shown a.call.line a.call.process a.reply } → new ≡ with_reply job old a
   reply_kept old mid new a wraps granted wrapped moved followed shown =
       let line = a.call.line in
@@ -87,12 +98,15 @@ module _ (job : ProcName) where
       ∙ (λ i. record { is_started = old.is_started || started i; shown = shown_by job old.shown line process a.reply; directory = directory i })
 
   -- one reply more
-  replies_more : (old : RepliesModel) (answers : List RepliedCall) (a : RepliedCall) → with_replies job old (answers ++ a ∷ []) ≡ with_reply job (with_replies job old answers) a
+  replies_more : (old : RepliesModel) (answers : List RepliedCall) (a : RepliedCall)
+      → with_replies job old (answers ++ a ∷ []) ≡ with_reply job (with_replies job old answers) a
   replies_more old [] a = refl
   replies_more old (b ∷ answers) a = replies_more (with_reply job old b) answers a
 
   -- one line more
-  pub keeps_more : (first mid last : MachineModel) (old now new : RepliesModel) (calls : List CallLine) (call : CallLine) → KeepsReplies job first mid old now calls → KeepsReply job mid last now new call → KeepsReplies job first last old new (calls ++ call ∷ [])
+  pub keeps_more : (first mid last : MachineModel) (old now new : RepliesModel) (calls : List CallLine)
+      (call : CallLine) → KeepsReplies job first mid old now calls → KeepsReply job mid last now new call
+      → KeepsReplies job first last old new (calls ++ call ∷ [])
   keeps_more first mid last old now new calls call so_far one =
       let next : RepliedCall = record { call = call; reply = one.reply } in record {
         answers = so_far.answers ++ next ∷ [];

@@ -26,7 +26,9 @@ map_twice f g (x ∷ xs) = ap (λ l. f (g x) ∷ l) (map_twice f g xs)
 lines_of_flat : (entries : List (Path × Node)) → map line_text (map flat_line entries) ≡ map (λ e. (e.0, node_text e.0 e.1)) entries
 lines_of_flat entries = sym (map_twice line_text flat_line entries)
 
-module _ (job : ProcName) (script : ScriptModel) (can : CanRun script) (start end : MachineModel) (starts : IsStart script.accounts start) (old new : RepliesModel) (kept : KeepsReplies job start end old new script.calls) where
+module _ (job : ProcName) (script : ScriptModel) (can : CanRun script) (start end : MachineModel)
+    (starts : IsStart script.accounts start) (old new : RepliesModel)
+    (kept : KeepsReplies job start end old new script.calls) where
   -- the flat state at the end is shown
   shows : Shows script.accounts end (last_state script)
   shows = shows_end calls_refine script can.declared can.calls start starts end kept.answers kept.each kept.in_turn
@@ -37,8 +39,15 @@ module _ (job : ProcName) (script : ScriptModel) (can : CanRun script) (start en
 
   -- the replies are those that the script means
   pub replies_are : old ≡ no_replies → new ≡ with_replies job no_replies (meaning script.accounts script.calls)
-  replies_are empty = kept.kept ∙ (λ i. with_replies job (empty i) (all_replies calls_refine script can.declared can.calls start starts end kept.answers kept.each kept.in_turn i))
+  replies_are empty =
+      kept.kept
+      ∙ (λ i.
+      with_replies job (empty i) (all_replies calls_refine script can.declared can.calls start starts end kept.answers kept.each
+      kept.in_turn i))
 
   -- and the lines are those of the tree
   pub tree_is : (lines : List PathText) → ShowsTree end lines → lines ≡ tree_lines (last_state script)
-  tree_is lines revealed = revealed.2 ∙ map_twice line_text (line_at (state end.kernel)) revealed.0 ∙ ap (map line_text) (same_lines script.accounts end (last_state script) shows revealed.0 revealed.1) ∙ lines_of_flat (last_state script).files.entries
+  tree_is lines revealed =
+      revealed.2 ∙ map_twice line_text (line_at (state end.kernel)) revealed.0
+      ∙ ap (map line_text) (same_lines script.accounts end (last_state script) shows revealed.0 revealed.1)
+      ∙ lines_of_flat (last_state script).files.entries

@@ -1,5 +1,6 @@
 -- What is found in what two runs show is their verdict.
-use Rattle.std.proofs.Common.{◌≡◌, ℕ, Bool, true, false, List, [], ◌∷◌, ◌++◌, map, cond, Result, Ok, Err, refl, sym, ap, ◌∙◌, append-nil, append_assoc}
+use Rattle.std.proofs.Common.{◌≡◌, ℕ, Bool, true, false, List, [], ◌∷◌, ◌++◌, map, cond, Result, Ok, Err, refl, sym, ap, ◌∙◌, append-nil}
+use Rattle.std.proofs.Common.{append_assoc}
 use Rattle.std.specs.Prelude.{◌||◌, not, filter}
 use Rattle.std.specs.List.{AllByRecursion}
 use Rattle.std.proofs.Math.Bool.{or-false, or_assoc}
@@ -66,16 +67,24 @@ module _ (job : ProcName) where
   kept r [] = sym (append-nil r.shown)
   kept r (a ∷ answers) = kept (with_reply job r a) answers ∙ by (is_outsider job a.call.process)
     where
-      by : (b : Bool) → (cond b (r.shown ++ shown a ∷ []) r.shown) ++ map shown (outsiders job answers) ≡ r.shown ++ map shown (cond b (a ∷ outsiders job answers) (outsiders job answers))
+      by : (b : Bool)
+          → (cond b (r.shown ++ shown a ∷ []) r.shown) ++ map shown (outsiders job answers)
+          ≡ r.shown ++ map shown (cond b (a ∷ outsiders job answers) (outsiders job answers))
       by true = append_assoc r.shown (shown a ∷ []) (map shown (outsiders job answers))
       by false = refl
 
   -- what is left of a script can be run
   pub rest_runs : (script : ScriptModel) → CanRun script → CanRun (without_job job script)
-  rest_runs script can = record { declared = can.declared; calls = left_pass (λ (c : CallLine). IsCall c.call) (λ (c : CallLine). not (under_process job c.process)) script.calls can.calls }
+  rest_runs script can =
+      record {
+        declared = can.declared;
+        calls = left_pass (λ (c : CallLine). IsCall c.call)
+            (λ (c : CallLine). not (under_process job c.process)) script.calls can.calls;
+      }
 
   -- a `wrap` started the job where that was kept
-  starts_as : (script : ScriptModel) (b : Bool) → (observation job script).replies.is_started ≡ b → starts job (meaning script.accounts script.calls) ≡ b
+  starts_as : (script : ScriptModel) (b : Bool) → (observation job script).replies.is_started ≡ b
+      → starts job (meaning script.accounts script.calls) ≡ b
   starts_as script b e = sym (started no_replies (meaning script.accounts script.calls)) ∙ e
 
   -- where no `wrap` started the job, that is the verdict
@@ -83,13 +92,17 @@ module _ (job : ProcName) where
   no_job script none = other (starts job (meaning script.accounts script.calls)) _ NoJob (starts_as script false none)
 
   -- and else what is found is
-  found : FindsFirstPath → (script : ScriptModel) → (observation job script).replies.is_started ≡ true → difference (observation job script) (observation job (without_job job script)) ≡ verdict script.accounts script.calls job
+  found : FindsFirstPath → (script : ScriptModel) → (observation job script).replies.is_started ≡ true
+      → difference (observation job script) (observation job (without_job job script))
+      ≡ verdict script.accounts script.calls job
   found finds script some =
       let rest = without_job job script in
       let as' = meaning script.accounts script.calls in
       let bs = meaning script.accounts rest.calls in
       let lines = (λ i. first_shown (kept no_replies as' i) (kept no_replies bs i)) ∙ sym (finds_first_line (outsiders job as') (outsiders job bs)) in
-      let trees = (λ i. first_difference (is_below_either (directory no_replies as' i) (directory no_replies bs i)) (tree_lines (last_state script)) (tree_lines (last_state rest)))
+      let trees =
+      (λ i. first_difference (is_below_either (directory no_replies as' i) (directory no_replies bs i))
+      (tree_lines (last_state script)) (tree_lines (last_state rest)))
       ∙ sym (finds script.accounts script.calls rest.calls job) in
       (λ i. line_verdict (lines i) (tree_verdict (trees i))) ∙ sym (chosen (starts job as') _ NoJob (starts_as script true some))
 
@@ -107,10 +120,12 @@ module _ (job : ProcName) where
     compared_none seen is none = compared NoJob (no_job script (sym (ap (λ (o : ObservationModel). o.replies.is_started) is) ∙ none))
 
     -- where one did
-    pub compared_found : FindsFirstPath → (first second : ObservationModel) → first ≡ observation job script → second ≡ observation job (without_job job script) → first.replies.is_started ≡ true
+    pub compared_found : FindsFirstPath → (first second : ObservationModel) → first ≡ observation job script
+        → second ≡ observation job (without_job job script) → first.replies.is_started ≡ true
         → (v : Verdict) → v ≡ difference first second → comparison job text ≡ Ok v
     compared_found finds first second is are some v found_in =
-        compared v (sym (found_in ∙ (λ i. difference (is i) (are i)) ∙ found finds script (sym (ap (λ (o : ObservationModel). o.replies.is_started) is) ∙ some)))
+        compared v (sym (found_in ∙ (λ i. difference (is i) (are i))
+        ∙ found finds script (sym (ap (λ (o : ObservationModel). o.replies.is_started) is) ∙ some)))
 
   -- what is found in a quiet script is nothing
   pub quiet_is_same : IsolatesJobs → (text : List ℕ) (v : Verdict) → IsQuietScript job text → comparison job text ≡ Ok v → v ≡ Same

@@ -1,6 +1,7 @@
 //! The jobs that a script starts, each compared.
 ghost use Rattle.std.specs.Prelude.{◌≡◌, map, IfOk, IsErrOf, IsTrue, Ok, OnOk};
-ghost use Rattle.histar_comparison.specs.Jobs.{GivesVerdicts, KeepsJob, KeepsJobs, is_wrap, job_started, job_text, job_verdict, jobs_started, verdicts_of};
+ghost use Rattle.histar_comparison.specs.Jobs.{GivesVerdicts, KeepsJob, KeepsJobs, is_wrap, job_started, job_text, job_verdict};
+ghost use Rattle.histar_comparison.specs.Jobs.{jobs_started, verdicts_of};
 ghost use Rattle.histar_comparison.specs.Observation.{CanRun};
 ghost use Rattle.histar_flat.specs.Meaning.{meaning};
 ghost use Rattle.histar_script.specs.Lines.{is_too_long as too_long};

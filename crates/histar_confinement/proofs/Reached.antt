@@ -41,15 +41,23 @@ module _ (s : State) (v : ℕ) where
   path_reached (x ∷ path) o e =
       let linked = (if_some (set.contains (links_in (visible s v path)) x) (untainted v (s.objects x)) o e).0 in
       let holder = linker (visible s v path) x linked in
-      there (end_of path) x (path_reached path holder.0 holder.1) (ap (λ (f : Found). set.contains (links_in f) x) (visible_is s v path holder.0 holder.1 ∙ sym holder.1) ∙ linked)
+      there (end_of path) x (path_reached path holder.0 holder.1)
+      (ap (λ (f : Found). set.contains (links_in f) x) (visible_is s v path holder.0 holder.1 ∙ sym holder.1)
+      ∙ linked)
 
   -- and what links lead to is at the end of one
-  reached_path : (q : ℕ) → Reached (untainted_objects s v) root_number q → (o : Object Levels) → untainted_objects s v q ≡ Some o → (path : Address ℕ) × (end_of path ≡ q) × (visible s v path ≡ Some o)
+  reached_path : (q : ℕ) → Reached (untainted_objects s v) root_number q → (o : Object Levels)
+      → untainted_objects s v q ≡ Some o → (path : Address ℕ) × (end_of path ≡ q) × (visible s v path ≡ Some o)
   reached_path q here o e = ([], refl, e)
   reached_path q (there p c r k) o e =
       let holder = linker (untainted_objects s v p) q k in
-      let up = reached_path p r holder.0 holder.1 in
-      (q ∷ up.0, refl, ap (λ (f : Found). if set.contains (links_in f) q then untainted v (s.objects q) else None) (up.2 ∙ sym holder.1) ∙ ap (λ b. if b then untainted v (s.objects q) else None) k ∙ e)
+      let up = reached_path p r holder.0 holder.1 in (
+        q
+            ∷ up.0,
+        refl,
+        ap (λ (f : Found). if set.contains (links_in f) q then untainted v (s.objects q) else None)
+            (up.2 ∙ sym holder.1) ∙ ap (λ b. if b then untainted v (s.objects q) else None) k ∙ e,
+      )
 
 -- by paths and by numbers the same is visible
 pub visible_reached : VisibleIsReached

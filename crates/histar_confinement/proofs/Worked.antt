@@ -10,14 +10,16 @@ use Rattle.std.proofs.lemmas.List.Elements.{All-cons, All-head, All-nil}
 use Rattle.histar_label.specs.declared.levels.Level.{Level}
 use Rattle.histar_label.specs.declared.levels.Level.TheVariants.{Star, L0, L1, L2, L3}
 use Rattle.histar_label.specs.Level.{rank, raised}
-use Rattle.histar_label.specs.Levels.{Levels, level_of, constant, with_level, level_of-constant, level_of-with_level, is_below, is_below_raised, has_star, is_made}
+use Rattle.histar_label.specs.Levels.{Levels, level_of, constant, with_level, level_of-constant, level_of-with_level, is_below, is_below_raised}
+use Rattle.histar_label.specs.Levels.{has_star, is_made}
 use Rattle.histar_label.proofs.Orders.{is_below-law, is_below_raised-law}
 use Rattle.histar_label.proofs.Made.{is_made-constant, is_made-with_level}
 use Rattle.histar_label.proofs.Stars.{has_star-none}
 use Rattle.histar_object.specs.declared.objects.Kind.{Kind}
 use Rattle.histar_object.specs.declared.objects.Kind.TheVariants.{Segment, Container, Thread, Gate}
 use Rattle.histar_object.specs.declared.objects.Object.{Object}
-use Rattle.histar_object.specs.Objects.{Objects, Numbers, no_objects, put, changed_at, with_new, kind_linking, linking, thread_of, links_in, kind_is_gate, is_gate}
+use Rattle.histar_object.specs.Objects.{Objects, Numbers, no_objects, put, changed_at, with_new, kind_linking, linking, thread_of, links_in}
+use Rattle.histar_object.specs.Objects.{kind_is_gate, is_gate}
 use Rattle.histar_rules.specs.Rights.{kind_with_three_at, with_star_at, with_category}
 use Rattle.histar_object.specs.State.{State, Found, with_object, root_object, boot_thread, empty_state}
 use Rattle.histar_container.specs.Tree.{Address}
@@ -53,15 +55,20 @@ owner_clearance = with_level (with_level (constant L2) 1 L3) 2 L3
 one_level : (d : Level) (c : ℕ) (l : Level) (q : ℕ) → level_of (with_level (constant d) c l) q ≡ (if q == c then l else d)
 one_level d c l q = level_of-with_level (constant d) c l q ∙ ap (λ (m : Level). if q == c then l else m) (level_of-constant d q)
 
-two_levels : (d : Level) (b : ℕ) (m : Level) (c : ℕ) (l : Level) (q : ℕ) → level_of (with_level (with_level (constant d) b m) c l) q ≡ (if q == c then l else (if q == b then m else d))
+two_levels : (d : Level) (b : ℕ) (m : Level) (c : ℕ) (l : Level) (q : ℕ)
+    → level_of (with_level (with_level (constant d) b m) c l) q ≡ (if q == c then l else (if q == b then m else d))
 two_levels d b m c l q = level_of-with_level (with_level (constant d) b m) c l q ∙ ap (λ (k : Level). if q == c then l else k) (one_level d b m q)
 
 -- a label is below another where its levels are
 below : (L M : Levels) (f g : ℕ → Level) → Levelled L f → Levelled M g → ((q : ℕ) → rank (f q) ≤ rank (g q)) → is_below L M ≡ true
-below L M f g l m le = (is_below-law L M).1 (λ q. subst (λ (x : Level). rank x ≤ rank (level_of M q)) (sym (l q)) (subst (λ (x : Level). rank (f q) ≤ rank x) (sym (m q)) (le q)))
+below L M f g l m le =
+    (is_below-law L M).1 (λ q. subst (λ (x : Level). rank x ≤ rank (level_of M q)) (sym (l q))
+    (subst (λ (x : Level). rank (f q) ≤ rank x) (sym (m q)) (le q)))
 
 below_raised : (L M : Levels) (f g : ℕ → Level) → Levelled L f → Levelled M g → ((q : ℕ) → rank (f q) ≤ raised (g q)) → is_below_raised L M ≡ true
-below_raised L M f g l m le = (is_below_raised-law L M).1 (λ q. subst (λ (x : Level). rank x ≤ raised (level_of M q)) (sym (l q)) (subst (λ (x : Level). rank (f q) ≤ raised x) (sym (m q)) (le q)))
+below_raised L M f g l m le =
+    (is_below_raised-law L M).1 (λ q. subst (λ (x : Level). rank x ≤ raised (level_of M q)) (sym (l q))
+    (subst (λ (x : Level). rank (f q) ≤ raised x) (sym (m q)) (le q)))
 
 -- the levels of each label
 abbrev secret_at : ℕ → Level
@@ -137,7 +144,9 @@ secret_owner = below secret owner_clearance secret_at owner_clearance_at secret_
     by false false = omega arith
 
 clearance_owner : is_below secret_clearance owner_clearance ≡ true
-clearance_owner = below secret_clearance owner_clearance secret_clearance_at owner_clearance_at secret_clearance_is owner_clearance_is (λ q. by (q == 1) (q == 2))
+clearance_owner =
+    below secret_clearance owner_clearance secret_clearance_at owner_clearance_at secret_clearance_is owner_clearance_is
+    (λ q. by (q == 1) (q == 2))
   where
     by : (a b : Bool) → rank (if b then L3 else L2) ≤ rank (if b then L3 else (if a then L3 else L2))
     by true true = omega arith
@@ -261,15 +270,21 @@ if_no_gate : (b : Bool) (f g : Found) → is_gate f ≡ false → is_gate g ≡ 
 if_no_gate true f g x y = x
 if_no_gate false f g x y = y
 
-map_no_gate : (change : Object Levels → Object Levels) (f : Found) → ((o : Object Levels) → kind_is_gate o.kind ≡ false → kind_is_gate (change o).kind ≡ false) → is_gate f ≡ false → is_gate (option_map change f) ≡ false
+map_no_gate : (change : Object Levels → Object Levels) (f : Found)
+    → ((o : Object Levels) → kind_is_gate o.kind ≡ false → kind_is_gate (change o).kind ≡ false) → is_gate f ≡ false
+    → is_gate (option_map change f) ≡ false
 map_no_gate change None same e = refl
 map_no_gate change (Some o) same e = same o e
 
 put_no_gates : (objects : Objects Levels) (n : ℕ) (o : Object Levels) → kind_is_gate o.kind ≡ false → NoGates objects → NoGates (put objects n o)
 put_no_gates objects n o plain none q = if_no_gate (q == n) (Some o) (objects q) plain (none q)
 
-changed_no_gates : (objects : Objects Levels) (n : ℕ) (change : Object Levels → Object Levels) → ((o : Object Levels) → kind_is_gate o.kind ≡ false → kind_is_gate (change o).kind ≡ false) → NoGates objects → NoGates (changed_at objects n change)
-changed_no_gates objects n change same none q = if_no_gate (q == n) (option_map change (objects q)) (objects q) (map_no_gate change (objects q) same (none q)) (none q)
+changed_no_gates : (objects : Objects Levels) (n : ℕ) (change : Object Levels → Object Levels)
+    → ((o : Object Levels) → kind_is_gate o.kind ≡ false → kind_is_gate (change o).kind ≡ false) → NoGates objects
+    → NoGates (changed_at objects n change)
+changed_no_gates objects n change same none q =
+    if_no_gate (q == n) (option_map change (objects q)) (objects q) (map_no_gate change (objects q) same (none q))
+    (none q)
 
 linking_no_gate : (n : ℕ) (k : Kind Levels) → kind_is_gate k ≡ false → kind_is_gate (kind_linking n k) ≡ false
 linking_no_gate n (Segment bytes) e = refl
@@ -283,8 +298,11 @@ owning_no_gate c (Container links) e = refl
 owning_no_gate c (Thread clearance) e = refl
 owning_no_gate c (Gate clearance entry) e = e
 
-new_no_gates : (objects : Objects Levels) (d n : ℕ) (o : Object Levels) → kind_is_gate o.kind ≡ false → NoGates objects → NoGates (with_new objects d n o)
-new_no_gates objects d n o plain none = put_no_gates (changed_at objects d (linking n)) n o plain (changed_no_gates objects d (linking n) (λ p. linking_no_gate n p.kind) none)
+new_no_gates : (objects : Objects Levels) (d n : ℕ) (o : Object Levels) → kind_is_gate o.kind ≡ false → NoGates objects
+    → NoGates (with_new objects d n o)
+new_no_gates objects d n o plain none =
+    put_no_gates (changed_at objects d (linking n)) n o plain
+    (changed_no_gates objects d (linking n) (λ p. linking_no_gate n p.kind) none)
 
 confined_no_gates : NoGates confined_state.objects
 unfolding first_state second_state confined_state
@@ -311,13 +329,16 @@ unfolding first_state second_state confined_state
 segment_new o e = let no : None ≡ Some o = e in cc
 
 -- and is there then; and what is visible stays as it was
-pub made_unseen : (new : State) → Changes confined_state 4 (MakeSegment 3 secret []) new → (new.objects 5 ≢ confined_state.objects 5) × ((path : Address ℕ) → visible new 2 path ≡ visible confined_state 2 path)
+pub made_unseen : (new : State) → Changes confined_state 4 (MakeSegment 3 secret []) new
+    → (new.objects 5 ≢ confined_state.objects 5)
+    × ((path : Address ℕ) → visible new 2 path ≡ visible confined_state 2 path)
 unfolding first_state second_state confined_state
 made_unseen new is = (
   λ same. segment_new (record { label = secret; kind = Segment [] }) (sym same ∙ ap (λ (s : State). s.objects 5) is),
   visible_stays confined_state new 2 confined_sound
       (granted_moves 2 confined_state 4 confined_sound session_confined.made session_confined.gates
-      (All-head (λ (asked : ℕ × RawCall). IsTaintedCaller confined_state 2 asked.0) (4, MakeSegment 3 secret []) [] session_confined.callers) (MakeSegment 3 secret []) new confined_granted is),
+      (All-head (λ (asked : ℕ × RawCall). IsTaintedCaller confined_state 2 asked.0) (4, MakeSegment 3 secret []) []
+      session_confined.callers) (MakeSegment 3 secret []) new confined_granted is),
 )
 
 -- what the owner makes in the root container is granted, and is seen
@@ -329,12 +350,19 @@ unfolding first_state second_state confined_state owner owner_clearance
 owner_granted = rw (root_seen, root_open, owner_plain, plain_owner, is_made-constant 3 L1, plain_no_star) refl
 
 -- the root container is visible, whatever it links
-root_untainted : (links : Numbers) → untainted 2 (Some (record { label = root_object.label; kind = Container links })) ≡ Some (record { label = root_object.label; kind = Container links })
-root_untainted links = ap (λ (l : Level). if nat_lt (rank l) 4 then Some (record { label = root_object.label; kind = Container links }) else None) (root_is 2)
+root_untainted : (links : Numbers)
+    → untainted 2 (Some (record { label = root_object.label; kind = Container links }))
+    ≡ Some (record { label = root_object.label; kind = Container links })
+root_untainted links =
+    ap (λ (l : Level).
+    if nat_lt (rank l) 4 then Some (record { label = root_object.label; kind = Container links }) else None)
+    (root_is 2)
 
 -- what was linked last is linked
 newly_linked : (links : Numbers) (n : ℕ) → set.contains (set.insert links n) n ≡ true
-newly_linked links n = set.contains-insert nat_cmp_total links n n ∙ ap (λ (b : Bool). b || set.contains links n) (unsigned_tied n n ∙ eq-eqb n n refl)
+newly_linked links n =
+    set.contains-insert nat_cmp_total links n n
+    ∙ ap (λ (b : Bool). b || set.contains links n) (unsigned_tied n n ∙ eq-eqb n n refl)
 
 pub owner_seen : visible (with_object confined_state 1 plain_segment) 2 (5 ∷ []) ≡ Some plain_segment
 unfolding first_state second_state confined_state plain_segment

@@ -1,5 +1,6 @@
 -- How the numbers that are reached from an object are gathered: each number is read once, and what it links is put behind the others.
-use Rattle.std.proofs.Common.{◌≡◌, ◌≢◌, ℕ, ◌<◌, ◌≤◌, ◌||◌, nat_eq, Bool, true, false, List, [], ◌∷◌, ◌++◌, Some, ◌⊎◌, inl, inr, arith, suc, refl, sym, ap, ◌∙◌, subst, cond, if◌then◌else◌}
+use Rattle.std.proofs.Common.{◌≡◌, ◌≢◌, ℕ, ◌<◌, ◌≤◌, ◌||◌, nat_eq, Bool, true, false, List, [], ◌∷◌, ◌++◌, Some, ◌⊎◌, inl, inr, arith, suc, refl, sym}
+use Rattle.std.proofs.Common.{ap, ◌∙◌, subst, cond, if◌then◌else◌}
 use Rattle.std.specs.List.{AllByRecursion, IsDistinct}
 use Rattle.std.specs.Set.{is_member}
 use Rattle.std.specs.FinSet as set
@@ -52,7 +53,8 @@ at_middle P [] x ys a = a.0
 at_middle P (y ∷ xs) x ys a = at_middle P xs x ys a.1
 
 -- lists of distinct numbers that share none are distinct together
-distinct_append : (xs ys : List ℕ) → IsDistinct nat_eq xs → IsDistinct nat_eq ys → ((q : ℕ) → is_member nat_eq xs q ≡ true → is_member nat_eq ys q ≡ false) → IsDistinct nat_eq (xs ++ ys)
+distinct_append : (xs ys : List ℕ) → IsDistinct nat_eq xs → IsDistinct nat_eq ys
+    → ((q : ℕ) → is_member nat_eq xs q ≡ true → is_member nat_eq ys q ≡ false) → IsDistinct nat_eq (xs ++ ys)
 unfolding IsDistinct
 distinct_append [] ys a b apart = b
 distinct_append (x ∷ xs) ys a b apart = (
@@ -86,7 +88,8 @@ module _ {L : Type 0} where
     pub first : is_member nat_eq list o ≡ true
     pub reached : (q : ℕ) → is_member nat_eq list q ≡ true → Reached objects o q
     pub closed : (p c : ℕ) → is_member nat_eq read p ≡ true → set.contains (links_in (objects p)) c ≡ true → is_member nat_eq list c ≡ true
-    pub linked : (q : ℕ) → is_member nat_eq list q ≡ true → q ≢ o → (p : ℕ) × (is_member nat_eq read p ≡ true) × (set.contains (links_in (objects p)) q ≡ true)
+    pub linked : (q : ℕ) → is_member nat_eq list q ≡ true → q ≢ o
+        → (p : ℕ) × (is_member nat_eq read p ≡ true) × (set.contains (links_in (objects p)) q ≡ true)
     pub once : IsDistinct nat_eq list
 
   -- at first the list has the object alone, and nothing has been read
@@ -101,12 +104,14 @@ module _ {L : Type 0} where
   }
 
   -- in the end all that is reached is in the list
-  pub gathers_all : (objects : Objects L) (o : ℕ) (list : List ℕ) → Gathers objects o list list → (q : ℕ) → Reached objects o q → is_member nat_eq list q ≡ true
+  pub gathers_all : (objects : Objects L) (o : ℕ) (list : List ℕ) → Gathers objects o list list → (q : ℕ)
+      → Reached objects o q → is_member nat_eq list q ≡ true
   gathers_all objects o list g q here = g.first
   gathers_all objects o list g q (there p c r k) = g.closed p q (gathers_all objects o list g p r) k
 
   -- the next number is read: what it links is put behind the others
-  module _ (objects : Objects L) (root next : ℕ) (tree : IsTree objects root next) (o : ℕ) (read : List ℕ) (x : ℕ) (ahead list : List ℕ) (split : list ≡ read ++ x ∷ ahead) (g : Gathers objects o read list)
+  module _ (objects : Objects L) (root next : ℕ) (tree : IsTree objects root next) (o : ℕ) (read : List ℕ) (x : ℕ)
+      (ahead list : List ℕ) (split : list ≡ read ++ x ∷ ahead) (g : Gathers objects o read list)
       (added : List ℕ) (lists : IsListOf added (links_in (objects x))) where
     x_listed : is_member nat_eq list x ≡ true
     x_listed = ap (λ l. is_member nat_eq l x) split ∙ member_second read (x ∷ ahead) x (ap (λ t. t || is_member nat_eq ahead x) (eq-eqb x x refl))
@@ -160,22 +165,29 @@ module _ {L : Type 0} where
   -- to read one more leaves no more unread
   pub unread_less : (es : List (ℕ × Object L)) (read : List ℕ) (x : ℕ) → unread es (read ++ x ∷ []) ≤ unread es read
   unread_less [] read x = omega arith
-  unread_less (e ∷ es) read x = fewer (is_member nat_eq read e.0) (is_member nat_eq (read ++ x ∷ []) e.0) _ _ (member_first read (x ∷ []) e.0) (unread_less es read x)
+  unread_less (e ∷ es) read x =
+      fewer (is_member nat_eq read e.0) (is_member nat_eq (read ++ x ∷ []) e.0) _ _ (member_first read (x ∷ []) e.0)
+      (unread_less es read x)
 
   -- and where the one is there and was not read, fewer
-  pub unread_fewer : (es : List (ℕ × Object L)) (read : List ℕ) (x : ℕ) → is_present (object_at es x) ≡ true → is_member nat_eq read x ≡ false → unread es (read ++ x ∷ []) < unread es read
+  pub unread_fewer : (es : List (ℕ × Object L)) (read : List ℕ) (x : ℕ) → is_present (object_at es x) ≡ true
+      → is_member nat_eq read x ≡ false → unread es (read ++ x ∷ []) < unread es read
   unread_fewer [] read x t k = absurd (false≢true t)
   unread_fewer (e ∷ es) read x t k = by (is_at (nat_cmp x) e.0) refl t (λ u. unread_fewer es read x u k)
     where
       at_x : x ≡ e.0 → unread (e ∷ es) (read ++ x ∷ []) < unread (e ∷ es) read
       at_x same =
           let was : is_member nat_eq read e.0 ≡ false = ap (is_member nat_eq read) (sym same) ∙ k in
-          let is : is_member nat_eq (read ++ x ∷ []) e.0 ≡ true = ap (is_member nat_eq (read ++ x ∷ [])) (sym same) ∙ member_second read (x ∷ []) x (member_itself x) in
+          let is : is_member nat_eq (read ++ x ∷ []) e.0 ≡ true =
+          ap (is_member nat_eq (read ++ x ∷ [])) (sym same) ∙ member_second read (x ∷ []) x (member_itself x) in
           let less : unread es (read ++ x ∷ []) ≤ unread es read = unread_less es read x in
           let before : unread (e ∷ es) read ≡ suc (unread es read) = ap (λ b. if b then unread es read else suc (unread es read)) was in
-          let after : unread (e ∷ es) (read ++ x ∷ []) ≡ unread es (read ++ x ∷ []) = ap (λ b. if b then unread es (read ++ x ∷ []) else suc (unread es (read ++ x ∷ []))) is in
+          let after : unread (e ∷ es) (read ++ x ∷ []) ≡ unread es (read ++ x ∷ []) =
+          ap (λ b. if b then unread es (read ++ x ∷ []) else suc (unread es (read ++ x ∷ []))) is in
           omega arith
 
-      by : (b : Bool) → is_at (nat_cmp x) e.0 ≡ b → is_present (cond b (Some e.1) (object_at es x)) ≡ true → (is_present (object_at es x) ≡ true → unread es (read ++ x ∷ []) < unread es read) → unread (e ∷ es) (read ++ x ∷ []) < unread (e ∷ es) read
+      by : (b : Bool) → is_at (nat_cmp x) e.0 ≡ b → is_present (cond b (Some e.1) (object_at es x)) ≡ true
+          → (is_present (object_at es x) ≡ true → unread es (read ++ x ∷ []) < unread es read)
+          → unread (e ∷ es) (read ++ x ∷ []) < unread (e ∷ es) read
       by true i u less = at_x (eqb-true x e.0 (sym (unsigned_tied x e.0) ∙ i))
       by false i u less = strictly (is_member nat_eq read e.0) (is_member nat_eq (read ++ x ∷ []) e.0) _ _ (member_first read (x ∷ []) e.0) (less u)

@@ -1,5 +1,6 @@
 -- What the table shows after a change of it, or after its store has taken more labels.
-use Rattle.std.proofs.Common.{◌≡◌, ℕ, ◌==◌, ◌+◌, Result, Ok, Err, OnOk, OnErr, ◌<◌, ◌≤◌, arith, List, Option, Some, None, IsSome, Bool, true, false, inl, inr, refl, sym, ap, ◌∙◌, subst, if◌then◌else◌}
+use Rattle.std.proofs.Common.{◌≡◌, ℕ, ◌==◌, ◌+◌, Result, Ok, Err, OnOk, OnErr, ◌<◌, ◌≤◌, arith, List, Option, Some, None, IsSome, Bool, true, false}
+use Rattle.std.proofs.Common.{inl, inr, refl, sym, ap, ◌∙◌, subst, if◌then◌else◌}
 use Rattle.std.specs.Borrow.{Bor}
 use Rattle.std.specs.Prelude.{option_map, is_some, take, ◌++◌}
 use Rattle.std.specs.Option.{option_copied}
@@ -12,7 +13,8 @@ use Rattle.histar_label.proofs.Stands.{label_at-stands, label_at-Keeps}
 use Rattle.histar_object.specs.declared.objects.Kind.{Kind}
 use Rattle.histar_object.specs.declared.objects.Kind.TheVariants.{Segment, Container, Thread, Gate}
 use Rattle.histar_object.specs.declared.objects.Object.{Object}
-use Rattle.histar_object.specs.Objects.{TableModel, Objects, objects_of, put, changed_at, kind_linking, linking, with_new, kind_holding, holding, kind_bytes, or_no_bytes, bytes_in, no_objects, kind_is_segment, kind_is_container, is_container, is_thread}
+use Rattle.histar_object.specs.Objects.{TableModel, Objects, objects_of, put, changed_at, kind_linking, linking, with_new, kind_holding, holding}
+use Rattle.histar_object.specs.Objects.{kind_bytes, or_no_bytes, bytes_in, no_objects, kind_is_segment, kind_is_container, is_container, is_thread}
 use Rattle.histar_object.proofs.Changes.{put_back, put_changed}
 use Rattle.histar_container.specs.Shown.{kind_by, object_by, shown, KindStands, Stands, AllStand, IsUnusedFrom, IsKept}
 use Rattle.histar_container.proofs.Shows.{shows}
@@ -50,13 +52,18 @@ module _ {Id : Type 0} where
     object_same : (o : Object Id) → Stands old o → object_by (label_at new) o ≡ object_by (label_at old) o
     object_same o s i = record { label = label_at-Keeps old new keeps o.label s.label i; kind = kind_same o.kind s.kind i }
 
-    option_same : (o : Option (Object Id)) → ((x : Object Id) → o ≡ Some x → Stands old x) → option_map (object_by (label_at new)) o ≡ option_map (object_by (label_at old)) o
+    option_same : (o : Option (Object Id)) → ((x : Object Id) → o ≡ Some x → Stands old x)
+        → option_map (object_by (label_at new)) o ≡ option_map (object_by (label_at old)) o
     option_same None s = refl
     option_same (Some x) s = ap Some (object_same x (s x refl))
 
     -- all Ids of a table still stand for labels
     pub all_on : (objects : Objects Id) → AllStand old objects → AllStand new objects
-    all_on objects all = record { each = λ q o e. record { label = stands_on o.label (all.each q o e).label; kind = kind_on o.kind (all.each q o e).kind } }
+    all_on objects all =
+        record {
+          each = λ q o e. record
+              { label = stands_on o.label (all.each q o e).label; kind = kind_on o.kind (all.each q o e).kind };
+        }
 
     -- and the objects are what they were
     pub value_on : (objects : Objects Id) → AllStand old objects → by_value new objects ≡ by_value old objects
@@ -76,7 +83,9 @@ module _ {Id : Type 0} where
   trans a b c h k id L e = k id L (h id L e)
 
   module _ (labels : Id → Option Levels) (objects : Objects Id) where
-    option_if : (b : Bool) (x y : Option (Object Id)) → option_map (object_by (label_at labels)) (if b then x else y) ≡ (if b then option_map (object_by (label_at labels)) x else option_map (object_by (label_at labels)) y)
+    option_if : (b : Bool) (x y : Option (Object Id))
+        → option_map (object_by (label_at labels)) (if b then x else y)
+        ≡ (if b then option_map (object_by (label_at labels)) x else option_map (object_by (label_at labels)) y)
     option_if true x y = refl
     option_if false x y = refl
 
@@ -84,33 +93,52 @@ module _ {Id : Type 0} where
     pub value_put : (n : ℕ) (o : Object Id) → by_value labels (put objects n o) ≡ put (by_value labels objects) n (object_by (label_at labels) o)
     value_put n o i q = option_if (q == n) (Some o) (objects q) i
 
-    option_twice : (f : Object Id → Object Id) (h : Object Levels → Object Levels) → ((o : Object Id) → object_by (label_at labels) (f o) ≡ h (object_by (label_at labels) o))
-        → (o : Option (Object Id)) → option_map (object_by (label_at labels)) (option_map f o) ≡ option_map h (option_map (object_by (label_at labels)) o)
+    option_twice : (f : Object Id → Object Id) (h : Object Levels → Object Levels)
+        → ((o : Object Id) → object_by (label_at labels) (f o) ≡ h (object_by (label_at labels) o))
+        → (o : Option (Object Id))
+        → option_map (object_by (label_at labels)) (option_map f o)
+        ≡ option_map h (option_map (object_by (label_at labels)) o)
     option_twice f h same None = refl
     option_twice f h same (Some o) = ap Some (same o)
 
     -- an object that is changed is shown changed
-    pub value_changed : (n : ℕ) (f : Object Id → Object Id) (h : Object Levels → Object Levels) → ((o : Object Id) → object_by (label_at labels) (f o) ≡ h (object_by (label_at labels) o))
+    pub value_changed : (n : ℕ) (f : Object Id → Object Id) (h : Object Levels → Object Levels)
+        → ((o : Object Id) → object_by (label_at labels) (f o) ≡ h (object_by (label_at labels) o))
         → by_value labels (changed_at objects n f) ≡ changed_at (by_value labels objects) n h
-    value_changed n f h same i q = (option_if (q == n) (option_map f (objects q)) (objects q) ∙ ap (λ o. if q == n then o else option_map (object_by (label_at labels)) (objects q)) (option_twice f h same (objects q))) i
+    value_changed n f h same i q =
+        (option_if (q == n) (option_map f (objects q)) (objects q)
+        ∙ ap (λ o. if q == n then o else option_map (object_by (label_at labels)) (objects q))
+        (option_twice f h same (objects q))) i
 
-    stand_if : (b : Bool) (x y : Option (Object Id)) (o : Object Id) → (x ≡ Some o → Stands labels o) → (y ≡ Some o → Stands labels o) → (if b then x else y) ≡ Some o → Stands labels o
+    stand_if : (b : Bool) (x y : Option (Object Id)) (o : Object Id) → (x ≡ Some o → Stands labels o)
+        → (y ≡ Some o → Stands labels o) → (if b then x else y) ≡ Some o → Stands labels o
     stand_if true x y o first second e = first e
     stand_if false x y o first second e = second e
 
     -- the Ids stand for labels after an object was put whose Ids do
     pub stand_put : (n : ℕ) (o : Object Id) → AllStand labels objects → Stands labels o → AllStand labels (put objects n o)
-    stand_put n o all s = record { each = λ q x e. stand_if (q == n) (Some o) (objects q) x (λ same. subst (Stands labels) (some_same o x same) s) (all.each q x) e } where
-      some_same : (a b : Object Id) → Some a ≡ Some b → a ≡ b
-      some_same a b e = cc
+    stand_put n o all s =
+        record {
+          each = λ q x e. stand_if (q == n) (Some o) (objects q) x
+              (λ same. subst (Stands labels) (some_same o x same) s) (all.each q x) e;
+        } where
+          some_same : (a b : Object Id) → Some a ≡ Some b → a ≡ b
+          some_same a b e = cc
 
-    option_stands : (f : Object Id → Object Id) → ((o : Object Id) → Stands labels o → Stands labels (f o)) → (a : Option (Object Id)) (x : Object Id) → ((o : Object Id) → a ≡ Some o → Stands labels o) → option_map f a ≡ Some x → Stands labels x
+    option_stands : (f : Object Id → Object Id) → ((o : Object Id) → Stands labels o → Stands labels (f o))
+        → (a : Option (Object Id)) (x : Object Id) → ((o : Object Id) → a ≡ Some o → Stands labels o)
+        → option_map f a ≡ Some x → Stands labels x
     option_stands f on None x all e = cc
     option_stands f on (Some o) x all e = let same : f o ≡ x = cc in subst (Stands labels) same (on o (all o refl))
 
     -- and after an object was changed whose Ids still do
-    pub stand_changed : (n : ℕ) (f : Object Id → Object Id) → ((o : Object Id) → Stands labels o → Stands labels (f o)) → AllStand labels objects → AllStand labels (changed_at objects n f)
-    stand_changed n f on all = record { each = λ q x e. stand_if (q == n) (option_map f (objects q)) (objects q) x (option_stands f on (objects q) x (all.each q)) (all.each q x) e }
+    pub stand_changed : (n : ℕ) (f : Object Id → Object Id) → ((o : Object Id) → Stands labels o → Stands labels (f o))
+        → AllStand labels objects → AllStand labels (changed_at objects n f)
+    stand_changed n f on all =
+        record {
+          each = λ q x e. stand_if (q == n) (option_map f (objects q)) (objects q) x
+              (option_stands f on (objects q) x (all.each q)) (all.each q x) e;
+        }
 
 module _ {Id : Type 0} (labels : Id → Option Levels) where
   kind_linked : (n : ℕ) (k : Kind Id) → kind_by (label_at labels) (kind_linking n k) ≡ kind_linking n (kind_by (label_at labels) k)
@@ -138,18 +166,26 @@ module _ {Id : Type 0} (labels : Id → Option Levels) where
   held_stands new (Gate clearance entry) s = s
 
   -- a container that links one more shows so
-  pub value_linked : (objects : Objects Id) (d n : ℕ) → by_value labels (changed_at objects d (linking n)) ≡ changed_at (by_value labels objects) d (linking n)
-  value_linked objects d n = value_changed labels objects d (linking n) (linking n) (λ o i. record { label = label_at labels o.label; kind = kind_linked n o.kind i })
+  pub value_linked : (objects : Objects Id) (d n : ℕ)
+      → by_value labels (changed_at objects d (linking n)) ≡ changed_at (by_value labels objects) d (linking n)
+  value_linked objects d n =
+      value_changed labels objects d (linking n) (linking n)
+      (λ o i. record { label = label_at labels o.label; kind = kind_linked n o.kind i })
 
   -- a segment with other bytes shows them
-  pub value_held : (objects : Objects Id) (q : ℕ) (bytes : List ℕ) → by_value labels (changed_at objects q (holding bytes)) ≡ changed_at (by_value labels objects) q (holding bytes)
-  value_held objects q bytes = value_changed labels objects q (holding bytes) (holding bytes) (λ o i. record { label = label_at labels o.label; kind = kind_held bytes o.kind i })
+  pub value_held : (objects : Objects Id) (q : ℕ) (bytes : List ℕ)
+      → by_value labels (changed_at objects q (holding bytes)) ≡ changed_at (by_value labels objects) q (holding bytes)
+  value_held objects q bytes =
+      value_changed labels objects q (holding bytes) (holding bytes)
+      (λ o i. record { label = label_at labels o.label; kind = kind_held bytes o.kind i })
 
   pub stand_linked : (objects : Objects Id) (d n : ℕ) → AllStand labels objects → AllStand labels (changed_at objects d (linking n))
   stand_linked objects d n = stand_changed labels objects d (linking n) (λ o s. record { label = s.label; kind = linked_stands n o.kind s.kind })
 
   pub stand_held : (objects : Objects Id) (q : ℕ) (bytes : List ℕ) → AllStand labels objects → AllStand labels (changed_at objects q (holding bytes))
-  stand_held objects q bytes = stand_changed labels objects q (holding bytes) (λ o s. record { label = s.label; kind = held_stands bytes o.kind s.kind })
+  stand_held objects q bytes =
+      stand_changed labels objects q (holding bytes)
+      (λ o s. record { label = s.label; kind = held_stands bytes o.kind s.kind })
 
 -- numbers that are not used stay so where an object is changed
 module _ {L : Type 0} (objects : Objects L) (next : ℕ) (unused : IsUnusedFrom objects next) where
@@ -158,7 +194,11 @@ module _ {L : Type 0} (objects : Objects L) (next : ℕ) (unused : IsUnusedFrom 
   none_if false x y e f = f
 
   pub unused_changed : (n : ℕ) (f : Object L → Object L) → IsUnusedFrom (changed_at objects n f) next
-  unused_changed n f = record { none = λ q le. none_if (q == n) (option_map f (objects q)) (objects q) (ap (option_map f) (unused.none q le)) (unused.none q le) }
+  unused_changed n f =
+      record {
+        none = λ q le. none_if (q == n) (option_map f (objects q)) (objects q)
+            (ap (option_map f) (unused.none q le)) (unused.none q le);
+      }
 
   -- and where one is put below them
   pub unused_put : (n above : ℕ) (o : Object L) → n < above → next ≤ above → IsUnusedFrom (put objects n o) above
@@ -187,7 +227,9 @@ module _ {Id : Type 0} where
   -- where a new object was linked or nothing was changed, the Ids still stand for labels
   pub linked_stand : {A E : Type 0} (labels : Id → Option Levels) (objects after : Objects Id) (d n : ℕ) (o : Object Id) (r : Result A E)
       → OnOk r (after ≡ with_new objects d n o) → OnErr r (after ≡ objects) → AllStand labels objects → Stands labels o → AllStand labels after
-  linked_stand labels objects after d n o (Ok x) ok err all s = subst (AllStand labels) (sym ok) (stand_put labels (changed_at objects d (linking n)) n o (stand_linked labels objects d n all) s)
+  linked_stand labels objects after d n o (Ok x) ok err all s =
+      subst (AllStand labels) (sym ok)
+      (stand_put labels (changed_at objects d (linking n)) n o (stand_linked labels objects d n all) s)
   linked_stand labels objects after d n o (Err e) ok err all s = subst (AllStand labels) (sym err) all
 
   -- where an object was put or nothing was changed, too
@@ -197,7 +239,8 @@ module _ {Id : Type 0} where
   placed_stand labels objects after n o (Err e) ok err all s = subst (AllStand labels) (sym err) all
 
   -- tables of the same objects show the same
-  pub shown_same : (labels : Id → Option Levels) (es fs : TableModel Id) → objects_of fs ≡ objects_of es → objects_of (shown labels fs) ≡ objects_of (shown labels es)
+  pub shown_same : (labels : Id → Option Levels) (es fs : TableModel Id) → objects_of fs ≡ objects_of es
+      → objects_of (shown labels fs) ≡ objects_of (shown labels es)
   shown_same labels es fs e = shows_all labels fs ∙ ap (by_value labels) e ∙ sym (shows_all labels es)
 
   -- no objects show no objects
@@ -216,7 +259,8 @@ module _ {Id : Type 0} where
   }
 
   -- a table shows the same where its store has only taken more labels
-  pub shown_on : (old new : Id → Option Levels) (keeps : Keeps old new) (es : TableModel Id) → AllStand old (objects_of es) → objects_of (shown new es) ≡ objects_of (shown old es)
+  pub shown_on : (old new : Id → Option Levels) (keeps : Keeps old new) (es : TableModel Id)
+      → AllStand old (objects_of es) → objects_of (shown new es) ≡ objects_of (shown old es)
   shown_on old new keeps es all = shows_all new es ∙ value_on old new keeps (objects_of es) all ∙ sym (shows_all old es)
 
   -- where a table shows nothing, nothing is
@@ -234,40 +278,53 @@ module _ {Id : Type 0} where
   container_by labels (Some o) = kind_of labels o.kind
 
   -- where a table shows a container, one is
-  pub container_there : (labels : Id → Option Levels) (es : TableModel Id) (q : ℕ) → is_container (objects_of (shown labels es) q) ≡ true → is_container (objects_of es q) ≡ true
+  pub container_there : (labels : Id → Option Levels) (es : TableModel Id) (q : ℕ)
+      → is_container (objects_of (shown labels es) q) ≡ true → is_container (objects_of es q) ≡ true
   container_there labels es q e = sym (container_by labels (objects_of es q)) ∙ sym (ap is_container (shows labels es q)) ∙ e
 
   -- where a table shows a thread, something is
-  pub thread_there : (labels : Id → Option Levels) (es : TableModel Id) (q : ℕ) → is_thread (objects_of (shown labels es) q) ≡ true → None ≡ objects_of es q → ⊥
+  pub thread_there : (labels : Id → Option Levels) (es : TableModel Id) (q : ℕ)
+      → is_thread (objects_of (shown labels es) q) ≡ true → None ≡ objects_of es q → ⊥
   thread_there labels es q e none = false≢true (ap is_thread (ap (option_map (object_by (label_at labels))) none ∙ sym (shows labels es q)) ∙ e)
 
   -- what the table shows once an object is put
   pub shown_put : (labels : Id → Option Levels) (es fs : TableModel Id) (n : ℕ) (o : Object Id) → objects_of fs ≡ put (objects_of es) n o
       → objects_of (shown labels fs) ≡ put (objects_of (shown labels es)) n (object_by (label_at labels) o)
-  shown_put labels es fs n o e = shows_all labels fs ∙ ap (by_value labels) e ∙ value_put labels (objects_of es) n o ∙ ap (λ f. put f n (object_by (label_at labels) o)) (sym (shows_all labels es))
+  shown_put labels es fs n o e =
+      shows_all labels fs ∙ ap (by_value labels) e ∙ value_put labels (objects_of es) n o
+      ∙ ap (λ f. put f n (object_by (label_at labels) o)) (sym (shows_all labels es))
 
   -- what it shows once a new object is linked
   pub shown_new : (labels : Id → Option Levels) (es fs : TableModel Id) (d n : ℕ) (o : Object Id) → objects_of fs ≡ with_new (objects_of es) d n o
       → objects_of (shown labels fs) ≡ with_new (objects_of (shown labels es)) d n (object_by (label_at labels) o)
   shown_new labels es fs d n o e =
       shows_all labels fs ∙ ap (by_value labels) e ∙ value_put labels (changed_at (objects_of es) d (linking n)) n o
-      ∙ ap (λ f. put f n (object_by (label_at labels) o)) (value_linked labels (objects_of es) d n ∙ ap (λ f. changed_at f d (linking n)) (sym (shows_all labels es)))
+      ∙ ap (λ f. put f n (object_by (label_at labels) o))
+      (value_linked labels (objects_of es) d n ∙ ap (λ f. changed_at f d (linking n)) (sym (shows_all labels es)))
 
   -- what it shows once an object was changed
-  pub shown_changed : (labels : Id → Option Levels) (es fs : TableModel Id) (n : ℕ) (f : Object Id → Object Id) (h : Object Levels → Object Levels) → ((o : Object Id) → object_by (label_at labels) (f o) ≡ h (object_by (label_at labels) o))
+  pub shown_changed : (labels : Id → Option Levels) (es fs : TableModel Id) (n : ℕ) (f : Object Id → Object Id)
+      (h : Object Levels → Object Levels)
+      → ((o : Object Id) → object_by (label_at labels) (f o) ≡ h (object_by (label_at labels) o))
       → objects_of fs ≡ changed_at (objects_of es) n f → objects_of (shown labels fs) ≡ changed_at (objects_of (shown labels es)) n h
   shown_changed labels es fs n f h same e =
-      shows_all labels fs ∙ ap (by_value labels) e ∙ value_changed labels (objects_of es) n f h same ∙ ap (λ g. changed_at g n h) (sym (shows_all labels es))
+      shows_all labels fs ∙ ap (by_value labels) e ∙ value_changed labels (objects_of es) n f h same
+      ∙ ap (λ g. changed_at g n h) (sym (shows_all labels es))
 
   -- what it shows once a segment has other bytes
-  pub shown_held : (labels : Id → Option Levels) (es fs : TableModel Id) (q : ℕ) (bytes : List ℕ) → objects_of fs ≡ changed_at (objects_of es) q (holding bytes)
+  pub shown_held : (labels : Id → Option Levels) (es fs : TableModel Id) (q : ℕ) (bytes : List ℕ)
+      → objects_of fs ≡ changed_at (objects_of es) q (holding bytes)
       → objects_of (shown labels fs) ≡ changed_at (objects_of (shown labels es)) q (holding bytes)
-  shown_held labels es fs q bytes e = shows_all labels fs ∙ ap (by_value labels) e ∙ value_held labels (objects_of es) q bytes ∙ ap (λ f. changed_at f q (holding bytes)) (sym (shows_all labels es))
+  shown_held labels es fs q bytes e =
+      shows_all labels fs ∙ ap (by_value labels) e ∙ value_held labels (objects_of es) q bytes
+      ∙ ap (λ f. changed_at f q (holding bytes)) (sym (shows_all labels es))
 
 module _ {L : Type 0} (objects : Objects L) (next : ℕ) (unused : IsUnusedFrom objects next) where
   -- the numbers from the next one on stay unused where a new object takes the next
   pub unused_new : (d : ℕ) (o : Object L) → IsUnusedFrom (with_new objects d next o) (next + 1)
-  unused_new d o = unused_put (changed_at objects d (linking next)) next (unused_changed objects next unused d (linking next)) next (next + 1) o (omega arith) (omega arith)
+  unused_new d o =
+      unused_put (changed_at objects d (linking next)) next (unused_changed objects next unused d (linking next)) next
+      (next + 1) o (omega arith) (omega arith)
 
   -- and where a thread that is there changes
   pub unused_own : (t : ℕ) (o : Object L) → is_thread (objects t) ≡ true → IsUnusedFrom (put objects t o) next
@@ -278,32 +335,76 @@ module _ {L : Type 0} (objects : Objects L) (next : ℕ) (unused : IsUnusedFrom 
 
 -- what a call that links a new object keeps, where it did
 pub kept_new : {Id : Type 0} (labels : Id → Option Levels) (objects : Objects Levels) (fs : TableModel Id) (next d : ℕ) (o : Object Levels)
-    → AllStand labels (objects_of fs) → IsUnusedFrom objects next → objects_of (shown labels fs) ≡ with_new objects d next o → IsKept labels fs (next + 1)
-kept_new labels objects fs next d o stand unused e = record { stand = stand; unused = subst (λ (f : Objects Levels). IsUnusedFrom f (next + 1)) (sym e) (unused_new objects next unused d o); positive = omega arith }
+    → AllStand labels (objects_of fs) → IsUnusedFrom objects next
+    → objects_of (shown labels fs) ≡ with_new objects d next o → IsKept labels fs (next + 1)
+kept_new labels objects fs next d o stand unused e =
+    record {
+      stand = stand;
+      unused = subst (λ (f : Objects Levels). IsUnusedFrom f (next + 1)) (sym e)
+          (unused_new objects next unused d o);
+      positive = omega arith;
+    }
 
 -- what a call keeps that puts an object under the next number
 pub kept_next : {Id : Type 0} (labels : Id → Option Levels) (objects : Objects Levels) (fs : TableModel Id) (next : ℕ) (o : Object Levels)
     → AllStand labels (objects_of fs) → IsUnusedFrom objects next → objects_of (shown labels fs) ≡ put objects next o → IsKept labels fs (next + 1)
-kept_next labels objects fs next o stand unused e = record { stand = stand; unused = subst (λ (f : Objects Levels). IsUnusedFrom f (next + 1)) (sym e) (unused_put objects next unused next (next + 1) o (omega arith) (omega arith)); positive = omega arith }
+kept_next labels objects fs next o stand unused e =
+    record {
+      stand = stand;
+      unused = subst (λ (f : Objects Levels). IsUnusedFrom f (next + 1)) (sym e)
+          (unused_put objects next unused next (next + 1) o (omega arith) (omega arith));
+      positive = omega arith;
+    }
 
 -- what a call that sets a thread's labels keeps, whether it did or not
-pub kept_own : {Id A E : Type 0} (labels : Id → Option Levels) (objects : Objects Levels) (fs : TableModel Id) (next t : ℕ) (o : Object Levels) (r : Result A E)
-    → AllStand labels (objects_of fs) → IsUnusedFrom objects next → 0 < next → is_thread (objects t) ≡ true → OnOk r (objects_of (shown labels fs) ≡ put objects t o) → OnErr r (objects_of (shown labels fs) ≡ objects) → IsKept labels fs next
-kept_own labels objects fs next t o (Ok x) stand unused positive thread ok err = record { stand = stand; unused = subst (λ (f : Objects Levels). IsUnusedFrom f next) (sym ok) (unused_own objects next unused t o thread); positive = positive }
-kept_own labels objects fs next t o (Err x) stand unused positive thread ok err = record { stand = stand; unused = subst (λ (f : Objects Levels). IsUnusedFrom f next) (sym err) unused; positive = positive }
+pub kept_own : {Id A E : Type 0} (labels : Id → Option Levels) (objects : Objects Levels) (fs : TableModel Id)
+    (next t : ℕ) (o : Object Levels) (r : Result A E)
+    → AllStand labels (objects_of fs) → IsUnusedFrom objects next → 0 < next → is_thread (objects t) ≡ true
+    → OnOk r (objects_of (shown labels fs) ≡ put objects t o) → OnErr r (objects_of (shown labels fs) ≡ objects)
+    → IsKept labels fs next
+kept_own labels objects fs next t o (Ok x) stand unused positive thread ok err =
+    record {
+      stand = stand;
+      unused = subst (λ (f : Objects Levels). IsUnusedFrom f next) (sym ok)
+          (unused_own objects next unused t o thread);
+      positive = positive;
+    }
+kept_own labels objects fs next t o (Err x) stand unused positive thread ok err =
+    record {
+      stand = stand;
+      unused = subst (λ (f : Objects Levels). IsUnusedFrom f next) (sym err) unused;
+      positive = positive;
+    }
 
 -- what a call that changes an object keeps, whether it did or not
-pub kept_changed : {Id A E : Type 0} (labels : Id → Option Levels) (objects : Objects Levels) (fs : TableModel Id) (next n : ℕ) (h : Object Levels → Object Levels) (r : Result A E)
-    → AllStand labels (objects_of fs) → IsUnusedFrom objects next → 0 < next → OnOk r (objects_of (shown labels fs) ≡ changed_at objects n h) → OnErr r (objects_of (shown labels fs) ≡ objects) → IsKept labels fs next
-kept_changed labels objects fs next n h (Ok x) stand unused positive ok err = record { stand = stand; unused = subst (λ (f : Objects Levels). IsUnusedFrom f next) (sym ok) (unused_changed objects next unused n h); positive = positive }
-kept_changed labels objects fs next n h (Err x) stand unused positive ok err = record { stand = stand; unused = subst (λ (f : Objects Levels). IsUnusedFrom f next) (sym err) unused; positive = positive }
+pub kept_changed : {Id A E : Type 0} (labels : Id → Option Levels) (objects : Objects Levels) (fs : TableModel Id)
+    (next n : ℕ) (h : Object Levels → Object Levels) (r : Result A E)
+    → AllStand labels (objects_of fs) → IsUnusedFrom objects next → 0 < next
+    → OnOk r (objects_of (shown labels fs) ≡ changed_at objects n h)
+    → OnErr r (objects_of (shown labels fs) ≡ objects) → IsKept labels fs next
+kept_changed labels objects fs next n h (Ok x) stand unused positive ok err =
+    record {
+      stand = stand;
+      unused = subst (λ (f : Objects Levels). IsUnusedFrom f next) (sym ok)
+          (unused_changed objects next unused n h);
+      positive = positive;
+    }
+kept_changed labels objects fs next n h (Err x) stand unused positive ok err =
+    record {
+      stand = stand;
+      unused = subst (λ (f : Objects Levels). IsUnusedFrom f next) (sym err) unused;
+      positive = positive;
+    }
 
 -- what a call that splices a segment keeps, whether it did or not
 pub kept_spliced : {Id A E : Type 0} (labels : Id → Option Levels) (es fs : TableModel Id) (next q : ℕ) (bytes : List ℕ) (r : Result A E)
-    → OnOk r (objects_of fs ≡ changed_at (objects_of es) q (holding bytes)) → OnErr r (objects_of fs ≡ objects_of es) → IsKept labels es next → IsKept labels fs next
+    → OnOk r (objects_of fs ≡ changed_at (objects_of es) q (holding bytes)) → OnErr r (objects_of fs ≡ objects_of es)
+    → IsKept labels es next → IsKept labels fs next
 kept_spliced labels es fs next q bytes (Ok x) ok err kept = record {
   stand = subst (AllStand labels) (sym ok) (stand_held labels (objects_of es) q bytes kept.stand);
-  unused = subst (λ (f : Objects Levels). IsUnusedFrom f next) (sym (shown_held labels es fs q bytes ok)) (unused_changed (objects_of (shown labels es)) next kept.unused q (holding bytes));
+  unused =
+      subst (λ (f : Objects Levels). IsUnusedFrom f next) (sym (shown_held labels es fs q bytes ok))
+      (unused_changed (objects_of (shown labels es)) next kept.unused q (holding bytes));
   positive = kept.positive;
 }
 kept_spliced labels es fs next q bytes (Err x) ok err kept = record {
@@ -313,7 +414,9 @@ kept_spliced labels es fs next q bytes (Err x) ok err kept = record {
 }
 
 -- the segment that is lent ends with the bytes that were written
-pub held_there : {L : Type 0} (objects after : Objects L) (q : ℕ) (o : Object L) (old new : List ℕ) → Some o ≡ objects q → o.kind ≡ Segment old → after ≡ put objects q (record { label = o.label; kind = Segment new }) → after ≡ changed_at objects q (holding new)
+pub held_there : {L : Type 0} (objects after : Objects L) (q : ℕ) (o : Object L) (old new : List ℕ) → Some o ≡ objects q
+    → o.kind ≡ Segment old → after ≡ put objects q (record { label = o.label; kind = Segment new })
+    → after ≡ changed_at objects q (holding new)
 held_there objects after q o old new here is e =
     e ∙ ap (put objects q) (λ i. record { label = o.label; kind = sym (ap (kind_holding new) is) i }) ∙ put_changed objects q (holding new) o here
 
@@ -324,19 +427,25 @@ kind_stays new (Thread clearance) e = refl
 kind_stays new (Gate clearance entry) e = refl
 
 -- and what is no segment stays
-pub held_not : {L : Type 0} (objects after : Objects L) (q : ℕ) (o : Object L) (new : List ℕ) → Some o ≡ objects q → kind_is_segment o.kind ≡ false → after ≡ put objects q o → after ≡ changed_at objects q (holding new)
+pub held_not : {L : Type 0} (objects after : Objects L) (q : ℕ) (o : Object L) (new : List ℕ) → Some o ≡ objects q
+    → kind_is_segment o.kind ≡ false → after ≡ put objects q o → after ≡ changed_at objects q (holding new)
 held_not objects after q o new here other e =
     e ∙ ap (put objects q) (λ i. record { label = o.label; kind = kind_stays new o.kind other i }) ∙ put_changed objects q (holding new) o here
 
 -- a segment that keeps some of its bytes, with new ones behind them
-pub spliced_there : {L : Type 0} (objects after : Objects L) (q : ℕ) (o : Object L) (old : List ℕ) (keep : ℕ) (more new : List ℕ) → Some o ≡ objects q → o.kind ≡ Segment old → new ≡ take keep old ++ more
-    → after ≡ put objects q (record { label = o.label; kind = Segment new }) → after ≡ changed_at objects q (holding (take keep (bytes_in (objects q)) ++ more))
+pub spliced_there : {L : Type 0} (objects after : Objects L) (q : ℕ) (o : Object L) (old : List ℕ) (keep : ℕ)
+    (more new : List ℕ) → Some o ≡ objects q → o.kind ≡ Segment old → new ≡ take keep old ++ more
+    → after ≡ put objects q (record { label = o.label; kind = Segment new })
+    → after ≡ changed_at objects q (holding (take keep (bytes_in (objects q)) ++ more))
 spliced_there objects after q o old keep more new here is new_is e =
     held_there objects after q o old new here is e
-    ∙ ap (λ b. changed_at objects q (holding b)) (new_is ∙ ap (λ b. take keep b ++ more) (sym (ap bytes_in (sym here) ∙ ap (λ k. or_no_bytes (kind_bytes k)) is)))
+    ∙ ap (λ b. changed_at objects q (holding b))
+    (new_is
+    ∙ ap (λ b. take keep b ++ more) (sym (ap bytes_in (sym here) ∙ ap (λ k. or_no_bytes (kind_bytes k)) is)))
 
 -- a segment that is lent and left alone is as it was
-pub left_alone : {L : Type 0} (objects after : Objects L) (q : ℕ) (o : Object L) (old : List ℕ) → Some o ≡ objects q → o.kind ≡ Segment old → after ≡ put objects q (record { label = o.label; kind = Segment old }) → after ≡ objects
+pub left_alone : {L : Type 0} (objects after : Objects L) (q : ℕ) (o : Object L) (old : List ℕ) → Some o ≡ objects q
+    → o.kind ≡ Segment old → after ≡ put objects q (record { label = o.label; kind = Segment old }) → after ≡ objects
 left_alone objects after q o old here is e = e ∙ ap (put objects q) (λ i. record { label = o.label; kind = sym is i }) ∙ put_back objects q o here
 
 module _ {Id : Type 0} (labels : Id → Option Levels) (es : TableModel Id) (q : ℕ) where
@@ -351,7 +460,12 @@ module _ {Id : Type 0} (labels : Id → Option Levels) (es : TableModel Id) (q :
   bytes_by (Some o) = ap or_no_bytes (kind_bytes_by o.kind)
 
   -- what the table shows once a segment was spliced
-  pub spliced_shown : (fs : TableModel Id) (keep : ℕ) (more : List ℕ) → objects_of fs ≡ changed_at (objects_of es) q (holding (take keep (bytes_in (objects_of es q)) ++ more))
-      → objects_of (shown labels fs) ≡ changed_at (objects_of (shown labels es)) q (holding (take keep (bytes_in (objects_of (shown labels es) q)) ++ more))
+  pub spliced_shown : (fs : TableModel Id) (keep : ℕ) (more : List ℕ)
+      → objects_of fs ≡ changed_at (objects_of es) q (holding (take keep (bytes_in (objects_of es q)) ++ more))
+      → objects_of (shown labels fs)
+      ≡ changed_at (objects_of (shown labels es)) q
+      (holding (take keep (bytes_in (objects_of (shown labels es) q)) ++ more))
   spliced_shown fs keep more e =
-      shown_held labels es fs q _ e ∙ ap (λ b. changed_at (objects_of (shown labels es)) q (holding (take keep b ++ more))) (sym (ap bytes_in (shows labels es q) ∙ bytes_by (objects_of es q)))
+      shown_held labels es fs q _ e
+      ∙ ap (λ b. changed_at (objects_of (shown labels es)) q (holding (take keep b ++ more)))
+      (sym (ap bytes_in (shows labels es q) ∙ bytes_by (objects_of es q)))

@@ -16,7 +16,8 @@ use Rattle.histar_container.proofs.Keeping.{by_value, shows_all, stand_changed, 
 use Rattle.histar_container.proofs.TableMoves.{changed_here, changed_other}
 use Rattle.histar_container.proofs.Trees.{reached_decided}
 
-module _ {L : Type 0} (objects new : Objects L) (trees : AreTree objects) (d o : ℕ) (linked : set.contains (links_in (objects d)) o ≡ true) (is_cut : IsCut objects d o new) where
+module _ {L : Type 0} (objects new : Objects L) (trees : AreTree objects) (d o : ℕ)
+    (linked : set.contains (links_in (objects d)) o ≡ true) (is_cut : IsCut objects d o new) where
   -- what is not reached is what it was, but for the link
   not_reached_is : (q : ℕ) → ¬ Reached objects o q → new q ≡ changed_at objects d (unlinking o) q
   not_reached_is q not_reached = elim (eqb_tells q d) [
@@ -60,7 +61,9 @@ module _ {Id : Type 0} (labels : Id → Option Levels) where
   kind_unlinked_by n (Thread clearance) = refl
   kind_unlinked_by n (Gate clearance entry) = refl
 
-  unlinked_by : (n : ℕ) (o : Option (Object Id)) → option_map (object_by (label_at labels)) (option_map (unlinking n) o) ≡ option_map (unlinking n) (option_map (object_by (label_at labels)) o)
+  unlinked_by : (n : ℕ) (o : Option (Object Id))
+      → option_map (object_by (label_at labels)) (option_map (unlinking n) o)
+      ≡ option_map (unlinking n) (option_map (object_by (label_at labels)) o)
   unlinked_by n None = refl
   unlinked_by n (Some o) = λ i. Some (record { label = label_at labels o.label; kind = kind_unlinked_by n o.kind i })
 
@@ -75,7 +78,9 @@ module _ {Id : Type 0} (labels : Id → Option Levels) where
 
   module _ (objects : Objects Id) where
     -- what is laid out as it is shown is laid out
-    matched_below : (next : ℕ) (naming : Naming ℕ) → MatchesNaming nat_eq (by_value labels objects) next (objects_at (by_value labels objects) naming) naming → MatchesNaming nat_eq objects next (objects_at objects naming) naming
+    matched_below : (next : ℕ) (naming : Naming ℕ)
+        → MatchesNaming nat_eq (by_value labels objects) next (objects_at (by_value labels objects) naming) naming
+        → MatchesNaming nat_eq objects next (objects_at objects naming) naming
     matched_below next naming matched = record {
       as_expected = λ q. by q (naming.address q) refl;
       numbered = matched.numbered;
@@ -86,7 +91,9 @@ module _ {Id : Type 0} (labels : Id → Option Levels) where
     }
       where
         by : (q : ℕ) (y : Option (Address ℕ)) → naming.address q ≡ y → objects q ≡ wanted (objects_at objects naming) y
-        by q None i = map_none (object_by (label_at labels)) (objects q) (matched.as_expected q ∙ ap (wanted (objects_at (by_value labels objects) naming)) i)
+        by q None i =
+            map_none (object_by (label_at labels)) (objects q)
+            (matched.as_expected q ∙ ap (wanted (objects_at (by_value labels objects) naming)) i)
         by q (Some a) i = sym (ap (option_and_then objects) (matched.numbered q a i))
 
     -- what is shown as a tree is one
@@ -125,8 +132,11 @@ module _ {Id : Type 0} (labels : Id → Option Levels) where
     trees_there trees = trees_below (objects_of es) (subst (λ (x : Objects Levels). AreTree x) (shows_all labels es) trees)
 
     -- what a table shows to be linked is
-    pub linked_in_table : (d o : ℕ) → set.contains (links_in (objects_of (shown labels es) d)) o ≡ true → set.contains (links_in (objects_of es d)) o ≡ true
-    linked_in_table d o k = sym (links_by (objects_of es d) o) ∙ sym (ap (λ (x : Objects Levels). set.contains (links_in (x d)) o) (shows_all labels es)) ∙ k
+    pub linked_in_table : (d o : ℕ) → set.contains (links_in (objects_of (shown labels es) d)) o ≡ true
+        → set.contains (links_in (objects_of es d)) o ≡ true
+    linked_in_table d o k =
+        sym (links_by (objects_of es d) o)
+        ∙ sym (ap (λ (x : Objects Levels). set.contains (links_in (x d)) o) (shows_all labels es)) ∙ k
 
     module _ (fs : TableModel Id) (d o : ℕ) where
       -- a tree that is cut out of a table is shown cut
@@ -136,13 +146,23 @@ module _ {Id : Type 0} (labels : Id → Option Levels) where
           (subst (IsCut (by_value labels (objects_of es)) d o) (sym (shows_all labels fs)) (cut_above (objects_of es) (objects_of fs) d o is_cut))
 
       -- what a table keeps when a tree is cut out of it
-      kept_cut : (next : ℕ) → IsKept labels es next → AreTree (objects_of (shown labels es)) → set.contains (links_in (objects_of (shown labels es) d)) o ≡ true → IsCut (objects_of es) d o (objects_of fs) → IsKept labels fs next
+      kept_cut : (next : ℕ) → IsKept labels es next → AreTree (objects_of (shown labels es))
+          → set.contains (links_in (objects_of (shown labels es) d)) o ≡ true
+          → IsCut (objects_of es) d o (objects_of fs) → IsKept labels fs next
       kept_cut next kept trees linked is_cut =
           let stand = stand_changed labels (objects_of es) d (unlinking o) (unlinked_stands o) kept.stand in
           let unused = unused_changed (objects_of (shown labels es)) next kept.unused d (unlinking o) in
           record {
-            stand = record { each = λ q x e. stand.each q x (left_is (objects_of es) (objects_of fs) (trees_there trees) d o (linked_in_table d o linked) is_cut q x e) };
-            unused = record { none = λ q le. none_is (objects_of (shown labels es)) (objects_of (shown labels fs)) trees d o linked (shown_cut is_cut) q (unused.none q le) };
+            stand =
+                record {
+                  each = λ q x e. stand.each q x (left_is (objects_of es) (objects_of fs) (trees_there trees) d o
+                      (linked_in_table d o linked) is_cut q x e);
+                };
+            unused =
+                record {
+                  none = λ q le. none_is (objects_of (shown labels es)) (objects_of (shown labels fs)) trees d o
+                      linked (shown_cut is_cut) q (unused.none q le);
+                };
             positive = kept.positive;
           }
 
@@ -159,24 +179,47 @@ module _ {Id : Type 0} (labels : Id → Option Levels) where
       }
 
       -- what a table keeps, whether the tree was cut out of it or not
-      pub kept_removed : {A E : Type 0} (next : ℕ) (r : Result A E) → IsKept labels es next → AreTree (objects_of (shown labels es)) → set.contains (links_in (objects_of (shown labels es) d)) o ≡ true
+      pub kept_removed : {A E : Type 0} (next : ℕ) (r : Result A E) → IsKept labels es next
+          → AreTree (objects_of (shown labels es)) → set.contains (links_in (objects_of (shown labels es) d)) o ≡ true
           → OnOk r (IsCut (objects_of es) d o (objects_of fs)) → OnErr r (objects_of fs ≡ objects_of es) → IsKept labels fs next
       kept_removed next (Ok x) kept trees linked ok err = kept_cut next kept trees linked ok
       kept_removed next (Err x) kept trees linked ok err = kept_same next kept err
 
-      module _ {A E : Type 0} (next_object next_category : ℕ) (old : ObjectsModel) (view_is : record { objects = shown labels es; next_object = next_object; next_category = next_category } ≡ old) (r : Result A E) where
+      module _ {A E : Type 0} (next_object next_category : ℕ) (old : ObjectsModel)
+          (view_is : record { objects = shown labels es; next_object = next_object; next_category = next_category }
+          ≡ old) (r : Result A E) where
         -- the state of the kernel where a tree was cut out of its table
-        pub removed_ok : OnOk r (IsCut (objects_of es) d o (objects_of fs)) → OnOk r (CutsOff (state_of old) d o (state_of (record { objects = shown labels fs; next_object = next_object; next_category = next_category })))
+        pub removed_ok : OnOk r (IsCut (objects_of es) d o (objects_of fs))
+            → OnOk r (CutsOff (state_of old) d o (state_of (record
+            { objects = shown labels fs; next_object = next_object; next_category = next_category })))
         removed_ok ok = by r ok
           where
-            by : (r : Result A E) → OnOk r (IsCut (objects_of es) d o (objects_of fs)) → OnOk r (CutsOff (state_of old) d o (state_of (record { objects = shown labels fs; next_object = next_object; next_category = next_category })))
-            by (Ok x) is_cut = subst (λ (k : ObjectsModel). CutsOff (state_of k) d o (state_of (record { objects = shown labels fs; next_object = next_object; next_category = next_category }))) view_is (record { is_cut = shown_cut is_cut; next_object = refl; next_category = refl })
+            by : (r : Result A E) → OnOk r (IsCut (objects_of es) d o (objects_of fs))
+                → OnOk r (CutsOff (state_of old) d o (state_of (record {
+                  objects = shown labels fs;
+                  next_object = next_object;
+                  next_category = next_category;
+                })))
+            by (Ok x) is_cut =
+                subst (λ (k : ObjectsModel). CutsOff (state_of k) d o (state_of (record {
+                  objects = shown labels fs;
+                  next_object = next_object;
+                  next_category = next_category;
+                }))) view_is
+                (record { is_cut = shown_cut is_cut; next_object = refl; next_category = refl })
             by (Err x) is_cut = tt
 
         -- and where it was not
-        pub removed_err : OnErr r (objects_of fs ≡ objects_of es) → OnErr r (state_of (record { objects = shown labels fs; next_object = next_object; next_category = next_category }) ≡ state_of old)
+        pub removed_err : OnErr r (objects_of fs ≡ objects_of es)
+            → OnErr r (state_of
+            (record { objects = shown labels fs; next_object = next_object; next_category = next_category })
+            ≡ state_of old)
         removed_err err = by r err
           where
-            by : (r : Result A E) → OnErr r (objects_of fs ≡ objects_of es) → OnErr r (state_of (record { objects = shown labels fs; next_object = next_object; next_category = next_category }) ≡ state_of old)
+            by : (r : Result A E) → OnErr r (objects_of fs ≡ objects_of es)
+                → OnErr r (state_of
+                (record
+                { objects = shown labels fs; next_object = next_object; next_category = next_category })
+                ≡ state_of old)
             by (Ok x) e = tt
             by (Err x) e = (λ i. record { objects = shown_same e i; next_object = next_object; next_category = next_category }) ∙ ap state_of view_is

@@ -1,5 +1,6 @@
 -- The three moves of a kernel over objects that are laid out by a naming: an object is set, one is added, a tree is cut off.
-use Rattle.std.proofs.Common.{◌≡◌, ◌≢◌, ℕ, ◌+◌, ◌||◌, nat_eq, Bool, true, false, [], ◌∷◌, Option, None, Some, inl, inr, arith, refl, sym, ap, ◌∙◌, if◌then◌else◌}
+use Rattle.std.proofs.Common.{◌≡◌, ◌≢◌, ℕ, ◌+◌, ◌||◌, nat_eq, Bool, true, false, [], ◌∷◌, Option, None, Some, inl, inr, arith, refl, sym, ap, ◌∙◌}
+use Rattle.std.proofs.Common.{if◌then◌else◌}
 use Rattle.std.specs.Prelude.{is_some}
 use Rattle.std.specs.FinSet as set
 use mathlib.Core.Bool.{true≢false}
@@ -12,26 +13,42 @@ use Rattle.histar_container.proofs.Addresses.{TestsEquality, inner, same_tests_e
 use Rattle.histar_container.proofs.Reaching.{same_number}
 
 -- what has an address is not the next number
-pub next_unused : {X : Type 0} (same_step : X → X → Bool) {L : Type 0} (objects : Objects L) (next : ℕ) (expected : Address X → Option (Object L)) (naming : Naming X) → MatchesNaming same_step objects next expected naming → (d : ℕ) (a : Address X) → naming.address d ≡ Some a → d ≢ next
-next_unused same_step objects next expected naming matched d a at_d e = let k : Some a ≡ None = sym at_d ∙ ap naming.address e ∙ matched.unused next (omega arith) in cc
+pub next_unused : {X : Type 0} (same_step : X → X → Bool) {L : Type 0} (objects : Objects L) (next : ℕ)
+    (expected : Address X → Option (Object L)) (naming : Naming X)
+    → MatchesNaming same_step objects next expected naming → (d : ℕ) (a : Address X) → naming.address d ≡ Some a
+    → d ≢ next
+next_unused same_step objects next expected naming matched d a at_d e =
+    let k : Some a ≡ None = sym at_d ∙ ap naming.address e ∙ matched.unused next (omega arith) in cc
 
-module _ {X : Type 0} (same_step : X → X → Bool) (decides : TestsEquality same_step) {L : Type 0} (objects : Objects L) (next : ℕ) (expected : Address X → Option (Object L)) (naming : Naming X) (matched : MatchesNaming same_step objects next expected naming) where
+module _ {X : Type 0} (same_step : X → X → Bool) (decides : TestsEquality same_step) {L : Type 0} (objects : Objects L)
+    (next : ℕ) (expected : Address X → Option (Object L)) (naming : Naming X)
+    (matched : MatchesNaming same_step objects next expected naming) where
   -- the object at n is set, and its links stay
   module _ (new : Objects L) (n : ℕ) (a : Address X) (at_n : naming.address n ≡ Some a) (others : (q : ℕ) → q ≢ n → new q ≡ objects q)
       (same_links : (c : ℕ) → set.contains (links_in (new n)) c ≡ set.contains (links_in (objects n)) c) where
-    set_elsewhere : (q : ℕ) → q ≢ n → (y : Option (Address X)) → naming.address q ≡ y → wanted (set_at same_step expected a (new n)) y ≡ wanted expected y
+    set_elsewhere : (q : ℕ) → q ≢ n → (y : Option (Address X)) → naming.address q ≡ y
+        → wanted (set_at same_step expected a (new n)) y ≡ wanted expected y
     set_elsewhere q other None i = refl
-    set_elsewhere q other (Some b) i = ap (λ t. if t then new n else expected b) (same_other same_step decides a b (λ k. other (same_number same_step decides objects next expected naming matched q n a (i ∙ ap Some (sym k)) at_n)))
+    set_elsewhere q other (Some b) i =
+        ap (λ t. if t then new n else expected b) (same_other same_step decides a b (λ k.
+        other (same_number same_step decides objects next expected naming matched q n a (i ∙ ap Some (sym k))
+        at_n)))
 
     set_expected : (q : ℕ) → new q ≡ wanted (set_at same_step expected a (new n)) (naming.address q)
     set_expected q = elim (eqb_tells q n) [
-      | inl e ↦ ap new e.1 ∙ sym (ap (wanted (set_at same_step expected a (new n))) (ap naming.address e.1 ∙ at_n) ∙ ap (λ t. if t then new n else expected a) (same_itself same_step decides a))
+      | inl e ↦
+          ap new e.1
+          ∙ sym (ap (wanted (set_at same_step expected a (new n))) (ap naming.address e.1 ∙ at_n)
+          ∙ ap (λ t. if t then new n else expected a) (same_itself same_step decides a))
       | inr e ↦ others q e.1 ∙ matched.as_expected q ∙ sym (set_elsewhere q e.1 (naming.address q) refl)
     ]
 
-    set_links : (q c : ℕ) (b : Address X) → naming.address q ≡ Some b → set.contains (links_in (new q)) c ≡ is_one_below same_step b (naming.address c)
+    set_links : (q c : ℕ) (b : Address X) → naming.address q ≡ Some b
+        → set.contains (links_in (new q)) c ≡ is_one_below same_step b (naming.address c)
     set_links q c b i = elim (eqb_tells q n) [
-      | inl e ↦ ap (λ p. set.contains (links_in (new p)) c) e.1 ∙ same_links c ∙ ap (λ p. set.contains (links_in (objects p)) c) (sym e.1) ∙ matched.links q c b i
+      | inl e ↦
+          ap (λ p. set.contains (links_in (new p)) c) e.1 ∙ same_links c
+          ∙ ap (λ p. set.contains (links_in (objects p)) c) (sym e.1) ∙ matched.links q c b i
       | inr e ↦ ap (λ o. set.contains (links_in o) c) (others q e.1) ∙ matched.links q c b i
     ]
 
@@ -77,7 +94,9 @@ module _ {X : Type 0} (same_step : X → X → Bool) (decides : TestsEquality sa
     unfolding grown_expected
     added_elsewhere q other None i = refl
     added_elsewhere q other (Some b) i =
-        ap (λ t. if t then new d else set_at same_step expected (x ∷ a) (new next) b) (same_other same_step decides a b (λ k. other (same_number same_step decides objects next expected naming matched q d a (i ∙ ap Some (sym k)) at_d)))
+        ap (λ t. if t then new d else set_at same_step expected (x ∷ a) (new next) b)
+        (same_other same_step decides a b (λ k. other (same_number same_step decides objects next expected naming matched q d a
+        (i ∙ ap Some (sym k)) at_d)))
         ∙ ap (λ t. if t then new next else expected b) (same_other same_step decides (x ∷ a) b (λ k. not_free q (i ∙ ap Some (sym k))))
 
     at_holder : wanted grown_expected (Some a) ≡ new d
@@ -86,7 +105,9 @@ module _ {X : Type 0} (same_step : X → X → Bool) (decides : TestsEquality sa
 
     at_leaf : wanted grown_expected (Some (x ∷ a)) ≡ new next
     unfolding grown_expected
-    at_leaf = ap (λ t. if t then new d else set_at same_step expected (x ∷ a) (new next) (x ∷ a)) (same_other same_step decides a (x ∷ a) (λ k. longer same_step decides x a (sym k)))
+    at_leaf =
+        ap (λ t. if t then new d else set_at same_step expected (x ∷ a) (new next) (x ∷ a))
+        (same_other same_step decides a (x ∷ a) (λ k. longer same_step decides x a (sym k)))
         ∙ ap (λ t. if t then new next else expected (x ∷ a)) (same_itself same_step decides (x ∷ a))
 
     added_expected : (q : ℕ) → new q ≡ wanted grown_expected (grown.address q)
@@ -94,7 +115,9 @@ module _ {X : Type 0} (same_step : X → X → Bool) (decides : TestsEquality sa
       | inl e ↦ ap new e.1 ∙ sym (ap (wanted grown_expected) (ap grown.address e.1 ∙ old_here d d_old ∙ at_d) ∙ at_holder)
       | inr e ↦ elim (eqb_tells q next) [
         | inl i ↦ ap new i.1 ∙ sym (ap (wanted grown_expected) (ap grown.address i.1 ∙ new_here) ∙ at_leaf)
-        | inr i ↦ others q i.1 e.1 ∙ matched.as_expected q ∙ sym (ap (wanted grown_expected) (old_here q i.1) ∙ added_elsewhere q e.1 (naming.address q) refl)
+        | inr i ↦
+            others q i.1 e.1 ∙ matched.as_expected q
+            ∙ sym (ap (wanted grown_expected) (old_here q i.1) ∙ added_elsewhere q e.1 (naming.address q) refl)
       ]
     ]
 
@@ -102,9 +125,12 @@ module _ {X : Type 0} (same_step : X → X → Bool) (decides : TestsEquality sa
     unfolding grown
     added_numbered q b i = elim (eqb_tells q next) [
       | inl e ↦ let k : x ∷ a ≡ b = inner (x ∷ a) b (sym new_here ∙ ap grown.address (sym e.1) ∙ i) in
-          ap (λ (y : Address X). if same_steps same_step (x ∷ a) y then Some next else naming.number y) (sym k) ∙ ap (λ t. if t then Some next else naming.number (x ∷ a)) (same_itself same_step decides (x ∷ a)) ∙ ap Some (sym e.1)
+          ap (λ (y : Address X). if same_steps same_step (x ∷ a) y then Some next else naming.number y) (sym k)
+          ∙ ap (λ t. if t then Some next else naming.number (x ∷ a)) (same_itself same_step decides (x ∷ a))
+          ∙ ap Some (sym e.1)
       | inr e ↦ let j : naming.address q ≡ Some b = sym (old_here q e.1) ∙ i in
-          ap (λ t. if t then Some next else naming.number b) (same_other same_step decides (x ∷ a) b (λ k. not_free q (j ∙ ap Some (sym k)))) ∙ matched.numbered q b j
+          ap (λ t. if t then Some next else naming.number b)
+          (same_other same_step decides (x ∷ a) b (λ k. not_free q (j ∙ ap Some (sym k)))) ∙ matched.numbered q b j
     ]
 
     added_addressed : (b : Address X) (q : ℕ) → grown.number b ≡ Some q → grown.address q ≡ Some b
@@ -123,14 +149,22 @@ module _ {X : Type 0} (same_step : X → X → Bool) (decides : TestsEquality sa
     added_held : (y : X) (b : Address X) → is_some (grown.number (y ∷ b)) ≡ true → is_some (grown.number b) ≡ true
     unfolding grown
     added_held y b i = elim (same_tests_equality same_step decides (x ∷ a) (y ∷ b)) [
-      | inl e ↦ let k : a ≡ b = cc in number_stays b (same_steps same_step (x ∷ a) b) (ap (λ (z : Address X). is_some (naming.number z)) (sym k) ∙ ap is_some (matched.numbered d a at_d))
-      | inr e ↦ number_stays b (same_steps same_step (x ∷ a) b) (matched.held y b (sym (ap (λ t. is_some (if t then Some next else naming.number (y ∷ b))) e.0) ∙ i))
+      | inl e ↦
+          let k : a
+          ≡ b = cc in number_stays b (same_steps same_step (x ∷ a) b)
+          (ap (λ (z : Address X). is_some (naming.number z)) (sym k) ∙ ap is_some (matched.numbered d a at_d))
+      | inr e ↦
+          number_stays b (same_steps same_step (x ∷ a) b)
+          (matched.held y b (sym (ap (λ t. is_some (if t then Some next else naming.number (y ∷ b))) e.0) ∙ i))
     ]
 
     -- the children of an address other than d's
     added_child : (c : ℕ) (b : Address X) → a ≢ b → is_one_below same_step b (grown.address c) ≡ is_one_below same_step b (naming.address c)
     added_child c b other = elim (eqb_tells c next) [
-      | inl e ↦ ap (is_one_below same_step b) (ap grown.address e.1 ∙ new_here) ∙ same_other same_step decides b a (λ k. other (sym k)) ∙ sym (ap (is_one_below same_step b) (ap naming.address e.1 ∙ next_empty))
+      | inl e ↦
+          ap (is_one_below same_step b) (ap grown.address e.1 ∙ new_here)
+          ∙ same_other same_step decides b a (λ k. other (sym k))
+          ∙ sym (ap (is_one_below same_step b) (ap naming.address e.1 ∙ next_empty))
       | inr e ↦ ap (is_one_below same_step b) (old_here c e.1)
     ]
 
@@ -150,11 +184,14 @@ module _ {X : Type 0} (same_step : X → X → Bool) (decides : TestsEquality sa
     -- what d links now
     holder_links : (c : ℕ) → set.contains (links_in (new d)) c ≡ is_one_below same_step a (grown.address c)
     holder_links c = linked c ∙ ap (λ t. nat_eq c next || t) (matched.links d c a at_d) ∙ elim (eqb_tells c next) [
-      | inl e ↦ ap (λ t. t || is_one_below same_step a (naming.address c)) e.0 ∙ sym (ap (is_one_below same_step a) (ap grown.address e.1 ∙ new_here) ∙ same_itself same_step decides a)
+      | inl e ↦
+          ap (λ t. t || is_one_below same_step a (naming.address c)) e.0
+          ∙ sym (ap (is_one_below same_step a) (ap grown.address e.1 ∙ new_here) ∙ same_itself same_step decides a)
       | inr e ↦ ap (λ t. t || is_one_below same_step a (naming.address c)) e.0 ∙ sym (ap (is_one_below same_step a) (old_here c e.1))
     ]
 
-    added_links : (q c : ℕ) (b : Address X) → grown.address q ≡ Some b → set.contains (links_in (new q)) c ≡ is_one_below same_step b (grown.address c)
+    added_links : (q c : ℕ) (b : Address X) → grown.address q ≡ Some b
+        → set.contains (links_in (new q)) c ≡ is_one_below same_step b (grown.address c)
     added_links q c b i = elim (eqb_tells q d) [
       | inl e ↦
           let is : a ≡ b = inner a b (sym at_d ∙ sym (old_here d d_old) ∙ ap grown.address (sym e.1) ∙ i) in
@@ -163,14 +200,19 @@ module _ {X : Type 0} (same_step : X → X → Bool) (decides : TestsEquality sa
         | inl j ↦
             let is : x ∷ a ≡ b = inner (x ∷ a) b (sym new_here ∙ ap grown.address (sym j.1) ∙ i) in
             ap (λ p. set.contains (links_in (new p)) c) j.1 ∙ leaf c
-            ∙ sym (ap (λ (y : Address X). is_one_below same_step y (grown.address c)) (sym is) ∙ added_child c (x ∷ a) (λ k. longer same_step decides x a (sym k)) ∙ no_child c)
+            ∙ sym (ap (λ (y : Address X). is_one_below same_step y (grown.address c)) (sym is)
+            ∙ added_child c (x ∷ a) (λ k. longer same_step decides x a (sym k)) ∙ no_child c)
         | inr j ↦
             let k : naming.address q ≡ Some b = sym (old_here q j.1) ∙ i in
-            ap (λ o. set.contains (links_in o) c) (others q j.1 e.1) ∙ matched.links q c b k ∙ sym (added_child c b (λ l. e.1 (same_number same_step decides objects next expected naming matched q d b k (at_d ∙ ap Some l))))
+            ap (λ o. set.contains (links_in o) c) (others q j.1 e.1) ∙ matched.links q c b k
+            ∙ sym (added_child c b (λ l. e.1 (same_number same_step decides objects next expected naming matched q d b k
+            (at_d ∙ ap Some l))))
       ]
     ]
 
-    pub matched_added : MatchesNaming same_step new (next + 1) (set_at same_step (set_at same_step expected (x ∷ a) (new next)) a (new d)) (with_number same_step naming next (x ∷ a))
+    pub matched_added : MatchesNaming same_step new (next + 1)
+        (set_at same_step (set_at same_step expected (x ∷ a) (new next)) a (new d))
+        (with_number same_step naming next (x ∷ a))
     unfolding grown grown_expected
     matched_added = record {
       as_expected = added_expected;

@@ -16,7 +16,9 @@ pub record LinkAt {X : Type 0} (naming : Naming X) (p c : ℕ) : Type 0 where
   pub at_holder : naming.address p ≡ Some above
   pub at_linked : naming.address c ≡ Some (step ∷ above)
 
-module _ {X : Type 0} (same_step : X → X → Bool) (decides : TestsEquality same_step) {L : Type 0} (objects : Objects L) (next : ℕ) (expected : Address X → Option (Object L)) (naming : Naming X) (matched : MatchesNaming same_step objects next expected naming) where
+module _ {X : Type 0} (same_step : X → X → Bool) (decides : TestsEquality same_step) {L : Type 0} (objects : Objects L)
+    (next : ℕ) (expected : Address X → Option (Object L)) (naming : Naming X)
+    (matched : MatchesNaming same_step objects next expected naming) where
   -- two numbers of one address are the same
   pub same_number : (p q : ℕ) (a : Address X) → naming.address p ≡ Some a → naming.address q ≡ Some a → p ≡ q
   same_number p q a i j = inner p q (sym (matched.numbered p a i) ∙ matched.numbered q a j)
@@ -30,10 +32,12 @@ module _ {X : Type 0} (same_step : X → X → Bool) (decides : TestsEquality sa
       by (Some q) i k = (q, matched.addressed a q i)
 
   -- what links something has an address, and what it links has one a step below
-  linked_child : (p c : ℕ) → set.contains (links_in (objects p)) c ≡ true → (a : Address X) × (naming.address p ≡ Some a) × (is_one_below same_step a (naming.address c) ≡ true)
+  linked_child : (p c : ℕ) → set.contains (links_in (objects p)) c ≡ true
+      → (a : Address X) × (naming.address p ≡ Some a) × (is_one_below same_step a (naming.address c) ≡ true)
   linked_child p c k = by (naming.address p) refl
     where
-      by : (x : Option (Address X)) → naming.address p ≡ x → (a : Address X) × (naming.address p ≡ Some a) × (is_one_below same_step a (naming.address c) ≡ true)
+      by : (x : Option (Address X)) → naming.address p ≡ x
+          → (a : Address X) × (naming.address p ≡ Some a) × (is_one_below same_step a (naming.address c) ≡ true)
       by None i =
           let gone : objects p ≡ None = matched.as_expected p ∙ ap (wanted expected) i in
           absurd (true≢false (sym k ∙ ap (λ o. set.contains (links_in o) c) gone ∙ sym (none_linked c)))
@@ -49,7 +53,8 @@ module _ {X : Type 0} (same_step : X → X → Bool) (decides : TestsEquality sa
       by (Some (x ∷ b)) i k = (x, i ∙ ap (λ (d : Address X). Some (x ∷ d)) (sym (same_is same_step decides a b k)))
 
   -- what is reached from the object at a has an address at a or below
-  pub reached_under : (o : ℕ) (a : Address X) → naming.address o ≡ Some a → (q : ℕ) → Reached objects o q → (b : Address X) × (naming.address q ≡ Some b) × (under same_step a b ≡ true)
+  pub reached_under : (o : ℕ) (a : Address X) → naming.address o ≡ Some a → (q : ℕ) → Reached objects o q
+      → (b : Address X) × (naming.address q ≡ Some b) × (under same_step a b ≡ true)
   reached_under o a e q here = (a, e, under_itself same_step decides a)
   reached_under o a e q (there p c r k) =
       let up = reached_under o a e p r in
@@ -57,15 +62,19 @@ module _ {X : Type 0} (same_step : X → X → Bool) (decides : TestsEquality sa
       (child.0 ∷ up.0, child.1, under_child same_step decides a up.0 child.0 up.2)
 
   -- and what has an address there is reached
-  pub under_reached : (o : ℕ) (a : Address X) → naming.address o ≡ Some a → (b : Address X) (q : ℕ) → naming.address q ≡ Some b → under same_step a b ≡ true → Reached objects o q
+  pub under_reached : (o : ℕ) (a : Address X) → naming.address o ≡ Some a → (b : Address X) (q : ℕ)
+      → naming.address q ≡ Some b → under same_step a b ≡ true → Reached objects o q
   under_reached o a e [] q i u = subst (Reached objects o) (same_number o q [] (e ∙ ap Some (same_is same_step decides a [] u)) i) here
   under_reached o a e (x ∷ b) q i u =
       let up = number_of b (matched.held x b (ap is_some (matched.numbered q (x ∷ b) i))) in
       by up.0 up.1 (λ v. under_reached o a e b up.0 up.1 v) (same_steps same_step a (x ∷ b)) refl
     where
-      by : (p : ℕ) → naming.address p ≡ Some b → (under same_step a b ≡ true → Reached objects o p) → (t : Bool) → same_steps same_step a (x ∷ b) ≡ t → Reached objects o q
+      by : (p : ℕ) → naming.address p ≡ Some b → (under same_step a b ≡ true → Reached objects o p) → (t : Bool)
+          → same_steps same_step a (x ∷ b) ≡ t → Reached objects o q
       by p j up true k = subst (Reached objects o) (same_number o q (x ∷ b) (e ∙ ap Some (same_is same_step decides a (x ∷ b) k)) i) here
-      by p j up false k = there p q (up (sym (ap (λ t. t || under same_step a b) k) ∙ u)) (matched.links p q b j ∙ ap (is_one_below same_step b) i ∙ same_itself same_step decides b)
+      by p j up false k =
+          there p q (up (sym (ap (λ t. t || under same_step a b) k) ∙ u))
+          (matched.links p q b j ∙ ap (is_one_below same_step b) i ∙ same_itself same_step decides b)
 
   module _ (o : ℕ) (a : Address X) (at_o : naming.address o ≡ Some a) where
     -- what has no address at a or below is not reached
@@ -99,7 +108,8 @@ module _ {X : Type 0} (same_step : X → X → Bool) (decides : TestsEquality sa
   pub no_way_back : (o q : ℕ) → Reached objects o q → set.contains (links_in (objects q)) o ≡ true → ⊥
   no_way_back o q r k =
       let l = link_at q o k in
-      not_reached o (l.step ∷ l.above) l.at_linked q (ap (is_under same_step (l.step ∷ l.above)) l.at_holder ∙ above same_step decides l.above l.step) r
+      not_reached o (l.step ∷ l.above) l.at_linked q
+      (ap (is_under same_step (l.step ∷ l.above)) l.at_holder ∙ above same_step decides l.above l.step) r
 
   -- an object is linked by one other at most
   pub one_holder : (p q c : ℕ) → set.contains (links_in (objects p)) c ≡ true → set.contains (links_in (objects q)) c ≡ true → p ≡ q

@@ -1,5 +1,6 @@
 -- A root container alone is a tree, and so are the objects of the empty kernel.
-use Rattle.std.proofs.Common.{◌≡◌, ◌≢◌, ℕ, ◌<◌, nat_eq, true, false, [], ◌∷◌, Option, None, Some, inl, inr, arith, refl, sym, ap, ◌∙◌, subst, lit<, if◌then◌else◌}
+use Rattle.std.proofs.Common.{◌≡◌, ◌≢◌, ℕ, ◌<◌, nat_eq, true, false, [], ◌∷◌, Option, None, Some, inl, inr, arith, refl, sym, ap, ◌∙◌, subst, lit<}
+use Rattle.std.proofs.Common.{if◌then◌else◌}
 use Rattle.std.specs.Prelude.{is_some}
 use Rattle.std.specs.FinSet as set
 use Rattle.std.specs.Ordering.{nat_cmp}
@@ -78,7 +79,9 @@ module _ {L : Type 0} (root next : ℕ) (o : Object L) (below : root < next) (le
       numbered = root_numbered;
       addressed = root_addressed;
       held = root_held;
-      links = λ q c a i. let k = is_root q a i in ap (λ p. set.contains (links_in (put no_objects root o p)) c) k.0 ∙ ap (λ y. set.contains (links_in y) c) (put_here no_objects root o) ∙ leaf c ∙ sym (root_no_child a c);
+      links =
+          λ q c a i. let k = is_root q a i in ap (λ p. set.contains (links_in (put no_objects root o p)) c) k.0
+          ∙ ap (λ y. set.contains (links_in y) c) (put_here no_objects root o) ∙ leaf c ∙ sym (root_no_child a c);
       unused = λ q l. elsewhere q (λ e. omega arith);
     });
     rooted = at_root;
@@ -87,8 +90,12 @@ module _ {L : Type 0} (root next : ℕ) (o : Object L) (below : root < next) (le
   }
 
 -- a table that was given its root alone has a tree
-pub tree_first : {L : Type 0} (before after : Objects L) (root : ℕ) (o : Object L) (next : ℕ) → root < next → ((c : ℕ) → set.contains (kind_links o.kind) c ≡ false) → before ≡ no_objects → after ≡ put before root o → IsTree after root next
-tree_first before after root o next below leaf none is = subst (λ (x : Objects _). IsTree x root next) (sym (is ∙ ap (λ (x : Objects _). put x root o) none)) (tree_root root next o below leaf)
+pub tree_first : {L : Type 0} (before after : Objects L) (root : ℕ) (o : Object L) (next : ℕ) → root < next
+    → ((c : ℕ) → set.contains (kind_links o.kind) c ≡ false) → before ≡ no_objects → after ≡ put before root o
+    → IsTree after root next
+tree_first before after root o next below leaf none is =
+    subst (λ (x : Objects _). IsTree x root next) (sym (is ∙ ap (λ (x : Objects _). put x root o) none))
+    (tree_root root next o below leaf)
 
 -- the root container of the empty kernel before it links the boot thread
 bare_root : Object Levels
@@ -99,7 +106,8 @@ pub tree_empty_state : IsTree empty_state.objects 1 3
 unfolding bare_root
 tree_empty_state =
     subst (λ (x : Objects Levels). IsTree x 1 3) (λ i q. linked q i)
-    (tree_new (put no_objects 1 bare_root) 1 2 (tree_root 1 2 bare_root (lit< tt) (λ c. set.contains-empty nat_cmp c)) 1 boot_thread refl (λ c. set.contains-empty nat_cmp c))
+    (tree_new (put no_objects 1 bare_root) 1 2 (tree_root 1 2 bare_root (lit< tt) (λ c. set.contains-empty nat_cmp c))
+    1 boot_thread refl (λ c. set.contains-empty nat_cmp c))
   where
     linked : (q : ℕ) → with_new (put no_objects 1 bare_root) 1 2 boot_thread q ≡ empty_state.objects q
     linked q = elim (eqb_tells q 1) [

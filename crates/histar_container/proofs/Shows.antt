@@ -16,7 +16,8 @@ module _ {Id : Type 0} (labels : Id → Option Levels) where
   step true x o p e = refl
   step false x o p e = e
 
-  shows_listed : (es : List (ℕ × Object Id)) (q : ℕ) → object_at (listed_shown labels es) q ≡ option_map (object_by (label_at labels)) (object_at es q)
+  shows_listed : (es : List (ℕ × Object Id)) (q : ℕ)
+      → object_at (listed_shown labels es) q ≡ option_map (object_by (label_at labels)) (object_at es q)
   shows_listed [] q = refl
   shows_listed (e ∷ es) q = step (is_at (nat_cmp q) e.0) e.1 _ _ (shows_listed es q)
 

@@ -1,5 +1,6 @@
 -- A table whose objects are a tree stays one: an object is put or changed, a new one is linked, a tree is cut off.
-use Rattle.std.proofs.Common.{◌≡◌, ◌≢◌, ℕ, ◌+◌, nat_eq, Bool, true, false, List, [], ◌∷◌, Option, None, Some, arith, ◌⊎◌, inl, inr, refl, sym, ap, ◌∙◌, subst, if◌then◌else◌}
+use Rattle.std.proofs.Common.{◌≡◌, ◌≢◌, ℕ, ◌+◌, nat_eq, Bool, true, false, List, [], ◌∷◌, Option, None, Some, arith, ◌⊎◌, inl, inr, refl, sym, ap}
+use Rattle.std.proofs.Common.{◌∙◌, subst, if◌then◌else◌}
 use Rattle.std.specs.Prelude.{option_map, option_and_then}
 use Rattle.std.specs.FinSet as set
 use mathlib.Core.Bool.{true≢false, false≢true}
@@ -7,9 +8,11 @@ use Rattle.std.proofs.lemmas.Bool.Decides.{eqb_tells}
 use Rattle.histar_object.specs.declared.objects.Kind.{Kind}
 use Rattle.histar_object.specs.declared.objects.Kind.TheVariants.{Segment, Container, Thread, Gate}
 use Rattle.histar_object.specs.declared.objects.Object.{Object}
-use Rattle.histar_object.specs.Objects.{Objects, put, changed_at, with_new, linking, unlinking, kind_holding, holding, links_in, kind_links, is_present, is_container}
+use Rattle.histar_object.specs.Objects.{Objects, put, changed_at, with_new, linking, unlinking, kind_holding, holding, links_in, kind_links}
+use Rattle.histar_object.specs.Objects.{is_present, is_container}
 use Rattle.histar_object.proofs.Changes.{at_each, put_changed}
-use Rattle.histar_container.specs.Tree.{Address, Naming, wanted, is_under, with_number, without_below, objects_at, MatchesNaming, IsTree, AreTree, Reached, IsCut}
+use Rattle.histar_container.specs.Tree.{Address, Naming, wanted, is_under, with_number, without_below, objects_at, MatchesNaming, IsTree, AreTree}
+use Rattle.histar_container.specs.Tree.{Reached, IsCut}
 use Rattle.histar_container.proofs.Links.{none_linked}
 use Rattle.histar_container.proofs.Addresses.{inner}
 use Rattle.histar_container.proofs.Reaching.{LinkAt, link_at, reached_under, not_reached, reached_or_not, no_way_back, one_holder}
@@ -19,7 +22,9 @@ use Rattle.histar_container.proofs.TableMoves.{put_here, put_other, new_there, n
 
 module _ {L X : Type 0} (same_step : X → X → Bool) where
   -- objects that are laid out in some way are laid out as themselves
-  pub matched_itself : (objects : Objects L) (next : ℕ) (expected : Address X → Option (Object L)) (naming : Naming X) → MatchesNaming same_step objects next expected naming → MatchesNaming same_step objects next (objects_at objects naming) naming
+  pub matched_itself : (objects : Objects L) (next : ℕ) (expected : Address X → Option (Object L)) (naming : Naming X)
+      → MatchesNaming same_step objects next expected naming
+      → MatchesNaming same_step objects next (objects_at objects naming) naming
   matched_itself objects next expected naming matched = record {
     as_expected = λ q. by q (naming.address q) refl;
     numbered = matched.numbered;
@@ -72,7 +77,8 @@ module _ {L : Type 0} where
     link_addresses = link_at nat_eq eqb_tells objects next (objects_at objects tree.naming) tree.naming tree.matched
 
     -- what has no address at a or below is not reached from there
-    not_below : (o : ℕ) (a : Address ℕ) → tree.naming.address o ≡ Some a → (q : ℕ) → is_under nat_eq a (tree.naming.address q) ≡ false → Reached objects o q → ⊥
+    not_below : (o : ℕ) (a : Address ℕ) → tree.naming.address o ≡ Some a → (q : ℕ)
+        → is_under nat_eq a (tree.naming.address q) ≡ false → Reached objects o q → ⊥
     not_below = not_reached nat_eq eqb_tells objects next (objects_at objects tree.naming) tree.naming tree.matched
 
     -- what has an address is not the next number
@@ -115,12 +121,16 @@ module _ {L : Type 0} where
         reached_or_not nat_eq eqb_tells objects next (objects_at objects tree.naming) tree.naming tree.matched o at_o.0 at_o.1
 
     -- an object with the same links is put in the place of one that is there
-    pub tree_put : (n : ℕ) (o : Object L) → is_present (objects n) ≡ true → ((c : ℕ) → set.contains (kind_links o.kind) c ≡ set.contains (links_in (objects n)) c) → IsTree (put objects n o) root next
+    pub tree_put : (n : ℕ) (o : Object L) → is_present (objects n) ≡ true
+        → ((c : ℕ) → set.contains (kind_links o.kind) c ≡ set.contains (links_in (objects n)) c)
+        → IsTree (put objects n o) root next
     tree_put n o t same_links =
         let at_n = address_of n t in
         record {
           naming = tree.naming;
-          matched = matched_itself nat_eq (put objects n o) next _ tree.naming (matched_put nat_eq eqb_tells objects next (objects_at objects tree.naming) tree.naming tree.matched n at_n.0 o at_n.1 same_links);
+          matched =
+              matched_itself nat_eq (put objects n o) next _ tree.naming (matched_put nat_eq eqb_tells objects next
+              (objects_at objects tree.naming) tree.naming tree.matched n at_n.0 o at_n.1 same_links);
           rooted = tree.rooted;
           own_step = tree.own_step;
           filled = λ q a i. elim (eqb_tells q n) [
@@ -130,11 +140,14 @@ module _ {L : Type 0} where
         }
 
     -- an object is changed, and its links stay
-    pub tree_changed : (n : ℕ) (f : Object L → Object L) → ((o : Object L) → kind_links (f o).kind ≡ kind_links o.kind) → IsTree (changed_at objects n f) root next
+    pub tree_changed : (n : ℕ) (f : Object L → Object L) → ((o : Object L) → kind_links (f o).kind ≡ kind_links o.kind)
+        → IsTree (changed_at objects n f) root next
     tree_changed n f same_links = by (objects n) refl
       where
         unchanged : objects n ≡ None → objects ≡ changed_at objects n f
-        unchanged none i q = sym (at_each objects n q (option_map f (objects q)) (objects q) (objects q) (λ e. ap (option_map f) (ap objects e ∙ none) ∙ sym (ap objects e ∙ none)) (λ e. refl)) i
+        unchanged none i q =
+            sym (at_each objects n q (option_map f (objects q)) (objects q) (objects q)
+            (λ e. ap (option_map f) (ap objects e ∙ none) ∙ sym (ap objects e ∙ none)) (λ e. refl)) i
 
         by : (y : Option (Object L)) → objects n ≡ y → IsTree (changed_at objects n f) root next
         by None is = subst (λ (x : Objects L). IsTree x root next) (unchanged is) tree
@@ -147,29 +160,38 @@ module _ {L : Type 0} where
     tree_held n bytes = tree_changed n (holding bytes) (λ o. kind_held_links bytes o.kind)
 
     -- a new object that links nothing is linked by a container, under the next number
-    pub tree_new : (d : ℕ) (o : Object L) → is_container (objects d) ≡ true → ((c : ℕ) → set.contains (kind_links o.kind) c ≡ false) → IsTree (with_new objects d next o) root (next + 1)
+    pub tree_new : (d : ℕ) (o : Object L) → is_container (objects d) ≡ true
+        → ((c : ℕ) → set.contains (kind_links o.kind) c ≡ false) → IsTree (with_new objects d next o) root (next + 1)
     tree_new d o container leaf =
         let at_d = address_of d (container_there (objects d) container) in
         let apart = not_next d at_d.0 at_d.1 in
         record {
           naming = with_number nat_eq tree.naming next (next ∷ at_d.0);
           matched = matched_itself nat_eq (with_new objects d next o) (next + 1) _ (with_number nat_eq tree.naming next (next ∷ at_d.0))
-              (matched_new nat_eq eqb_tells objects next (objects_at objects tree.naming) tree.naming tree.matched d at_d.0 next o at_d.1 (free at_d.0 (tree.naming.number (next ∷ at_d.0)) refl) container leaf);
+              (matched_new nat_eq eqb_tells objects next (objects_at objects tree.naming) tree.naming tree.matched d
+              at_d.0 next o at_d.1 (free at_d.0 (tree.naming.number (next ∷ at_d.0)) refl) container leaf);
           rooted = elim (eqb_tells root next) [
             | inl e ↦ absurd (not_next root [] tree.rooted e.1)
             | inr e ↦ ap (λ b. if b then Some (next ∷ at_d.0) else tree.naming.address root) e.0 ∙ tree.rooted
           ];
           own_step = λ q x a i. elim (eqb_tells q next) [
             | inl e ↦
-                let same : next ∷ at_d.0 ≡ x ∷ a = inner (next ∷ at_d.0) (x ∷ a) (sym (ap (λ b. if b then Some (next ∷ at_d.0) else tree.naming.address q) e.0) ∙ i) in
+                let same : next ∷ at_d.0 ≡ x ∷ a =
+                inner (next ∷ at_d.0) (x ∷ a)
+                (sym (ap (λ b. if b then Some (next ∷ at_d.0) else tree.naming.address q) e.0) ∙ i) in
                 let step : next ≡ x = cc in sym step ∙ sym e.1
             | inr e ↦ tree.own_step q x a (sym (ap (λ b. if b then Some (next ∷ at_d.0) else tree.naming.address q) e.0) ∙ i)
           ];
           filled = λ q a i. elim (eqb_tells q next) [
             | inl e ↦ ap is_present (ap (with_new objects d next o) e.1 ∙ new_there objects next d o)
             | inr e ↦ elim (eqb_tells q d) [
-              | inl k ↦ ap is_present (ap (with_new objects d next o) k.1 ∙ new_holder objects next d o apart) ∙ changed_there (linking next) (objects d) (container_there (objects d) container)
-              | inr k ↦ ap is_present (new_other objects next d o q e.1 k.1) ∙ tree.filled q a (sym (ap (λ b. if b then Some (next ∷ at_d.0) else tree.naming.address q) e.0) ∙ i)
+              | inl k ↦
+                  ap is_present (ap (with_new objects d next o) k.1 ∙ new_holder objects next d o apart)
+                  ∙ changed_there (linking next) (objects d) (container_there (objects d) container)
+              | inr k ↦
+                  ap is_present (new_other objects next d o q e.1 k.1)
+                  ∙ tree.filled q a
+                  (sym (ap (λ b. if b then Some (next ∷ at_d.0) else tree.naming.address q) e.0) ∙ i)
             ]
           ];
         }
@@ -187,7 +209,10 @@ module _ {L : Type 0} where
         let l = link_addresses d o k in
         record {
           naming = without_below nat_eq tree.naming (l.step ∷ l.above);
-          matched = matched_itself nat_eq new next _ (without_below nat_eq tree.naming (l.step ∷ l.above)) (matched_without nat_eq eqb_tells objects next (objects_at objects tree.naming) tree.naming tree.matched new d o l.above l.step is_cut l.at_linked l.at_holder);
+          matched =
+              matched_itself nat_eq new next _ (without_below nat_eq tree.naming (l.step ∷ l.above))
+              (matched_without nat_eq eqb_tells objects next (objects_at objects tree.naming) tree.naming
+              tree.matched new d o l.above l.step is_cut l.at_linked l.at_holder);
           rooted = ap (λ y. if is_under nat_eq (l.step ∷ l.above) y then None else y) tree.rooted;
           own_step = λ q x a i. tree.own_step q x a (some_left _ _ (x ∷ a) i).1;
           filled = λ q a i.
@@ -199,9 +224,19 @@ module _ {L : Type 0} where
         }
 
   -- so what is left is a tree again
-  pub trees_cut : (objects new : Objects L) (d o : ℕ) → AreTree objects → set.contains (links_in (objects d)) o ≡ true → IsCut objects d o new → AreTree new
-  trees_cut objects new d o trees linked is_cut = record { root = trees.root; next = trees.next; tree = tree_cut objects trees.root trees.next trees.tree d o new linked is_cut }
+  pub trees_cut : (objects new : Objects L) (d o : ℕ) → AreTree objects → set.contains (links_in (objects d)) o ≡ true
+      → IsCut objects d o new → AreTree new
+  trees_cut objects new d o trees linked is_cut =
+      record {
+        root = trees.root;
+        next = trees.next;
+        tree = tree_cut objects trees.root trees.next trees.tree d o new linked is_cut;
+      }
 
   -- and a table that was given one object more has a tree too
-  pub tree_linked : (before after : Objects L) (root next d n : ℕ) (o : Object L) → IsTree before root next → n ≡ next → is_container (before d) ≡ true → ((c : ℕ) → set.contains (kind_links o.kind) c ≡ false) → after ≡ with_new before d n o → IsTree after root (next + 1)
-  tree_linked before after root next d n o tree same container leaf is = subst (λ (x : Objects L). IsTree x root (next + 1)) (sym (is ∙ ap (λ (k : ℕ). with_new before d k o) same)) (tree_new before root next tree d o container leaf)
+  pub tree_linked : (before after : Objects L) (root next d n : ℕ) (o : Object L) → IsTree before root next → n ≡ next
+      → is_container (before d) ≡ true → ((c : ℕ) → set.contains (kind_links o.kind) c ≡ false)
+      → after ≡ with_new before d n o → IsTree after root (next + 1)
+  tree_linked before after root next d n o tree same container leaf is =
+      subst (λ (x : Objects L). IsTree x root (next + 1)) (sym (is ∙ ap (λ (k : ℕ). with_new before d k o) same))
+      (tree_new before root next tree d o container leaf)

@@ -1,5 +1,6 @@
 -- Differences of tables as changes between flat states, and what it means that there is none.
-use Rattle.std.specs.Prelude.{◌≡◌, ℕ, ◌+◌, ◌&&◌, Bool, true, false, is_some, cond, if◌then◌else◌, List, [], ◌∷◌, map, Option, None, Some, option_map, refl}
+use Rattle.std.specs.Prelude.{◌≡◌, ℕ, ◌+◌, ◌&&◌, Bool, true, false, is_some, cond, if◌then◌else◌, List, [], ◌∷◌, map, Option, None, Some, option_map}
+use Rattle.std.specs.Prelude.{refl}
 use Rattle.std.proofs.Common.{ap, sym, ◌∙◌, subst}
 use Rattle.std.proofs.lemmas.Bool.{true≢false}
 use Rattle.std.proofs.lemmas.Option.{none-some}

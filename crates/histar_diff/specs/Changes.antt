@@ -47,7 +47,8 @@ AnswersAre accounts calls me q letters _ _ = letters ≡ no_rights
 -- the same of what the flat state after the calls has
 abbrev pub IsAnsweredBy : Accounts → List CallLine → ProcName → Path → Rights → Type 0
 IsAnsweredBy accounts calls me q letters =
-    AnswersAre accounts calls me q letters (get (flat_end accounts (boot accounts) calls).files q) (running (flat_end accounts (boot accounts) calls) me)
+    AnswersAre accounts calls me q letters (get (flat_end accounts (boot accounts) calls).files q)
+    (running (flat_end accounts (boot accounts) calls) me)
 
 -- the same letters say what a process is answered at a path after each of two scripts
 pub record IsAnsweredAlike (accounts : Accounts) (calls : List CallLine) (later : Accounts) (more : List CallLine) (me : ProcName)

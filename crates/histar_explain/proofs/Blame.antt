@@ -10,8 +10,10 @@ use Rattle.histar_rules.specs.Rights.{in_span, may_clear, is_own_below, is_let_i
 use Rattle.histar_rules.specs.declared.raw.Denied.{Denied}
 use Rattle.histar_rules.specs.declared.raw.Denied.TheVariants.{Observe, Modify, Range, Gate, NoEntry, NoThread, BadKind, TooBig}
 use Rattle.histar_rules.specs.declared.raw.RawCall.{RawCall}
-use Rattle.histar_rules.specs.declared.raw.RawCall.TheVariants.{MakeCategory, OwnLabel, SetLabel, SetClearance, MakeSegment, MakeContainer, MakeThread, MakeGate, Enter, Read, Write, Unlink, LabelOf}
-use Rattle.histar_rules.specs.Rules.{check, no_thread, no_container, no_link, no_segment, no_gate, no_making, known, fits_segment, has_number, greatest}
+use Rattle.histar_rules.specs.declared.raw.RawCall.TheVariants.{MakeCategory, OwnLabel, SetLabel, SetClearance, MakeSegment, MakeContainer}
+use Rattle.histar_rules.specs.declared.raw.RawCall.TheVariants.{MakeThread, MakeGate, Enter, Read, Write, Unlink, LabelOf}
+use Rattle.histar_rules.specs.Rules.{check, no_thread, no_container, no_link, no_segment, no_gate, no_making, known, fits_segment, has_number}
+use Rattle.histar_rules.specs.Rules.{greatest}
 use Rattle.histar_explain.specs.Named.{container_named, object_named}
 use Rattle.histar_explain.specs.Obstacles.{bytes_after, has_next}
 
@@ -31,7 +33,8 @@ passes_ranges s t (MakeSegment d label bytes) = in_range (s.objects t) label && 
 passes_ranges s t (MakeContainer d label) = in_range (s.objects t) label && (known s label && not (has_star label))
 passes_ranges s t (MakeThread d label clearance) = in_span (s.objects t) label clearance && (known s label && known s clearance)
 passes_ranges s t (MakeGate d label clearance entry) = in_span (s.objects t) label clearance && (known s label && known s clearance)
-passes_ranges s t (Enter d o wanted clearance shown) = in_gate (s.objects t) (s.objects o) wanted clearance && (known s wanted && (known s clearance && known s shown))
+passes_ranges s t (Enter d o wanted clearance shown) =
+    in_gate (s.objects t) (s.objects o) wanted clearance && (known s wanted && (known s clearance && known s shown))
 passes_ranges s t call = true
 
 -- whichever test of a call is the one that fails with a denial, P follows
@@ -92,7 +95,9 @@ module _ {P : Type 0} (x : Denied) where
 
   -- two tests of a label
   by_pair : (a b : Bool) → ((a && b) ≡ false → Range ≡ x → P) → (unless a Range orelse unless b Range) ≡ Some x → P
-  by_pair a b range = by_orelse (unless a Range) (unless b Range) (by_unless a Range (λ h. range (and_first a b h))) (by_unless b Range (λ h. range (and_second a b h)))
+  by_pair a b range =
+      by_orelse (unless a Range) (unless b Range) (by_unless a Range (λ h. range (and_first a b h)))
+      (by_unless b Range (λ h. range (and_second a b h)))
 
 module _ {P : Type 0} (s : State) (t : ℕ) (call : RawCall) (x : Denied) (h : Blames s t call x P) where
   by_thread : no_thread s t ≡ Some x → P
@@ -107,38 +112,59 @@ module _ {P : Type 0} (s : State) (t : ℕ) (call : RawCall) (x : Denied) (h : B
       (by_unless x (observes (s.objects t) d) Observe (λ _. h.observe))))
 
   by_making : no_making s t (container_named call) ≡ Some x → P
-  by_making = by_orelse x (no_container s t (container_named call)) _ by_container (by_unless x (modifies (s.objects t) (s.objects (container_named call))) Modify (λ _. h.modify))
+  by_making =
+      by_orelse x (no_container s t (container_named call)) _ by_container
+      (by_unless x (modifies (s.objects t) (s.objects (container_named call))) Modify (λ _. h.modify))
 
   by_link : no_link s t (container_named call) (object_named call) ≡ Some x → P
-  by_link = by_orelse x (no_container s t (container_named call)) _ by_container (by_unless x (set.contains (links_in (s.objects (container_named call))) (object_named call)) NoEntry h.link)
+  by_link =
+      by_orelse x (no_container s t (container_named call)) _ by_container
+      (by_unless x (set.contains (links_in (s.objects (container_named call))) (object_named call)) NoEntry h.link)
 
   -- an object of the wanted kind
-  by_kind : (b : Bool) → (b ≡ false → is_wanted s call ≡ false) → (no_link s t (container_named call) (object_named call) orelse unless b BadKind) ≡ Some x → P
-  by_kind b wanted = by_orelse x (no_link s t (container_named call) (object_named call)) (unless b BadKind) by_link (by_unless x b BadKind (λ e. h.kind (wanted e)))
+  by_kind : (b : Bool) → (b ≡ false → is_wanted s call ≡ false)
+      → (no_link s t (container_named call) (object_named call) orelse unless b BadKind) ≡ Some x → P
+  by_kind b wanted =
+      by_orelse x (no_link s t (container_named call) (object_named call)) (unless b BadKind) by_link
+      (by_unless x b BadKind (λ e. h.kind (wanted e)))
 
 -- which test of a call fails
 pub blame : {P : Type 0} (s : State) (t : ℕ) (call : RawCall) (x : Denied) → Blames s t call x P → check s t call ≡ Some x → P
-blame s t MakeCategory x h e = by_orelse x (no_thread s t) _ (by_thread s t MakeCategory x h) (by_unless x (nat_lt s.next_category greatest) TooBig h.number) e
+blame s t MakeCategory x h e =
+    by_orelse x (no_thread s t) _ (by_thread s t MakeCategory x h)
+    (by_unless x (nat_lt s.next_category greatest) TooBig h.number) e
 blame s t OwnLabel x h e = by_thread s t OwnLabel x h e
-blame s t (SetLabel label) x h e = by_orelse x (no_thread s t) _ (by_thread s t (SetLabel label) x h) (by_pair x (in_range (s.objects t) label) (known s label) h.range) e
-blame s t (SetClearance clearance) x h e = by_orelse x (no_thread s t) _ (by_thread s t (SetClearance clearance) x h) (by_pair x (may_clear (s.objects t) clearance) (known s clearance) h.range) e
+blame s t (SetLabel label) x h e =
+    by_orelse x (no_thread s t) _ (by_thread s t (SetLabel label) x h)
+    (by_pair x (in_range (s.objects t) label) (known s label) h.range) e
+blame s t (SetClearance clearance) x h e =
+    by_orelse x (no_thread s t) _ (by_thread s t (SetClearance clearance) x h)
+    (by_pair x (may_clear (s.objects t) clearance) (known s clearance) h.range) e
 blame s t (MakeSegment d label bytes) x h e = by_orelse x (no_making s t d) _ (by_making s t (MakeSegment d label bytes) x h)
-    (by_five x (in_range (s.objects t) label) (known s label) (not (has_star label)) (fits_segment (length bytes)) (has_number s) h.range h.size h.number) e
+    (by_five x (in_range (s.objects t) label) (known s label) (not (has_star label)) (fits_segment (length bytes))
+    (has_number s) h.range h.size h.number) e
 blame s t (MakeContainer d label) x h e = by_orelse x (no_making s t d) _ (by_making s t (MakeContainer d label) x h)
     (by_five x (in_range (s.objects t) label) (known s label) (not (has_star label)) (fits_segment 0) (has_number s) h.range h.size h.number) e
 blame s t (MakeThread d label clearance) x h e = by_orelse x (no_making s t d) _ (by_making s t (MakeThread d label clearance) x h)
     (by_four x (in_span (s.objects t) label clearance) (known s label) (known s clearance) (has_number s) h.range h.number) e
 blame s t (MakeGate d label clearance entry) x h e = by_orelse x (no_making s t d) _ (by_making s t (MakeGate d label clearance entry) x h)
     (by_four x (in_span (s.objects t) label clearance) (known s label) (known s clearance) (has_number s) h.range h.number) e
-blame s t (Enter d o wanted clearance shown) x h e = by_orelse x (no_gate s t d o) _ (by_kind s t (Enter d o wanted clearance shown) x h (is_gate (s.objects o)) (λ e. e))
+blame s t (Enter d o wanted clearance shown) x h e =
+    by_orelse x (no_gate s t d o) _
+    (by_kind s t (Enter d o wanted clearance shown) x h (is_gate (s.objects o)) (λ e. e))
     (by_orelse x (unless (is_let_in (s.objects t) (s.objects o)) Gate) _ (by_unless x (is_let_in (s.objects t) (s.objects o)) Gate (λ _. h.gate))
     (by_orelse x (unless (is_own_below (s.objects t) shown) Gate) _ (by_unless x (is_own_below (s.objects t) shown) Gate (λ _. h.gate))
     (by_ranges x (in_gate (s.objects t) (s.objects o) wanted clearance) (known s wanted) (known s clearance) (known s shown) h.range))) e
-blame s t (Read d o) x h e = by_orelse x (no_segment s t d o) _ (by_kind s t (Read d o) x h (is_segment (s.objects o)) (λ e. e)) (by_unless x (observes (s.objects t) (s.objects o)) Observe (λ _. h.observe)) e
-blame s t (Write d o keep bytes) x h e = by_orelse x (no_segment s t d o) _ (by_kind s t (Write d o keep bytes) x h (is_segment (s.objects o)) (λ e. e))
+blame s t (Read d o) x h e =
+    by_orelse x (no_segment s t d o) _ (by_kind s t (Read d o) x h (is_segment (s.objects o)) (λ e. e))
+    (by_unless x (observes (s.objects t) (s.objects o)) Observe (λ _. h.observe)) e
+blame s t (Write d o keep bytes) x h e =
+    by_orelse x (no_segment s t d o) _ (by_kind s t (Write d o keep bytes) x h (is_segment (s.objects o)) (λ e. e))
     (by_orelse x (unless (modifies (s.objects t) (s.objects o)) Modify) _ (by_unless x (modifies (s.objects t) (s.objects o)) Modify (λ _. h.modify))
     (by_unless x (fits_segment (min keep (length (bytes_in (s.objects o))) + length bytes)) TooBig h.size)) e
-blame s t (Unlink d o) x h e = by_orelse x (no_link s t d o) _ (by_link s t (Unlink d o) x h) (by_unless x (modifies (s.objects t) (s.objects d)) Modify (λ _. h.modify)) e
+blame s t (Unlink d o) x h e =
+    by_orelse x (no_link s t d o) _ (by_link s t (Unlink d o) x h)
+    (by_unless x (modifies (s.objects t) (s.objects d)) Modify (λ _. h.modify)) e
 blame s t (LabelOf d o) x h e = by_kind s t (LabelOf d o) x h (not (is_thread (s.objects o))) (λ e. e) e
 
 -- a denial that is another one

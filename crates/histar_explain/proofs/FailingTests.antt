@@ -1,5 +1,6 @@
 -- A denial by comparing labels has a test that fails at some category.
-use Rattle.std.proofs.Common.{◌≡◌, ℕ, List, [], ◌∷◌, max, ◌⊎◌, inl, inr, Bool, true, false, ◌&&◌, ◌||◌, None, Some, unwrap_or, refl, sym, ap, ◌∙◌, arith}
+use Rattle.std.proofs.Common.{◌≡◌, ℕ, List, [], ◌∷◌, max, ◌⊎◌, inl, inr, Bool, true, false, ◌&&◌, ◌||◌, None, Some, unwrap_or, refl, sym, ap, ◌∙◌}
+use Rattle.std.proofs.Common.{arith}
 use Rattle.std.specs.List.{list_all}
 use Rattle.std.proofs.lemmas.Bool.Decides.{nat_tests}
 use mathlib.Core.Bool.{false≢true}
@@ -15,7 +16,8 @@ use Rattle.histar_object.specs.State.{State, Found, observes, modifies}
 use Rattle.histar_rules.specs.Rights.{is_let_in, is_own_below}
 use Rattle.histar_rules.specs.declared.raw.Denied.TheVariants.{Observe, Modify, Range, Gate, NoEntry, NoThread, BadKind, TooBig}
 use Rattle.histar_rules.specs.declared.raw.RawCall.{RawCall}
-use Rattle.histar_rules.specs.declared.raw.RawCall.TheVariants.{MakeCategory, OwnLabel, SetLabel, SetClearance, MakeSegment, MakeContainer, MakeThread, MakeGate, Enter, Read, Write, Unlink, LabelOf}
+use Rattle.histar_rules.specs.declared.raw.RawCall.TheVariants.{MakeCategory, OwnLabel, SetLabel, SetClearance, MakeSegment, MakeContainer}
+use Rattle.histar_rules.specs.declared.raw.RawCall.TheVariants.{MakeThread, MakeGate, Enter, Read, Write, Unlink, LabelOf}
 use Rattle.histar_explain.specs.Comparisons.{exceeds}
 use Rattle.histar_explain.specs.Named.{observed_by, modified_by}
 use Rattle.histar_explain.specs.Tests.{observing, modifying, letting, tests}
@@ -39,7 +41,9 @@ not_all test (e ∷ es) h = elim (one_of_both (test e.0) (list_all (λ e. test e
 ]
 
 -- so does a test that fails for one number or for one of three lists
-pub within_fails : (test : ℕ → Bool) (far : ℕ) (A B C : List (ℕ × Level)) → (test far && (list_all (λ e. test e.0) A && (list_all (λ e. test e.0) B && list_all (λ e. test e.0) C))) ≡ false → FailsSomewhere test
+pub within_fails : (test : ℕ → Bool) (far : ℕ) (A B C : List (ℕ × Level))
+    → (test far && (list_all (λ e. test e.0) A && (list_all (λ e. test e.0) B && list_all (λ e. test e.0) C))) ≡ false
+    → FailsSomewhere test
 within_fails test far A B C h = elim (one_of_both (test far) _ h) [
   | inl here ↦ (far, here)
   | inr near ↦ elim (one_of_both (list_all (λ e. test e.0) A) _ near) [
@@ -66,13 +70,17 @@ raised_exceeds l L3 h = grind (arith, nat_tests, h)
 pub above_somewhere : (L M : Levels) → is_below L M ≡ false → (c : ℕ) × (exceeds false (level_of L c) (level_of M c) ≡ true)
 unfolding is_within
 above_somewhere L M h =
-    let at = within_fails (λ c. nat_le (rank (level_of L c)) (max (rank (level_of M c)) (rank (level_of M c)))) (max (beyond L) (max (beyond M) (beyond M))) (exceptions_of L) (exceptions_of M) (exceptions_of M) h in
+    let at =
+    within_fails (λ c. nat_le (rank (level_of L c)) (max (rank (level_of M c)) (rank (level_of M c))))
+    (max (beyond L) (max (beyond M) (beyond M))) (exceptions_of L) (exceptions_of M) (exceptions_of M) h in
     (at.0, plain_exceeds (level_of L at.0) (level_of M at.0) at.1)
 
 pub raised_somewhere : (L M : Levels) → is_below_raised L M ≡ false → (c : ℕ) × (exceeds true (level_of L c) (level_of M c) ≡ true)
 unfolding is_within
 raised_somewhere L M h =
-    let at = within_fails (λ c. nat_le (rank (level_of L c)) (max (rank (level_of M c)) (raised (level_of M c)))) (max (beyond L) (max (beyond M) (beyond M))) (exceptions_of L) (exceptions_of M) (exceptions_of M) h in
+    let at =
+    within_fails (λ c. nat_le (rank (level_of L c)) (max (rank (level_of M c)) (raised (level_of M c))))
+    (max (beyond L) (max (beyond M) (beyond M))) (exceptions_of L) (exceptions_of M) (exceptions_of M) h in
     (at.0, raised_exceeds (level_of L at.0) (level_of M at.0) at.1)
 
 -- the label that is there, or 1 everywhere
@@ -87,21 +95,31 @@ or_second true b h = refl
 or_second false b h = h
 
 -- some test fails somewhere
-observing_fails : (T A : Found) → is_thread T ≡ true → is_present A ≡ true → observes T A ≡ false → (c : ℕ) × (some_fails_at (observing (label_of_found T) (label_of_found A) ∷ []) c ≡ true)
+observing_fails : (T A : Found) → is_thread T ≡ true → is_present A ≡ true → observes T A ≡ false
+    → (c : ℕ) × (some_fails_at (observing (label_of_found T) (label_of_found A) ∷ []) c ≡ true)
 observing_fails None A thread there refused = absurd (false≢true thread)
 observing_fails (Some t) None thread there refused = absurd (false≢true there)
 observing_fails (Some t) (Some a) thread there refused = let at = raised_somewhere a.label t.label refused in (at.0, ap (λ b. b || false) at.1)
 
-modifying_fails : (T A : Found) → is_thread T ≡ true → is_present A ≡ true → modifies T A ≡ false → (c : ℕ) × (some_fails_at (modifying (label_of_found T) (label_of_found A)) c ≡ true)
+modifying_fails : (T A : Found) → is_thread T ≡ true → is_present A ≡ true → modifies T A ≡ false
+    → (c : ℕ) × (some_fails_at (modifying (label_of_found T) (label_of_found A)) c ≡ true)
 modifying_fails None A thread there refused = absurd (false≢true thread)
 modifying_fails (Some t) None thread there refused = absurd (false≢true there)
 modifying_fails (Some t) (Some a) thread there refused = elim (one_of_both (is_below t.label a.label) (is_below_raised a.label t.label) refused) [
-  | inl above ↦ let at = above_somewhere t.label a.label above in (at.0, ap (λ b. b || (exceeds true (level_of a.label at.0) (level_of t.label at.0) || false)) at.1)
-  | inr unobserved ↦ let at = raised_somewhere a.label t.label unobserved in (at.0, or_second (exceeds false (level_of t.label at.0) (level_of a.label at.0)) _ (ap (λ b. b || false) at.1))
+  | inl above ↦
+      let at = above_somewhere t.label a.label above in
+      (at.0, ap (λ b. b || (exceeds true (level_of a.label at.0) (level_of t.label at.0) || false)) at.1)
+  | inr unobserved ↦
+      let at = raised_somewhere a.label t.label unobserved in (
+        at.0,
+        or_second (exceeds false (level_of t.label at.0) (level_of a.label at.0)) _
+            (ap (λ b. b || false) at.1),
+      )
 ]
 
 -- the clearance of a kind that has one
-pub kind_cleared : (k : ObjectKind Levels) → ((kind_is_thread k ≡ true) ⊎ (kind_is_gate k ≡ true)) → (clearance : Levels) × (kind_clearance k ≡ Some clearance)
+pub kind_cleared : (k : ObjectKind Levels) → ((kind_is_thread k ≡ true) ⊎ (kind_is_gate k ≡ true))
+    → (clearance : Levels) × (kind_clearance k ≡ Some clearance)
 kind_cleared (kinds.Segment bytes) (inl h) = absurd (false≢true h)
 kind_cleared (kinds.Segment bytes) (inr h) = absurd (false≢true h)
 kind_cleared (kinds.Container links) (inl h) = absurd (false≢true h)
@@ -122,7 +140,9 @@ let_in_is T (Some g) thread gate =
     let has = kind_cleared g.kind (inr gate) in
     rw has.1 (own_below_is T thread has.0)
 
-letting_fails : (T G : Found) (shown : Levels) → is_thread T ≡ true → is_gate G ≡ true → ((is_let_in T G ≡ false) ⊎ (is_own_below T shown ≡ false)) → (c : ℕ) × (some_fails_at (letting (label_of_found T) (clearance_of_found G) shown) c ≡ true)
+letting_fails : (T G : Found) (shown : Levels) → is_thread T ≡ true → is_gate G ≡ true
+    → ((is_let_in T G ≡ false) ⊎ (is_own_below T shown ≡ false))
+    → (c : ℕ) × (some_fails_at (letting (label_of_found T) (clearance_of_found G) shown) c ≡ true)
 letting_fails T G shown thread gate (inl out) =
     let at = above_somewhere (label_of_found T) (clearance_of_found G) (sym (let_in_is T G thread gate) ∙ out) in
     (at.0, ap (λ b. b || (exceeds false (level_of (label_of_found T) at.0) (level_of shown at.0) || false)) at.1)
@@ -146,8 +166,12 @@ gate_rests s t (Unlink d o) out = absurd out
 gate_rests s t (LabelOf d o) out = absurd out
 
 pub denials_rest_on_tests : DenialsRestOnTests
-denials_rest_on_tests s t call Observe compared e = let at = observe_refused s t call e in observing_fails (s.objects t) (s.objects (observed_by s t call)) at.caller at.there at.refused
-denials_rest_on_tests s t call Modify compared e = let at = modify_refused s t call e in modifying_fails (s.objects t) (s.objects (modified_by call)) at.caller at.there at.refused
+denials_rest_on_tests s t call Observe compared e =
+    let at = observe_refused s t call e in observing_fails (s.objects t) (s.objects (observed_by s t call)) at.caller
+    at.there at.refused
+denials_rest_on_tests s t call Modify compared e =
+    let at = modify_refused s t call e in modifying_fails (s.objects t) (s.objects (modified_by call)) at.caller
+    at.there at.refused
 denials_rest_on_tests s t call Gate compared e = gate_rests s t call (gate_refusal s t call e)
 denials_rest_on_tests s t call Range compared e = absurd (false≢true compared)
 denials_rest_on_tests s t call NoEntry compared e = absurd (false≢true compared)

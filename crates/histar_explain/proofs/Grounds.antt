@@ -14,7 +14,8 @@ use Rattle.histar_rules.specs.Rights as rights
 use Rattle.histar_rules.specs.declared.raw.Denied.{Denied}
 use Rattle.histar_rules.specs.declared.raw.Denied.TheVariants.{Observe, Modify, Range, Gate, NoEntry, NoThread, BadKind, TooBig}
 use Rattle.histar_rules.specs.declared.raw.RawCall.{RawCall}
-use Rattle.histar_rules.specs.declared.raw.RawCall.TheVariants.{MakeCategory, OwnLabel, SetLabel, SetClearance, MakeSegment, MakeContainer, MakeThread, MakeGate, Enter, Read, Write, Unlink, LabelOf}
+use Rattle.histar_rules.specs.declared.raw.RawCall.TheVariants.{MakeCategory, OwnLabel, SetLabel, SetClearance, MakeSegment, MakeContainer}
+use Rattle.histar_rules.specs.declared.raw.RawCall.TheVariants.{MakeThread, MakeGate, Enter, Read, Write, Unlink, LabelOf}
 use Rattle.histar_rules.specs.Rules.{check, no_thread, no_container, no_link, no_gate, no_making, known, fits_segment}
 use Rattle.histar_rules.proofs.Passing.{rest, unless_none}
 use Rattle.histar_explain.specs.declared.explanations.Obstacle.TheVariants as obstacles
@@ -28,7 +29,8 @@ use Rattle.histar_explain.specs.Explanations.{DenialsHaveGrounds}
 use Rattle.histar_explain.proofs.Refused.{skip, gate_not}
 use Rattle.histar_explain.proofs.FailingTests.{one_of_both, or_second, label_of_found, clearance_of_found, denials_rest_on_tests}
 use Rattle.histar_explain.proofs.Blame.{is_wanted, passes_ranges, blame}
-use Rattle.histar_explain.proofs.RangeGrounds.{Fails, fails_later, Owns, owns_thread, owns_gate, holds_is, range_is, range_fails, span_fails, opening_fails, clearing_fails, star_fails, unmade_listed}
+use Rattle.histar_explain.proofs.RangeGrounds.{Fails, fails_later, Owns, owns_thread, owns_gate, holds_is, range_is, range_fails, span_fails}
+use Rattle.histar_explain.proofs.RangeGrounds.{opening_fails, clearing_fails, star_fails, unmade_listed}
 
 -- a caller that is no thread is refused first
 orelse_first : (a b : Option Denied) (d : Denied) → a ≡ Some d → (a orelse b) ≡ Some d
@@ -61,7 +63,8 @@ module _ (s : State) (t : ℕ) (no : is_thread (s.objects t) ≡ false) where
   caller_refused (MakeGate d label clearance entry) = orelse_first (no_making s t d) _ NoThread (making_refused d)
   caller_refused (Enter d o wanted clearance shown) = orelse_first (no_gate s t d o) _ NoThread (kind_refused d o _)
   caller_refused (Read d o) = orelse_first (no_link s t d o orelse unless (is_segment (s.objects o)) BadKind) _ NoThread (kind_refused d o _)
-  caller_refused (Write d o keep bytes) = orelse_first (no_link s t d o orelse unless (is_segment (s.objects o)) BadKind) _ NoThread (kind_refused d o _)
+  caller_refused (Write d o keep bytes) =
+      orelse_first (no_link s t d o orelse unless (is_segment (s.objects o)) BadKind) _ NoThread (kind_refused d o _)
   caller_refused (Unlink d o) = kind_refused d o _
   caller_refused (LabelOf d o) = kind_refused d o _
 
@@ -73,7 +76,8 @@ caller_is s t call x differ e = elim (is_thread (s.objects t)) as (λ b. is_thre
 ] refl
 
 -- the gate of a call whose labels are refused behind it
-gate_is : (s : State) (t d o : ℕ) (wanted clearance shown : Levels) → check s t (Enter d o wanted clearance shown) ≡ Some Range → is_gate (s.objects o) ≡ true
+gate_is : (s : State) (t d o : ℕ) (wanted clearance shown : Levels)
+    → check s t (Enter d o wanted clearance shown) ≡ Some Range → is_gate (s.objects o) ≡ true
 gate_is s t d o wanted clearance shown e =
     let parts = skip Range (no_gate s t d o) _ (gate_not Range (λ h. cc) (λ h. cc) (λ h. cc) (λ h. cc) s t d o) e in
     unless_none (is_gate (s.objects o)) BadKind (rest (no_link s t d o) _ parts.0)
@@ -87,7 +91,9 @@ unfolding HasRangeGrounds Fails
 by_test s some labels at = (at.0, ap (λ b. b || is_unmade s.next_category labels at.0) at.1)
 
 -- a label of some lists a category that was never made
-by_label : (s : State) (some : List Test) (labels : List Levels) (L : Levels) → ((c : ℕ) → lists L c ≡ true → list_any (λ M. lists M c) labels ≡ true) → known s L ≡ false → HasRangeGrounds s some labels
+by_label : (s : State) (some : List Test) (labels : List Levels) (L : Levels)
+    → ((c : ℕ) → lists L c ≡ true → list_any (λ M. lists M c) labels ≡ true) → known s L ≡ false
+    → HasRangeGrounds s some labels
 unfolding HasRangeGrounds
 by_label s some labels L among unknown =
     let at = unmade_listed s.next_category L unknown in
@@ -96,7 +102,9 @@ by_label s some labels L among unknown =
 first_among : (L : Levels) (labels : List Levels) (c : ℕ) → lists L c ≡ true → list_any (λ M. lists M c) (L ∷ labels) ≡ true
 first_among L labels c h = ap (λ b. b || list_any (λ M. lists M c) labels) h
 
-later_among : (L M : Levels) (labels : List Levels) → ((c : ℕ) → lists M c ≡ true → list_any (λ N. lists N c) labels ≡ true) → (c : ℕ) → lists M c ≡ true → list_any (λ N. lists N c) (L ∷ labels) ≡ true
+later_among : (L M : Levels) (labels : List Levels)
+    → ((c : ℕ) → lists M c ≡ true → list_any (λ N. lists N c) labels ≡ true) → (c : ℕ) → lists M c ≡ true
+    → list_any (λ N. lists N c) (L ∷ labels) ≡ true
 later_among L M labels among c h = or_second (lists L c) _ (among c h)
 
 module _ (s : State) (t : ℕ) (thread : is_thread (s.objects t) ≡ true) where
@@ -104,26 +112,44 @@ module _ (s : State) (t : ℕ) (thread : is_thread (s.objects t) ≡ true) where
   own = owns_thread (s.objects t) thread
 
   -- a label that is out of the thread's range
-  out_of_range : (label : Levels) → states.in_range (s.objects t) label ≡ false → Fails (in_range (label_of_found (s.objects t)) label (clearance_of_found (s.objects t)))
+  out_of_range : (label : Levels) → states.in_range (s.objects t) label ≡ false
+      → Fails (in_range (label_of_found (s.objects t)) label (clearance_of_found (s.objects t)))
   out_of_range label out = range_fails _ label _ (sym (range_is (s.objects t) own label) ∙ out)
 
   -- a label and a clearance that are
-  out_of_span : (label clearance : Levels) → rights.in_span (s.objects t) label clearance ≡ false → Fails (in_span (label_of_found (s.objects t)) label clearance (clearance_of_found (s.objects t)))
-  out_of_span label clearance out = span_fails _ label clearance _ (sym (holds_is (s.objects t) own (λ mine limit. is_below mine label && is_below label clearance && is_below clearance limit)) ∙ out)
+  out_of_span : (label clearance : Levels) → rights.in_span (s.objects t) label clearance ≡ false
+      → Fails (in_span (label_of_found (s.objects t)) label clearance (clearance_of_found (s.objects t)))
+  out_of_span label clearance out =
+      span_fails _ label clearance _ (sym (holds_is (s.objects t) own
+      (λ mine limit. is_below mine label && is_below label clearance && is_below clearance limit)) ∙ out)
 
-  out_of_clearing : (clearance : Levels) → rights.may_clear (s.objects t) clearance ≡ false → Fails (clearing (label_of_found (s.objects t)) clearance (clearance_of_found (s.objects t)))
-  out_of_clearing clearance out = clearing_fails _ clearance _ (sym (holds_is (s.objects t) own (λ mine limit. is_below mine clearance && is_below_join_raised clearance limit mine)) ∙ out)
+  out_of_clearing : (clearance : Levels) → rights.may_clear (s.objects t) clearance ≡ false
+      → Fails (clearing (label_of_found (s.objects t)) clearance (clearance_of_found (s.objects t)))
+  out_of_clearing clearance out =
+      clearing_fails _ clearance _ (sym (holds_is (s.objects t) own
+      (λ mine limit. is_below mine clearance && is_below_join_raised clearance limit mine)) ∙ out)
 
-  out_of_gate : (o : ℕ) (wanted clearance : Levels) → is_gate (s.objects o) ≡ true → rights.in_gate (s.objects t) (s.objects o) wanted clearance ≡ false
-      → Fails (behind_gate (label_of_found (s.objects t)) (label_of_found (s.objects o)) wanted clearance (clearance_of_found (s.objects t)) (clearance_of_found (s.objects o)))
+  out_of_gate : (o : ℕ) (wanted clearance : Levels) → is_gate (s.objects o) ≡ true
+      → rights.in_gate (s.objects t) (s.objects o) wanted clearance ≡ false
+      → Fails (behind_gate (label_of_found (s.objects t)) (label_of_found (s.objects o)) wanted clearance
+      (clearance_of_found (s.objects t)) (clearance_of_found (s.objects o)))
   out_of_gate o wanted clearance gate out =
-      let at_thread = holds_is (s.objects t) own (λ mine limit. holds_of (s.objects o) (λ gate_label gate_limit. lies_between mine gate_label wanted clearance limit gate_limit)) in
-      let at_gate = holds_is (s.objects o) (owns_gate (s.objects o) gate) (λ gate_label gate_limit. lies_between (label_of_found (s.objects t)) gate_label wanted clearance (clearance_of_found (s.objects t)) gate_limit) in
+      let at_thread =
+      holds_is (s.objects t) own (λ mine limit. holds_of (s.objects o)
+      (λ gate_label gate_limit. lies_between mine gate_label wanted clearance limit gate_limit)) in
+      let at_gate =
+      holds_is (s.objects o) (owns_gate (s.objects o) gate)
+      (λ gate_label gate_limit. lies_between (label_of_found (s.objects t)) gate_label wanted clearance
+      (clearance_of_found (s.objects t)) gate_limit) in
       opening_fails _ _ wanted clearance _ _ (sym (at_thread ∙ at_gate) ∙ out)
 
   -- what is made and owns nothing
-  making_grounds : (label : Levels) (test : Test) → (not (has_star label) ≡ false → Fails (test ∷ in_range (label_of_found (s.objects t)) label (clearance_of_found (s.objects t))))
-      → (states.in_range (s.objects t) label && (known s label && not (has_star label))) ≡ false → HasRangeGrounds s (test ∷ in_range (label_of_found (s.objects t)) label (clearance_of_found (s.objects t))) (label ∷ [])
+  making_grounds : (label : Levels) (test : Test)
+      → (not (has_star label) ≡ false
+      → Fails (test ∷ in_range (label_of_found (s.objects t)) label (clearance_of_found (s.objects t))))
+      → (states.in_range (s.objects t) label && (known s label && not (has_star label))) ≡ false
+      → HasRangeGrounds s (test ∷ in_range (label_of_found (s.objects t)) label (clearance_of_found (s.objects t)))
+      (label ∷ [])
   making_grounds label test starred h = elim (one_of_both (states.in_range (s.objects t) label) _ h) [
     | inl out ↦ by_test s _ _ (fails_later test _ (out_of_range label out))
     | inr later ↦ elim (one_of_both (known s label) _ later) [
@@ -144,7 +170,8 @@ module _ (s : State) (t : ℕ) (thread : is_thread (s.objects t) ≡ true) where
   ]
 
 -- a call whose labels don't pass their ranges has grounds
-range_grounds : (s : State) (t : ℕ) (call : RawCall) → check s t call ≡ Some Range → is_thread (s.objects t) ≡ true → passes_ranges s t call ≡ false → HasRangeGrounds s (tests s t call Range) (handed call)
+range_grounds : (s : State) (t : ℕ) (call : RawCall) → check s t call ≡ Some Range → is_thread (s.objects t) ≡ true
+    → passes_ranges s t call ≡ false → HasRangeGrounds s (tests s t call Range) (handed call)
 range_grounds s t (SetLabel label) e thread h = elim (one_of_both (states.in_range (s.objects t) label) _ h) [
   | inl out ↦ by_test s _ _ (out_of_range s t thread label out)
   | inr unknown ↦ by_label s _ _ label (first_among label []) unknown
@@ -153,20 +180,25 @@ range_grounds s t (SetClearance clearance) e thread h = elim (one_of_both (right
   | inl out ↦ by_test s _ _ (out_of_clearing s t thread clearance out)
   | inr unknown ↦ by_label s _ _ clearance (first_among clearance []) unknown
 ]
-range_grounds s t (MakeSegment d label bytes) e thread h = making_grounds s t thread label (owning_nothing AnySegment label) (star_fails AnySegment label _) h
-range_grounds s t (MakeContainer d label) e thread h = making_grounds s t thread label (owning_nothing AnyContainer label) (star_fails AnyContainer label _) h
+range_grounds s t (MakeSegment d label bytes) e thread h =
+    making_grounds s t thread label (owning_nothing AnySegment label) (star_fails AnySegment label _) h
+range_grounds s t (MakeContainer d label) e thread h =
+    making_grounds s t thread label (owning_nothing AnyContainer label) (star_fails AnyContainer label _) h
 range_grounds s t (MakeThread d label clearance) e thread h = owner_grounds s t thread label clearance h
 range_grounds s t (MakeGate d label clearance entry) e thread h = owner_grounds s t thread label clearance h
-range_grounds s t (Enter d o wanted clearance shown) e thread h = elim (one_of_both (rights.in_gate (s.objects t) (s.objects o) wanted clearance) _ h) [
-  | inl out ↦ by_test s _ _ (out_of_gate s t thread o wanted clearance (gate_is s t d o wanted clearance shown e) out)
-  | inr later ↦ elim (one_of_both (known s wanted) _ later) [
-    | inl unknown ↦ by_label s _ _ wanted (first_among wanted (clearance ∷ shown ∷ [])) unknown
-    | inr last ↦ elim (one_of_both (known s clearance) _ last) [
-      | inl unknown ↦ by_label s _ _ clearance (later_among wanted clearance (clearance ∷ shown ∷ []) (first_among clearance (shown ∷ []))) unknown
-      | inr unknown ↦ by_label s _ _ shown (later_among wanted shown (clearance ∷ shown ∷ []) (later_among clearance shown (shown ∷ []) (first_among shown []))) unknown
+range_grounds s t (Enter d o wanted clearance shown) e thread h =
+    elim (one_of_both (rights.in_gate (s.objects t) (s.objects o) wanted clearance) _ h) [
+      | inl out ↦ by_test s _ _ (out_of_gate s t thread o wanted clearance (gate_is s t d o wanted clearance shown e) out)
+      | inr later ↦ elim (one_of_both (known s wanted) _ later) [
+        | inl unknown ↦ by_label s _ _ wanted (first_among wanted (clearance ∷ shown ∷ [])) unknown
+        | inr last ↦ elim (one_of_both (known s clearance) _ last) [
+          | inl unknown ↦ by_label s _ _ clearance (later_among wanted clearance (clearance ∷ shown ∷ []) (first_among clearance (shown ∷ []))) unknown
+          | inr unknown ↦
+              by_label s _ _ shown (later_among wanted shown (clearance ∷ shown ∷ [])
+              (later_among clearance shown (shown ∷ []) (first_among shown []))) unknown
+        ]
+      ]
     ]
-  ]
-]
 range_grounds s t MakeCategory e thread h = absurd (false≢true (sym h))
 range_grounds s t OwnLabel e thread h = absurd (false≢true (sym h))
 range_grounds s t (Read d o) e thread h = absurd (false≢true (sym h))
@@ -212,7 +244,8 @@ module _ (s : State) (t : ℕ) (call : RawCall) where
   })
 
   -- a container that is there doesn't link the object
-  link_grounds : check s t call ≡ Some NoEntry → is_present (s.objects (container_named call)) ≡ true → set.contains (links_in (s.objects (container_named call))) (object_named call) ≡ false
+  link_grounds : check s t call ≡ Some NoEntry → is_present (s.objects (container_named call)) ≡ true
+      → set.contains (links_in (s.objects (container_named call))) (object_named call) ≡ false
   link_grounds e there = blame s t call NoEntry (record {
     thread = λ _ same. absurd cc;
     present = λ none _. absurd (false≢true (sym none ∙ there));

@@ -1,10 +1,12 @@
 -- A label with star at each category at which one of some tests fails.
-use Rattle.std.proofs.Common.{◌≡◌, ℕ, List, [], ◌∷◌, ◌++◌, true, false, ◌||◌, is_some, if◌then◌else◌, cond, Option, None, Some, unwrap_or, refl, sym, ap, ◌∙◌, arith}
+use Rattle.std.proofs.Common.{◌≡◌, ℕ, List, [], ◌∷◌, ◌++◌, true, false, ◌||◌, is_some, if◌then◌else◌, cond, Option, None, Some, unwrap_or, refl, sym}
+use Rattle.std.proofs.Common.{ap, ◌∙◌, arith}
 use Rattle.std.specs.Ordering.{nat_cmp, eq_by_cmp}
 use Rattle.std.specs.FinMap.{find}
 use Rattle.histar_label.specs.declared.levels.Level.{Level}
 use Rattle.histar_label.specs.declared.levels.Level.TheVariants.{Star}
-use Rattle.histar_label.specs.Levels.{Levels, level_of, default_of, exceptions_of, constant, refilled, level_of-constant, level_of-exceptions, above, find_above}
+use Rattle.histar_label.specs.Levels.{Levels, level_of, default_of, exceptions_of, constant, refilled, level_of-constant, level_of-exceptions, above}
+use Rattle.histar_label.specs.Levels.{find_above}
 use Rattle.histar_label.specs.Exceptions.{Exceptions}
 use Rattle.histar_label.proofs.Combined.{level_of-refilled}
 use Rattle.histar_explain.specs.Comparisons.{exceeds}
@@ -14,14 +16,18 @@ use Rattle.histar_explain.specs.Laws.{some_fails_at, HasKeys, KeysExist}
 -- what isn't found in two lists together is found in neither
 none_in_both : (A B : Exceptions) (c : ℕ) → find nat_cmp c (A ++ B) ≡ None → (find nat_cmp c A ≡ None) × (find nat_cmp c B ≡ None)
 none_in_both [] B c none = (refl, none)
-none_in_both (e ∷ A) B c none = elim (eq_by_cmp nat_cmp c e.0) as (λ b. cond b (Some e.1) (find nat_cmp c (A ++ B)) ≡ None → (cond b (Some e.1) (find nat_cmp c A) ≡ None) × (find nat_cmp c B ≡ None)) [
-  | true ↦ λ found. absurd cc
-  | false ↦ none_in_both A B c
-] none
+none_in_both (e ∷ A) B c none =
+    elim (eq_by_cmp nat_cmp c e.0) as (λ b. cond b (Some e.1) (find nat_cmp c (A ++ B)) ≡ None
+    → (cond b (Some e.1) (find nat_cmp c A) ≡ None) × (find nat_cmp c B ≡ None)) [
+      | true ↦ λ found. absurd cc
+      | false ↦ none_in_both A B c
+    ] none
 
 -- two categories that a label lists neither of have its default
 alike : (L : Levels) (c d : ℕ) → find nat_cmp c (exceptions_of L) ≡ None → find nat_cmp d (exceptions_of L) ≡ None → level_of L c ≡ level_of L d
-alike L c d here there = level_of-exceptions L c ∙ ap (λ (o : Option Level). unwrap_or o (default_of L)) (here ∙ sym there) ∙ sym (level_of-exceptions L d)
+alike L c d here there =
+    level_of-exceptions L c ∙ ap (λ (o : Option Level). unwrap_or o (default_of L)) (here ∙ sym there)
+    ∙ sym (level_of-exceptions L d)
 
 -- what the labels of some tests list
 all_listed : List Test → Exceptions
@@ -29,7 +35,8 @@ all_listed [] = []
 all_listed (t ∷ some) = exceptions_of t.comparison.lower ++ (exceptions_of t.comparison.upper ++ all_listed some)
 
 -- where they list neither of two categories, the tests fail at both or at none
-fail_alike : (some : List Test) (c d : ℕ) → find nat_cmp c (all_listed some) ≡ None → find nat_cmp d (all_listed some) ≡ None → some_fails_at some c ≡ some_fails_at some d
+fail_alike : (some : List Test) (c d : ℕ) → find nat_cmp c (all_listed some) ≡ None
+    → find nat_cmp d (all_listed some) ≡ None → some_fails_at some c ≡ some_fails_at some d
 unfolding all_listed
 fail_alike [] c d here there = refl
 fail_alike (t ∷ some) c d here there =

@@ -8,7 +8,8 @@ use Rattle.histar_object.specs.State.{State}
 use Rattle.histar_rules.specs.declared.raw.Denied.{Denied}
 use Rattle.histar_rules.specs.declared.raw.Denied.TheVariants.{Observe, Modify, Range, Gate, NoEntry, NoThread, BadKind, TooBig}
 use Rattle.histar_rules.specs.declared.raw.RawCall.{RawCall}
-use Rattle.histar_rules.specs.declared.raw.RawCall.TheVariants.{MakeCategory, OwnLabel, SetLabel, SetClearance, MakeSegment, MakeContainer, MakeThread, MakeGate, Enter, Read, Write, Unlink, LabelOf}
+use Rattle.histar_rules.specs.declared.raw.RawCall.TheVariants.{MakeCategory, OwnLabel, SetLabel, SetClearance, MakeSegment, MakeContainer}
+use Rattle.histar_rules.specs.declared.raw.RawCall.TheVariants.{MakeThread, MakeGate, Enter, Read, Write, Unlink, LabelOf}
 use Rattle.histar_explain.specs.Comparisons.{exceeds}
 use Rattle.histar_explain.specs.Named.{label_in, clearance_in, observed_by, modified_by}
 use Rattle.histar_explain.specs.Tests.{tests_with}
@@ -32,19 +33,23 @@ star_above L3 = refl
 
 -- Tests that at each category look at the thread's level alone, and that star passes, fail at the keys that are lacking.
 by_level : (s : State) (t : ℕ) (own : Levels) (call : RawCall) (denied : Denied) (fails : ℕ → Level → Bool)
-    → ((o : Levels) (c : ℕ) → some_fails_at (tests_with o s t call denied) c ≡ fails c (level_of o c)) → ((c : ℕ) → fails c Star ≡ false) → LacksKeys s t own call denied
+    → ((o : Levels) (c : ℕ) → some_fails_at (tests_with o s t call denied) c ≡ fails c (level_of o c))
+    → ((c : ℕ) → fails c Star ≡ false) → LacksKeys s t own call denied
 by_level s t own call denied fails at star = record {
-  enough = λ keyed keys c. at keyed c ∙ (elim (some_fails_at (tests_with own s t call denied) c) as (λ b. some_fails_at (tests_with own s t call denied) c ≡ b → fails c (level_of keyed c) ≡ false) [
-    | true ↦ λ failing. ap (fails c) (keys.owned c failing) ∙ star c
-    | false ↦ λ passing. ap (fails c) (keys.others c passing) ∙ sym (at own c) ∙ passing
-  ] refl);
+  enough = λ keyed keys c. at keyed c ∙
+      (elim (some_fails_at (tests_with own s t call denied) c) as
+      (λ b. some_fails_at (tests_with own s t call denied) c ≡ b → fails c (level_of keyed c) ≡ false) [
+        | true ↦ λ failing. ap (fails c) (keys.owned c failing) ∙ star c
+        | false ↦ λ passing. ap (fails c) (keys.others c passing) ∙ sym (at own c) ∙ passing
+      ] refl);
   each_wanted = λ short k failing same. at short k ∙ ap (fails k) same ∙ sym (at own k) ∙ failing;
 }
 
 by_observe : (s : State) (t : ℕ) (own : Levels) (call : RawCall) → LacksKeys s t own call Observe
 by_observe s t own call =
     let label = label_in s (observed_by s t call) in
-    by_level s t own call Observe (λ c l. exceeds true (level_of label c) l || false) (λ o c. refl) (λ c. ap (λ b. b || false) (star_above (level_of label c)))
+    by_level s t own call Observe (λ c l. exceeds true (level_of label c) l || false) (λ o c. refl)
+    (λ c. ap (λ b. b || false) (star_above (level_of label c)))
 
 by_modify : (s : State) (t : ℕ) (own : Levels) (call : RawCall) → LacksKeys s t own call Modify
 by_modify s t own call =
@@ -53,13 +58,15 @@ by_modify s t own call =
     (λ c i. star_below (level_of label c) i || (star_above (level_of label c) i || false))
 
 -- no test, no key
-by_none : (s : State) (t : ℕ) (own : Levels) (call : RawCall) → ((o : Levels) (c : ℕ) → some_fails_at (tests_with o s t call Gate) c ≡ false) → LacksKeys s t own call Gate
+by_none : (s : State) (t : ℕ) (own : Levels) (call : RawCall)
+    → ((o : Levels) (c : ℕ) → some_fails_at (tests_with o s t call Gate) c ≡ false) → LacksKeys s t own call Gate
 by_none s t own call none = by_level s t own call Gate (λ c l. false) none (λ c. refl)
 
 by_gate : (s : State) (t : ℕ) (own : Levels) (call : RawCall) → LacksKeys s t own call Gate
 by_gate s t own (Enter d o wanted clearance shown) =
     let limit = clearance_in s o in
-    by_level s t own (Enter d o wanted clearance shown) Gate (λ c l. exceeds false l (level_of limit c) || (exceeds false l (level_of shown c) || false)) (λ o c. refl)
+    by_level s t own (Enter d o wanted clearance shown) Gate
+    (λ c l. exceeds false l (level_of limit c) || (exceeds false l (level_of shown c) || false)) (λ o c. refl)
     (λ c i. star_below (level_of limit c) i || (star_below (level_of shown c) i || false))
 by_gate s t own MakeCategory = by_none s t own MakeCategory (λ o c. refl)
 by_gate s t own OwnLabel = by_none s t own OwnLabel (λ o c. refl)

@@ -1,5 +1,6 @@
 -- What is left of a label's exceptions, as a pass goes over them by rising category.
-use Rattle.std.proofs.Common.{◌≡◌, ◌≢◌, ℕ, ◌+◌, ◌<◌, ◌≤◌, [], ◌∷◌, All, ◌⊎◌, inl, inr, true, false, min, eqb, eq-eqb, if◌then◌else◌, Contains, Option, None, Some, refl, sym, ap, ◌∙◌, subst, arith}
+use Rattle.std.proofs.Common.{◌≡◌, ◌≢◌, ℕ, ◌+◌, ◌<◌, ◌≤◌, [], ◌∷◌, All, ◌⊎◌, inl, inr, true, false, min, eqb, eq-eqb, if◌then◌else◌, Contains, Option}
+use Rattle.std.proofs.Common.{None, Some, refl, sym, ap, ◌∙◌, subst, arith}
 use Rattle.std.proofs.lemmas.Bool.Decides.{nat_tests}
 use Rattle.std.proofs.lemmas.List.Elements.{All-head, All-tail, All-weaker, All-contains_itself}
 use mathlib.Core.Bool.{false≢true}
@@ -22,7 +23,9 @@ pub record IsLeft (L : Levels) (bound : ℕ) (A : Exceptions) : Type 0 where
 
 -- each exception that a label lists is one
 pub each_differs : (L : Levels) (es : Exceptions) → ListsExceptions L es → All (Differs L) es
-each_differs L es listed = All-weaker (Contains es) (Differs L) (λ e held. let is = (listed e.0 e.1).0 held in λ same. is.1 (sym is.0 ∙ same)) es (All-contains_itself es)
+each_differs L es listed =
+    All-weaker (Contains es) (Differs L) (λ e held. let is = (listed e.0 e.1).0 held in λ same. is.1 (sym is.0 ∙ same))
+    es (All-contains_itself es)
 
 under_none : (es : Exceptions) → IsUnder 0 es
 under_none [] = tt

@@ -12,7 +12,8 @@ use Rattle.histar_object.specs.State.{State, Found}
 use Rattle.histar_rules.specs.Rights.{with_label}
 use Rattle.histar_rules.specs.declared.raw.Denied.TheVariants.{Observe, Modify, Range, Gate, NoEntry, NoThread, BadKind, TooBig}
 use Rattle.histar_rules.specs.declared.raw.RawCall.{RawCall}
-use Rattle.histar_rules.specs.declared.raw.RawCall.TheVariants.{MakeCategory, OwnLabel, SetLabel, SetClearance, MakeSegment, MakeContainer, MakeThread, MakeGate, Enter, Read, Write, Unlink, LabelOf}
+use Rattle.histar_rules.specs.declared.raw.RawCall.TheVariants.{MakeCategory, OwnLabel, SetLabel, SetClearance, MakeSegment, MakeContainer}
+use Rattle.histar_rules.specs.declared.raw.RawCall.TheVariants.{MakeThread, MakeGate, Enter, Read, Write, Unlink, LabelOf}
 use Rattle.histar_rules.specs.Rules.{check}
 use Rattle.histar_explain.specs.Named.{label_in, clearance_in, observed_by, modified_by}
 use Rattle.histar_explain.specs.Tests.{observing, modifying, letting, tests, tests_with}
@@ -46,55 +47,69 @@ gate_no_thread (Some o) h = by_kind o.kind h
     by_kind (kinds.Thread clearance) h = absurd (false≢true h)
     by_kind (kinds.Gate clearance entry) h = refl
 
-label_keyed : (found : Found) (keyed : Levels) → is_thread found ≡ true → unwrap_or (label_there (option_map (with_label keyed) found)) (constant L1) ≡ keyed
+label_keyed : (found : Found) (keyed : Levels) → is_thread found ≡ true
+    → unwrap_or (label_there (option_map (with_label keyed) found)) (constant L1) ≡ keyed
 label_keyed None keyed h = absurd (false≢true h)
 label_keyed (Some o) keyed h = refl
 
 module _ (s : State) (t : ℕ) (keyed : Levels) where
   -- another object stays as it was
   stays : (q : ℕ) → is_thread (s.objects t) ≡ true → is_thread (s.objects q) ≡ false → (relabelled s t keyed).objects q ≡ s.objects q
-  stays q thread other = if_false (eqb q t) (option_map (with_label keyed) (s.objects q)) (s.objects q) (apart q t (λ same. false≢true (sym other ∙ ap (λ n. is_thread (s.objects n)) same ∙ thread)))
+  stays q thread other =
+      if_false (eqb q t) (option_map (with_label keyed) (s.objects q)) (s.objects q)
+      (apart q t (λ same. false≢true (sym other ∙ ap (λ n. is_thread (s.objects n)) same ∙ thread)))
 
   -- and the thread has its new label
   has_label : is_thread (s.objects t) ≡ true → label_in (relabelled s t keyed) t ≡ keyed
   has_label thread =
-      ap (λ (o : Found). unwrap_or (label_there o) (constant L1)) (if_true (eqb t t) (option_map (with_label keyed) (s.objects t)) (s.objects t) (eq-eqb t t refl))
+      ap (λ (o : Found). unwrap_or (label_there o) (constant L1))
+      (if_true (eqb t t) (option_map (with_label keyed) (s.objects t)) (s.objects t) (eq-eqb t t refl))
       ∙ label_keyed (s.objects t) keyed thread
 
-  observe_opens : (call : RawCall) → check s t call ≡ Some Observe → HasKeys (tests s t call Observe) (label_in s t) keyed → check (relabelled s t keyed) t call ≡ Some Observe → observed_by (relabelled s t keyed) t call ≢ observed_by s t call
+  observe_opens : (call : RawCall) → check s t call ≡ Some Observe
+      → HasKeys (tests s t call Observe) (label_in s t) keyed → check (relabelled s t keyed) t call ≡ Some Observe
+      → observed_by (relabelled s t keyed) t call ≢ observed_by s t call
   observe_opens call e keys again same =
       let at = observe_refused s t call e in
       let failing = denials_rest_on_tests (relabelled s t keyed) t call Observe refl again in
       let own = has_label at.caller in
       let label : label_in (relabelled s t keyed) (observed_by (relabelled s t keyed) t call) ≡ label_in s (observed_by s t call) =
-      ap (label_in (relabelled s t keyed)) same ∙ ap (λ (o : Found). unwrap_or (label_there o) (constant L1)) (stays (observed_by s t call) at.caller at.other) in
+      ap (label_in (relabelled s t keyed)) same
+      ∙ ap (λ (o : Found). unwrap_or (label_there o) (constant L1))
+      (stays (observed_by s t call) at.caller at.other) in
       let is : tests (relabelled s t keyed) t call Observe ≡ tests_with keyed s t call Observe = λ i. observing (own i) (label i) ∷ [] in
       let passing = (keys_are_lacking s t (label_in s t) call Observe refl).enough keyed keys failing.0 in
       false≢true (sym passing ∙ sym (ap (λ some. some_fails_at some failing.0) is) ∙ failing.1)
 
-  modify_opens : (call : RawCall) → check s t call ≡ Some Modify → HasKeys (tests s t call Modify) (label_in s t) keyed → check (relabelled s t keyed) t call ≡ Some Modify → ⊥
+  modify_opens : (call : RawCall) → check s t call ≡ Some Modify → HasKeys (tests s t call Modify) (label_in s t) keyed
+      → check (relabelled s t keyed) t call ≡ Some Modify → ⊥
   modify_opens call e keys again =
       let at = modify_refused s t call e in
       let failing = denials_rest_on_tests (relabelled s t keyed) t call Modify refl again in
       let own = has_label at.caller in
-      let label : label_in (relabelled s t keyed) (modified_by call) ≡ label_in s (modified_by call) = ap (λ (o : Found). unwrap_or (label_there o) (constant L1)) (stays (modified_by call) at.caller at.other) in
+      let label : label_in (relabelled s t keyed) (modified_by call) ≡ label_in s (modified_by call) =
+      ap (λ (o : Found). unwrap_or (label_there o) (constant L1)) (stays (modified_by call) at.caller at.other) in
       let is : tests (relabelled s t keyed) t call Modify ≡ tests_with keyed s t call Modify = λ i. modifying (own i) (label i) in
       let passing = (keys_are_lacking s t (label_in s t) call Modify refl).enough keyed keys failing.0 in
       false≢true (sym passing ∙ sym (ap (λ some. some_fails_at some failing.0) is) ∙ failing.1)
 
-  gate_opens : (d o : ℕ) (wanted clearance shown : Levels) → check s t (Enter d o wanted clearance shown) ≡ Some Gate → HasKeys (tests s t (Enter d o wanted clearance shown) Gate) (label_in s t) keyed
+  gate_opens : (d o : ℕ) (wanted clearance shown : Levels) → check s t (Enter d o wanted clearance shown) ≡ Some Gate
+      → HasKeys (tests s t (Enter d o wanted clearance shown) Gate) (label_in s t) keyed
       → check (relabelled s t keyed) t (Enter d o wanted clearance shown) ≡ Some Gate → ⊥
   gate_opens d o wanted clearance shown e keys again =
       let call = Enter d o wanted clearance shown in
       let at : IsShutOut s t o shown = gate_refusal s t (Enter d o wanted clearance shown) e in
       let failing = denials_rest_on_tests (relabelled s t keyed) t call Gate refl again in
       let own = has_label at.caller in
-      let limit : clearance_in (relabelled s t keyed) o ≡ clearance_in s o = ap (λ (o : Found). unwrap_or (clearance_there o) (constant L1)) (stays o at.caller (gate_no_thread (s.objects o) at.gate)) in
+      let limit : clearance_in (relabelled s t keyed) o ≡ clearance_in s o =
+      ap (λ (o : Found). unwrap_or (clearance_there o) (constant L1))
+      (stays o at.caller (gate_no_thread (s.objects o) at.gate)) in
       let is : tests (relabelled s t keyed) t call Gate ≡ tests_with keyed s t call Gate = λ i. letting (own i) (limit i) shown in
       let passing = (keys_are_lacking s t (label_in s t) call Gate refl).enough keyed keys failing.0 in
       false≢true (sym passing ∙ sym (ap (λ some. some_fails_at some failing.0) is) ∙ failing.1)
 
-  any_gate_opens : (call : RawCall) → check s t call ≡ Some Gate → HasKeys (tests s t call Gate) (label_in s t) keyed → check (relabelled s t keyed) t call ≡ Some Gate → ⊥
+  any_gate_opens : (call : RawCall) → check s t call ≡ Some Gate → HasKeys (tests s t call Gate) (label_in s t) keyed
+      → check (relabelled s t keyed) t call ≡ Some Gate → ⊥
   any_gate_opens (Enter d o wanted clearance shown) e keys again = gate_opens d o wanted clearance shown e keys again
   any_gate_opens MakeCategory e keys again = gate_refusal s t MakeCategory e
   any_gate_opens OwnLabel e keys again = gate_refusal s t OwnLabel e

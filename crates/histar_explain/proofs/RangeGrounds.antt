@@ -1,5 +1,6 @@
 -- Where a label is out of its range, a test of the range fails at some category, or the label names one that was never made.
-use Rattle.std.proofs.Common.{◌≡◌, ℕ, List, [], ◌∷◌, max, All, ◌⊎◌, inl, inr, Bool, true, false, ◌&&◌, ◌||◌, Option, None, Some, unwrap_or, is_some, if◌then◌else◌, refl, sym, ap, ◌∙◌, arith}
+use Rattle.std.proofs.Common.{◌≡◌, ℕ, List, [], ◌∷◌, max, All, ◌⊎◌, inl, inr, Bool, true, false, ◌&&◌, ◌||◌, Option, None, Some, unwrap_or, is_some}
+use Rattle.std.proofs.Common.{if◌then◌else◌, refl, sym, ap, ◌∙◌, arith}
 use Rattle.std.specs.Prelude.{not, nat_le}
 use Rattle.std.specs.List.{list_all}
 use Rattle.std.specs.Ordering.{nat_cmp}
@@ -10,7 +11,8 @@ use mathlib.Core.Bool.{false≢true}
 use Rattle.histar_label.specs.declared.levels.Level.{Level}
 use Rattle.histar_label.specs.declared.levels.Level.TheVariants.{Star, L0, L1, L2, L3}
 use Rattle.histar_label.specs.Level.{rank, raised, rank-at_most}
-use Rattle.histar_label.specs.Levels.{Levels, level_of, default_of, constant, level_of-constant, level_of-exceptions, beyond, exceptions_of, is_within, is_below, is_below_join, is_below_join_raised, is_made, has_star}
+use Rattle.histar_label.specs.Levels.{Levels, level_of, default_of, constant, level_of-constant, level_of-exceptions, beyond, exceptions_of}
+use Rattle.histar_label.specs.Levels.{is_within, is_below, is_below_join, is_below_join_raised, is_made, has_star}
 use Rattle.histar_label.specs.Floors.{join_of, floor_of}
 use Rattle.histar_label.proofs.Combined.{level_of-refilled}
 use Rattle.histar_label.proofs.Floors.{grades-join_of}
@@ -29,21 +31,24 @@ use Rattle.histar_explain.specs.Laws.{some_fails_at}
 use Rattle.histar_explain.specs.Unmade.{lists, was_made}
 use Rattle.histar_explain.proofs.LeftExceptions.{Differs, each_differs}
 use Rattle.histar_explain.proofs.UnmadePasses.{other_listed}
-use Rattle.histar_explain.proofs.FailingTests.{one_of_both, or_second, label_of_found, clearance_of_found, kind_cleared, within_fails, above_somewhere}
+use Rattle.histar_explain.proofs.FailingTests.{one_of_both, or_second, label_of_found, clearance_of_found, kind_cleared, within_fails}
+use Rattle.histar_explain.proofs.FailingTests.{above_somewhere}
 
 -- some test fails at some category
 unfoldable pub Fails : List Test → Type 0
 Fails some = (c : ℕ) × (some_fails_at some c ≡ true)
 
 -- a first label that is not below a second makes the first of some tests fail
-pub fails_here : (lower_is : Party) (L : Levels) (upper_is : Party) (M : Levels) (rest : List Test) → is_below L M ≡ false → Fails (below lower_is L upper_is M ∷ rest)
+pub fails_here : (lower_is : Party) (L : Levels) (upper_is : Party) (M : Levels) (rest : List Test)
+    → is_below L M ≡ false → Fails (below lower_is L upper_is M ∷ rest)
 unfolding Fails
 fails_here lower_is L upper_is M rest refused =
     let at = above_somewhere L M refused in
     (at.0, ap (λ b. b || some_fails_at rest at.0) at.1)
 
 -- so does the only test, where it fails at some category
-fails_alone : (lower_is : Party) (L : Levels) (upper_is : Party) (M : Levels) → (c : ℕ) × (exceeds false (level_of L c) (level_of M c) ≡ true) → Fails (below lower_is L upper_is M ∷ [])
+fails_alone : (lower_is : Party) (L : Levels) (upper_is : Party) (M : Levels)
+    → (c : ℕ) × (exceeds false (level_of L c) (level_of M c) ≡ true) → Fails (below lower_is L upper_is M ∷ [])
 unfolding Fails
 fails_alone lower_is L upper_is M at = (at.0, ap (λ b. b || false) at.1)
 
@@ -53,7 +58,9 @@ unfolding Fails
 fails_later test rest at = (at.0, or_second _ _ at.1)
 
 -- the join of two labels is exceeded where neither reaches
-join_exceeds : (l f s : Level) (L M : Levels) (c : ℕ) → l ≡ l → rank f ≡ rank (level_of L c) → nat_le (rank l) (max (rank f) (rank s)) ≡ false → rank s ≡ rank (level_of M c) → exceeds false l (level_of (join_of L M) c) ≡ true
+join_exceeds : (l f s : Level) (L M : Levels) (c : ℕ) → l ≡ l → rank f ≡ rank (level_of L c)
+    → nat_le (rank l) (max (rank f) (rank s)) ≡ false → rank s ≡ rank (level_of M c)
+    → exceeds false l (level_of (join_of L M) c) ≡ true
 join_exceeds l f s L M c _ first h second =
     let joins = grades-join_of L M c in
     grind (arith, nat_tests, joins, first, second, h)
@@ -61,7 +68,9 @@ join_exceeds l f s L M c _ first h second =
 above_join : (L F S : Levels) → is_below_join L F S ≡ false → (c : ℕ) × (exceeds false (level_of L c) (level_of (join_of F S) c) ≡ true)
 unfolding is_within
 above_join L F S h =
-    let at = within_fails (λ c. nat_le (rank (level_of L c)) (max (rank (level_of F c)) (rank (level_of S c)))) (max (beyond L) (max (beyond F) (beyond S))) (exceptions_of L) (exceptions_of F) (exceptions_of S) h in
+    let at =
+    within_fails (λ c. nat_le (rank (level_of L c)) (max (rank (level_of F c)) (rank (level_of S c))))
+    (max (beyond L) (max (beyond F) (beyond S))) (exceptions_of L) (exceptions_of F) (exceptions_of S) h in
     (at.0, join_exceeds (level_of L at.0) (level_of F at.0) (level_of S at.0) F S at.0 refl refl at.1 refl)
 
 -- star counts as 3 in the raised label
@@ -84,12 +93,16 @@ raised_or_high l f L1 h = h
 raised_or_high l f L2 h = h
 raised_or_high l f L3 h = h
 
-above_join_raised : (L F S : Levels) → is_below_join_raised L F S ≡ false → (c : ℕ) × (exceeds false (level_of L c) (level_of (join_of F (owning_high S)) c) ≡ true)
+above_join_raised : (L F S : Levels) → is_below_join_raised L F S ≡ false
+    → (c : ℕ) × (exceeds false (level_of L c) (level_of (join_of F (owning_high S)) c) ≡ true)
 unfolding is_within
 above_join_raised L F S h =
-    let at = within_fails (λ c. nat_le (rank (level_of L c)) (max (rank (level_of F c)) (raised (level_of S c)))) (max (beyond L) (max (beyond F) (beyond S))) (exceptions_of L) (exceptions_of F) (exceptions_of S) h in (
+    let at =
+    within_fails (λ c. nat_le (rank (level_of L c)) (max (rank (level_of F c)) (raised (level_of S c))))
+    (max (beyond L) (max (beyond F) (beyond S))) (exceptions_of L) (exceptions_of F) (exceptions_of S) h in (
       at.0,
-      join_exceeds (level_of L at.0) (level_of F at.0) (high (level_of S at.0)) F (owning_high S) at.0 refl refl (raised_or_high (level_of L at.0) (level_of F at.0) (level_of S at.0) at.1)
+      join_exceeds (level_of L at.0) (level_of F at.0) (high (level_of S at.0)) F (owning_high S) at.0 refl refl
+          (raised_or_high (level_of L at.0) (level_of F at.0) (level_of S at.0) at.1)
           (ap rank (sym (level_of-owning_high S at.0))),
     )
 
@@ -123,14 +136,16 @@ module _ (found : Found) (owns : Owns found) where
   range_is label = (λ i. between (owns.label_is i) (owns.clearance_is i) label) ∙ (λ i. is_below (own_is i) label && is_below label (clearance_is i))
 
 -- a label out of a range
-pub range_fails : (own label own_clearance : Levels) → (is_below own label && is_below label own_clearance) ≡ false → Fails (in_range own label own_clearance)
+pub range_fails : (own label own_clearance : Levels) → (is_below own label && is_below label own_clearance) ≡ false
+    → Fails (in_range own label own_clearance)
 range_fails own label own_clearance h = elim (one_of_both (is_below own label) _ h) [
   | inl first ↦ fails_here parties.Thread own parties.LabelAsked label _ first
   | inr second ↦ fails_later _ _ (fails_here parties.LabelAsked label parties.ThreadClearance own_clearance [] second)
 ]
 
 -- three labels of which one is not below the next
-three_fail : (a : Party) (K : Levels) (b : Party) (L : Levels) (d : Party) (M : Levels) (rest : List Test) → ((is_below K L ≡ false) ⊎ ((is_below L M ≡ false) ⊎ Fails rest)) → Fails (below a K b L ∷ below b L d M ∷ rest)
+three_fail : (a : Party) (K : Levels) (b : Party) (L : Levels) (d : Party) (M : Levels) (rest : List Test)
+    → ((is_below K L ≡ false) ⊎ ((is_below L M ≡ false) ⊎ Fails rest)) → Fails (below a K b L ∷ below b L d M ∷ rest)
 three_fail a K b L d M rest (inl first) = fails_here a K b L _ first
 three_fail a K b L d M rest (inr (inl second)) = fails_later _ _ (fails_here b L d M rest second)
 three_fail a K b L d M rest (inr (inr third)) = fails_later _ _ (fails_later _ _ third)
@@ -142,31 +157,45 @@ one_of_three true false c h = inr (inl refl)
 one_of_three false b c h = inl refl
 
 -- a label and a clearance out of a range
-pub span_fails : (own label clearance own_clearance : Levels) → (is_below own label && is_below label clearance && is_below clearance own_clearance) ≡ false → Fails (in_span own label clearance own_clearance)
-span_fails own label clearance own_clearance h = three_fail parties.Thread own parties.LabelAsked label parties.ClearanceAsked clearance _ (elim (one_of_three (is_below own label) (is_below label clearance) (is_below clearance own_clearance) h) [
-  | inl first ↦ inl first
-  | inr later ↦ elim later [
-    | inl second ↦ inr (inl second)
-    | inr third ↦ inr (inr (fails_here parties.ClearanceAsked clearance parties.ThreadClearance own_clearance [] third))
-  ]
-])
-
--- a label and a clearance out of the range behind a gate
-pub opening_fails : (own gate_label label clearance own_clearance gate_clearance : Levels) → lies_between own gate_label label clearance own_clearance gate_clearance ≡ false → Fails (behind_gate own gate_label label clearance own_clearance gate_clearance)
-opening_fails own gate_label label clearance own_clearance gate_clearance h = three_fail parties.Floor (floor_of own gate_label) parties.LabelAsked label parties.ClearanceAsked clearance _
-    (elim (one_of_three (is_below (floor_of own gate_label) label) (is_below label clearance) (is_below_join clearance own_clearance gate_clearance) h) [
+pub span_fails : (own label clearance own_clearance : Levels)
+    → (is_below own label && is_below label clearance && is_below clearance own_clearance) ≡ false
+    → Fails (in_span own label clearance own_clearance)
+span_fails own label clearance own_clearance h = three_fail parties.Thread own parties.LabelAsked label parties.ClearanceAsked clearance _
+    (elim (one_of_three (is_below own label) (is_below label clearance) (is_below clearance own_clearance) h) [
       | inl first ↦ inl first
       | inr later ↦ elim later [
         | inl second ↦ inr (inl second)
-        | inr third ↦ inr (inr (fails_alone parties.ClearanceAsked clearance parties.Clearances (join_of own_clearance gate_clearance) (above_join clearance own_clearance gate_clearance third)))
+        | inr third ↦ inr (inr (fails_here parties.ClearanceAsked clearance parties.ThreadClearance own_clearance [] third))
+      ]
+    ])
+
+-- a label and a clearance out of the range behind a gate
+pub opening_fails : (own gate_label label clearance own_clearance gate_clearance : Levels)
+    → lies_between own gate_label label clearance own_clearance gate_clearance ≡ false
+    → Fails (behind_gate own gate_label label clearance own_clearance gate_clearance)
+opening_fails own gate_label label clearance own_clearance gate_clearance h =
+    three_fail parties.Floor (floor_of own gate_label) parties.LabelAsked label parties.ClearanceAsked clearance _
+    (elim (one_of_three (is_below (floor_of own gate_label) label) (is_below label clearance)
+    (is_below_join clearance own_clearance gate_clearance) h) [
+      | inl first ↦ inl first
+      | inr later ↦ elim later [
+        | inl second ↦ inr (inl second)
+        | inr third ↦
+            inr (inr (fails_alone parties.ClearanceAsked clearance parties.Clearances
+            (join_of own_clearance gate_clearance)
+            (above_join clearance own_clearance gate_clearance third)))
       ]
     ])
 
 -- a clearance out of a range
-pub clearing_fails : (own clearance own_clearance : Levels) → (is_below own clearance && is_below_join_raised clearance own_clearance own) ≡ false → Fails (clearing own clearance own_clearance)
+pub clearing_fails : (own clearance own_clearance : Levels)
+    → (is_below own clearance && is_below_join_raised clearance own_clearance own) ≡ false
+    → Fails (clearing own clearance own_clearance)
 clearing_fails own clearance own_clearance h = elim (one_of_both (is_below own clearance) _ h) [
   | inl first ↦ fails_here parties.Thread own parties.ClearanceAsked clearance _ first
-  | inr second ↦ fails_later _ _ (fails_alone parties.ClearanceAsked clearance parties.ThreadClearanceAndLabel (join_of own_clearance (owning_high own)) (above_join_raised clearance own_clearance own second))
+  | inr second ↦
+      fails_later _ _ (fails_alone parties.ClearanceAsked clearance parties.ThreadClearanceAndLabel
+      (join_of own_clearance (owning_high own)) (above_join_raised clearance own_clearance own second))
 ]
 
 -- a label of what owns nothing that has star
@@ -181,7 +210,8 @@ star_fails party label rest h =
     (at.0, ap (λ b. b || some_fails_at rest at.0) (λ i. exceeds false (level_of-constant L0 at.0 i) (at.1 i)))
 
 -- a category of a list that fails a test
-failing_exception : (L : Levels) (test : ℕ → Bool) (es : List (ℕ × Level)) → All (Differs L) es → list_all (λ e. test e.0) es ≡ false → (c : ℕ) × ((lists L c ≡ true) × (test c ≡ false))
+failing_exception : (L : Levels) (test : ℕ → Bool) (es : List (ℕ × Level)) → All (Differs L) es
+    → list_all (λ e. test e.0) es ≡ false → (c : ℕ) × ((lists L c ≡ true) × (test c ≡ false))
 failing_exception L test [] differ h = absurd (false≢true (sym h))
 failing_exception L test (e ∷ es) differ h = elim (one_of_both (test e.0) (list_all (λ e. test e.0) es) h) [
   | inl here ↦ (e.0, (other_listed L e.0 (All-head (Differs L) e es differ), here))

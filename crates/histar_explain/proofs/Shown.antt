@@ -1,5 +1,6 @@
 -- A reason shows exactly the categories at which its comparison fails.
-use Rattle.std.proofs.Common.{◌≡◌, ◌≢◌, ℕ, List, [], ◌∷◌, All, ◌⊎◌, inl, inr, Bool, true, false, ◌||◌, ◌&&◌, not, is_some, eqb, eq-eqb, if◌then◌else◌, Some, None, refl, sym, ap, ◌∙◌, arith}
+use Rattle.std.proofs.Common.{◌≡◌, ◌≢◌, ℕ, List, [], ◌∷◌, All, ◌⊎◌, inl, inr, Bool, true, false, ◌||◌, ◌&&◌, not, is_some, eqb, eq-eqb, if◌then◌else◌}
+use Rattle.std.proofs.Common.{Some, None, refl, sym, ap, ◌∙◌, arith}
 use Rattle.std.proofs.lemmas.Bool.Decides.{nat_tests}
 use Rattle.std.proofs.lemmas.List.Elements.{All-head, All-tail}
 use mathlib.Core.Bool.{false≢true}
@@ -16,12 +17,17 @@ use Rattle.histar_explain.specs.Tests.{Test, IsReasonOf}
 use Rattle.histar_explain.specs.Laws.{ShowsExactly, some_shown, some_fails_at}
 
 -- a category that is named has the outcome of the differences
-named_outcome : (t : Comparison) (fails : Bool) (differences : List Difference) → All (IsDifference t fails) differences → (c : ℕ) → is_named differences c ≡ true → fails_at t c ≡ fails
+named_outcome : (t : Comparison) (fails : Bool) (differences : List Difference) → All (IsDifference t fails) differences
+    → (c : ℕ) → is_named differences c ≡ true → fails_at t c ≡ fails
 named_outcome t fails [] right c named = absurd (false≢true named)
-named_outcome t fails (r ∷ differences) right c named = elim (eqb r.category c) as (λ b. eqb r.category c ≡ b → (b || is_named differences c) ≡ true → fails_at t c ≡ fails) [
-  | true ↦ λ same named. let is : r.category ≡ c = grind (arith, nat_tests, same) in ap (fails_at t) (sym is) ∙ (All-head (IsDifference t fails) r differences right).outcome
-  | false ↦ λ other named. named_outcome t fails differences (All-tail (IsDifference t fails) r differences right) c named
-] refl named
+named_outcome t fails (r ∷ differences) right c named =
+    elim (eqb r.category c) as (λ b. eqb r.category c ≡ b → (b || is_named differences c) ≡ true → fails_at t c ≡ fails) [
+      | true ↦
+          λ same named. let is : r.category
+          ≡ c = grind (arith, nat_tests, same) in ap (fails_at t) (sym is)
+          ∙ (All-head (IsDifference t fails) r differences right).outcome
+      | false ↦ λ other named. named_outcome t fails differences (All-tail (IsDifference t fails) r differences right) c named
+    ] refl named
 
 -- a level is another one, or differs
 same_or_not : (l m : Level) → (l ≡ m) ⊎ (l ≢ m)
@@ -41,7 +47,8 @@ listed_or_default t c = elim (same_or_not (level_of t.lower c) (default_of t.low
 ]
 
 -- a category is named by one of two lists
-not_both : (t : Comparison) (differences : List Difference) (fails : Bool) → All (IsDifference t fails) differences → (c : ℕ) → (fails_at t c ≡ fails → ⊥) → is_named differences c ≡ false
+not_both : (t : Comparison) (differences : List Difference) (fails : Bool) → All (IsDifference t fails) differences
+    → (c : ℕ) → (fails_at t c ≡ fails → ⊥) → is_named differences c ≡ false
 not_both t differences fails right c unlike = elim (is_named differences c) as (λ b. is_named differences c ≡ b → b ≡ false) [
   | true ↦ λ named. absurd (unlike (named_outcome t fails differences right c named))
   | false ↦ λ _. refl
@@ -57,7 +64,10 @@ fails_elsewhere t = exceeds t.owner_passes (default_of t.lower) (default_of t.up
 
 module _ (t : Comparison) (r : Reason) (e : Explains t r) (c : ℕ) where
   elsewhere_is : is_some r.elsewhere ≡ exceeds t.owner_passes (default_of t.lower) (default_of t.upper)
-  elsewhere_is = ap is_some e.elsewhere ∙ some_if (exceeds t.owner_passes (default_of t.lower) (default_of t.upper)) (default_of t.lower, default_of t.upper)
+  elsewhere_is =
+      ap is_some e.elsewhere
+      ∙ some_if (exceeds t.owner_passes (default_of t.lower) (default_of t.upper))
+      (default_of t.lower, default_of t.upper)
 
   -- where it fails, the category is named, or it is none of those that are spared
   shown_failing : fails_at t c ≡ true → is_shown r c ≡ true
@@ -79,7 +89,9 @@ module _ (t : Comparison) (r : Reason) (e : Explains t r) (c : ℕ) where
       let unnamed = not_both t r.named.items true e.named.right c (λ fails. false≢true (sym passes ∙ fails)) in
       ap (λ b. b || (is_some r.elsewhere && not (is_named r.spared.items c))) unnamed ∙ elim (listed_or_default t c) [
         | inl listed ↦ ap (λ b. is_some r.elsewhere && not b) (e.spared.whole c listed passes) ∙ and_false (is_some r.elsewhere)
-        | inr defaults ↦ ap (λ b. b && not (is_named r.spared.items c)) (elsewhere_is ∙ (λ i. exceeds t.owner_passes (sym defaults.0 i) (sym defaults.1 i)) ∙ passes)
+        | inr defaults ↦
+            ap (λ b. b && not (is_named r.spared.items c))
+            (elsewhere_is ∙ (λ i. exceeds t.owner_passes (sym defaults.0 i) (sym defaults.1 i)) ∙ passes)
       ]
     where
       and_false : (b : Bool) → (b && false) ≡ false
@@ -99,6 +111,8 @@ all_shown [] (r ∷ reasons) zipped c = absurd zipped
 all_shown (t ∷ some) [] zipped c = absurd zipped
 all_shown (t ∷ some) (r ∷ reasons) zipped c = λ i. shows_exactly t.comparison r zipped.0.explained c i || all_shown some reasons zipped.1 c i
 
-pub shown_if_ok : {E : Type 0} (result : Result (Vec Reason) E) (some : List Test) → IfOk result (λ (reasons : Vec Reason). AllZip IsReasonOf some reasons.items) → IfOk result (λ (reasons : Vec Reason). (c : ℕ) → some_shown reasons.items c ≡ some_fails_at some c)
+pub shown_if_ok : {E : Type 0} (result : Result (Vec Reason) E) (some : List Test)
+    → IfOk result (λ (reasons : Vec Reason). AllZip IsReasonOf some reasons.items)
+    → IfOk result (λ (reasons : Vec Reason). (c : ℕ) → some_shown reasons.items c ≡ some_fails_at some c)
 shown_if_ok (Ok reasons) some zipped = all_shown some reasons.items zipped
 shown_if_ok (Err e) some zipped = zipped

@@ -1,5 +1,6 @@
 -- One pass over the exceptions of three labels lists each category that one of them names and that was never made.
-use Rattle.std.proofs.Common.{◌≡◌, ◌≢◌, ℕ, ◌+◌, ◌<◌, ◌≤◌, List, [], ◌∷◌, ◌++◌, All, ◌⊎◌, inl, inr, Bool, true, false, ◌||◌, ◌&&◌, eqb, eq-eqb, None, Some, refl, sym, ap, ◌∙◌, arith}
+use Rattle.std.proofs.Common.{◌≡◌, ◌≢◌, ℕ, ◌+◌, ◌<◌, ◌≤◌, List, [], ◌∷◌, ◌++◌, All, ◌⊎◌, inl, inr, Bool, true, false, ◌||◌, ◌&&◌, eqb, eq-eqb, None}
+use Rattle.std.proofs.Common.{Some, refl, sym, ap, ◌∙◌, arith}
 use Rattle.std.specs.Prelude.{not}
 use Rattle.std.proofs.lemmas.Bool.Decides.{nat_tests}
 use Rattle.std.proofs.lemmas.List.Elements.{All-nil, All-head, All-tail, All-push, All-weaker}
@@ -14,7 +15,8 @@ use Rattle.std.specs.Global.{Vec}
 use Rattle.histar_label.specs.declared.levels.Level.TheVariants.{L1}
 use Rattle.histar_label.specs.Levels.{constant, level_of-constant, default_of-constant}
 use Rattle.histar_explain.specs.Unmade.{lists, was_made, is_unmade, AreRising, is_among, AreUnmade}
-use Rattle.histar_explain.proofs.LeftExceptions.{IsLeft, left_at_first, level_between, level_at_end, differs_here, left_on, lower_is_one, bound_at_first, lt_or_le, up_to}
+use Rattle.histar_explain.proofs.LeftExceptions.{IsLeft, left_at_first, level_between, level_at_end, differs_here, left_on, lower_is_one}
+use Rattle.histar_explain.proofs.LeftExceptions.{bound_at_first, lt_or_le, up_to}
 
 -- a label lists no category at which it has its default
 default_not_listed : (L : Levels) (c : ℕ) → level_of L c ≡ default_of L → lists L c ≡ false
@@ -22,10 +24,12 @@ default_not_listed L c same = ap not (eq-eqb (rank (level_of L c)) (rank (defaul
 
 -- and each other one
 pub other_listed : (L : Levels) (c : ℕ) → level_of L c ≢ default_of L → lists L c ≡ true
-other_listed L c differs = elim (eqb (rank (level_of L c)) (rank (default_of L))) as (λ b. eqb (rank (level_of L c)) (rank (default_of L)) ≡ b → not b ≡ true) [
-  | true ↦ λ same. absurd (differs (same_level (level_of L c) (default_of L) (grind (arith, nat_tests, same))))
-  | false ↦ λ _. refl
-] refl
+other_listed L c differs =
+    elim (eqb (rank (level_of L c)) (rank (default_of L))) as
+    (λ b. eqb (rank (level_of L c)) (rank (default_of L)) ≡ b → not b ≡ true) [
+      | true ↦ λ same. absurd (differs (same_level (level_of L c) (default_of L) (grind (arith, nat_tests, same))))
+      | false ↦ λ _. refl
+    ] refl
 
 -- Of the exceptions of three labels these are left, from a bound on, and these categories below it were never made.
 pub record IsPassed (next : ℕ) (L F S : Levels) (A B C : Exceptions) (cs : List ℕ) : Type 0 where
@@ -59,12 +63,14 @@ among_pushed : (cs : List ℕ) (c q : ℕ) → is_among (cs ++ c ∷ []) q ≡ (
 among_pushed cs c q = list_any-append (λ d. eqb d q) cs (c ∷ [])
 
 -- three labels that list a category neither make it no unmade one
-none_listed : (next : ℕ) (L F S : Levels) (c : ℕ) → lists L c ≡ false → lists F c ≡ false → lists S c ≡ false → is_unmade next (L ∷ F ∷ S ∷ []) c ≡ false
+none_listed : (next : ℕ) (L F S : Levels) (c : ℕ) → lists L c ≡ false → lists F c ≡ false → lists S c ≡ false
+    → is_unmade next (L ∷ F ∷ S ∷ []) c ≡ false
 none_listed next L F S c l f s = λ i. (l i || (f i || (s i || false))) && not (was_made next c)
 
 module _ (next : ℕ) (L F S : Levels) where
   -- before the pass all are left
-  pub passed_at_first : (A B C : Exceptions) → Rises A → Rises B → Rises C → ListsExceptions L A → ListsExceptions F B → ListsExceptions S C → A ≡ exceptions_of L → B ≡ exceptions_of F → C ≡ exceptions_of S
+  pub passed_at_first : (A B C : Exceptions) → Rises A → Rises B → Rises C → ListsExceptions L A → ListsExceptions F B
+      → ListsExceptions S C → A ≡ exceptions_of L → B ≡ exceptions_of F → C ≡ exceptions_of S
       → IsPassed next L F S A B C []
   passed_at_first A B C a b c first second third l f s = record {
     bound = 0;
@@ -79,7 +85,11 @@ module _ (next : ℕ) (L F S : Levels) where
   module _ (A B C : Exceptions) (cs : List ℕ) (passed : IsPassed next L F S A B C cs) where
     -- where nothing is left, the list is whole
     pub unmade_at_end : lowest A B C ≡ None → AreUnmade next (L ∷ F ∷ S ∷ []) cs
-    unmade_at_end none = record { rising = passed.rising; exact = λ c. elim (lt_or_le c passed.bound) [ inl lt ↦ passed.exact c lt | inr le ↦ beyond c le ] }
+    unmade_at_end none =
+        record {
+          rising = passed.rising;
+          exact = λ c. elim (lt_or_le c passed.bound) [ inl lt ↦ passed.exact c lt | inr le ↦ beyond c le ];
+        }
       where
         beyond : (c : ℕ) → passed.bound ≤ c → is_among cs c ≡ is_unmade next (L ∷ F ∷ S ∷ []) c
         beyond c le =
@@ -146,13 +156,17 @@ module _ (next : ℕ) (L F S : Levels) where
         | inl before ↦
             let apart : eqb c q ≡ false = grind (arith, nat_tests) in
             among_pushed cs c q ∙ ap (λ b. is_among cs q || (b || false)) apart ∙ or_none (is_among cs q) ∙ exact_before q before
-        | inr same ↦ among_pushed cs c q ∙ or_right (is_among cs q) _ (ap (λ b. b || false) (eq-eqb c q same)) ∙ sym (ap (is_unmade next (L ∷ F ∷ S ∷ [])) (sym same) ∙ front_unmade ∙ ap not unmade)
+        | inr same ↦
+            among_pushed cs c q ∙ or_right (is_among cs q) _ (ap (λ b. b || false) (eq-eqb c q same))
+            ∙ sym (ap (is_unmade next (L ∷ F ∷ S ∷ [])) (sym same) ∙ front_unmade ∙ ap not unmade)
       ]
 
       exact_kept : was_made next c ≡ true → (q : ℕ) → q < c + 1 → is_among cs q ≡ is_unmade next (L ∷ F ∷ S ∷ []) q
       exact_kept made q lt = elim (up_to c q lt) [
         | inl before ↦ exact_before q before
-        | inr same ↦ ap (is_among cs) (sym same) ∙ not_among cs passed.bound c passed.below from_bound ∙ sym (ap (is_unmade next (L ∷ F ∷ S ∷ [])) (sym same) ∙ front_unmade ∙ ap not made)
+        | inr same ↦
+            ap (is_among cs) (sym same) ∙ not_among cs passed.bound c passed.below from_bound
+            ∙ sym (ap (is_unmade next (L ∷ F ∷ S ∷ [])) (sym same) ∙ front_unmade ∙ ap not made)
       ]
 
       -- the pass goes on behind a category that was never made
@@ -181,15 +195,30 @@ module _ (next : ℕ) (L F S : Levels) where
 
 -- the label that is 1 everywhere lists no category
 ones_list_none : (ones : Levels) (c : ℕ) → ones ≡ constant L1 → lists ones c ≡ false
-ones_list_none ones c same = default_not_listed ones c (ap (λ L. level_of L c) same ∙ level_of-constant L1 c ∙ sym (default_of-constant L1) ∙ sym (ap default_of same))
+ones_list_none ones c same =
+    default_not_listed ones c
+    (ap (λ L. level_of L c) same ∙ level_of-constant L1 c ∙ sym (default_of-constant L1) ∙ sym (ap default_of same))
 
 -- so it adds none to those of other labels
-pub unmade_of_both : {E : Type 0} (next : ℕ) (L F ones : Levels) (r : Result (Vec ℕ) E) → ones ≡ constant L1 → IfOk r (λ (cs : Vec ℕ). AreUnmade next (L ∷ F ∷ ones ∷ []) cs.items) → IfOk r (λ (cs : Vec ℕ). AreUnmade next (L ∷ F ∷ []) cs.items)
+pub unmade_of_both : {E : Type 0} (next : ℕ) (L F ones : Levels) (r : Result (Vec ℕ) E) → ones ≡ constant L1
+    → IfOk r (λ (cs : Vec ℕ). AreUnmade next (L ∷ F ∷ ones ∷ []) cs.items)
+    → IfOk r (λ (cs : Vec ℕ). AreUnmade next (L ∷ F ∷ []) cs.items)
 unmade_of_both next L F ones (Ok cs) same listed =
-    record { rising = listed.rising; exact = λ c. listed.exact c ∙ ap (λ b. (lists L c || (lists F c || (b || false))) && not (was_made next c)) (ones_list_none ones c same) }
+    record {
+      rising = listed.rising;
+      exact = λ c. listed.exact c
+          ∙ ap (λ b. (lists L c || (lists F c || (b || false))) && not (was_made next c))
+          (ones_list_none ones c same);
+    }
 unmade_of_both next L F ones (Err e) same listed = listed
 
-pub unmade_of_first : {E : Type 0} (next : ℕ) (L ones : Levels) (r : Result (Vec ℕ) E) → ones ≡ constant L1 → IfOk r (λ (cs : Vec ℕ). AreUnmade next (L ∷ ones ∷ ones ∷ []) cs.items) → IfOk r (λ (cs : Vec ℕ). AreUnmade next (L ∷ []) cs.items)
+pub unmade_of_first : {E : Type 0} (next : ℕ) (L ones : Levels) (r : Result (Vec ℕ) E) → ones ≡ constant L1
+    → IfOk r (λ (cs : Vec ℕ). AreUnmade next (L ∷ ones ∷ ones ∷ []) cs.items)
+    → IfOk r (λ (cs : Vec ℕ). AreUnmade next (L ∷ []) cs.items)
 unmade_of_first next L ones (Ok cs) same listed =
-    record { rising = listed.rising; exact = λ c. listed.exact c ∙ ap (λ b. (lists L c || (b || (b || false))) && not (was_made next c)) (ones_list_none ones c same) }
+    record {
+      rising = listed.rising;
+      exact = λ c. listed.exact c
+          ∙ ap (λ b. (lists L c || (b || (b || false))) && not (was_made next c)) (ones_list_none ones c same);
+    }
 unmade_of_first next L ones (Err e) same listed = listed

@@ -5,7 +5,8 @@ use Rattle.histar_label.specs.Levels.{Levels, constant}
 use Rattle.histar_object.specs.Objects.{label_there, clearance_there}
 use Rattle.histar_object.specs.State.{State, observes}
 use Rattle.histar_rules.specs.declared.raw.RawCall.{RawCall}
-use Rattle.histar_rules.specs.declared.raw.RawCall.TheVariants.{MakeCategory, OwnLabel, SetLabel, SetClearance, MakeSegment, MakeContainer, MakeThread, MakeGate, Enter, Read, Write, Unlink, LabelOf}
+use Rattle.histar_rules.specs.declared.raw.RawCall.TheVariants.{MakeCategory, OwnLabel, SetLabel, SetClearance, MakeSegment, MakeContainer}
+use Rattle.histar_rules.specs.declared.raw.RawCall.TheVariants.{MakeThread, MakeGate, Enter, Read, Write, Unlink, LabelOf}
 
 -- the label of an object, or 1 everywhere where there is none, which no denial by labels compares
 abbrev pub label_in : State → ℕ → Levels

@@ -6,7 +6,8 @@ use Rattle.histar_object.specs.State.{State}
 use Rattle.histar_rules.specs.declared.raw.Denied.{Denied}
 use Rattle.histar_rules.specs.declared.raw.Denied.TheVariants.{Observe, Modify, Range, Gate, NoEntry, NoThread, BadKind, TooBig}
 use Rattle.histar_rules.specs.declared.raw.RawCall.{RawCall}
-use Rattle.histar_rules.specs.declared.raw.RawCall.TheVariants.{MakeCategory, SetLabel, SetClearance, MakeSegment, MakeContainer, MakeThread, MakeGate, Enter, Write, LabelOf}
+use Rattle.histar_rules.specs.declared.raw.RawCall.TheVariants.{MakeCategory, SetLabel, SetClearance, MakeSegment, MakeContainer, MakeThread}
+use Rattle.histar_rules.specs.declared.raw.RawCall.TheVariants.{MakeGate, Enter, Write, LabelOf}
 use Rattle.histar_rules.specs.Rules.{fits_segment, has_number, greatest}
 use Rattle.histar_explain.specs.declared.explanations.Act.{Act}
 use Rattle.histar_explain.specs.declared.explanations.Act.TheVariants as acts
@@ -60,7 +61,9 @@ excess bytes = if fits_segment bytes then obstacles.NoNumber else obstacles.TooL
 
 -- why a denied call is denied, where that is no comparison of labels and no category that was never made
 abbrev pub obstacle_of : State → RawCall → Denied → Option Obstacle
-obstacle_of s call NoEntry = Some (if is_present (s.objects (container_named call)) then obstacles.NotLinked (container_named call) else obstacles.NoObject)
+obstacle_of s call NoEntry =
+    Some (if is_present (s.objects (container_named call)) then obstacles.NotLinked (container_named call) else
+    obstacles.NoObject)
 obstacle_of s call NoThread = Some obstacles.NoThread
 obstacle_of s call BadKind = Some (if is_container (s.objects (container_named call)) then wrong_kind call else obstacles.NoContainer)
 obstacle_of s call TooBig = Some (excess (bytes_after s call))

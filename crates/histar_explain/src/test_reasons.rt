@@ -1,7 +1,8 @@
 //! A reason for each test of a denial.
 ghost use Rattle.std.specs.Prelude.{◌≡◌, ◌∷◌, [], IfOk};
 ghost use Rattle.std.specs.List.{AllZip};
-ghost use Rattle.histar_explain.specs.Tests.{below, observing, modifying, letting, in_range, in_span, behind_gate, owning_nothing, clearing, IsReasonOf};
+ghost use Rattle.histar_explain.specs.Tests.{below, observing, modifying, letting, in_range, in_span, behind_gate};
+ghost use Rattle.histar_explain.specs.Tests.{owning_nothing, clearing, IsReasonOf};
 
 use crate::compare::{Sides, compare};
 use crate::derived_labels::owning_high;

@@ -28,7 +28,8 @@ module _ (accounts : Accounts) (f g : Flat) (alike : ShowAlike f g) (p : Process
   into_alike [] = λ i. unless (reads_alike [] i) EACCES
   into_alike (n ∷ d) = λ i.
       into_alike d i orelse unless (there_alike (n ∷ d) i) ENOENT
-      orelse unless (test_alike (λ s. s.1) (get f.files (n ∷ d)) (get g.files (n ∷ d)) (alike (n ∷ d)) i) ENOTDIR orelse unless (reads_alike (n ∷ d) i) EACCES
+      orelse unless (test_alike (λ s. s.1) (get f.files (n ∷ d)) (get g.files (n ∷ d)) (alike (n ∷ d)) i) ENOTDIR
+      orelse unless (reads_alike (n ∷ d) i) EACCES
 
   walk_alike : (r : Path) → walk accounts f p r ≡ walk accounts g p r
   walk_alike [] = refl
@@ -40,7 +41,8 @@ module _ (accounts : Accounts) (f g : Flat) (alike : ShowAlike f g) (p : Process
       orelse unless (test_alike (λ s. not s.1) (get f.files r) (get g.files r) (alike r) i) EISDIR
 
   -- They look alike, where bytes that the process may read are the same.
-  pub looks_alike : f.processes ≡ g.processes → ((r : Path) → reads accounts f p r ≡ true → bytes_at f r ≡ bytes_at g r) → (q : Path) → LooksAlike true accounts f g p q
+  pub looks_alike : f.processes ≡ g.processes → ((r : Path) → reads accounts f p r ≡ true → bytes_at f r ≡ bytes_at g r)
+      → (q : Path) → LooksAlike true accounts f g p q
   looks_alike processes same_bytes q = record {
     way = walk_alike q;
     here = λ w. alike q;

@@ -18,8 +18,10 @@ pub record IsAnswered (accounts : Accounts) (f : Flat) (me : ProcName) (call : U
   pub passes : refused accounts f me process call ≡ None
   pub answers : answer f me process call ≡ reply
 
-module _ (accounts : Accounts) (f : Flat) (me : ProcName) (call : UnixCall) (reply : Reply) (not_gone : Gone ≢ reply) (not_refused : (e : Errno) → Refused e ≢ reply) where
-  by_refusal : (p : Process) → running f me ≡ Some p → (e : Option Errno) → refused accounts f me p call ≡ e → reply_or e (answer f me p call) ≡ reply → IsAnswered accounts f me call reply
+module _ (accounts : Accounts) (f : Flat) (me : ProcName) (call : UnixCall) (reply : Reply) (not_gone : Gone ≢ reply)
+    (not_refused : (e : Errno) → Refused e ≢ reply) where
+  by_refusal : (p : Process) → running f me ≡ Some p → (e : Option Errno) → refused accounts f me p call ≡ e
+      → reply_or e (answer f me p call) ≡ reply → IsAnswered accounts f me call reply
   by_refusal p runs None passes said = record { process = p; runs = runs; passes = passes; answers = said }
   by_refusal p runs (Some e) fails said = absurd (not_refused e said)
 
@@ -32,5 +34,8 @@ module _ (accounts : Accounts) (f : Flat) (me : ProcName) (call : UnixCall) (rep
   is_answered said = by_process (running f me) refl said
 
 -- and then the state after the call is the changed one
-pub changed_after : (accounts : Accounts) (f : Flat) (me : ProcName) (call : UnixCall) (reply : Reply) (is : IsAnswered accounts f me call reply) → flat_after accounts f me call ≡ changed accounts f me is.process call
-changed_after accounts f me call reply is = ap (λ (o : Option Process). flat_by accounts f me o call) is.runs ∙ ap (λ (e : Option Errno). flat_or e f (changed accounts f me is.process call)) is.passes
+pub changed_after : (accounts : Accounts) (f : Flat) (me : ProcName) (call : UnixCall) (reply : Reply)
+    (is : IsAnswered accounts f me call reply) → flat_after accounts f me call ≡ changed accounts f me is.process call
+changed_after accounts f me call reply is =
+    ap (λ (o : Option Process). flat_by accounts f me o call) is.runs
+    ∙ ap (λ (e : Option Errno). flat_or e f (changed accounts f me is.process call)) is.passes

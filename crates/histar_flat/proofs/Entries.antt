@@ -39,13 +39,18 @@ module _ {Y : Type 0} (revealed : Node → Y) where
   find_revealed q [] = refl
   find_revealed q (e ∷ es) = by (eq_by_cmp path_cmp q e.0) (find_revealed q es)
     where
-      by : (b : Bool) → find path_cmp q (all_revealed es) ≡ option_map revealed (find path_cmp q es) → cond b (Some (revealed e.1)) (find path_cmp q (all_revealed es)) ≡ option_map revealed (cond b (Some e.1) (find path_cmp q es))
+      by : (b : Bool) → find path_cmp q (all_revealed es) ≡ option_map revealed (find path_cmp q es)
+          → cond b (Some (revealed e.1)) (find path_cmp q (all_revealed es))
+          ≡ option_map revealed (cond b (Some e.1) (find path_cmp q es))
       by true h = refl
       by false h = h
 
   -- maps of which the same is told at each path are told alike
-  pub same_revealed : (m n : Files Node) → ((q : Path) → option_map revealed (get m q) ≡ option_map revealed (get n q)) → all_revealed m.entries ≡ all_revealed n.entries
-  same_revealed m n h = same_entries path_cmp path_cmp_total path_cmp_exact (all_revealed m.entries) (all_revealed n.entries) (sorted m) (sorted n) (λ q. find_revealed q m.entries ∙ h q ∙ sym (find_revealed q n.entries))
+  pub same_revealed : (m n : Files Node) → ((q : Path) → option_map revealed (get m q) ≡ option_map revealed (get n q))
+      → all_revealed m.entries ≡ all_revealed n.entries
+  same_revealed m n h =
+      same_entries path_cmp path_cmp_total path_cmp_exact (all_revealed m.entries) (all_revealed n.entries) (sorted m)
+      (sorted n) (λ q. find_revealed q m.entries ∙ h q ∙ sym (find_revealed q n.entries))
     where
       sorted : (k : Files Node) → T (is_sorted path_cmp (all_revealed k.entries))
       sorted k = subst T (sym (sorted_revealed k.entries)) k.sorted
@@ -61,7 +66,8 @@ entries_shown : (d : Path) (es : List (Path × Node)) → filter_map (entry_in d
 entries_shown d [] = refl
 entries_shown d (e ∷ es) = one e.0 e.1 (entries_shown d es)
   where
-    one : (q : Path) (n : Node) → filter_map (entry_in d) es ≡ filter_map (shown_entry d) (all_shown es) → filter_map (entry_in d) ((q, n) ∷ es) ≡ filter_map (shown_entry d) (all_shown ((q, n) ∷ es))
+    one : (q : Path) (n : Node) → filter_map (entry_in d) es ≡ filter_map (shown_entry d) (all_shown es)
+        → filter_map (entry_in d) ((q, n) ∷ es) ≡ filter_map (shown_entry d) (all_shown ((q, n) ∷ es))
     one [] n rest = rest
     one (x ∷ above) n rest = elim (same_path_found d above) [
       | inl t ↦ simp t.0 (ap (λ (l : List Entry). (x, is_dir n) ∷ l) rest)
@@ -69,6 +75,8 @@ entries_shown d (e ∷ es) = one e.0 e.1 (entries_shown d es)
     ]
 
 -- maps that show the same at each path have the same entries in each directory
-pub same_entries_shown : (f g : Flat) (d : Path) → ((q : Path) → option_map shown (get f.files q) ≡ option_map shown (get g.files q)) → entries_in f d ≡ entries_in g d
+pub same_entries_shown : (f g : Flat) (d : Path)
+    → ((q : Path) → option_map shown (get f.files q) ≡ option_map shown (get g.files q))
+    → entries_in f d ≡ entries_in g d
 same_entries_shown f g d h =
     entries_shown d f.files.entries ∙ ap (filter_map (shown_entry d)) (same_revealed shown f.files g.files h) ∙ sym (entries_shown d g.files.entries)

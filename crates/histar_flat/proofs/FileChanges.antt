@@ -38,18 +38,24 @@ left_without f q r = get-keep f.files (λ t. not (under_path q t)) r ∙ by (und
 pub removals_take_what_is_below : RemovalsTakeWhatIsBelow
 removals_take_what_is_below accounts f me call q (inl e) said r =
     let is = done accounts f me (Unlink q) (ap (reply_to accounts f me) (sym e) ∙ said) in
-    ap (λ (c : UnixCall). get (flat_after accounts f me c).files r) e ∙ ap (λ (g : Flat). get g.files r) (changed_after accounts f me (Unlink q) Done is) ∙ left_without f q r
+    ap (λ (c : UnixCall). get (flat_after accounts f me c).files r) e
+    ∙ ap (λ (g : Flat). get g.files r) (changed_after accounts f me (Unlink q) Done is) ∙ left_without f q r
 removals_take_what_is_below accounts f me call q (inr (inl e)) said r =
     let is = done accounts f me (Rmdir q) (ap (reply_to accounts f me) (sym e) ∙ said) in
-    ap (λ (c : UnixCall). get (flat_after accounts f me c).files r) e ∙ ap (λ (g : Flat). get g.files r) (changed_after accounts f me (Rmdir q) Done is) ∙ left_without f q r
+    ap (λ (c : UnixCall). get (flat_after accounts f me c).files r) e
+    ∙ ap (λ (g : Flat). get g.files r) (changed_after accounts f me (Rmdir q) Done is) ∙ left_without f q r
 removals_take_what_is_below accounts f me call q (inr (inr e)) said r =
     let is = done accounts f me (Rmtree q) (ap (reply_to accounts f me) (sym e) ∙ said) in
-    ap (λ (c : UnixCall). get (flat_after accounts f me c).files r) e ∙ ap (λ (g : Flat). get g.files r) (changed_after accounts f me (Rmtree q) Done is) ∙ left_without f q r
+    ap (λ (c : UnixCall). get (flat_after accounts f me c).files r) e
+    ∙ ap (λ (g : Flat). get g.files r) (changed_after accounts f me (Rmtree q) Done is) ∙ left_without f q r
 
 -- a rename keeps everything
 pub renames_keep_what_is_there : RenamesKeepWhatIsThere
-renames_keep_what_is_there accounts f tree me n k d said r node =
-    ((λ at. (after (to r) ∙ ap (λ b. cond b None (get f.files (from (to r)))) (leaves n k d apart r)) ∙ ap (get f.files) (returns_from n k d apart r (outside at)) ∙ at), (λ at. kept (under_path (n ∷ d) r) (sym (after r) ∙ at)))
+renames_keep_what_is_there accounts f tree me n k d said r node = (
+  (λ at. (after (to r) ∙ ap (λ b. cond b None (get f.files (from (to r)))) (leaves n k d apart r))
+      ∙ ap (get f.files) (returns_from n k d apart r (outside at)) ∙ at),
+  (λ at. kept (under_path (n ∷ d) r) (sym (after r) ∙ at)),
+)
   where
     is : IsAnswered accounts f me (Rename (n ∷ d) k) Done
     is = done accounts f me (Rename (n ∷ d) k) said

@@ -65,14 +65,17 @@ module _ {K X : Type 0} {R : K → K → Ordering} (total : IsTotalOrder R) (exa
   -- a key below all others is not found among them
   pub find_below : (q : K) (es : List (K × X)) → T (below_all R q es) → find R q es ≡ None
   find_below q [] h = refl
-  find_below q (e ∷ es) h = ap (λ o. cond (is_eq o) (Some e.1) (find R q es)) (less (R q e.0) (first _ (below_all R q es) h)) ∙ find_below q es (second (is_lt (R q e.0)) _ h)
+  find_below q (e ∷ es) h =
+      ap (λ o. cond (is_eq o) (Some e.1) (find R q es)) (less (R q e.0) (first _ (below_all R q es) h))
+      ∙ find_below q es (second (is_lt (R q e.0)) _ h)
 
   -- what is found behind the first entry is found
   pub find_later : (k : K) (v : X) (es : List (K × X)) (q : K) (x : X) → T (below_all R k es) → find R q es ≡ Some x → find R q ((k, v) ∷ es) ≡ Some x
   find_later k v es q x below is = find_behind q k v es (λ same. none-some x (sym (ap (λ p. find R p es) same ∙ find_below k es below) ∙ is)) ∙ is
 
 -- lists that go on alike are ordered as their ends
-pub ends_decide : {A : Type 0} (R : A → A → Ordering) → IsTotalOrder R → (d xs ys : List A) → slice_cmp R (reverse_onto xs d) (reverse_onto ys d) ≡ slice_cmp R xs ys
+pub ends_decide : {A : Type 0} (R : A → A → Ordering) → IsTotalOrder R → (d xs ys : List A)
+    → slice_cmp R (reverse_onto xs d) (reverse_onto ys d) ≡ slice_cmp R xs ys
 ends_decide R total [] xs ys = refl
 ends_decide R total (n ∷ d) xs ys = ends_decide R total d (n ∷ xs) (n ∷ ys) ∙ ap (λ o. ordering_then o (slice_cmp R xs ys)) (tied_itself total n)
 

@@ -64,7 +64,8 @@ pub others_are_still : (f : Flat) → IsAlone f → (n : ℕ) (q : ProcName) →
 others_are_still f h n q = ap if_running (h.others n q)
 
 module _ (accounts : Accounts) where
-  alone_changes : (f : Flat) → IsAlone f → (p : Process) (call : UnixCall) → IsPlain p → keeps_processes call ≡ true → EachChange accounts f [] p call IsAlone
+  alone_changes : (f : Flat) → IsAlone f → (p : Process) (call : UnixCall) → IsPlain p → keeps_processes call ≡ true
+      → EachChange accounts f [] p call IsAlone
   alone_changes f h p call plain keeping = record {
     stays = h;
     makes = λ n d x walked free w own mode made_is. record { first = h.first; is_first = h.is_first; plain = h.plain; others = h.others };
@@ -79,7 +80,13 @@ module _ (accounts : Accounts) where
       plain = record { free = plain.free; runs = plain.runs };
       others = h.others;
     };
-    kills = λ n. record { first = h.first; is_first = h.is_first; plain = h.plain; others = λ m q. gone (under_process (n ∷ []) (m ∷ q)) (f.processes (m ∷ q)) (h.others m q) };
+    kills =
+        λ n. record {
+          first = h.first;
+          is_first = h.is_first;
+          plain = h.plain;
+          others = λ m q. gone (under_process (n ∷ []) (m ∷ q)) (f.processes (m ∷ q)) (h.others m q);
+        };
     wraps = λ n d is walked free w named. absurd (true≢false (sym keeping ∙ ap keeps is));
   }
     where
@@ -103,7 +110,9 @@ module _ (accounts : Accounts) where
       alone_at_end (flat_after accounts f c.process c.call) (alone_after f h c.process c.call parts.0) calls parts.1
 
   -- In a script of such calls the lines of all processes but 0 are answered `gone`.
-  pub others_are_gone : (calls : List CallLine) → all_keep_processes calls ≡ true → (n : ℕ) (q : ProcName) (call : UnixCall) → reply_to accounts (flat_end accounts (boot accounts) calls) (n ∷ q) call ≡ Gone
+  pub others_are_gone : (calls : List CallLine) → all_keep_processes calls ≡ true
+      → (n : ℕ) (q : ProcName) (call : UnixCall)
+      → reply_to accounts (flat_end accounts (boot accounts) calls) (n ∷ q) call ≡ Gone
   others_are_gone calls keep n q call =
       (not_running_is_gone accounts (flat_end accounts (boot accounts) calls) (n ∷ q) call
       (others_are_still (flat_end accounts (boot accounts) calls) (alone_at_end (boot accounts) (alone_at_start accounts) calls keep) n q)).0

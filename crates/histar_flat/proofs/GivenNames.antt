@@ -30,7 +30,9 @@ abbrev StillGiven : Processes → Processes → Type 0
 StillGiven old new = (name : ProcName) → is_given old name ≡ true → is_given new name ≡ true
 
 -- so it is where each number that was given to a child of a given process was given
-still_given : (old new : Processes) → ((q : ProcName) (n : ℕ) → is_given old q ≡ true → was_given (old q) n ≡ true → was_given (new q) n ≡ true) → StillGiven old new
+still_given : (old new : Processes)
+    → ((q : ProcName) (n : ℕ) → is_given old q ≡ true → was_given (old q) n ≡ true → was_given (new q) n ≡ true)
+    → StillGiven old new
 still_given old new each [] h = refl
 still_given old new each (n ∷ q) h =
     let parts = and_parts (was_given (old q) n) (is_given old q) h in
@@ -49,7 +51,9 @@ gone_was_given true o n h = refl
 gone_was_given false o n h = h
 
 given_without : (f : Flat) (name : ProcName) → StillGiven f.processes (without_process f name).processes
-given_without f name = still_given f.processes (without_process f name).processes (λ q n g h. gone_was_given (under_process name q) (f.processes q) n h)
+given_without f name =
+    still_given f.processes (without_process f name).processes
+    (λ q n g h. gone_was_given (under_process name q) (f.processes q) n h)
 
 -- a number is not past itself
 not_past : (n : ℕ) → nat_le (n + 1) n ≡ false
@@ -101,7 +105,9 @@ module _ (f : Flat) (me : ProcName) (p : Process) (here : f.processes me ≡ Som
     overwrites = λ n d bytes file w name h. h;
     cuts = λ n d takes w name h. h;
     renames = λ n k d takes apart free w name h. h;
-    spawns = λ is. given_at_birth (record p { born = p.born + 1 }) (record { user = p.user; chain = p.chain; held = []; exited = None; born = 0 }) (omega arith);
+    spawns =
+        λ is. given_at_birth (record p { born = p.born + 1 })
+        (record { user = p.user; chain = p.chain; held = []; exited = None; born = 0 }) (omega arith);
     exits = λ n is. given_with (record p { exited = Some n }) (omega arith);
     logs_in = λ name is known free. given_with (record p { user = name; held = [] }) (omega arith);
     kills = λ n. given_without f (n ∷ me);
@@ -111,8 +117,11 @@ module _ (f : Flat) (me : ProcName) (p : Process) (here : f.processes me ≡ Som
   }
 
 -- A name that was given stays so.
-pub given_stays : (accounts : Accounts) (f : Flat) (me : ProcName) (call : UnixCall) → StillGiven f.processes (flat_after accounts f me call).processes
-given_stays accounts f me call = by_line accounts f me call (λ g. StillGiven f.processes g.processes) (λ name h. h) (λ p runs. still_changes f me p (runs_is_there (f.processes me) p runs) accounts call)
+pub given_stays : (accounts : Accounts) (f : Flat) (me : ProcName) (call : UnixCall)
+    → StillGiven f.processes (flat_after accounts f me call).processes
+given_stays accounts f me call =
+    by_line accounts f me call (λ g. StillGiven f.processes g.processes) (λ name h. h)
+    (λ p runs. still_changes f me p (runs_is_there (f.processes me) p runs) accounts call)
 
 -- whoever has a longer list of jobs has the last one, or one of the others
 pub longer_has : (jobs : List ProcName) (last job : ProcName) → has (jobs ++ last ∷ []) job ≡ true → (has jobs job ≡ true) ⊎ (job ≡ last)
@@ -130,7 +139,9 @@ longer_has (first ∷ jobs) last job h = elim (cases_Bool (same job first)) [
 
 module _ (f : Flat) (given : NamesAreGiven f) where
   -- something new, or written
-  pub given_put : (q : Path) (x : Node) → ((job : ProcName) → carries job x.class ≡ true → is_given f.processes job ≡ true) → NamesAreGiven (with_node f q x.class x.content)
+  pub given_put : (q : Path) (x : Node)
+      → ((job : ProcName) → carries job x.class ≡ true → is_given f.processes job ≡ true)
+      → NamesAreGiven (with_node f q x.class x.content)
   given_put q x own = record {
     of_processes = given.of_processes;
     of_known_jobs = given.of_known_jobs;
@@ -145,7 +156,9 @@ module _ (f : Flat) (given : NamesAreGiven f) where
 
   -- processes change: each is as it was, or all that it names is given
   given_processes : (new : Processes) → StillGiven f.processes new
-      → ((q : ProcName) (y : Process) → new q ≡ Some y → (f.processes q ≡ Some y) ⊎ ((is_given new q ≡ true) × ((job : ProcName) → knows y job ≡ true → is_given new job ≡ true)))
+      → ((q : ProcName) (y : Process) → new q ≡ Some y
+      → (f.processes q ≡ Some y)
+      ⊎ ((is_given new q ≡ true) × ((job : ProcName) → knows y job ≡ true → is_given new job ≡ true)))
       → NamesAreGiven (record f { processes = new })
   given_processes new still each = record {
     of_processes = λ q y e. elim (each q y e) [
@@ -168,10 +181,13 @@ module _ (f : Flat) (given : NamesAreGiven f) (tree : IsTree f) (me : ProcName) 
   given_birth q child more known known_to_child = given_processes f given new still (λ name y e. elim (same_name_found (next_child me p) name) [
     | inl t ↦ inr (
       ap (is_given new) (sym t.1) ∙ next_given,
-      λ job k. named job (known_to_child job (ap (λ v. knows v job) (chosen (same (next_child me p) name) child y (cond (same me name) (Some q) (f.processes name)) t.0 e) ∙ k)),
+      λ job k. named job (known_to_child job
+          (ap (λ v. knows v job) (chosen (same (next_child me p) name) child y (cond (same me name) (Some q) (f.processes name))
+          t.0 e) ∙ k)),
     )
     | inr t ↦
-        let rest : cond (same me name) (Some q) (f.processes name) ≡ Some y = sym (ap (λ b. cond b (Some child) (cond (same me name) (Some q) (f.processes name))) t.0) ∙ e in
+        let rest : cond (same me name) (Some q) (f.processes name) ≡ Some y =
+        sym (ap (λ b. cond b (Some child) (cond (same me name) (Some q) (f.processes name))) t.0) ∙ e in
         elim (same_name_found me name) [
           | inl u ↦ inr (
             ap (is_given new) (sym u.1) ∙ still me (given.of_processes me p here),
@@ -198,7 +214,8 @@ module _ (f : Flat) (given : NamesAreGiven f) (tree : IsTree f) (me : ProcName) 
       next_given : is_given (born_with f me p here q child).processes (next_child me p) ≡ true
       next_given =
           ap (λ o. was_given o (p.born + 1) && is_given (born_with f me p here q child).processes me) me_now
-          ∙ (λ i. (le-leb 1 (p.born + 1) (omega arith) i && le-leb (p.born + 1) q.born (omega (arith, more)) i) && is_given (born_with f me p here q child).processes me)
+          ∙ (λ i. (le-leb 1 (p.born + 1) (omega arith) i && le-leb (p.born + 1) q.born (omega (arith, more)) i)
+          && is_given (born_with f me p here q child).processes me)
           ∙ still me (given.of_processes me p here)
 
       named : (job : ProcName) → (knows p job ≡ true) ⊎ (job ≡ next_child me p) → is_given (born_with f me p here q child).processes job ≡ true
@@ -210,7 +227,8 @@ module _ (f : Flat) (given : NamesAreGiven f) (tree : IsTree f) (me : ProcName) 
   given_instead q more known = given_processes f given (with_process f me q).processes still (λ name y e. elim (same_name_found me name) [
     | inl t ↦ inr (
       ap (is_given (with_process f me q).processes) (sym t.1) ∙ still me (given.of_processes me p here),
-      λ job k. still job (given.of_known_jobs me p job here (known job (ap (λ v. knows v job) (chosen (same me name) q y (f.processes name) t.0 e) ∙ k))),
+      λ job k. still job (given.of_known_jobs me p job here
+          (known job (ap (λ v. knows v job) (chosen (same me name) q y (f.processes name) t.0 e) ∙ k))),
     )
     | inr t ↦ inl (sym (ap (λ b. cond b (Some q) (f.processes name)) t.0) ∙ e)
   ])
@@ -228,38 +246,55 @@ module _ (f : Flat) (given : NamesAreGiven f) (tree : IsTree f) (me : ProcName) 
   given_changes : (accounts : Accounts) (call : UnixCall) → EachChange accounts f me p call NamesAreGiven
   given_changes accounts call = record {
     stays = given;
-    makes = λ n d x walked free w own mode made_is. given_put f given (n ∷ d) x (λ job c. given.of_known_jobs me p job here (known_in_chain job (own job c)));
+    makes =
+        λ n d x walked free w own mode made_is.
+        given_put f given (n ∷ d) x (λ job c. given.of_known_jobs me p job here (known_in_chain job (own job c)));
     overwrites = λ n d bytes file w.
-        given_put f given (n ∷ d) (record { class = class_of (get f.files (n ∷ d)); content = File bytes }) (λ job c. old_class (n ∷ d) job (get f.files (n ∷ d)) refl c);
+        given_put f given (n ∷ d) (record { class = class_of (get f.files (n ∷ d)); content = File bytes })
+        (λ job c. old_class (n ∷ d) job (get f.files (n ∷ d)) refl c);
     cuts = λ n d takes w. record {
       of_processes = given.of_processes;
       of_known_jobs = given.of_known_jobs;
-      of_carried_jobs = λ q y job e c. given.of_carried_jobs q y job (kept (not (under_path (n ∷ d) q)) (get f.files q) y (sym (get-keep f.files (λ t. not (under_path (n ∷ d) t)) q) ∙ e)) c;
+      of_carried_jobs =
+          λ q y job e c. given.of_carried_jobs q y job (kept (not (under_path (n ∷ d) q)) (get f.files q) y
+          (sym (get-keep f.files (λ t. not (under_path (n ∷ d) t)) q) ∙ e)) c;
     };
     renames = λ n k d takes apart free w. record {
       of_processes = given.of_processes;
       of_known_jobs = given.of_known_jobs;
       of_carried_jobs = λ q y job e c.
           let from : Path = moved (k ∷ d) (n ∷ d) q in
-          given.of_carried_jobs from y job (left (under_path (n ∷ d) q) (get f.files from) y (sym (get_renamed n k d apart f.files (nothing_below f tree (k ∷ d) free) q) ∙ e)) c;
+          given.of_carried_jobs from y job (left (under_path (n ∷ d) q) (get f.files from) y
+          (sym (get_renamed n k d apart f.files (nothing_below f tree (k ∷ d) free) q) ∙ e)) c;
     };
-    spawns = λ is. given_birth (record p { born = p.born + 1 }) (record { user = p.user; chain = p.chain; held = []; exited = None; born = 0 }) refl (λ job k. inl k) (λ job k. inl (known_in_chain job (in_chain p.chain job k)));
+    spawns =
+        λ is. given_birth (record p { born = p.born + 1 })
+        (record { user = p.user; chain = p.chain; held = []; exited = None; born = 0 }) refl (λ job k. inl k)
+        (λ job k. inl (known_in_chain job (in_chain p.chain job k)));
     exits = λ n is. given_instead (record p { exited = Some n }) (omega arith) (λ job k. k);
-    logs_in = λ name is known free. given_instead (record p { user = name; held = [] }) (omega arith) (λ job k. known_in_chain job (in_chain p.chain job k));
-    kills = λ n. given_processes f given (without_process f (n ∷ me)).processes (given_without f (n ∷ me)) (λ q y e. inl (left (under_process (n ∷ me) q) (f.processes q) y e));
+    logs_in =
+        λ name is known free. given_instead (record p { user = name; held = [] }) (omega arith)
+        (λ job k. known_in_chain job (in_chain p.chain job k));
+    kills =
+        λ n. given_processes f given (without_process f (n ∷ me)).processes (given_without f (n ∷ me))
+        (λ q y e. inl (left (under_process (n ∷ me) q) (f.processes q) y e));
     wraps = λ n d is walked free w named.
         let q : Process = record p { held = p.held ++ next_child me p ∷ []; born = p.born + 1 } in
         let child : Process = record { user = p.user; chain = inner_chain me p; held = []; exited = None; born = 0 } in
         let born : NamesAreGiven (born_with f me p here q child) = given_birth q child refl holds_more is_in_more in
         given_put (born_with f me p here q child) born (n ∷ d) (record { class = Scratch p.user (inner_chain me p); content = Dir })
-        (λ job c. born.of_known_jobs (next_child me p) child job (ap (λ b. cond b (Some child) (cond (same me (next_child me p)) (Some q) (f.processes (next_child me p)))) (same_itself (next_child me p))) (ap (λ b. b || false) c));
+        (λ job c. born.of_known_jobs (next_child me p) child job (ap (λ b.
+        cond b (Some child) (cond (same me (next_child me p)) (Some q) (f.processes (next_child me p))))
+        (same_itself (next_child me p))) (ap (λ b. b || false) c));
   }
     where
-      old_class : (q : Path) (job : ProcName) (o : Option Node) → get f.files q ≡ o → carries job (class_of o) ≡ true → is_given f.processes job ≡ true
+      old_class : (q : Path) (job : ProcName) (o : Option Node) → get f.files q ≡ o → carries job (class_of o) ≡ true
+          → is_given f.processes job ≡ true
       old_class q job None at c = absurd (true≢false (sym c))
       old_class q job (Some x) at c = given.of_carried_jobs q x job at c
 
-      holds_more : (job : ProcName) → (has p.chain job || has (p.held ++ next_child me p ∷ []) job) ≡ true → (knows p job ≡ true) ⊎ (job ≡ next_child me p)
+      holds_more : (job : ProcName) → (has p.chain job || has (p.held ++ next_child me p ∷ []) job) ≡ true
+          → (knows p job ≡ true) ⊎ (job ≡ next_child me p)
       holds_more job k = elim (or_cases (has p.chain job) (has (p.held ++ next_child me p ∷ []) job) k) [
         | inl i ↦ inl (known_in_chain job i)
         | inr i ↦ elim (longer_has p.held (next_child me p) job i) [
@@ -275,14 +310,18 @@ module _ (f : Flat) (given : NamesAreGiven f) (tree : IsTree f) (me : ProcName) 
       ]
 
 -- so does each line
-pub given_after : (accounts : Accounts) (f : Flat) (me : ProcName) (call : UnixCall) → IsTree f → NamesAreGiven f → NamesAreGiven (flat_after accounts f me call)
-given_after accounts f me call tree given = by_line accounts f me call NamesAreGiven given (λ p runs. given_changes f given tree me p (runs_is_there (f.processes me) p runs) accounts call)
+pub given_after : (accounts : Accounts) (f : Flat) (me : ProcName) (call : UnixCall) → IsTree f → NamesAreGiven f
+    → NamesAreGiven (flat_after accounts f me call)
+given_after accounts f me call tree given =
+    by_line accounts f me call NamesAreGiven given
+    (λ p runs. given_changes f given tree me p (runs_is_there (f.processes me) p runs) accounts call)
 
 -- and so do all lines
 given_at_end : (accounts : Accounts) (f : Flat) → IsTree f → NamesAreGiven f → (calls : List CallLine) → NamesAreGiven (flat_end accounts f calls)
 given_at_end accounts f tree given [] = given
 given_at_end accounts f tree given (c ∷ calls) =
-    given_at_end accounts (flat_after accounts f c.process c.call) (tree_after f tree accounts c.process c.call) (given_after accounts f c.process c.call tree given) calls
+    given_at_end accounts (flat_after accounts f c.process c.call) (tree_after f tree accounts c.process c.call)
+    (given_after accounts f c.process c.call tree given) calls
 
 -- at the start process 0 is alone, in no job
 given_at_start : (accounts : Accounts) → NamesAreGiven (boot accounts)
@@ -296,7 +335,8 @@ given_at_start accounts = record {
     first [] p e = refl
     first (n ∷ q) p e = let gone : None ≡ Some p = e in absurd (cc)
 
-    knows_none : (q : ProcName) (p : Process) (job : ProcName) → (boot accounts).processes q ≡ Some p → knows p job ≡ true → is_given (boot accounts).processes job ≡ true
+    knows_none : (q : ProcName) (p : Process) (job : ProcName) → (boot accounts).processes q ≡ Some p
+        → knows p job ≡ true → is_given (boot accounts).processes job ≡ true
     knows_none [] p job e k =
         let found : Some first_process ≡ Some p = e in
         let one : first_process ≡ p = cc in
@@ -306,7 +346,8 @@ given_at_start accounts = record {
     slash : Node
     slash = record { class = Readable (first_user accounts.users); content = Dir }
 
-    carries_none : (q : Path) (n : Node) (job : ProcName) → get (boot accounts).files q ≡ Some n → carries job n.class ≡ true → is_given (boot accounts).processes job ≡ true
+    carries_none : (q : Path) (n : Node) (job : ProcName) → get (boot accounts).files q ≡ Some n
+        → carries job n.class ≡ true → is_given (boot accounts).processes job ≡ true
     carries_none [] n job e c =
         let found : Some (record { class = Readable (first_user accounts.users); content = Dir }) ≡ Some n = e in
         let one : record { class = Readable (first_user accounts.users); content = Dir } ≡ n = cc in

@@ -19,7 +19,8 @@ use Rattle.histar_flat.specs.Classes.Class.{Open, Private, Readable, Scratch, Gr
 use Rattle.histar_flat.specs.FlatState.{Flat, IsTree, Node, is_some_and, is_there, is_dir_at, is_file_at, reads, writes, into, moved, with_process}
 use Rattle.histar_flat.specs.FlatCalls.{inner_chain, next_child, refused, reply_or, reply_by, flat_after, if_running, running}
 use Rattle.histar_flat.specs.FlatCalls as flat
-use Rattle.histar_flat.specs.JobLaws.{lies_in_scratch, runs_in, JobsStayInside, CallsChangeTheirOwnTree, is_scratch, lies_in_some_scratch, out_of_jobs, JobsReadAsTheirUser}
+use Rattle.histar_flat.specs.JobLaws.{lies_in_scratch, runs_in, JobsStayInside, CallsChangeTheirOwnTree, is_scratch, lies_in_some_scratch}
+use Rattle.histar_flat.specs.JobLaws.{out_of_jobs, JobsReadAsTheirUser}
 use Rattle.histar_flat.proofs.FileLemmas.{same_itself, same_name_found, same_path_found, get_other, get-keep}
 use Rattle.histar_flat.proofs.Under.{under_itself, under_child}
 use Rattle.histar_flat.proofs.Renaming.{stays, get_renamed}
@@ -40,7 +41,8 @@ in_all jobs (k ∷ chain) job all known =
     ]
 
 -- who is in a job is not free of jobs
-not_free : (chain : List ProcName) (job : ProcName) → has chain job ≡ true → (let free : Bool = elim chain [ [] ↦ true | k ∷ ks ↦ false ] in free) ≡ false
+not_free : (chain : List ProcName) (job : ProcName) → has chain job ≡ true
+    → (let free : Bool = elim chain [ [] ↦ true | k ∷ ks ↦ false ] in free) ≡ false
 not_free [] job known = absurd (true≢false (sym known))
 not_free (k ∷ ks) job known = refl
 
@@ -79,14 +81,16 @@ lies_below f job d [] lies under = elim (same_path_found d []) [
 lies_below f job d (n ∷ q) lies under = elim (same_path_found d (n ∷ q)) [
   | inl e ↦ subst (λ r. lies_in_scratch f job r ≡ true) e.1 lies
   | inr e ↦
-      ap (λ b. is_some_and (get f.files (n ∷ q)) (λ x. carries job x.class) || b) (lies_below f job d q lies (sym (ap (λ b. b || under_path d q) e.0) ∙ under))
+      ap (λ b. is_some_and (get f.files (n ∷ q)) (λ x. carries job x.class) || b)
+      (lies_below f job d q lies (sym (ap (λ b. b || under_path d q) e.0) ∙ under))
       ∙ or-true (is_some_and (get f.files (n ∷ q)) (λ x. carries job x.class))
 ]
 
 -- what is in a scratch directory lies there
 lies_in : (f : Flat) (job : ProcName) (n : Name) (d : Path) → lies_in_scratch f job d ≡ true → lies_in_scratch f job (n ∷ d) ≡ true
 lies_in f job n d lies =
-    ap (λ b. is_some_and (get f.files (n ∷ d)) (λ x. carries job x.class) || b) lies ∙ or-true (is_some_and (get f.files (n ∷ d)) (λ x. carries job x.class))
+    ap (λ b. is_some_and (get f.files (n ∷ d)) (λ x. carries job x.class) || b) lies
+    ∙ or-true (is_some_and (get f.files (n ∷ d)) (λ x. carries job x.class))
 
 module _ (accounts : Accounts) (f : Flat) (tree : IsTree f) (job : ProcName) (q : Path) (outside : lies_in_scratch f job q ≡ false) where
   -- the path is as it was
@@ -130,19 +134,26 @@ module _ (accounts : Accounts) (f : Flat) (tree : IsTree f) (job : ProcName) (q 
       by_line accounts f me call IsKept refl (λ p runs. inside_changes me p (sym (ap (λ r. is_some_and r (λ p. has p.chain job)) runs) ∙ inside) call)
 
 -- and so does one of a process that doesn't run
-kept_by_one : (accounts : Accounts) (f : Flat) → IsTree f → (job : ProcName) (me : ProcName) (call : UnixCall) → (running f me ≡ None) ⊎ (runs_in f me job ≡ true)
+kept_by_one : (accounts : Accounts) (f : Flat) → IsTree f → (job : ProcName) (me : ProcName) (call : UnixCall)
+    → (running f me ≡ None) ⊎ (runs_in f me job ≡ true)
     → (q : Path) → lies_in_scratch f job q ≡ false → get (flat_after accounts f me call).files q ≡ get f.files q
 kept_by_one accounts f tree job me call (inl gone) q outside = ap (λ (g : Flat). get g.files q) (not_running_is_gone accounts f me call gone).1
 kept_by_one accounts f tree job me call (inr inside) q outside = kept_by_job accounts f tree job q outside me call inside
 
 -- then the path lies outside as before
-still_outside : (accounts : Accounts) (f : Flat) → IsTree f → (job : ProcName) (me : ProcName) (call : UnixCall) → (running f me ≡ None) ⊎ (runs_in f me job ≡ true)
+still_outside : (accounts : Accounts) (f : Flat) → IsTree f → (job : ProcName) (me : ProcName) (call : UnixCall)
+    → (running f me ≡ None) ⊎ (runs_in f me job ≡ true)
     → (q : Path) → lies_in_scratch f job q ≡ false → lies_in_scratch (flat_after accounts f me call) job q ≡ false
 still_outside accounts f tree job me call own [] outside =
     ap (λ (o : Option Node). is_some_and o (λ n. carries job n.class)) (kept_by_one accounts f tree job me call own [] outside) ∙ outside
 still_outside accounts f tree job me call own (n ∷ d) outside =
-    let above = still_outside accounts f tree job me call own d (by (is_some_and (get f.files (n ∷ d)) (λ x. carries job x.class)) (lies_in_scratch f job d) outside) in
-    (λ i. is_some_and (kept_by_one accounts f tree job me call own (n ∷ d) outside i) (λ x. carries job x.class) || (above ∙ sym (by (is_some_and (get f.files (n ∷ d)) (λ x. carries job x.class)) (lies_in_scratch f job d) outside)) i) ∙ outside
+    let above =
+    still_outside accounts f tree job me call own d
+    (by (is_some_and (get f.files (n ∷ d)) (λ x. carries job x.class)) (lies_in_scratch f job d) outside) in
+    (λ i. is_some_and (kept_by_one accounts f tree job me call own (n ∷ d) outside i) (λ x. carries job x.class)
+    || (above
+    ∙ sym (by (is_some_and (get f.files (n ∷ d)) (λ x. carries job x.class)) (lies_in_scratch f job d)
+    outside)) i) ∙ outside
   where
     by : (a b : Bool) → (a || b) ≡ false → b ≡ false
     by true b e = absurd (true≢false e)
@@ -152,7 +163,8 @@ still_outside accounts f tree job me call own (n ∷ d) outside =
 pub jobs_stay_inside : JobsStayInside
 jobs_stay_inside accounts f tree job [] own q outside = refl
 jobs_stay_inside accounts f tree job (c ∷ calls) own q outside =
-    jobs_stay_inside accounts (flat_after accounts f c.process c.call) (tree_after f tree accounts c.process c.call) job calls own.1 q (still_outside accounts f tree job c.process c.call own.0 q outside)
+    jobs_stay_inside accounts (flat_after accounts f c.process c.call) (tree_after f tree accounts c.process c.call) job
+    calls own.1 q (still_outside accounts f tree job c.process c.call own.0 q outside)
     ∙ kept_by_one accounts f tree job c.process c.call own.0 q outside
 
 -- ---- processes
@@ -168,7 +180,9 @@ module _ (me other : ProcName) (apart : under_process me other ≡ false) where
   -- nor a child of it
   no_child_of : (n : ℕ) → same (n ∷ me) other ≡ false
   no_child_of n = elim (same_name_found (n ∷ me) other) [
-    | inl e ↦ absurd (true≢false (sym (under_child nat_eq same_name_found me me n (under_itself nat_eq same_name_found me)) ∙ ap (under_process me) e.1 ∙ apart))
+    | inl e ↦
+        absurd (true≢false (sym (under_child nat_eq same_name_found me me n (under_itself nat_eq same_name_found me))
+        ∙ ap (under_process me) e.1 ∙ apart))
     | inr e ↦ e.0
   ]
 
@@ -179,7 +193,10 @@ below_parent n me [] under = elim (same_name_found (n ∷ me) []) [
   | inr e ↦ absurd (true≢false (sym under ∙ e.0))
 ]
 below_parent n me (k ∷ other) under = elim (same_name_found (n ∷ me) (k ∷ other)) [
-  | inl e ↦ let above : me ≡ other = cc in under_child nat_eq same_name_found me other k (subst (λ x. under_process me x ≡ true) above (under_itself nat_eq same_name_found me))
+  | inl e ↦
+      let above : me
+      ≡ other = cc in under_child nat_eq same_name_found me other k
+      (subst (λ x. under_process me x ≡ true) above (under_itself nat_eq same_name_found me))
   | inr e ↦ under_child nat_eq same_name_found me other k (below_parent n me other (sym (ap (λ b. b || under_process (n ∷ me) other) e.0) ∙ under))
 ]
 
@@ -206,17 +223,22 @@ module _ (f : Flat) (me : ProcName) (p : Process) (other : ProcName) (apart : un
     overwrites = λ n d bytes file w. refl;
     cuts = λ n d away w. refl;
     renames = λ n k d away differs free w. refl;
-    spawns = λ is. born_other (record p { born = p.born + 1 }) (record { user = p.user; chain = p.chain; held = []; exited = None; born = 0 }) (p.born + 1);
+    spawns =
+        λ is. born_other (record p { born = p.born + 1 })
+        (record { user = p.user; chain = p.chain; held = []; exited = None; born = 0 }) (p.born + 1);
     exits = λ n is. with_other (record p { exited = Some n });
     logs_in = λ name is known free. with_other (record p { user = name; held = [] });
     kills = λ n. not_killed n;
     wraps = λ n d is walked free w named.
-        born_other (record p { held = p.held ++ next_child me p ∷ []; born = p.born + 1 }) (record { user = p.user; chain = inner_chain me p; held = []; exited = None; born = 0 }) (p.born + 1);
+        born_other (record p { held = p.held ++ next_child me p ∷ []; born = p.born + 1 })
+        (record { user = p.user; chain = inner_chain me p; held = []; exited = None; born = 0 }) (p.born + 1);
   }
 
 -- A call of a process changes no process but itself and those below it.
 pub calls_change_their_own_tree : CallsChangeTheirOwnTree
-calls_change_their_own_tree accounts f me call other apart = by_line accounts f me call (λ g. g.processes other ≡ f.processes other) refl (λ p runs. other_changes f me p other apart accounts call)
+calls_change_their_own_tree accounts f me call other apart =
+    by_line accounts f me call (λ g. g.processes other ≡ f.processes other) refl
+    (λ p runs. other_changes f me p other apart accounts call)
 
 -- ---- what is read
 
@@ -226,7 +248,11 @@ not_exited p runs = by p.exited refl
   where
     by : (e : Option ℕ) → p.exited ≡ e → e ≡ None
     by None is = refl
-    by (Some n) is = let none : None ≡ Some p = sym (ap (λ (x : Option ℕ). let r : Option Process = elim x [ None ↦ Some p | Some k ↦ None ] in r) is) ∙ runs in absurd cc
+    by (Some n) is =
+        let none : None
+        ≡ Some p = sym
+        (ap (λ (x : Option ℕ). let r : Option Process = elim x [ None ↦ Some p | Some k ↦ None ] in r) is)
+        ∙ runs in absurd cc
 
 module _ (accounts : Accounts) (f : Flat) (me : ProcName) (p : Process) where
   -- the flat state in which the process is in no job
@@ -238,10 +264,13 @@ module _ (accounts : Accounts) (f : Flat) (me : ProcName) (p : Process) where
   read_alike (Scratch owner jobs) is = absurd (true≢false is)
   read_alike class is = refl
 
-  reads_alike : (q : Path) → is_some_and (get f.files q) (λ n. is_scratch n.class) ≡ false → reads accounts f p q ≡ reads accounts freed (out_of_jobs p) q
+  reads_alike : (q : Path) → is_some_and (get f.files q) (λ n. is_scratch n.class) ≡ false
+      → reads accounts f p q ≡ reads accounts freed (out_of_jobs p) q
   reads_alike q = by (get f.files q)
     where
-      by : (o : Option Node) → is_some_and o (λ n. is_scratch n.class) ≡ false → is_some_and o (λ n. may_read accounts p n.class) ≡ is_some_and o (λ n. may_read accounts (out_of_jobs p) n.class)
+      by : (o : Option Node) → is_some_and o (λ n. is_scratch n.class) ≡ false
+          → is_some_and o (λ n. may_read accounts p n.class)
+          ≡ is_some_and o (λ n. may_read accounts (out_of_jobs p) n.class)
       by None is = refl
       by (Some n) is = read_alike n.class is
 
@@ -249,13 +278,17 @@ module _ (accounts : Accounts) (f : Flat) (me : ProcName) (p : Process) where
   into_alike [] outside = ap (λ b. unless b EACCES) (reads_alike [] outside)
   into_alike (n ∷ d) outside =
       let parts = or_parts (is_some_and (get f.files (n ∷ d)) (λ x. is_scratch x.class)) (lies_in_some_scratch f d) outside in
-      λ i. into_alike d parts.1 i orelse unless (is_there f (n ∷ d)) ENOENT orelse unless (is_dir_at f (n ∷ d)) ENOTDIR orelse unless (reads_alike (n ∷ d) parts.0 i) EACCES
+      λ i. into_alike d parts.1 i orelse unless (is_there f (n ∷ d)) ENOENT orelse unless (is_dir_at f (n ∷ d)) ENOTDIR
+      orelse unless (reads_alike (n ∷ d) parts.0 i) EACCES
 
-  refused_alike : (q : Path) → lies_in_some_scratch f q ≡ false → refused accounts f me p (Read q) ≡ refused accounts freed me (out_of_jobs p) (Read q)
+  refused_alike : (q : Path) → lies_in_some_scratch f q ≡ false
+      → refused accounts f me p (Read q) ≡ refused accounts freed me (out_of_jobs p) (Read q)
   refused_alike [] outside = refl
   refused_alike (n ∷ d) outside =
       let parts = or_parts (is_some_and (get f.files (n ∷ d)) (λ x. is_scratch x.class)) (lies_in_some_scratch f d) outside in
-      λ i. (into_alike d parts.1 i orelse unless (is_there f (n ∷ d)) ENOENT orelse unless (is_file_at f (n ∷ d)) EISDIR) orelse unless (reads_alike (n ∷ d) parts.0 i) EACCES
+      λ i.
+      (into_alike d parts.1 i orelse unless (is_there f (n ∷ d)) ENOENT orelse unless (is_file_at f (n ∷ d)) EISDIR)
+      orelse unless (reads_alike (n ∷ d) parts.0 i) EACCES
 
 -- Outside all scratch directories a process in jobs is answered what it were answered in none.
 pub jobs_read_as_their_user : JobsReadAsTheirUser

@@ -40,13 +40,16 @@ module _ (accounts : Accounts) where
     | inr i ↦ placed q x (sym (ap (λ b. cond b (Some p) (f.processes q)) i.0) ∙ e)
   ]
 
-  placed_with_child : (f : Flat) (me : ProcName) (p : Process) (chain : List ProcName) → ArePlaced accounts f → IsPlaced accounts (record p { born = p.born + 1 })
+  placed_with_child : (f : Flat) (me : ProcName) (p : Process) (chain : List ProcName) → ArePlaced accounts f
+      → IsPlaced accounts (record p { born = p.born + 1 })
       → IsPlaced accounts (record { user = p.user; chain = chain; held = []; exited = None; born = 0 }) → ArePlaced accounts (with_child f me p chain)
   placed_with_child f me p chain placed grown child =
-      placed_with (with_process f me (record p { born = p.born + 1 })) ((p.born + 1) ∷ me) (record { user = p.user; chain = chain; held = []; exited = None; born = 0 })
+      placed_with (with_process f me (record p { born = p.born + 1 })) ((p.born + 1) ∷ me)
+      (record { user = p.user; chain = chain; held = []; exited = None; born = 0 })
       (placed_with f me (record p { born = p.born + 1 }) placed grown) child
 
-  placed_changes : (f : Flat) (me : ProcName) (p : Process) (call : UnixCall) → ArePlaced accounts f → IsPlaced accounts p → EachChange accounts f me p call (ArePlaced accounts)
+  placed_changes : (f : Flat) (me : ProcName) (p : Process) (call : UnixCall) → ArePlaced accounts f
+      → IsPlaced accounts p → EachChange accounts f me p call (ArePlaced accounts)
   placed_changes f me p call placed here = record {
     stays = placed;
     makes = λ n d x walked free w own mode made_is. placed;
@@ -69,7 +72,9 @@ module _ (accounts : Accounts) where
   }
 
   placed_after : (f : Flat) (me : ProcName) (call : UnixCall) → ArePlaced accounts f → ArePlaced accounts (flat_after accounts f me call)
-  placed_after f me call placed = by_line accounts f me call (ArePlaced accounts) placed (λ p runs. placed_changes f me p call placed (placed me p (runs_is_there (f.processes me) p runs)))
+  placed_after f me call placed =
+      by_line accounts f me call (ArePlaced accounts) placed
+      (λ p runs. placed_changes f me p call placed (placed me p (runs_is_there (f.processes me) p runs)))
 
   placed_at_end : (f : Flat) → ArePlaced accounts f → (calls : List CallLine) → ArePlaced accounts (flat_end accounts f calls)
   placed_at_end f placed [] = placed

@@ -12,7 +12,8 @@ use Rattle.histar_flat.specs.Meaning.{RepliedCall, answered_from, flat_end, mean
 
 module _ (accounts : Accounts) where
   -- A process that does not run is answered `gone`, and changes nothing.
-  pub not_running_is_gone : (f : Flat) (me : ProcName) (call : UnixCall) → running f me ≡ None → (reply_to accounts f me call ≡ Gone) × (flat_after accounts f me call ≡ f)
+  pub not_running_is_gone : (f : Flat) (me : ProcName) (call : UnixCall) → running f me ≡ None
+      → (reply_to accounts f me call ≡ Gone) × (flat_after accounts f me call ≡ f)
   not_running_is_gone f me call h = (ap (λ r. reply_by accounts f me r call) h, ap (λ r. flat_by accounts f me r call) h)
 
   -- The replies are one a call line, in the order of the lines.
@@ -21,12 +22,17 @@ module _ (accounts : Accounts) where
   replies_in_order f (c ∷ calls) = ap (λ (l : List CallLine). c ∷ l) (replies_in_order (flat_after accounts f c.process c.call) calls)
 
   -- The reply to a line depends on the lines before it alone: later lines are answered from the state that these leave.
-  pub replies_go_on : (f : Flat) (first later : List CallLine) → answered_from accounts f (first ++ later) ≡ answered_from accounts f first ++ answered_from accounts (flat_end accounts f first) later
+  pub replies_go_on : (f : Flat) (first later : List CallLine)
+      → answered_from accounts f (first ++ later)
+      ≡ answered_from accounts f first ++ answered_from accounts (flat_end accounts f first) later
   replies_go_on f [] later = refl
-  replies_go_on f (c ∷ first) later = ap (λ (l : List RepliedCall). record { call = c; reply = reply_to accounts f c.process c.call } ∷ l) (replies_go_on (flat_after accounts f c.process c.call) first later)
+  replies_go_on f (c ∷ first) later =
+      ap (λ (l : List RepliedCall). record { call = c; reply = reply_to accounts f c.process c.call } ∷ l)
+      (replies_go_on (flat_after accounts f c.process c.call) first later)
 
   -- So do the states.
-  pub states_go_on : (f : Flat) (first later : List CallLine) → flat_end accounts f (first ++ later) ≡ flat_end accounts (flat_end accounts f first) later
+  pub states_go_on : (f : Flat) (first later : List CallLine)
+      → flat_end accounts f (first ++ later) ≡ flat_end accounts (flat_end accounts f first) later
   states_go_on f [] later = refl
   states_go_on f (c ∷ first) later = states_go_on (flat_after accounts f c.process c.call) first later
 

@@ -45,10 +45,12 @@ module _ (d : Path) where
   Agrees n entries es = find by_bytes n entries ≡ option_map is_dir (find path_cmp (n ∷ d) es)
 
   -- an entry of the directory, before others
-  find_one : (n m : Name) (there : Node) (es : List (Path × Node)) → Agrees n (listed es) es → Agrees n ((m, is_dir there) ∷ listed es) ((m ∷ d, there) ∷ es)
+  find_one : (n m : Name) (there : Node) (es : List (Path × Node)) → Agrees n (listed es) es
+      → Agrees n ((m, is_dir there) ∷ listed es) ((m ∷ d, there) ∷ es)
   find_one n m there es rest = elim (same_name_found n m) [
     | inl e ↦ subst (λ (k : Name). Agrees n ((k, is_dir there) ∷ listed es) ((k ∷ d, there) ∷ es)) e.1
-        (find_first nat_list_cmp_total antisymmetric n (is_dir there) (listed es) ∙ sym (ap (option_map is_dir) (find_first path_cmp_total path_cmp_exact (n ∷ d) there es)))
+        (find_first nat_list_cmp_total antisymmetric n (is_dir there) (listed es)
+        ∙ sym (ap (option_map is_dir) (find_first path_cmp_total path_cmp_exact (n ∷ d) there es)))
     | inr e ↦ find_behind nat_list_cmp_total antisymmetric n m (is_dir there) (listed es) e.1
         ∙ rest ∙ sym (ap (option_map is_dir) (find_behind path_cmp_total path_cmp_exact (n ∷ d) (m ∷ d) there es (not_named n m e.1)))
   ]
@@ -72,7 +74,8 @@ module _ (d : Path) where
   below_listed n [] h = tt
   below_listed n (e ∷ es) h = step e.0 e.1 (first (is_lt (path_cmp (n ∷ d) e.0)) _ h) (below_listed n es (second (is_lt (path_cmp (n ∷ d) e.0)) _ h))
     where
-      step : (q : Path) (there : Node) → T (is_lt (path_cmp (n ∷ d) q)) → T (below_all by_bytes n (listed es)) → T (below_all by_bytes n (listed ((q, there) ∷ es)))
+      step : (q : Path) (there : Node) → T (is_lt (path_cmp (n ∷ d) q)) → T (below_all by_bytes n (listed es))
+          → T (below_all by_bytes n (listed ((q, there) ∷ es)))
       step [] there low rest = rest
       step (m ∷ above) there low rest = elim (same_path_found d above) [
         | inl t ↦
@@ -87,7 +90,8 @@ module _ (d : Path) where
   sorted_listed [] h = tt
   sorted_listed (e ∷ es) h = step e.0 e.1 (first (below_all path_cmp e.0 es) _ h) (sorted_listed es (second (below_all path_cmp e.0 es) _ h))
     where
-      step : (q : Path) (there : Node) → T (below_all path_cmp q es) → T (is_sorted by_bytes (listed es)) → T (is_sorted by_bytes (listed ((q, there) ∷ es)))
+      step : (q : Path) (there : Node) → T (below_all path_cmp q es) → T (is_sorted by_bytes (listed es))
+          → T (is_sorted by_bytes (listed ((q, there) ∷ es)))
       step [] there low rest = rest
       step (n ∷ above) there low rest = elim (same_path_found d above) [
         | inl t ↦

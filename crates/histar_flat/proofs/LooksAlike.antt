@@ -1,5 +1,6 @@
 -- Two states that show a process the same, at the path and the process that a call names: the call is refused and answered alike.
-use Rattle.std.specs.Prelude.{◌≡◌, Bool, true, false, not, ◌&&◌, ◌||◌, ◌==◌, [], ◌∷◌, List, ℕ, length, nat_lt, nat_le, Option, Some, None, is_some, option_map, refl}
+use Rattle.std.specs.Prelude.{◌≡◌, Bool, true, false, not, ◌&&◌, ◌||◌, ◌==◌, [], ◌∷◌, List, ℕ, length, nat_lt, nat_le, Option, Some, None, is_some}
+use Rattle.std.specs.Prelude.{option_map, refl}
 use Rattle.std.proofs.Common.{ap}
 use Rattle.std.proofs.lemmas.Bool.{and_parts}
 use Rattle.histar_base.specs.Refusals.{◌orelse◌, unless}
@@ -14,7 +15,8 @@ use Rattle.histar_flat.specs.Files.{get}
 use Rattle.histar_flat.specs.Classes.{Class, Process, sees, may_read, may_write, class_owner, class_mode}
 use Rattle.histar_flat.specs.FlatState.{Entry, Flat, Node, is_some_and, reads, bytes_at, entries_in, walk}
 use Rattle.histar_flat.specs.Needs.{Test, Need, passes, unmet, is_below_root, not_found, most_entries, most_bytes}
-use Rattle.histar_flat.specs.Needs.Test.{Exists, IsFile, IsDirectory, Absent, AbsentBeside, MayRead, MayWrite, MayWriteAbove, HasRoomAbove, IsEmpty, Fits}
+use Rattle.histar_flat.specs.Needs.Test.{Exists, IsFile, IsDirectory, Absent, AbsentBeside, MayRead, MayWrite, MayWriteAbove, HasRoomAbove, IsEmpty}
+use Rattle.histar_flat.specs.Needs.Test.{Fits}
 use Rattle.histar_flat.specs.Needs.Need.{◌then◌, ◌or◌, Walk, Found}
 use Rattle.histar_flat.specs.Effects.{ReplyForm, reply_with, life_reply, stat_reply}
 use Rattle.histar_flat.specs.Effects.Answer.{Bytes, Listing, Attributes, StatusOf}
@@ -29,8 +31,10 @@ use Rattle.histar_flat.proofs.Warrants.{met, ordered, may_be_revealed}
 pub record LooksAlike (wide : Bool) (accounts : Accounts) (f g : Flat) (p : Process) (q : Path) : Type 0 where
   pub way : walk accounts f p q ≡ walk accounts g p q
   pub here : walk accounts f p q ≡ None → option_map shown (get f.files q) ≡ option_map shown (get g.files q)
-  pub above : is_below_root q ≡ true → walk accounts f p q ≡ None → option_map shown (get f.files (parent q)) ≡ option_map shown (get g.files (parent q))
-  pub beside : (name : Name) → is_below_root q ≡ true → walk accounts f p q ≡ None → option_map shown (get f.files (name ∷ parent q)) ≡ option_map shown (get g.files (name ∷ parent q))
+  pub above : is_below_root q ≡ true → walk accounts f p q ≡ None
+      → option_map shown (get f.files (parent q)) ≡ option_map shown (get g.files (parent q))
+  pub beside : (name : Name) → is_below_root q ≡ true → walk accounts f p q ≡ None
+      → option_map shown (get f.files (name ∷ parent q)) ≡ option_map shown (get g.files (name ∷ parent q))
   pub entries_above : is_below_root q ≡ true → walk accounts f p q ≡ None → entries_in f (parent q) ≡ entries_in g (parent q)
   pub entries : wide ≡ true → walk accounts f p q ≡ None → reads accounts f p q ≡ true → entries_in f q ≡ entries_in g q
   pub bytes : walk accounts f p q ≡ None → reads accounts f p q ≡ true → bytes_at f q ≡ bytes_at g q
@@ -49,7 +53,8 @@ abbrev is_in_view : Bool → Need → Bool
 is_in_view wide need = wide || is_narrow need
 
 -- a test of what is shown
-pub test_alike : (test : Class × Bool → Bool) (a b : Option Node) → option_map shown a ≡ option_map shown b → is_some_and a (λ n. test (shown n)) ≡ is_some_and b (λ n. test (shown n))
+pub test_alike : (test : Class × Bool → Bool) (a b : Option Node) → option_map shown a ≡ option_map shown b
+    → is_some_and a (λ n. test (shown n)) ≡ is_some_and b (λ n. test (shown n))
 test_alike test None None h = refl
 test_alike test None (Some n) h = absurd (cc)
 test_alike test (Some m) None h = absurd (cc)
@@ -89,11 +94,13 @@ is_wide false h = h
 
 module _ (accounts : Accounts) (f g : Flat) (me : ProcName) (p : Process) (q : Path) (wide : Bool) (alike : LooksAlike wide accounts f g p q) where
   -- tests of what is at the path
-  at_path : (test : Class × Bool → Bool) → walk accounts f p q ≡ None → is_some_and (get f.files q) (λ n. test (shown n)) ≡ is_some_and (get g.files q) (λ n. test (shown n))
+  at_path : (test : Class × Bool → Bool) → walk accounts f p q ≡ None
+      → is_some_and (get f.files q) (λ n. test (shown n)) ≡ is_some_and (get g.files q) (λ n. test (shown n))
   at_path test walked = test_alike test (get f.files q) (get g.files q) (alike.here walked)
 
   -- a test that looks at what may be seen passes alike
-  passes_alike : (test : Test) (e : Errno) → MayLook accounts f me p q test → is_in_view wide (test or e) ≡ true → passes accounts f me p q test ≡ passes accounts g me p q test
+  passes_alike : (test : Test) (e : Errno) → MayLook accounts f me p q test → is_in_view wide (test or e) ≡ true
+      → passes accounts f me p q test ≡ passes accounts g me p q test
   passes_alike Exists e seen view = at_path (λ s. true) seen
   passes_alike IsFile e seen view = at_path (λ s. not s.1) seen
   passes_alike IsDirectory e seen view = at_path (λ s. s.1) seen
@@ -110,10 +117,12 @@ module _ (accounts : Accounts) (f g : Flat) (me : ProcName) (p : Process) (q : P
   passes_alike _ e seen view = refl
 
   -- needs that are looked at in their turn are met alike
-  pub unmet_alike : (Known : Type 0) → Known → (need : Need) → IsOrdered accounts f me p q Known need → is_in_view wide need ≡ true → unmet accounts f me p q need ≡ unmet accounts g me p q need
+  pub unmet_alike : (Known : Type 0) → Known → (need : Need) → IsOrdered accounts f me p q Known need
+      → is_in_view wide need ≡ true → unmet accounts f me p q need ≡ unmet accounts g me p q need
   unmet_alike Known known (a then b) seen view =
       let views = both_in_view wide a b view in
-      later_alike (unmet accounts f me p q a) (unmet accounts g me p q a) (unmet accounts f me p q b) (unmet accounts g me p q b) (unmet_alike Known known a seen.0 views.0)
+      later_alike (unmet accounts f me p q a) (unmet accounts g me p q a) (unmet accounts f me p q b)
+      (unmet accounts g me p q b) (unmet_alike Known known a seen.0 views.0)
       (λ now. unmet_alike (Known × Met accounts f me p q a) (known, met accounts f me p q a now) b seen.1 views.1)
   unmet_alike Known known (test or e) seen view = ap (λ b. unless b e) (passes_alike test e (seen known) view)
   unmet_alike Known known Walk seen view = alike.way
@@ -128,7 +137,8 @@ module _ (accounts : Accounts) (f g : Flat) (me : ProcName) (p : Process) (q : P
   given_alike is (StatusOf name) may = alike.life is name may
   given_alike is _ may = refl
 
-module _ (accounts : Accounts) (f g : Flat) (me : ProcName) (p : Process) (call : UnixCall) (alike : LooksAlike true accounts f g p (path_of call)) where
+module _ (accounts : Accounts) (f g : Flat) (me : ProcName) (p : Process) (call : UnixCall)
+    (alike : LooksAlike true accounts f g p (path_of call)) where
   -- So a call is refused alike,
   pub refused_alike : refused accounts f me p call ≡ refused accounts g me p call
   refused_alike = unmet_alike accounts f g me p (path_of call) true alike (Unit {0}) tt (rule call).needs (ordered accounts f me p call) refl
@@ -142,13 +152,17 @@ module _ (accounts : Accounts) (f g : Flat) (me : ProcName) (p : Process) (call 
   pub reply_alike : reply_by accounts f me (Some p) call ≡ reply_by accounts g me (Some p) call
   reply_alike = by (refused accounts f me p call) (refused accounts g me p call) refused_alike answer_alike
     where
-      by : (d e : Option Errno) → d ≡ e → (d ≡ None → answer f me p call ≡ answer g me p call) → reply_or d (answer f me p call) ≡ reply_or e (answer g me p call)
+      by : (d e : Option Errno) → d ≡ e → (d ≡ None → answer f me p call ≡ answer g me p call)
+          → reply_or d (answer f me p call) ≡ reply_or e (answer g me p call)
       by None None h same = same refl
       by None (Some x) h same = absurd (cc)
       by (Some x) None h same = absurd (cc)
       by (Some x) (Some y) h same = let t : x ≡ y = cc in ap replies.Refused t
 
 -- A call whose needs are narrow is refused alike in a narrow view.
-pub refused_alike_narrow : (accounts : Accounts) (f g : Flat) (me : ProcName) (p : Process) (call : UnixCall) → LooksAlike false accounts f g p (path_of call) → is_narrow (rule call).needs ≡ true
+pub refused_alike_narrow : (accounts : Accounts) (f g : Flat) (me : ProcName) (p : Process) (call : UnixCall)
+    → LooksAlike false accounts f g p (path_of call) → is_narrow (rule call).needs ≡ true
     → refused accounts f me p call ≡ refused accounts g me p call
-refused_alike_narrow accounts f g me p call alike narrow = unmet_alike accounts f g me p (path_of call) false alike (Unit {0}) tt (rule call).needs (ordered accounts f me p call) narrow
+refused_alike_narrow accounts f g me p call alike narrow =
+    unmet_alike accounts f g me p (path_of call) false alike (Unit {0}) tt (rule call).needs
+    (ordered accounts f me p call) narrow

@@ -24,16 +24,20 @@ moved_root new [] = refl
 moved_root new (n ∷ d) = ap (λ (l : Path). n ∷ l) (moved_root new d)
 
 -- what lies below it has the new name in that place
-pub moved_below : (old : Path) (name : Name) (r : Path) → 0 < length old → under_path old r ≡ true → moved old (name ∷ parent old) r ≡ slice_set r (length r - length old) name
+pub moved_below : (old : Path) (name : Name) (r : Path) → 0 < length old → under_path old r ≡ true
+    → moved old (name ∷ parent old) r ≡ slice_set r (length r - length old) name
 moved_below [] name r some h = absurd (omega (arith, some))
 moved_below (x ∷ q) name [] some h = absurd (true≢false (sym h))
 moved_below (x ∷ q) name (n ∷ d) some h = elim (same_path_found (x ∷ q) (n ∷ d)) [
   | inl e ↦
       let first : length (n ∷ d) - length (x ∷ q) ≡ 0 = omega (arith, ap length e.1) in
-      ap (λ t. cond t (name ∷ q) (n ∷ moved (x ∷ q) (name ∷ q) d)) e.0 ∙ ap (λ (l : Path). name ∷ parent l) e.1 ∙ ap (λ (i : ℕ). slice_set (n ∷ d) i name) (sym first)
+      ap (λ t. cond t (name ∷ q) (n ∷ moved (x ∷ q) (name ∷ q) d)) e.0 ∙ ap (λ (l : Path). name ∷ parent l) e.1
+      ∙ ap (λ (i : ℕ). slice_set (n ∷ d) i name) (sym first)
   | inr e ↦
       let above : under_path (x ∷ q) d ≡ true = sym (ap (λ t. t || under_path (x ∷ q) d) e.0) ∙ h in
       let longer = under_is_longer same same_path_found (x ∷ q) d above in
       let further : length (n ∷ d) - length (x ∷ q) ≡ suc (length d - length (x ∷ q)) = omega (arith, longer) in
-      ap (λ t. cond t (name ∷ q) (n ∷ moved (x ∷ q) (name ∷ q) d)) e.0 ∙ ap (λ (l : Path). n ∷ l) (moved_below (x ∷ q) name d some above) ∙ ap (λ (i : ℕ). slice_set (n ∷ d) i name) (sym further)
+      ap (λ t. cond t (name ∷ q) (n ∷ moved (x ∷ q) (name ∷ q) d)) e.0
+      ∙ ap (λ (l : Path). n ∷ l) (moved_below (x ∷ q) name d some above)
+      ∙ ap (λ (i : ℕ). slice_set (n ∷ d) i name) (sym further)
 ]

@@ -36,7 +36,8 @@ path_from_names q short named = pass_both (nat_le (length q) most_names) (list_a
     by false e = absurd (grind (arith, nat_tests, e))
 
 -- a name in the place of another
-pub named_set : (q : Path) (i : ℕ) (name : List ℕ) → IsTrue (is_name name) → IsTrue (list_all is_name q) → IsTrue (list_all is_name (slice_set q i name))
+pub named_set : (q : Path) (i : ℕ) (name : List ℕ) → IsTrue (is_name name) → IsTrue (list_all is_name q)
+    → IsTrue (list_all is_name (slice_set q i name))
 named_set [] i name right named = named
 named_set (n ∷ d) zero name right named = pass_both (is_name name) (list_all is_name d) right (both_pass (is_name n) (list_all is_name d) named).1
 named_set (n ∷ d) (suc i) name right named =

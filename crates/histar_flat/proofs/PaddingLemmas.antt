@@ -1,5 +1,6 @@
 -- A list fits in an array that is filled up.
-use Rattle.std.proofs.Common.{◌≡◌, ℕ, zero, suc, ◌+◌, ◌-◌, ◌≤◌, ◌<◌, List, [], ◌∷◌, ◌++◌, length, take, drop, replicate, slice_set, refl, sym, ap, ◌∙◌, arith, length-append}
+use Rattle.std.proofs.Common.{◌≡◌, ℕ, zero, suc, ◌+◌, ◌-◌, ◌≤◌, ◌<◌, List, [], ◌∷◌, ◌++◌, length, take, drop, replicate, slice_set, refl, sym, ap}
+use Rattle.std.proofs.Common.{◌∙◌, arith, length-append}
 use Rattle.std.proofs.lemmas.List.{length-replicate, length-drop, take_at, take-replicate, set-append_left, length-set}
 use Rattle.std.proofs.Math.Seq.{take-set-lt}
 use Rattle.histar_flat.specs.Padding.{padded, IsPadded}
@@ -13,10 +14,17 @@ take-padded places fill items = take_at items (replicate (places - length items)
 -- the array has all its places
 pub length-padded : {A : Type 0} (places : ℕ) (fill : A) (items : List A) → length items ≤ places → length (padded places fill items) ≡ places
 unfolding padded
-length-padded {A} places fill items short = omega (arith, length-append items (replicate (places - length items) fill), length-replicate {A = A} (places - length items) fill)
+length-padded {A} places fill items short =
+    omega (
+      arith,
+      length-append items (replicate (places - length items) fill),
+      length-replicate {A = A}
+          (places - length items) fill,
+    )
 
 -- an array that is filled up is padded
-pub padded_fits : {A : Type 0} (places : ℕ) (fill : A) (items : List A) → length items ≤ places → IsPadded places fill (padded places fill items) (length items)
+pub padded_fits : {A : Type 0} (places : ℕ) (fill : A) (items : List A) → length items ≤ places
+    → IsPadded places fill (padded places fill items) (length items)
 padded_fits places fill items short = record {
   short = short;
   whole = length-padded places fill items short;
@@ -45,11 +53,13 @@ take_unused places fill =
     rw (whole, rest) (take-replicate places (suc places) fill (omega arith))
 
 -- one place less is filled up
-take_less : {A : Type 0} (places : ℕ) (fill : A) (items : List A) → length items ≤ places → take places (padded (suc places) fill items) ≡ padded places fill items
+take_less : {A : Type 0} (places : ℕ) (fill : A) (items : List A) → length items ≤ places
+    → take places (padded (suc places) fill items) ≡ padded places fill items
 take_less places fill [] short = take_unused places fill
 take_less zero fill (x ∷ xs) short = absurd (omega arith)
 take_less (suc places) fill (x ∷ xs) short =
-    ap (take (suc places)) (padded_more (suc places) fill x xs) ∙ ap (λ l. x ∷ l) (take_less places fill xs (omega arith)) ∙ sym (padded_more places fill x xs)
+    ap (take (suc places)) (padded_more (suc places) fill x xs)
+    ∙ ap (λ l. x ∷ l) (take_less places fill xs (omega arith)) ∙ sym (padded_more places fill x xs)
 
 -- the last place comes to the front and takes an item
 front_made : {A : Type 0} (places : ℕ) (fill item : A) (items : List A) (len : ℕ) → IsPadded (suc places) fill items len → len ≤ places
@@ -60,10 +70,12 @@ front_made places fill item items len is room =
     let one : length (drop places items) ≡ 1 = omega (arith, length-drop places items, is.whole) in
     let front : take places items ≡ padded places fill (take len items) =
     ap (take places) (sym is.filled) ∙ take_less places fill (take len items) (omega (arith, kept)) in
-    rw last (fronted item (drop places items) (take places items) one ∙ ap (λ l. item ∷ l) front ∙ sym (padded_more places fill item (take len items)))
+    rw last (fronted item (drop places items) (take places items) one ∙ ap (λ l. item ∷ l) front
+    ∙ sym (padded_more places fill item (take len items)))
 
 -- with it there is one item more
-one_more : {A : Type 0} (places : ℕ) (fill item : A) (items : List A) (len : ℕ) → IsPadded (suc places) fill items len → length (item ∷ take len items) ≡ len + 1
+one_more : {A : Type 0} (places : ℕ) (fill item : A) (items : List A) (len : ℕ) → IsPadded (suc places) fill items len
+    → length (item ∷ take len items) ≡ len + 1
 one_more places fill item items len is = omega (arith, length-kept (suc places) fill items len is)
 
 -- so the array is filled up
@@ -83,7 +95,8 @@ take_front places fill item items len is room =
     rw (made, ← more) (take-padded (suc places) fill (item ∷ take len items))
 
 -- an item in the place of another
-pub padded_set : {A : Type 0} (places : ℕ) (fill item : A) (items : List A) (len i : ℕ) → IsPadded places fill items len → i < len → IsPadded places fill (slice_set items i item) len
+pub padded_set : {A : Type 0} (places : ℕ) (fill item : A) (items : List A) (len i : ℕ) → IsPadded places fill items len
+    → i < len → IsPadded places fill (slice_set items i item) len
 unfolding padded
 padded_set {A} places fill item items len i is here =
     let kept : length (take len items) ≡ len = length-kept places fill items len is in
@@ -95,5 +108,7 @@ padded_set {A} places fill item items len i is here =
     record {
       short = is.short;
       whole = length-set items i item ∙ is.whole;
-      filled = ap (λ (l : List A). l ++ replicate (places - length l) fill) front ∙ ap (λ (n : ℕ). slice_set (take len items) i item ++ replicate (places - n) fill) same ∙ sym back;
+      filled =
+          ap (λ (l : List A). l ++ replicate (places - length l) fill) front
+          ∙ ap (λ (n : ℕ). slice_set (take len items) i item ++ replicate (places - n) fill) same ∙ sym back;
     }

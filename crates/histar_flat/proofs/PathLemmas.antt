@@ -14,7 +14,9 @@ no_name (suc most) directory bs none = go (is_name (split_at_first slash bs).0) 
     go false e = rw e refl
 
 -- a name with no slash after it is the last one
-pub last_name : (most : ℕ) (directory : Path) (bs : List ℕ) (name : Name) → 0 < most → name_of (split_at_first slash bs).0 ≡ Some name → (split_at_first slash bs).1 ≡ None → path_from most directory bs ≡ Some (name ∷ directory)
+pub last_name : (most : ℕ) (directory : Path) (bs : List ℕ) (name : Name) → 0 < most
+    → name_of (split_at_first slash bs).0 ≡ Some name → (split_at_first slash bs).1 ≡ None
+    → path_from most directory bs ≡ Some (name ∷ directory)
 unfolding path_from
 last_name zero directory bs name some is end = absurd (omega arith)
 last_name (suc most) directory bs name some is end =
@@ -22,7 +24,9 @@ last_name (suc most) directory bs name some is end =
     rw (named.0, end, named.1) refl
 
 -- a name with a slash after it is that of a directory
-pub next_name : (most : ℕ) (directory : Path) (bs rest : List ℕ) (name : Name) → 0 < most → name_of (split_at_first slash bs).0 ≡ Some name → (split_at_first slash bs).1 ≡ Some rest → path_from most directory bs ≡ path_from (most - 1) (name ∷ directory) rest
+pub next_name : (most : ℕ) (directory : Path) (bs rest : List ℕ) (name : Name) → 0 < most
+    → name_of (split_at_first slash bs).0 ≡ Some name → (split_at_first slash bs).1 ≡ Some rest
+    → path_from most directory bs ≡ path_from (most - 1) (name ∷ directory) rest
 unfolding path_from
 next_name zero directory bs rest name some is on = absurd (omega arith)
 next_name (suc most) directory bs rest name some is on =

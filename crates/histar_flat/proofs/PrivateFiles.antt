@@ -22,10 +22,12 @@ use Rattle.histar_flat.proofs.Changes.{EachChange, by_line}
 use Rattle.histar_flat.proofs.Trees.{nothing_below}
 
 -- what is written may be written
-pub written_is_writable : (accounts : Accounts) (f : Flat) (me : ProcName) (p : Process) (r : Path) (bytes : List ℕ) → refused accounts f me p (Write r bytes) ≡ None → writes accounts f p r ≡ true
+pub written_is_writable : (accounts : Accounts) (f : Flat) (me : ProcName) (p : Process) (r : Path) (bytes : List ℕ)
+    → refused accounts f me p (Write r bytes) ≡ None → writes accounts f p r ≡ true
 written_is_writable accounts f me p r bytes h =
     let short = unless (nat_le (length bytes) most_bytes) EFBIG in
-    passed (writes accounts f p r) EACCES (passes_first (unless (writes accounts f p r) EACCES) short (passes_later (no_file accounts f p r) (unless (writes accounts f p r) EACCES orelse short) h))
+    passed (writes accounts f p r) EACCES (passes_first (unless (writes accounts f p r) EACCES) short
+    (passes_later (no_file accounts f p r) (unless (writes accounts f p r) EACCES orelse short) h))
 
 module _ (f : Flat) (q : Path) (owner : Name) (bytes : List ℕ) (h : get f.files q ≡ Some (private_file owner bytes)) where
   -- where nothing stands is elsewhere
@@ -47,7 +49,9 @@ module _ (f : Flat) (q : Path) (owner : Name) (bytes : List ℕ) (h : get f.file
       stays = h;
       makes = λ n d x walked free w own mode made_is. get_other f.files (n ∷ d) x q (elsewhere (n ∷ d) free) ∙ h;
       overwrites = λ n d new file w. get_other f.files (n ∷ d) _ q (written_elsewhere p (n ∷ d) other w) ∙ h;
-      cuts = λ n d away w. get-keep f.files (λ t. not (under_path (n ∷ d) t)) q ∙ ap (λ b. cond (not b) (get f.files q) None) (sym (away q) ∙ kept) ∙ h;
+      cuts =
+          λ n d away w. get-keep f.files (λ t. not (under_path (n ∷ d) t)) q
+          ∙ ap (λ b. cond (not b) (get f.files q) None) (sym (away q) ∙ kept) ∙ h;
       renames = λ n k d away apart free w.
           let below : under_path (k ∷ d) q ≡ false = elim (cases_Bool (under_path (k ∷ d) q)) [
             | inl u ↦ absurd (elsewhere q (nothing_below f tree (k ∷ d) free q u) refl)
@@ -64,7 +68,9 @@ module _ (f : Flat) (q : Path) (owner : Name) (bytes : List ℕ) (h : get f.file
     }
 
   -- In a tree a call of a process that is not the owner's leaves a private file as it is, unless it takes it away or renames it.
-  pub private_file_stays : IsTree f → (accounts : Accounts) (me : ProcName) (call : UnixCall) → runs_for f me owner ≡ false → takes_away call q ≡ false → get (flat_after accounts f me call).files q ≡ Some (private_file owner bytes)
+  pub private_file_stays : IsTree f → (accounts : Accounts) (me : ProcName) (call : UnixCall)
+      → runs_for f me owner ≡ false → takes_away call q ≡ false
+      → get (flat_after accounts f me call).files q ≡ Some (private_file owner bytes)
   private_file_stays tree accounts me call other kept =
       by_line accounts f me call (λ g. get g.files q ≡ Some (private_file owner bytes)) h
       (λ p runs. private_changes accounts tree me p call (sym (ap (λ r. is_some_and r (λ p. same p.user owner)) runs) ∙ other) kept)

@@ -39,7 +39,8 @@ kills_take_their_tree accounts f me name done =
     )
 
 -- with this status, the process has exited alone
-exits_alone : (f : Flat) (me : ProcName) (p : Process) (status : ℕ) (after : Flat) → f.processes me ≡ Some p → after ≡ with_process f me (record p { exited = Some status }) → ExitsAlone f me status after
+exits_alone : (f : Flat) (me : ProcName) (p : Process) (status : ℕ) (after : Flat) → f.processes me ≡ Some p
+    → after ≡ with_process f me (record p { exited = Some status }) → ExitsAlone f me status after
 exits_alone f me p status after here e = record {
   exited = λ q there.
       let found : Some p ≡ Some q = sym here ∙ there in
@@ -60,7 +61,8 @@ exits_alone f me p status after here e = record {
 pub exits_leave_children : ExitsLeaveChildren
 exits_leave_children accounts f me status done =
     let is = is_answered accounts f me (Exit status) Done (λ e. cc) (λ e d. cc) done in
-    exits_alone f me is.process status (flat_after accounts f me (Exit status)) (runs_is_there (f.processes me) is.process is.runs) (changed_after accounts f me (Exit status) Done is)
+    exits_alone f me is.process status (flat_after accounts f me (Exit status))
+    (runs_is_there (f.processes me) is.process is.runs) (changed_after accounts f me (Exit status) Done is)
 
 -- ---- who is gone
 
@@ -84,7 +86,9 @@ module _ (accounts : Accounts) (f : Flat) (me : ProcName) (given : is_given f.pr
     -- nor is who is gone the next child
     unborn : same (next_child caller p) me ≡ false
     unborn = elim (same_name_found (next_child caller p) me) [
-      | inl i ↦ absurd (true≢false (sym given ∙ ap (is_given f.processes) (sym i.1) ∙ next_is_new f caller p (runs_is_there (f.processes caller) p runs)))
+      | inl i ↦
+          absurd (true≢false (sym given ∙ ap (is_given f.processes) (sym i.1)
+          ∙ next_is_new f caller p (runs_is_there (f.processes caller) p runs)))
       | inr i ↦ i.0
     ]
 
@@ -125,4 +129,5 @@ module _ (accounts : Accounts) (f : Flat) (me : ProcName) (given : is_given f.pr
 pub gone_stay_gone : GoneStayGone
 gone_stay_gone accounts f me [] given gone = gone
 gone_stay_gone accounts f me (c ∷ calls) given gone =
-    gone_stay_gone accounts (flat_after accounts f c.process c.call) me calls (given_stays accounts f c.process c.call me given) (gone_after accounts f me given gone c.process c.call)
+    gone_stay_gone accounts (flat_after accounts f c.process c.call) me calls
+    (given_stays accounts f c.process c.call me given) (gone_after accounts f me given gone c.process c.call)

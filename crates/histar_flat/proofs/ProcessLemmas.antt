@@ -7,18 +7,23 @@ abbrev pub next_from : ℕ → ProcName → Option ℕ → Option (List ℕ) →
 next_from most above number after = elim number [ None ↦ None | Some n ↦ process_from most (n ∷ above) after ]
 
 -- a process's name is read from its first number on
-pub from_first : (most : ℕ) (above : ProcName) (bs : List ℕ) → process_from (suc most) above (Some bs) ≡ next_from most above (number_of is_child_number (split_at_first dot bs).0) (split_at_first dot bs).1
+pub from_first : (most : ℕ) (above : ProcName) (bs : List ℕ)
+    → process_from (suc most) above (Some bs)
+    ≡ next_from most above (number_of is_child_number (split_at_first dot bs).0) (split_at_first dot bs).1
 unfolding process_from
 from_first most above bs = refl
 
 -- what is no child's number leads to no process
-pub no_number : (most : ℕ) (above : ProcName) (bs : List ℕ) → number_of is_child_number (split_at_first dot bs).0 ≡ None → process_from most above (Some bs) ≡ None
+pub no_number : (most : ℕ) (above : ProcName) (bs : List ℕ) → number_of is_child_number (split_at_first dot bs).0 ≡ None
+    → process_from most above (Some bs) ≡ None
 unfolding process_from
 no_number zero above bs none = refl
 no_number (suc most) above bs none = from_first most above bs ∙ ap (λ number. next_from most above number (split_at_first dot bs).1) none
 
 -- a number leads to a child, and from there on
-pub next_number : (most : ℕ) (above : ProcName) (bs : List ℕ) (n : ℕ) → 0 < most → number_of is_child_number (split_at_first dot bs).0 ≡ Some n → process_from most above (Some bs) ≡ process_from (most - 1) (n ∷ above) (split_at_first dot bs).1
+pub next_number : (most : ℕ) (above : ProcName) (bs : List ℕ) (n : ℕ) → 0 < most
+    → number_of is_child_number (split_at_first dot bs).0 ≡ Some n
+    → process_from most above (Some bs) ≡ process_from (most - 1) (n ∷ above) (split_at_first dot bs).1
 next_number zero above bs n some is = absurd (omega arith)
 next_number (suc most) above bs n some is =
     let left : suc most - 1 ≡ most = omega arith in

@@ -34,7 +34,9 @@ module _ {E : Type 0} where
       (passes_first a (unless x d orelse unless y e) h, passed x d rest.0, rest.1)
 
   -- and so have three
-  pub three_pass : (a : Option E) (x y z : Bool) (c d e : E) → (a orelse unless x c orelse unless y d orelse unless z e) ≡ None → (a ≡ None) × (x ≡ true) × (y ≡ true) × (z ≡ true)
+  pub three_pass : (a : Option E) (x y z : Bool) (c d e : E)
+      → (a orelse unless x c orelse unless y d orelse unless z e) ≡ None
+      → (a ≡ None) × (x ≡ true) × (y ≡ true) × (z ≡ true)
   three_pass a x y z c d e h =
       let rest = two_pass (unless x c) y z d e (passes_later a (unless x c orelse unless y d orelse unless z e) h) in
       (passes_first a (unless x c orelse unless y d orelse unless z e) h, passed x c rest.0, rest.1, rest.2)

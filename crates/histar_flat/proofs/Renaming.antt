@@ -16,7 +16,9 @@ use Rattle.histar_flat.proofs.Under.{under_itself, under_child, above_is_not_und
 -- the map of a list has what the list has
 pub get-from_list : (es : List (Path × Node)) (q : Path) → get (from_list es) q ≡ find path_cmp q es
 get-from_list [] q = refl
-get-from_list (e ∷ es) q = get-insert (from_list es) e.0 e.1 q ∙ ap (λ b. cond b (Some e.1) (get (from_list es) q)) (sym (ties q e.0)) ∙ ap (cond (eq_by_cmp path_cmp q e.0) (Some e.1)) (get-from_list es q)
+get-from_list (e ∷ es) q =
+    get-insert (from_list es) e.0 e.1 q ∙ ap (λ b. cond b (Some e.1) (get (from_list es) q)) (sym (ties q e.0))
+    ∙ ap (cond (eq_by_cmp path_cmp q e.0) (Some e.1)) (get-from_list es q)
 
 -- different entries of one directory have nothing below both
 disjoint : (n k : Name) (d x : Path) → n ≢ k → under_path (n ∷ d) x ≡ true → under_path (k ∷ d) x ≡ false
@@ -29,7 +31,9 @@ disjoint n k d (y ∷ x) ne u = elim (same_path_found (n ∷ d) (y ∷ x)) [
       ∙ subst (λ z. under_path (k ∷ d) z ≡ false) tails (above_is_not_under same same_path_found d k)
   | inr t ↦
       let v : under_path (n ∷ d) x ≡ true = sym (ap (λ b. b || under_path (n ∷ d) x) t.0) ∙ u in
-      ap (λ b. b || under_path (k ∷ d) x) (apart same same_path_found (k ∷ d) (y ∷ x) (λ e. let tails : d ≡ x = cc in true≢false (sym v ∙ ap (under_path (n ∷ d)) (sym tails) ∙ above_is_not_under same same_path_found d n)))
+      ap (λ b. b || under_path (k ∷ d) x) (apart same same_path_found (k ∷ d) (y ∷ x) (λ e. let tails : d
+      ≡ x = cc in true≢false
+      (sym v ∙ ap (under_path (n ∷ d)) (sym tails) ∙ above_is_not_under same same_path_found d n)))
       ∙ disjoint n k d x ne v
 ]
 
@@ -63,7 +67,10 @@ module _ (n k : Name) (d : Path) (ne : n ≢ k) where
     | inr t ↦
         let v : under_path (n ∷ d) e ≡ true = sym (ap (λ b. b || under_path (n ∷ d) e) t.0) ∙ u in
         ap (λ b. moved (k ∷ d) (n ∷ d) (cond b (k ∷ d) (x ∷ there e))) t.0
-        ∙ ap (λ b. cond b (n ∷ d) (x ∷ moved (k ∷ d) (n ∷ d) (there e))) (apart same same_path_found (k ∷ d) (x ∷ there e) (λ q. let tails : d ≡ there e = cc in true≢false (sym (goes e v) ∙ ap (under_path (k ∷ d)) (sym tails) ∙ above_is_not_under same same_path_found d k)))
+        ∙ ap (λ b. cond b (n ∷ d) (x ∷ moved (k ∷ d) (n ∷ d) (there e)))
+        (apart same same_path_found (k ∷ d) (x ∷ there e) (λ q. let tails : d
+        ≡ there e = cc in true≢false (sym (goes e v) ∙ ap (under_path (k ∷ d)) (sym tails)
+        ∙ above_is_not_under same same_path_found d k)))
         ∙ ap (λ (z : Path). x ∷ z) (back e v)
   ]
 
@@ -101,21 +108,28 @@ module _ (n k : Name) (d : Path) (ne : n ≢ k) where
   abbrev renamed_list : List (Path × Node) → List (Path × Node)
   renamed_list = map (λ e. (to e.0, e.1))
 
-  find_renamed : (es : List (Path × Node)) → list_all (λ e. not (under_path (k ∷ d) e.0)) es ≡ true → (q : Path) → find path_cmp q (renamed_list es) ≡ cond (under_path (n ∷ d) q) None (find path_cmp (from q) es)
+  find_renamed : (es : List (Path × Node)) → list_all (λ e. not (under_path (k ∷ d) e.0)) es ≡ true → (q : Path)
+      → find path_cmp q (renamed_list es) ≡ cond (under_path (n ∷ d) q) None (find path_cmp (from q) es)
   find_renamed [] free q = elim (under_path (n ∷ d) q) as (λ b. ◌≡◌ {A = Option Node} None (cond b None None)) [ true ↦ refl | false ↦ refl ]
   find_renamed (e ∷ es) free q = step (find_renamed es parts.1 q) (cases_Bool (under_path (n ∷ d) q))
     where
       parts : (not (under_path (k ∷ d) e.0) ≡ true) × (list_all (λ x. not (under_path (k ∷ d) x.0)) es ≡ true)
       parts = and_parts (not (under_path (k ∷ d) e.0)) (list_all (λ x. not (under_path (k ∷ d) x.0)) es) free
 
-      step : find path_cmp q (renamed_list es) ≡ cond (under_path (n ∷ d) q) None (find path_cmp (from q) es) → (under_path (n ∷ d) q ≡ true) ⊎ (under_path (n ∷ d) q ≡ false) →
-          cond (eq_by_cmp path_cmp q (to e.0)) (Some e.1) (find path_cmp q (renamed_list es)) ≡ cond (under_path (n ∷ d) q) None (cond (eq_by_cmp path_cmp (from q) e.0) (Some e.1) (find path_cmp (from q) es))
+      step : find path_cmp q (renamed_list es) ≡ cond (under_path (n ∷ d) q) None (find path_cmp (from q) es)
+          → (under_path (n ∷ d) q ≡ true) ⊎ (under_path (n ∷ d) q ≡ false) →
+          cond (eq_by_cmp path_cmp q (to e.0)) (Some e.1) (find path_cmp q (renamed_list es))
+          ≡ cond (under_path (n ∷ d) q) None
+          (cond (eq_by_cmp path_cmp (from q) e.0) (Some e.1) (find path_cmp (from q) es))
       step rest (inl u) =
-          ap (λ b. cond b (Some e.1) (find path_cmp q (renamed_list es))) (ties q (to e.0) ∙ apart same same_path_found q (to e.0) (λ i. true≢false (sym u ∙ ap (under_path (n ∷ d)) i ∙ leaves n k d ne e.0)))
+          ap (λ b. cond b (Some e.1) (find path_cmp q (renamed_list es))) (ties q (to e.0)
+          ∙ apart same same_path_found q (to e.0)
+          (λ i. true≢false (sym u ∙ ap (under_path (n ∷ d)) i ∙ leaves n k d ne e.0)))
           ∙ rest ∙ ap (λ b. cond b None (find path_cmp (from q) es)) u
           ∙ sym (ap (λ b. cond b None (cond (eq_by_cmp path_cmp (from q) e.0) (Some e.1) (find path_cmp (from q) es))) u)
       step rest (inr u) =
-          ap (λ b. cond b (Some e.1) (find path_cmp q (renamed_list es))) (ties q (to e.0) ∙ ends_at q e.0 (not-true (under_path (k ∷ d) e.0) parts.0) u ∙ sym (ties (from q) e.0))
+          ap (λ b. cond b (Some e.1) (find path_cmp q (renamed_list es)))
+          (ties q (to e.0) ∙ ends_at q e.0 (not-true (under_path (k ∷ d) e.0) parts.0) u ∙ sym (ties (from q) e.0))
           ∙ ap (cond (eq_by_cmp path_cmp (from q) e.0) (Some e.1)) (rest ∙ ap (λ b. cond b None (find path_cmp (from q) es)) u)
           ∙ sym (ap (λ b. cond b None (cond (eq_by_cmp path_cmp (from q) e.0) (Some e.1) (find path_cmp (from q) es))) u)
 
@@ -123,7 +137,8 @@ module _ (n k : Name) (d : Path) (ne : n ≢ k) where
   abbrev renamed : Files Node → Files Node
   renamed m = from_list (renamed_list m.entries)
 
-  none_below : (m : Files Node) → ((q : Path) → under_path (k ∷ d) q ≡ true → get m q ≡ None) → list_all (λ e. not (under_path (k ∷ d) e.0)) m.entries ≡ true
+  none_below : (m : Files Node) → ((q : Path) → under_path (k ∷ d) q ≡ true → get m q ≡ None)
+      → list_all (λ e. not (under_path (k ∷ d) e.0)) m.entries ≡ true
   none_below m h = ap (list_all (λ e. not (under_path (k ∷ d) e.0))) (same_lists m (keep m (λ t. not (under_path (k ∷ d) t))) by) ∙ kept m.entries
     where
       by : (q : Path) → get m q ≡ get (keep m (λ t. not (under_path (k ∷ d) t))) q
@@ -132,7 +147,9 @@ module _ (n k : Name) (d : Path) (ne : n ≢ k) where
         | inr u ↦ sym (get-keep m (λ t. not (under_path (k ∷ d) t)) q ∙ ap (λ b. cond (not b) (get m q) None) u)
       ]
 
-      one : (b : Bool) (e : Path × Node) (xs : List (Path × Node)) → not (under_path (k ∷ d) e.0) ≡ b → list_all (λ e. not (under_path (k ∷ d) e.0)) xs ≡ true → list_all (λ e. not (under_path (k ∷ d) e.0)) (cond b (e ∷ xs) xs) ≡ true
+      one : (b : Bool) (e : Path × Node) (xs : List (Path × Node)) → not (under_path (k ∷ d) e.0) ≡ b
+          → list_all (λ e. not (under_path (k ∷ d) e.0)) xs ≡ true
+          → list_all (λ e. not (under_path (k ∷ d) e.0)) (cond b (e ∷ xs) xs) ≡ true
       one true e xs i r = ap (λ b. b && list_all (λ e. not (under_path (k ∷ d) e.0)) xs) i ∙ r
       one false e xs i r = r
 
@@ -140,5 +157,6 @@ module _ (n k : Name) (d : Path) (ne : n ≢ k) where
       kept [] = refl
       kept (e ∷ es) = one (not (under_path (k ∷ d) e.0)) e (where_key path_cmp (λ t. not (under_path (k ∷ d) t)) es) refl (kept es)
 
-  pub get_renamed : (m : Files Node) → ((q : Path) → under_path (k ∷ d) q ≡ true → get m q ≡ None) → (q : Path) → get (renamed m) q ≡ cond (under_path (n ∷ d) q) None (get m (from q))
+  pub get_renamed : (m : Files Node) → ((q : Path) → under_path (k ∷ d) q ≡ true → get m q ≡ None) → (q : Path)
+      → get (renamed m) q ≡ cond (under_path (n ∷ d) q) None (get m (from q))
   get_renamed m h q = get-from_list (renamed_list m.entries) q ∙ find_renamed m.entries (none_below m h) q

@@ -15,9 +15,11 @@ use Rattle.histar_flat.specs.Accounts.{Accounts, is_member}
 use Rattle.histar_flat.specs.Files.{get, insert, from_list}
 use Rattle.histar_flat.specs.Classes.{Class, Process, is_free, may_read, may_write}
 use Rattle.histar_flat.specs.Classes.Class.{Private, Readable, Open, Scratch, Grouped}
-use Rattle.histar_flat.specs.FlatState.{Flat, Node, Content, is_some_and, reads, bytes_of, bytes_at, class_of, with_bytes, with_process, with_child, without_below, with_renamed, moved}
+use Rattle.histar_flat.specs.FlatState.{Flat, Node, Content, is_some_and, reads, bytes_of, bytes_at, class_of, with_bytes, with_process, with_child}
+use Rattle.histar_flat.specs.FlatState.{without_below, with_renamed, moved}
 use Rattle.histar_flat.specs.FlatState.Content.{Dir, File}
-use Rattle.histar_flat.specs.FlatCalls.{refused, inner_chain, next_child, changed, flat_or, if_running, running, reply_by, flat_by, reply_to, flat_after}
+use Rattle.histar_flat.specs.FlatCalls.{refused, inner_chain, next_child, changed, flat_or, if_running, running, reply_by, flat_by, reply_to}
+use Rattle.histar_flat.specs.FlatCalls.{flat_after}
 use Rattle.histar_flat.specs.Meaning.{answered_from}
 use Rattle.histar_flat.specs.Laws.{becomes, is_login_of, has_no_login_of, AreAway, PrivateBytesAreHidden, GroupBytesAreHidden, GroupBytesStayHidden}
 use Rattle.histar_flat.proofs.FileLemmas.{same_name_found, same_path_found, get-insert, get-keep}
@@ -52,7 +54,9 @@ module _ (accounts : Accounts) (secret : Class → Bool) (readers : Process → 
   shown_through : (n : Node) → shown (veiled secret n) ≡ shown n
   shown_through n = by n.content
     where
-      by : (content : Content) → shown (veiled secret (record { class = n.class; content = content })) ≡ shown (record { class = n.class; content = content })
+      by : (content : Content)
+          → shown (veiled secret (record { class = n.class; content = content }))
+          ≡ shown (record { class = n.class; content = content })
       by Dir = refl
       by (File bytes) = refl
 
@@ -66,12 +70,15 @@ module _ (accounts : Accounts) (secret : Class → Bool) (readers : Process → 
   bytes_through None h = refl
   bytes_through (Some n) h = by n.content
     where
-      by : (content : Content) → bytes_of (Some (veiled secret (record { class = n.class; content = content }))) ≡ bytes_of (Some (record { class = n.class; content = content }))
+      by : (content : Content)
+          → bytes_of (Some (veiled secret (record { class = n.class; content = content })))
+          ≡ bytes_of (Some (record { class = n.class; content = content }))
       by Dir = refl
       by (File bytes) = ap (λ b. cond b [] bytes) (not-true (secret n.class) h)
 
   -- a test that follows from another
-  test_follows : (test later : Node → Bool) → ((n : Node) → test n ≡ true → later n ≡ true) → (o : Option Node) → is_some_and o test ≡ true → is_some_and o later ≡ true
+  test_follows : (test later : Node → Bool) → ((n : Node) → test n ≡ true → later n ≡ true) → (o : Option Node)
+      → is_some_and o test ≡ true → is_some_and o later ≡ true
   test_follows test later follows None h = absurd (true≢false (sym h))
   test_follows test later follows (Some n) h = follows n h
 
@@ -83,7 +90,9 @@ module _ (accounts : Accounts) (secret : Class → Bool) (readers : Process → 
   class_alike (Some m) (Some n) h = let e : veiled secret m ≡ veiled secret n = cc in ap (λ x. x.class) e
 
   -- what a test leaves is told alike
-  chosen_alike : {X : Type 0} (revealed : X → Node) (b : Bool) (x y u v : Option X) → option_map revealed x ≡ option_map revealed u → option_map revealed y ≡ option_map revealed v → option_map revealed (cond b x y) ≡ option_map revealed (cond b u v)
+  chosen_alike : {X : Type 0} (revealed : X → Node) (b : Bool) (x y u v : Option X)
+      → option_map revealed x ≡ option_map revealed u → option_map revealed y ≡ option_map revealed v
+      → option_map revealed (cond b x y) ≡ option_map revealed (cond b u v)
   chosen_alike revealed true x y u v d e = d
   chosen_alike revealed false x y u v d e = e
 
@@ -94,58 +103,79 @@ module _ (accounts : Accounts) (secret : Class → Bool) (readers : Process → 
     -- bytes that are not secret are the same
     unveiled_alike : (r : Path) → is_some_and (get f.files r) (λ n. not (secret n.class)) ≡ true → bytes_at f r ≡ bytes_at g r
     unveiled_alike r h =
-        sym (bytes_through (get f.files r) h) ∙ ap bytes_of (alike.files r) ∙ bytes_through (get g.files r) (sym (test (get f.files r) (get g.files r) (alike.files r)) ∙ h)
+        sym (bytes_through (get f.files r) h) ∙ ap bytes_of (alike.files r)
+        ∙ bytes_through (get g.files r) (sym (test (get f.files r) (get g.files r) (alike.files r)) ∙ h)
       where
-        test : (a b : Option Node) → option_map (veiled secret) a ≡ option_map (veiled secret) b → is_some_and a (λ n. not (secret n.class)) ≡ is_some_and b (λ n. not (secret n.class))
+        test : (a b : Option Node) → option_map (veiled secret) a ≡ option_map (veiled secret) b
+            → is_some_and a (λ n. not (secret n.class)) ≡ is_some_and b (λ n. not (secret n.class))
         test None None e = refl
         test None (Some n) e = absurd (cc)
         test (Some m) None e = absurd (cc)
         test (Some m) (Some n) e = let v : veiled secret m ≡ veiled secret n = cc in ap (λ x. not (secret x.class)) v
 
     -- the same, or as much the same, at a path
-    put_alike : (r : Path) (x y : Node) → x ≡ y → (q : Path) → option_map (veiled secret) (get (insert f.files r x) q) ≡ option_map (veiled secret) (get (insert g.files r y) q)
+    put_alike : (r : Path) (x y : Node) → x ≡ y → (q : Path)
+        → option_map (veiled secret) (get (insert f.files r x) q)
+        ≡ option_map (veiled secret) (get (insert g.files r y) q)
     put_alike r x y e q =
         ap (option_map (veiled secret)) (get-insert f.files r x q)
-        ∙ chosen_alike (veiled secret) (same_path q r) (Some x) (get f.files q) (Some y) (get g.files q) (ap (λ z. Some (veiled secret z)) e) (alike.files q)
+        ∙ chosen_alike (veiled secret) (same_path q r) (Some x) (get f.files q) (Some y) (get g.files q)
+        (ap (λ z. Some (veiled secret z)) e) (alike.files q)
         ∙ ap (option_map (veiled secret)) (sym (get-insert g.files r y q))
 
-    cut_alike : (r q : Path) → option_map (veiled secret) (get (without_below f r).files q) ≡ option_map (veiled secret) (get (without_below g r).files q)
+    cut_alike : (r q : Path)
+        → option_map (veiled secret) (get (without_below f r).files q)
+        ≡ option_map (veiled secret) (get (without_below g r).files q)
     cut_alike r q =
         ap (option_map (veiled secret)) (get-keep f.files (λ t. not (under_path r t)) q)
         ∙ chosen_alike (veiled secret) (not (under_path r q)) (get f.files q) None (get g.files q) None (alike.files q) refl
         ∙ ap (option_map (veiled secret)) (sym (get-keep g.files (λ t. not (under_path r t)) q))
 
     -- a rename moves both alike
-    renamed_alike : (old new q : Path) → option_map (veiled secret) (get (with_renamed f old new).files q) ≡ option_map (veiled secret) (get (with_renamed g old new).files q)
+    renamed_alike : (old new q : Path)
+        → option_map (veiled secret) (get (with_renamed f old new).files q)
+        ≡ option_map (veiled secret) (get (with_renamed g old new).files q)
     renamed_alike old new q =
         revealed f.files.entries
-        ∙ ap (λ (l : List (Path × Node)). find path_cmp q (map (λ e. (moved old new e.0, e.1)) l)) (same_revealed (veiled secret) f.files g.files alike.files)
+        ∙ ap (λ (l : List (Path × Node)). find path_cmp q (map (λ e. (moved old new e.0, e.1)) l))
+        (same_revealed (veiled secret) f.files g.files alike.files)
         ∙ sym (revealed g.files.entries)
       where
-        both : (es : List (Path × Node)) → all_revealed (veiled secret) (map (λ e. (moved old new e.0, e.1)) es) ≡ map (λ e. (moved old new e.0, e.1)) (all_revealed (veiled secret) es)
+        both : (es : List (Path × Node))
+            → all_revealed (veiled secret) (map (λ e. (moved old new e.0, e.1)) es)
+            ≡ map (λ e. (moved old new e.0, e.1)) (all_revealed (veiled secret) es)
         both [] = refl
         both (e ∷ es) = ap (λ (l : List (Path × Node)). (moved old new e.0, veiled secret e.1) ∷ l) (both es)
 
-        revealed : (es : List (Path × Node)) → option_map (veiled secret) (get (from_list (map (λ e. (moved old new e.0, e.1)) es)) q) ≡ find path_cmp q (map (λ e. (moved old new e.0, e.1)) (all_revealed (veiled secret) es))
+        revealed : (es : List (Path × Node))
+            → option_map (veiled secret) (get (from_list (map (λ e. (moved old new e.0, e.1)) es)) q)
+            ≡ find path_cmp q (map (λ e. (moved old new e.0, e.1)) (all_revealed (veiled secret) es))
         revealed es =
             ap (option_map (veiled secret)) (get-from_list (map (λ e. (moved old new e.0, e.1)) es) q)
             ∙ sym (find_revealed (veiled secret) q (map (λ e. (moved old new e.0, e.1)) es)) ∙ ap (find path_cmp q) (both es)
 
     module _ (me : ProcName) (p : Process) (other : readers p ≡ false) where
       read_alike : (r : Path) → reads accounts f p r ≡ true → bytes_at f r ≡ bytes_at g r
-      read_alike r h = unveiled_alike r (test_follows (λ n. may_read accounts p n.class) (λ n. not (secret n.class)) (λ n. kept.unread p n.class other) (get f.files r) h)
+      read_alike r h =
+          unveiled_alike r (test_follows (λ n. may_read accounts p n.class) (λ n. not (secret n.class))
+          (λ n. kept.unread p n.class other) (get f.files r) h)
 
       both_look_alike : (q : Path) → LooksAlike true accounts f g p q
       both_look_alike = looks_alike accounts f g shown_alike p alike.processes read_alike
 
       overwritten_alike : (r : Path) (b c : List ℕ) → b ≡ c → IsAlikeBut secret (with_bytes f r b) (with_bytes g r c)
       overwritten_alike r b c e = record {
-        files = put_alike r (record { class = class_of (get f.files r); content = File b }) (record { class = class_of (get g.files r); content = File c }) (λ i. record { class = class_alike (get f.files r) (get g.files r) (alike.files r) i; content = File (e i) });
+        files =
+            put_alike r (record { class = class_of (get f.files r); content = File b })
+            (record { class = class_of (get g.files r); content = File c })
+            (λ i. record
+            { class = class_alike (get f.files r) (get g.files r) (alike.files r) i; content = File (e i) });
         processes = alike.processes;
       }
 
       -- an effect of another user's process leaves them alike
-      applied_alike : (q : Path) (effect : Effect) → Warrant accounts f me p q effect → IsAlikeBut secret (apply accounts f me p q effect) (apply accounts g me p q effect)
+      applied_alike : (q : Path) (effect : Effect) → Warrant accounts f me p q effect
+          → IsAlikeBut secret (apply accounts f me p q effect) (apply accounts g me p q effect)
       applied_alike q Nothing may = alike
       applied_alike q (Makes content mode) may = record { files = put_alike q _ _ refl; processes = alike.processes }
       applied_alike q (Stores new) may =
@@ -156,9 +186,15 @@ module _ (accounts : Accounts) (secret : Class → Bool) (readers : Process → 
         files = put_alike q (record { class = Scratch p.user (inner_chain me p); content = Dir }) _ refl;
         processes = λ i. (apply accounts (record f { processes = alike.processes i }) me p q Wraps).processes;
       }
-      applied_alike q effect may = record { files = alike.files; processes = λ i. (apply accounts (record f { processes = alike.processes i }) me p q effect).processes }
+      applied_alike q effect may =
+          record {
+            files = alike.files;
+            processes = λ i.
+                (apply accounts (record f { processes = alike.processes i }) me p q effect).processes;
+          }
 
-      states_alike : (call : UnixCall) (d e : Option Errno) → refused accounts f me p call ≡ d → d ≡ e → IsAlikeBut secret (flat_or d f (changed accounts f me p call)) (flat_or e g (changed accounts g me p call))
+      states_alike : (call : UnixCall) (d e : Option Errno) → refused accounts f me p call ≡ d → d ≡ e
+          → IsAlikeBut secret (flat_or d f (changed accounts f me p call)) (flat_or e g (changed accounts g me p call))
       states_alike call None None h k = applied_alike (path_of call) (rule call).effect (warranted accounts f me p call h)
       states_alike call None (Some x) h k = absurd (cc)
       states_alike call (Some x) None h k = absurd (cc)
@@ -175,11 +211,16 @@ module _ (accounts : Accounts) (secret : Class → Bool) (readers : Process → 
 
       -- It leaves states that differ in these bytes alone.
       pub flat_after_alike : IsAlikeBut secret (flat_after accounts f me call) (flat_after accounts g me call)
-      flat_after_alike = subst (λ o. IsAlikeBut secret (flat_after accounts f me call) (flat_by accounts g me (if_running (o me)) call)) alike.processes (by (running f me) other)
+      flat_after_alike =
+          subst
+          (λ o. IsAlikeBut secret (flat_after accounts f me call) (flat_by accounts g me (if_running (o me)) call))
+          alike.processes (by (running f me) other)
         where
           by : (r : Option Process) → is_some_and r readers ≡ false → IsAlikeBut secret (flat_by accounts f me r call) (flat_by accounts g me r call)
           by None i = alike
-          by (Some p) i = states_alike me p i call (refused accounts f me p call) (refused accounts g me p call) refl (refused_alike accounts f g me p call (both_look_alike me p i (path_of call)))
+          by (Some p) i =
+              states_alike me p i call (refused accounts f me p call) (refused accounts g me p call) refl
+              (refused_alike accounts f g me p call (both_look_alike me p i (path_of call)))
 
 -- while none of these users is there
 module _ (accounts : Accounts) (secret : Class → Bool) (users : Name → Bool) (kept : AreKept accounts secret (λ p. users p.user)) where
@@ -198,16 +239,20 @@ module _ (accounts : Accounts) (secret : Class → Bool) (users : Name → Bool)
       by true = other_is_away p h
       by false = away x
 
-  away_with_child : (f : Flat) (me : ProcName) (p : Process) (chain : List ProcName) → AreAway users f → users p.user ≡ false → AreAway users (with_child f me p chain)
+  away_with_child : (f : Flat) (me : ProcName) (p : Process) (chain : List ProcName) → AreAway users f
+      → users p.user ≡ false → AreAway users (with_child f me p chain)
   away_with_child f me p chain away h =
       let grown : Process = record p { born = p.born + 1 } in
-      away_with (with_process f me grown) ((p.born + 1) ∷ me) (record { user = p.user; chain = chain; held = []; exited = None; born = 0 }) (away_with f me grown away h) h
+      away_with (with_process f me grown) ((p.born + 1) ∷ me)
+      (record { user = p.user; chain = chain; held = []; exited = None; born = 0 }) (away_with f me grown away h) h
 
-  away_without : (b : Bool) (o : Option Process) → is_some_and (if_running o) (λ r. users r.user) ≡ false → is_some_and (if_running (cond b None o)) (λ r. users r.user) ≡ false
+  away_without : (b : Bool) (o : Option Process) → is_some_and (if_running o) (λ r. users r.user) ≡ false
+      → is_some_and (if_running (cond b None o)) (λ r. users r.user) ≡ false
   away_without true o h = refl
   away_without false o h = h
 
-  away_changes : (f : Flat) (me : ProcName) (p : Process) (call : UnixCall) → AreAway users f → users p.user ≡ false → is_login_of users call ≡ false → EachChange accounts f me p call (AreAway users)
+  away_changes : (f : Flat) (me : ProcName) (p : Process) (call : UnixCall) → AreAway users f → users p.user ≡ false
+      → is_login_of users call ≡ false → EachChange accounts f me p call (AreAway users)
   away_changes f me p call away other quiet = record {
     stays = away;
     makes = λ n d x walked free w own mode made_is. away;
@@ -222,27 +267,34 @@ module _ (accounts : Accounts) (secret : Class → Bool) (users : Name → Bool)
   }
 
   -- these users stay away while no process logs in as one of them
-  stays_away : (f : Flat) (me : ProcName) (call : UnixCall) → AreAway users f → is_login_of users call ≡ false → AreAway users (flat_after accounts f me call)
-  stays_away f me call away quiet = by_line accounts f me call (AreAway users) away (λ p runs. away_changes f me p call away (sym (ap (λ r. is_some_and r (λ p. users p.user)) runs) ∙ away me) quiet)
+  stays_away : (f : Flat) (me : ProcName) (call : UnixCall) → AreAway users f → is_login_of users call ≡ false
+      → AreAway users (flat_after accounts f me call)
+  stays_away f me call away quiet =
+      by_line accounts f me call (AreAway users) away (λ p runs.
+      away_changes f me p call away (sym (ap (λ r. is_some_and r (λ p. users p.user)) runs) ∙ away me) quiet)
 
   -- while no process is of one of these users, the replies are the same in two states that differ in secret bytes alone
-  all_replies_alike : (f g : Flat) → IsAlikeBut secret f g → AreAway users f → (calls : List CallLine) → has_no_login_of users calls ≡ true → answered_from accounts f calls ≡ answered_from accounts g calls
+  all_replies_alike : (f g : Flat) → IsAlikeBut secret f g → AreAway users f → (calls : List CallLine)
+      → has_no_login_of users calls ≡ true → answered_from accounts f calls ≡ answered_from accounts g calls
   all_replies_alike f g alike away [] h = refl
   all_replies_alike f g alike away (c ∷ calls) h =
       let parts = and_parts (not (is_login_of users c.call)) (has_no_login_of users calls) h in
       let quiet = not-true (is_login_of users c.call) parts.0 in
       let here = reply_to_alike accounts secret (λ p. users p.user) kept f g alike c.process c.call (away c.process) in
       let rest = all_replies_alike (flat_after accounts f c.process c.call) (flat_after accounts g c.process c.call)
-      (flat_after_alike accounts secret (λ p. users p.user) kept f g alike c.process c.call (away c.process)) (stays_away f c.process c.call away quiet) calls parts.1 in
+      (flat_after_alike accounts secret (λ p. users p.user) kept f g alike c.process c.call (away c.process))
+      (stays_away f c.process c.call away quiet) calls parts.1 in
       λ i. record { call = c; reply = here i } ∷ rest i
 
 -- whatever bytes stand in a file that is secret, the states differ in secret bytes alone
-pub other_bytes_alike : (secret : Class → Bool) (f : Flat) (q : Path) (class : Class) (bytes other : List ℕ) → secret class ≡ true → get f.files q ≡ Some (record { class = class; content = File bytes })
+pub other_bytes_alike : (secret : Class → Bool) (f : Flat) (q : Path) (class : Class) (bytes other : List ℕ)
+    → secret class ≡ true → get f.files q ≡ Some (record { class = class; content = File bytes })
     → IsAlikeBut secret f (with_bytes f q other)
 other_bytes_alike secret f q class bytes other hides h = record {
   files = λ r. elim (same_path_found r q) [
     | inl e ↦ ap (option_map (veiled secret)) (ap (get f.files) e.1 ∙ h) ∙ ap Some (is_veiled bytes ∙ sym (is_veiled other))
-        ∙ ap (option_map (veiled secret)) (sym (get-insert f.files q _ r ∙ ap (λ b. cond b (Some new) (get f.files r)) e.0 ∙ ap (λ o. Some (record { class = class_of o; content = File other })) h))
+        ∙ ap (option_map (veiled secret)) (sym (get-insert f.files q _ r ∙ ap (λ b. cond b (Some new) (get f.files r)) e.0
+        ∙ ap (λ o. Some (record { class = class_of o; content = File other })) h))
     | inr e ↦ ap (option_map (veiled secret)) (sym (get-insert f.files q new r ∙ ap (λ b. cond b (Some new) (get f.files r)) e.0))
   ];
   processes = refl;
@@ -296,7 +348,8 @@ is_class_of_group group _ = false
 group_is_kept : (accounts : Accounts) (group : Name) → AreKept accounts (is_class_of_group group) (λ p. is_member accounts p.user group)
 group_is_kept accounts group = record { unread = unread; unwritten = unwritten }
   where
-    unread : (p : Process) (class : Class) → is_member accounts p.user group ≡ false → may_read accounts p class ≡ true → not (is_class_of_group group class) ≡ true
+    unread : (p : Process) (class : Class) → is_member accounts p.user group ≡ false → may_read accounts p class ≡ true
+        → not (is_class_of_group group class) ≡ true
     unread p (Private o) other h = refl
     unread p (Readable o) other h = refl
     unread p Open other h = refl
@@ -306,7 +359,8 @@ group_is_kept accounts group = record { unread = unread; unwritten = unwritten }
       | inr e ↦ ap not e.0
     ]
 
-    unwritten : (p : Process) (class : Class) → is_member accounts p.user group ≡ false → may_write accounts p class ≡ true → not (is_class_of_group group class) ≡ true
+    unwritten : (p : Process) (class : Class) → is_member accounts p.user group ≡ false
+        → may_write accounts p class ≡ true → not (is_class_of_group group class) ≡ true
     unwritten p (Private o) other h = refl
     unwritten p (Readable o) other h = refl
     unwritten p Open other h = refl
@@ -328,5 +382,6 @@ group_bytes_are_hidden group accounts f q bytes other me call h outside =
 -- and none does until a member logs in
 pub group_bytes_stay_hidden : GroupBytesStayHidden
 group_bytes_stay_hidden group accounts f q bytes other calls h away quiet =
-    all_replies_alike accounts (is_class_of_group group) (λ name. is_member accounts name group) (group_is_kept accounts group) f (with_bytes f q other)
+    all_replies_alike accounts (is_class_of_group group) (λ name. is_member accounts name group)
+    (group_is_kept accounts group) f (with_bytes f q other)
     (other_bytes_alike (is_class_of_group group) f q (Grouped group) bytes other (same_self group) h) away calls quiet

@@ -1,5 +1,6 @@
 -- Texts that are parted at their first separator: where the part before it ends, and texts that lack it.
-use Rattle.std.proofs.Common.{rules, ◌≡◌, ℕ, zero, suc, ◌<◌, Bool, true, false, not, eqb, List, [], ◌∷◌, ◌++◌, length, take, drop, Some, None, refl, arith}
+use Rattle.std.proofs.Common.{rules, ◌≡◌, ℕ, zero, suc, ◌<◌, Bool, true, false, not, eqb, List, [], ◌∷◌, ◌++◌, length, take, drop, Some, None, refl}
+use Rattle.std.proofs.Common.{arith}
 use Rattle.std.specs.List.{list_all}
 use Rattle.std.proofs.lemmas.Bool.{false_from_ne_true, and_parts, not-true}
 use Rattle.memchr.specs.Find.{Nowhere, Passes, is_byte}
@@ -14,7 +15,8 @@ pub tail_nowhere : (a b : ℕ) (bs : List ℕ) (k : ℕ) → Nowhere (Passes (is
 tail_nowhere a b bs k none i low high h = none (suc i) (omega arith) (omega arith) h
 
 -- the first part ends at the first separator
-pub split_found : (a : ℕ) (text : List ℕ) (k : ℕ) → k < length text → Nowhere (Passes (is_byte a) text) 0 k → Passes (is_byte a) text k → split_at_first a text ≡ (take k text, Some (drop (suc k) text))
+pub split_found : (a : ℕ) (text : List ℕ) (k : ℕ) → k < length text → Nowhere (Passes (is_byte a) text) 0 k
+    → Passes (is_byte a) text k → split_at_first a text ≡ (take k text, Some (drop (suc k) text))
 unfolding split_at_first
 split_found a [] k lt none here = absurd (omega arith)
 split_found a (b ∷ bs) zero lt none here = rw here refl

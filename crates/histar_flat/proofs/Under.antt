@@ -24,16 +24,19 @@ shorter equal p [] lt = differ equal p [] (λ e. omega (arith, e, lt))
 shorter equal p (n ∷ q) lt = rw (differ equal p (n ∷ q) (λ e. omega (arith, e, lt)), shorter equal p q (omega (arith, lt))) refl
 
 -- a list lies above those that it ends
-pub under_is_end : {A : Type 0} (equal : A → A → Bool) (p q : List A) → length p ≤ length q → is_under equal p q ≡ pointwise equal p (drop (length q - length p) q)
+pub under_is_end : {A : Type 0} (equal : A → A → Bool) (p q : List A) → length p ≤ length q
+    → is_under equal p q ≡ pointwise equal p (drop (length q - length p) q)
 under_is_end equal [] [] le = refl
 under_is_end equal (m ∷ p) [] le = absurd (omega (arith, le))
 under_is_end equal p (n ∷ q) le = elim (cases_lt (length q) (length p)) [
   | inl lt ↦
       let same : suc (length q) - length p ≡ 0 = omega (arith, lt, le) in
-      ap (λ b. pointwise equal p (n ∷ q) || b) (shorter equal p q lt) ∙ or-false (pointwise equal p (n ∷ q)) ∙ ap (λ (i : ℕ). pointwise equal p (drop i (n ∷ q))) (sym same)
+      ap (λ b. pointwise equal p (n ∷ q) || b) (shorter equal p q lt) ∙ or-false (pointwise equal p (n ∷ q))
+      ∙ ap (λ (i : ℕ). pointwise equal p (drop i (n ∷ q))) (sym same)
   | inr here ↦
       let more : suc (length q) - length p ≡ suc (length q - length p) = omega (arith, here) in
-      ap (λ b. b || is_under equal p q) (differ equal p (n ∷ q) (λ e. omega (arith, e, here))) ∙ under_is_end equal p q here ∙ ap (λ (i : ℕ). pointwise equal p (drop i (n ∷ q))) (sym more)
+      ap (λ b. b || is_under equal p q) (differ equal p (n ∷ q) (λ e. omega (arith, e, here)))
+      ∙ under_is_end equal p q here ∙ ap (λ (i : ℕ). pointwise equal p (drop i (n ∷ q))) (sym more)
 ]
 
 module _ {A : Type 0} (equal : A → A → Bool) (found : (p q : List A) → Found (pointwise equal p q) p q) where

@@ -64,7 +64,9 @@ entries_kept e (x ∷ es) = step x.0 x.1 (entries_kept e es)
     step [] there rest = rest
     step (m ∷ above) there rest = by (same_path e above) refl
       where
-        by : (b : Bool) → same_path e above ≡ b → filter_map (entry_in e) (cond (same_path e above) ((m ∷ above, there) ∷ later) later) ≡ filter_map (entry_in e) ((m ∷ above, there) ∷ es)
+        by : (b : Bool) → same_path e above ≡ b
+            → filter_map (entry_in e) (cond (same_path e above) ((m ∷ above, there) ∷ later) later)
+            ≡ filter_map (entry_in e) ((m ∷ above, there) ∷ es)
         by true t =
             ap (λ b. filter_map (entry_in e) (cond b ((m ∷ above, there) ∷ later) later)) t
             ∙ ap (cons_option (cond (same_path e above) (Some (m, is_dir there)) None)) rest
@@ -72,15 +74,23 @@ entries_kept e (x ∷ es) = step x.0 x.1 (entries_kept e es)
             ap (λ b. filter_map (entry_in e) (cond b ((m ∷ above, there) ∷ later) later)) t ∙ rest
             ∙ sym (ap (λ b. cons_option (cond b (Some (m, is_dir there)) None) (filter_map (entry_in e) es)) t)
 
-module _ (accounts : Accounts) (f g : Flat) (d : Path) (processes : f.processes ≡ g.processes) (alike : (q : Path) → is_inside d q ≡ false → get f.files q ≡ get g.files q) (p : Process) (unread : reads accounts f p d ≡ false) where
+module _ (accounts : Accounts) (f g : Flat) (d : Path) (processes : f.processes ≡ g.processes)
+    (alike : (q : Path) → is_inside d q ≡ false → get f.files q ≡ get g.files q) (p : Process)
+    (unread : reads accounts f p d ≡ false) where
   -- a directory that is not below has the same entries
   entries_alike : (e : Path) → under_path d e ≡ false → entries_in f e ≡ entries_in g e
-  entries_alike e out = sym (entries_kept e f.files.entries) ∙ ap (filter_map (entry_in e)) (same_lists (keep f.files (is_entry_of e)) (keep g.files (is_entry_of e)) (λ q. get-keep f.files (is_entry_of e) q ∙ one q ∙ sym (get-keep g.files (is_entry_of e) q))) ∙ entries_kept e g.files.entries
+  entries_alike e out =
+      sym (entries_kept e f.files.entries)
+      ∙ ap (filter_map (entry_in e)) (same_lists (keep f.files (is_entry_of e)) (keep g.files (is_entry_of e))
+      (λ q. get-keep f.files (is_entry_of e) q ∙ one q ∙ sym (get-keep g.files (is_entry_of e) q)))
+      ∙ entries_kept e g.files.entries
     where
       one : (q : Path) → cond (is_entry_of e q) (get f.files q) None ≡ cond (is_entry_of e q) (get g.files q) None
       one [] = refl
       one (m ∷ above) = elim (same_path_found e above) [
-        | inl t ↦ ap (λ (o : Option Node). cond (same_path e above) o None) (alike (m ∷ above) (inside_child d m above ∙ ap (under_path d) (sym t.1) ∙ out))
+        | inl t ↦
+            ap (λ (o : Option Node). cond (same_path e above) o None)
+            (alike (m ∷ above) (inside_child d m above ∙ ap (under_path d) (sym t.1) ∙ out))
         | inr t ↦ ap (λ b. cond b (get f.files (m ∷ above)) None) t.0 ∙ sym (ap (λ b. cond b (get g.files (m ∷ above)) None) t.0)
       ]
 
@@ -109,10 +119,16 @@ module _ (accounts : Accounts) (f g : Flat) (d : Path) (processes : f.processes 
     | inr t ↦ absurd (true≢false (sym u ∙ t.0))
   ]
   way_stops (n ∷ e) u = elim (same_path_found d (n ∷ e)) [
-    | inl t ↦ last_refuses (into accounts f p e) (unless (is_there f (n ∷ e)) ENOENT) (unless (is_dir_at f (n ∷ e)) ENOTDIR) (reads accounts f p (n ∷ e)) (ap (reads accounts f p) (sym t.1) ∙ unread)
+    | inl t ↦
+        last_refuses (into accounts f p e) (unless (is_there f (n ∷ e)) ENOENT) (unless (is_dir_at f (n ∷ e)) ENOTDIR)
+        (reads accounts f p (n ∷ e)) (ap (reads accounts f p) (sym t.1) ∙ unread)
     | inr t ↦
-        let above = way_stops e (sym (ap (λ b. b || under_path d e) t.0) ∙ u) in
-        (above.0, ap (λ (o : Option Errno). o orelse unless (is_there f (n ∷ e)) ENOENT orelse unless (is_dir_at f (n ∷ e)) ENOTDIR orelse unless (reads accounts f p (n ∷ e)) EACCES) above.1)
+        let above = way_stops e (sym (ap (λ b. b || under_path d e) t.0) ∙ u) in (
+          above.0,
+          ap (λ (o : Option Errno).
+              o orelse unless (is_there f (n ∷ e)) ENOENT orelse unless (is_dir_at f (n ∷ e)) ENOTDIR
+              orelse unless (reads accounts f p (n ∷ e)) EACCES) above.1,
+        )
   ]
 
   -- so an open way leads to what is not below
@@ -124,12 +140,16 @@ module _ (accounts : Accounts) (f g : Flat) (d : Path) (processes : f.processes 
 
   -- the tests of a way
   abbrev way_tests : Option Node → Option Errno
-  way_tests o = unless (is_some_and o (λ n. true)) ENOENT orelse unless (is_some_and o is_dir) ENOTDIR orelse unless (is_some_and o (λ n. may_read accounts p n.class)) EACCES
+  way_tests o =
+      unless (is_some_and o (λ n. true)) ENOENT orelse unless (is_some_and o is_dir) ENOTDIR
+      orelse unless (is_some_and o (λ n. may_read accounts p n.class)) EACCES
 
   -- each way is as open
   way_alike : (e : Path) → into accounts f p e ≡ into accounts g p e
   way_alike [] = ap (λ (o : Option Node). unless (is_some_and o (λ n. may_read accounts p n.class)) EACCES) root_alike
-  way_alike (n ∷ e) = later_alike (into accounts f p e) (into accounts g p e) (way_tests (get f.files (n ∷ e))) (way_tests (get g.files (n ∷ e))) (way_alike e)
+  way_alike (n ∷ e) =
+      later_alike (into accounts f p e) (into accounts g p e) (way_tests (get f.files (n ∷ e)))
+      (way_tests (get g.files (n ∷ e))) (way_alike e)
       (λ open_so_far. ap way_tests (child_alike n e (open_is_outside e open_so_far)))
 
   -- what may be read is outside where it is reached

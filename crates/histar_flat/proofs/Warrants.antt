@@ -13,7 +13,8 @@ use Rattle.histar_flat.specs.Classes.{Class, Process, is_free, knows, may_read, 
 use Rattle.histar_flat.specs.Classes.Class.{Private, Readable, Open, Scratch, Grouped}
 use Rattle.histar_flat.specs.FlatState.{Flat, Node, is_some_and, reads, writes}
 use Rattle.histar_flat.specs.Needs.{Test, Need, passes, unmet}
-use Rattle.histar_flat.specs.Needs.Test.{NotRoot, Exists, IsFile, Absent, AbsentBeside, MayRead, MayWrite, MayWriteAbove, Fits, IsChild, IsUser, InNoJob, IsSomebody}
+use Rattle.histar_flat.specs.Needs.Test.{NotRoot, Exists, IsFile, Absent, AbsentBeside, MayRead, MayWrite, MayWriteAbove, Fits, IsChild, IsUser}
+use Rattle.histar_flat.specs.Needs.Test.{InNoJob, IsSomebody}
 use Rattle.histar_flat.specs.Needs.Need.{◌then◌, ◌or◌, Walk, Found}
 use Rattle.histar_flat.specs.CallRules.{path_of, rule}
 use Rattle.histar_flat.specs.RuleLaws.{Holds, Met, IsOrdered, Warrant, MayReveal, TestsAreOrdered, EffectsAreWarranted, AnswersMayBeRevealed}
@@ -60,8 +61,11 @@ module _ (accounts : Accounts) (f : Flat) (me : ProcName) (p : Process) (q : Pat
 
   -- and so is a need that has no refusal
   pub met : (need : Need) → unmet accounts f me p q need ≡ None → Met accounts f me p q need
-  met (a then b) h =
-      (met a (passes_first (unmet accounts f me p q a) (unmet accounts f me p q b) h), met b (passes_later (unmet accounts f me p q a) (unmet accounts f me p q b) h))
+  met (a then b) h = (
+    met a (passes_first (unmet accounts f me p q a) (unmet accounts f me p q b) h),
+    met b
+        (passes_later (unmet accounts f me p q a) (unmet accounts f me p q b) h),
+  )
   met (test or e) h = holds test (passed (passes accounts f me p q test) e h)
   met Walk h = h
   met (Found name) h = h

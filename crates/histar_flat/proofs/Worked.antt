@@ -20,7 +20,12 @@ use Rattle.histar_flat.proofs.WorkedScripts.{printed}
 
 -- the users of the sessions: root, who is the first, and bob
 abbrev users : Accounts
-users = record { users = record { name = codes "root"; password = codes "rr" } ∷ record { name = codes "bob"; password = codes "bb" } ∷ []; groups = [] }
+users =
+    record {
+      users = record { name = codes "root"; password = codes "rr" }
+          ∷ record { name = codes "bob"; password = codes "bb" } ∷ [];
+      groups = [];
+    }
 
 abbrev root_alone : Accounts
 root_alone = record { users = record { name = codes "root"; password = codes "rr" } ∷ []; groups = [] }
@@ -223,10 +228,14 @@ pub through_a_file : replied (meaning users (
 through_a_file = refl
 
 -- a file holds 4,096 bytes, and no more
-pub largest_file : reply_to users (flat_end users (boot users) (by_zero 3 root_logs_in ∷ by_zero 4 (Create path_a Private) ∷ [])) [] (Write path_a (replicate 4096 97)) ≡ Done
+pub largest_file : reply_to users
+    (flat_end users (boot users) (by_zero 3 root_logs_in ∷ by_zero 4 (Create path_a Private) ∷ [])) []
+    (Write path_a (replicate 4096 97)) ≡ Done
 largest_file = refl
 
-pub too_large_a_file : reply_to users (flat_end users (boot users) (by_zero 3 root_logs_in ∷ by_zero 4 (Create path_a Private) ∷ [])) [] (Write path_a (replicate 4097 97)) ≡ Refused EFBIG
+pub too_large_a_file : reply_to users
+    (flat_end users (boot users) (by_zero 3 root_logs_in ∷ by_zero 4 (Create path_a Private) ∷ [])) []
+    (Write path_a (replicate 4097 97)) ≡ Refused EFBIG
 too_large_a_file = refl
 
 -- so many files, named f1, f2 and on
@@ -282,7 +291,8 @@ unreadable_directory = refl
 -- process 0 is bob's and in the job 0.1, which has the directory /j; /a is bob's own
 abbrev in_a_job : Flat
 in_a_job = with_process
-    (with_node (with_node (boot users) (codes "j" ∷ []) (Scratch (codes "bob") ((1 ∷ []) ∷ [])) Dir) path_a (PrivateClass (codes "bob")) (File (codes "deep")))
+    (with_node (with_node (boot users) (codes "j" ∷ []) (Scratch (codes "bob") ((1 ∷ []) ∷ [])) Dir) path_a
+    (PrivateClass (codes "bob")) (File (codes "deep")))
     [] (record first_process { user = codes "bob"; chain = (1 ∷ []) ∷ [] })
 
 -- in a job a process reads as its user, writes only in its job, makes what is the job's whatever mode is named, and logs in as no one

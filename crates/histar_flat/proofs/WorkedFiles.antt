@@ -3,7 +3,8 @@ use Rattle.std.specs.Prelude.{◌≡◌, ℕ, zero, suc, ◌+◌, List, [], ◌�
 use Rattle.std.specs.Fmt.{decimal, digits}
 use Rattle.histar_flat.specs.declared.calls.CallLine.{CallLine}
 use Rattle.histar_flat.specs.declared.calls.Mode.TheVariants as modes
-use Rattle.histar_flat.specs.declared.calls.UnixCall.TheVariants.{Create, Mkdir, Read, Write, Append, List as ListCall, Stat, Unlink, Rmdir, Rename, Spawn, Whoami, Login, Wrap}
+use Rattle.histar_flat.specs.declared.calls.UnixCall.TheVariants.{Create, Mkdir, Read, Write, Append, List as ListCall, Stat, Unlink, Rmdir, Rename}
+use Rattle.histar_flat.specs.declared.calls.UnixCall.TheVariants.{Spawn, Whoami, Login, Wrap}
 use Rattle.histar_flat.specs.Meaning.{meaning}
 use Rattle.histar_flat.proofs.WorkedScripts.{line_of, printed, tree_after, three_users, tmp_made, tmp_printed, from_tmp, after_tmp}
 
@@ -118,7 +119,9 @@ entries_in_order = refl
 -- files that 0.1 makes in /tmp/d, so many, on the lines from this one on, and named by their lines
 abbrev files_made : ℕ → ℕ → List CallLine
 files_made zero line = []
-files_made (suc n) line = line_of line (1 ∷ []) (Create ((codes "f" ++ decimal line) ∷ codes "d" ∷ codes "tmp" ∷ []) modes.Private) ∷ files_made n (line + 1)
+files_made (suc n) line =
+    line_of line (1 ∷ []) (Create ((codes "f" ++ decimal line) ∷ codes "d" ∷ codes "tmp" ∷ []) modes.Private)
+    ∷ files_made n (line + 1)
 
 -- a directory has 64 entries at most, which is told after a name that is taken, and before the right to write the directory
 pub full_directory : from_tmp (
@@ -128,9 +131,15 @@ pub full_directory : from_tmp (
     line_of 77 (1 ∷ []) (Unlink (codes "f74" ∷ codes "d" ∷ codes "tmp" ∷ [])) ∷
     line_of 78 (2 ∷ []) (Create (codes "z" ∷ codes "d" ∷ codes "tmp" ∷ []) modes.Open) ∷ []) ≡
     tmp_printed ++
-    codes "10 ok\n11 ok\n12 ok\n13 ok\n14 ok\n15 ok\n16 ok\n17 ok\n18 ok\n19 ok\n20 ok\n21 ok\n22 ok\n23 ok\n24 ok\n25 ok\n26 ok\n27 ok\n28 ok\n29 ok\n30 ok\n31 ok\n" ++
-    codes "32 ok\n33 ok\n34 ok\n35 ok\n36 ok\n37 ok\n38 ok\n39 ok\n40 ok\n41 ok\n42 ok\n43 ok\n44 ok\n45 ok\n46 ok\n47 ok\n48 ok\n49 ok\n50 ok\n51 ok\n52 ok\n53 ok\n" ++
-    codes "54 ok\n55 ok\n56 ok\n57 ok\n58 ok\n59 ok\n60 ok\n61 ok\n62 ok\n63 ok\n64 ok\n65 ok\n66 ok\n67 ok\n68 ok\n69 ok\n70 ok\n71 ok\n72 ok\n73 ok\n74 ok\n" ++
+    codes
+    "10 ok\n11 ok\n12 ok\n13 ok\n14 ok\n15 ok\n16 ok\n17 ok\n18 ok\n19 ok\n20 ok\n21 ok\n22 ok\n23 ok\n24 ok\n25 ok\n26 ok\n27 ok\n28 ok\n29 ok\n30 ok\n31 ok\n"
+    ++
+    codes
+    "32 ok\n33 ok\n34 ok\n35 ok\n36 ok\n37 ok\n38 ok\n39 ok\n40 ok\n41 ok\n42 ok\n43 ok\n44 ok\n45 ok\n46 ok\n47 ok\n48 ok\n49 ok\n50 ok\n51 ok\n52 ok\n53 ok\n"
+    ++
+    codes
+    "54 ok\n55 ok\n56 ok\n57 ok\n58 ok\n59 ok\n60 ok\n61 ok\n62 ok\n63 ok\n64 ok\n65 ok\n66 ok\n67 ok\n68 ok\n69 ok\n70 ok\n71 ok\n72 ok\n73 ok\n74 ok\n"
+    ++
     codes "75 ENOSPC\n76 EEXIST\n77 ok\n78 EACCES\n"
 unfolding digits
 full_directory = refl
@@ -147,5 +156,6 @@ pub tree_in_order : tree_after three_users (tmp_made ++
     line_of 13 (2 ∷ []) (Create (codes "a-b" ∷ codes "tmp" ∷ []) modes.Open) ∷
     line_of 14 (1 ∷ []) (Wrap (codes "j" ∷ codes "tmp" ∷ [])) ∷
     line_of 15 (2 ∷ []) (ListCall (codes "tmp" ∷ [])) ∷ []) ≡
-    codes "/ dir root readable\n/tmp dir - open\n/tmp/a dir alice private\n/tmp/a/f file alice private = hello\n/tmp/a-b file - open = \n/tmp/j dir alice scratch\n"
+    codes
+    "/ dir root readable\n/tmp dir - open\n/tmp/a dir alice private\n/tmp/a/f file alice private = hello\n/tmp/a-b file - open = \n/tmp/j dir alice scratch\n"
 tree_in_order = refl

@@ -3,7 +3,8 @@ use Rattle.std.specs.Prelude.{◌≡◌, ℕ, List, [], ◌∷◌, ◌++◌, cod
 use Rattle.std.specs.Fmt.{digits}
 use Rattle.histar_flat.specs.declared.calls.CallLine.{CallLine}
 use Rattle.histar_flat.specs.declared.calls.Mode.TheVariants as modes
-use Rattle.histar_flat.specs.declared.calls.UnixCall.TheVariants.{Create, Mkdir, Read, Write, Append, List as ListCall, Stat, Unlink, Rmdir, Rmtree, Rename, Spawn, Login, Wrap}
+use Rattle.histar_flat.specs.declared.calls.UnixCall.TheVariants.{Create, Mkdir, Read, Write, Append, List as ListCall, Stat, Unlink, Rmdir, Rmtree}
+use Rattle.histar_flat.specs.declared.calls.UnixCall.TheVariants.{Rename, Spawn, Login, Wrap}
 use Rattle.histar_flat.specs.Accounts.{Accounts}
 use Rattle.histar_flat.specs.Meaning.{meaning}
 use Rattle.histar_flat.proofs.WorkedScripts.{line_of, printed, with_a_team}
@@ -58,7 +59,9 @@ pub who_is_no_member : after_the_logins (
     line_of 25 (1 ∷ []) (Read (codes "h" ∷ codes "tmp" ∷ [])) ∷
     line_of 26 (3 ∷ []) (Unlink (codes "h" ∷ codes "tmp" ∷ [])) ∷
     line_of 27 (1 ∷ []) (Read (codes "h" ∷ codes "tmp" ∷ [])) ∷ []) ≡
-    logins_printed ++ codes "14 ok\n15 ok\n16 EACCES\n17 EACCES\n18 EACCES\n19 ok file - group:team\n20 EPERM\n21 EPERM\n22 EACCES\n23 EPERM\n24 ok\n25 = hi\n26 ok\n27 ENOENT\n"
+    logins_printed
+    ++ codes
+    "14 ok\n15 ok\n16 EACCES\n17 EACCES\n18 EACCES\n19 ok file - group:team\n20 EPERM\n21 EPERM\n22 EACCES\n23 EPERM\n24 ok\n25 = hi\n26 ok\n27 ENOENT\n"
 unfolding digits
 who_is_no_member = refl
 
@@ -79,7 +82,9 @@ pub directory_of_a_group : after_the_logins (
     line_of 26 (2 ∷ []) (Rmdir (codes "d" ∷ codes "tmp" ∷ [])) ∷
     line_of 27 (3 ∷ []) (Rmtree (codes "d" ∷ codes "tmp" ∷ [])) ∷
     line_of 28 (1 ∷ []) (ListCall (codes "tmp" ∷ [])) ∷ []) ≡
-    logins_printed ++ codes "14 ok\n15 ok\n16 ok\n17 ok g s\n18 EACCES\n19 EACCES\n20 ok dir - group:team\n21 EACCES\n22 EACCES\n23 EACCES\n24 ok\n25 ok\n26 ENOTEMPTY\n27 ok\n28 ok\n"
+    logins_printed
+    ++ codes
+    "14 ok\n15 ok\n16 ok\n17 ok g s\n18 EACCES\n19 EACCES\n20 ok dir - group:team\n21 EACCES\n22 EACCES\n23 EACCES\n24 ok\n25 ok\n26 ENOTEMPTY\n27 ok\n28 ok\n"
 unfolding digits
 directory_of_a_group = refl
 
@@ -98,7 +103,9 @@ pub job_of_a_member : after_the_logins (
     line_of 24 (1 ∷ []) (ListCall (codes "j" ∷ codes "tmp" ∷ [])) ∷
     line_of 25 (2 ∷ []) (Append (codes "g" ∷ codes "tmp" ∷ []) (codes "x")) ∷
     line_of 26 (1 ∷ 2 ∷ []) (Read (codes "g" ∷ codes "tmp" ∷ [])) ∷ []) ≡
-    logins_printed ++ codes "14 ok\n15 ok\n16 ok 0.2.1\n17 = hi\n18 EACCES\n19 EACCES\n20 EACCES\n21 ok\n22 ok\n23 ok dir bob scratch\n24 EACCES\n25 ok\n26 = hix\n"
+    logins_printed
+    ++ codes
+    "14 ok\n15 ok\n16 ok 0.2.1\n17 = hi\n18 EACCES\n19 EACCES\n20 EACCES\n21 ok\n22 ok\n23 ok dir bob scratch\n24 EACCES\n25 ok\n26 = hix\n"
 unfolding digits
 job_of_a_member = refl
 
@@ -118,7 +125,9 @@ pub job_in_a_job_of_a_member : after_the_logins (
     line_of 25 (1 ∷ 1 ∷ 2 ∷ []) (Write (codes "o" ∷ codes "j" ∷ codes "tmp" ∷ []) (codes "z")) ∷
     line_of 26 (2 ∷ []) (Read (codes "o" ∷ codes "k" ∷ codes "j" ∷ codes "tmp" ∷ [])) ∷
     line_of 27 (1 ∷ []) (ListCall (codes "j" ∷ codes "tmp" ∷ [])) ∷ []) ≡
-    logins_printed ++ codes "14 ok\n15 ok\n16 ok 0.2.1\n17 ok 0.2.1.1\n18 = hi\n19 EACCES\n20 ok\n21 ok file bob scratch\n22 EACCES\n23 ok\n24 = \n25 EACCES\n26 EACCES\n27 EACCES\n"
+    logins_printed
+    ++ codes
+    "14 ok\n15 ok\n16 ok 0.2.1\n17 ok 0.2.1.1\n18 = hi\n19 EACCES\n20 ok\n21 ok file bob scratch\n22 EACCES\n23 ok\n24 = \n25 EACCES\n26 EACCES\n27 EACCES\n"
 unfolding digits
 job_in_a_job_of_a_member = refl
 
@@ -199,6 +208,7 @@ pub two_groups : printed (meaning with_two_groups (
     line_of 25 (1 ∷ 2 ∷ []) (Read (codes "a" ∷ codes "tmp" ∷ [])) ∷
     line_of 26 (1 ∷ 2 ∷ []) (Read (codes "b" ∷ codes "tmp" ∷ [])) ∷
     line_of 27 (1 ∷ 2 ∷ []) (Append (codes "b" ∷ codes "tmp" ∷ []) (codes "x")) ∷ [])) ≡
-    codes "7 ok 0.1\n8 ok 0.2\n9 ok 0.3\n10 ok\n11 ok\n12 ok\n13 ok\n14 ok\n15 ok\n16 ok\n17 EPERM\n18 ok\n19 ok\n20 EACCES\n21 EACCES\n22 = bye\n23 ok file - group:pair\n24 ok 0.2.1\n25 = hi\n26 = bye\n27 EACCES\n"
+    codes
+    "7 ok 0.1\n8 ok 0.2\n9 ok 0.3\n10 ok\n11 ok\n12 ok\n13 ok\n14 ok\n15 ok\n16 ok\n17 EPERM\n18 ok\n19 ok\n20 EACCES\n21 EACCES\n22 = bye\n23 ok file - group:pair\n24 ok 0.2.1\n25 = hi\n26 = bye\n27 EACCES\n"
 unfolding digits
 two_groups = refl

@@ -2,7 +2,8 @@
 use Rattle.std.specs.Prelude.{◌≡◌, [], ◌∷◌, ◌++◌, codes, refl}
 use Rattle.std.specs.Fmt.{digits}
 use Rattle.histar_flat.specs.declared.calls.Mode.TheVariants as modes
-use Rattle.histar_flat.specs.declared.calls.UnixCall.TheVariants.{Create, Mkdir, Read, Write, Append, List as ListCall, Stat, Unlink, Rmdir, Rmtree, Spawn, Exit, Status, Kill, Whoami, Login, Wrap}
+use Rattle.histar_flat.specs.declared.calls.UnixCall.TheVariants.{Create, Mkdir, Read, Write, Append, List as ListCall, Stat, Unlink, Rmdir, Rmtree}
+use Rattle.histar_flat.specs.declared.calls.UnixCall.TheVariants.{Spawn, Exit, Status, Kill, Whoami, Login, Wrap}
 use Rattle.histar_flat.specs.Meaning.{meaning}
 use Rattle.histar_flat.proofs.WorkedScripts.{line_of, printed, with_a_team, tmp_printed, from_tmp, after_tmp}
 
@@ -62,7 +63,8 @@ pub ends_of_processes : after_tmp (
     line_of 20 (1 ∷ 1 ∷ []) Whoami ∷
     line_of 21 (1 ∷ []) Spawn ∷
     line_of 22 [] (Kill ([])) ∷ []) ≡
-    codes "10 ok 0.1.1\n11 ok 0.1.1.1\n12 ok\n13 ok exited 7\n14 EACCES\n15 ok running\n16 gone\n17 EACCES\n18 ok\n19 ESRCH\n20 gone\n21 ok 0.1.2\n22 EACCES\n"
+    codes
+    "10 ok 0.1.1\n11 ok 0.1.1.1\n12 ok\n13 ok exited 7\n14 EACCES\n15 ok running\n16 gone\n17 EACCES\n18 ok\n19 ESRCH\n20 gone\n21 ok 0.1.2\n22 EACCES\n"
 unfolding digits
 ends_of_processes = refl
 
@@ -84,7 +86,8 @@ pub job_in_a_job : after_tmp (
     line_of 23 (1 ∷ 1 ∷ 1 ∷ []) (Login (codes "bob") (codes "bb")) ∷
     line_of 24 (1 ∷ []) (Kill (1 ∷ 1 ∷ [])) ∷
     line_of 25 (1 ∷ []) (Rmtree (codes "j" ∷ codes "tmp" ∷ [])) ∷ []) ≡
-    codes "10 ok 0.1.1\n11 ok 0.1.1.1\n12 ok\n13 ok file alice scratch\n14 ok k/\n15 EACCES\n16 EACCES\n17 ok\n18 = \n19 EACCES\n20 EACCES\n21 ok running\n22 EACCES\n23 EACCES\n24 ok\n25 ok\n"
+    codes
+    "10 ok 0.1.1\n11 ok 0.1.1.1\n12 ok\n13 ok file alice scratch\n14 ok k/\n15 EACCES\n16 EACCES\n17 ok\n18 = \n19 EACCES\n20 EACCES\n21 ok running\n22 EACCES\n23 EACCES\n24 ok\n25 ok\n"
 unfolding digits
 job_in_a_job = refl
 
@@ -104,7 +107,9 @@ pub two_jobs : from_tmp (
     line_of 20 (1 ∷ []) (Kill (2 ∷ 1 ∷ [])) ∷
     line_of 21 (1 ∷ []) (Rmtree (codes "k" ∷ codes "tmp" ∷ [])) ∷
     line_of 22 (1 ∷ []) Whoami ∷ []) ≡
-    tmp_printed ++ codes "10 ok 0.1.1\n11 ok 0.1.2\n12 EACCES\n13 EACCES\n14 ok\n15 = \n16 EACCES\n17 ok\n18 ok 0.1.3\n19 EACCES\n20 ok\n21 ok\n22 ok alice\n"
+    tmp_printed
+    ++ codes
+    "10 ok 0.1.1\n11 ok 0.1.2\n12 EACCES\n13 EACCES\n14 ok\n15 = \n16 EACCES\n17 ok\n18 ok 0.1.3\n19 EACCES\n20 ok\n21 ok\n22 ok alice\n"
 unfolding digits
 two_jobs = refl
 
@@ -131,7 +136,9 @@ pub two_jobs_in_a_job : from_tmp (
     line_of 27 (1 ∷ []) (ListCall (codes "j" ∷ codes "tmp" ∷ [])) ∷
     line_of 28 (1 ∷ 1 ∷ []) (Kill (1 ∷ 1 ∷ 1 ∷ [])) ∷
     line_of 29 (1 ∷ 1 ∷ 1 ∷ 1 ∷ []) Whoami ∷ []) ≡
-    tmp_printed ++ codes "10 ok 0.1.1\n11 ok 0.1.1.1\n12 ok 0.1.1.2\n13 ok\n14 ok\n15 EACCES\n16 EACCES\n17 EACCES\n18 ok 0.1.1.1.1\n19 = deep\n20 EACCES\n21 ok\n22 ok alice confined\n23 = \n24 EACCES\n25 ok m/ o\n26 EACCES\n27 ok k/ l/\n28 ok\n29 gone\n"
+    tmp_printed
+    ++ codes
+    "10 ok 0.1.1\n11 ok 0.1.1.1\n12 ok 0.1.1.2\n13 ok\n14 ok\n15 EACCES\n16 EACCES\n17 EACCES\n18 ok 0.1.1.1.1\n19 = deep\n20 EACCES\n21 ok\n22 ok alice confined\n23 = \n24 EACCES\n25 ok m/ o\n26 EACCES\n27 ok k/ l/\n28 ok\n29 gone\n"
 unfolding digits
 two_jobs_in_a_job = refl
 
@@ -171,6 +178,7 @@ pub group : printed (meaning with_a_team (
     line_of 24 (1 ∷ []) (Read (codes "o" ∷ codes "j" ∷ codes "tmp" ∷ [])) ∷
     line_of 25 (2 ∷ []) (Login (codes "carol") (codes "cc")) ∷
     line_of 26 (2 ∷ []) (Read (codes "g" ∷ codes "tmp" ∷ [])) ∷ [])) ≡
-    codes "6 ok 0.1\n7 ok 0.2\n8 ok 0.3\n9 ok\n10 ok\n11 ok\n12 ok\n13 ok\n14 ok\n15 ok\n16 EACCES\n17 ok file - group:team\n18 EPERM\n19 ok 0.2.1\n20 = hi\n21 EACCES\n22 ok\n23 ok file bob scratch\n24 EACCES\n25 ok\n26 EACCES\n"
+    codes
+    "6 ok 0.1\n7 ok 0.2\n8 ok 0.3\n9 ok\n10 ok\n11 ok\n12 ok\n13 ok\n14 ok\n15 ok\n16 EACCES\n17 ok file - group:team\n18 EPERM\n19 ok 0.2.1\n20 = hi\n21 EACCES\n22 ok\n23 ok file bob scratch\n24 EACCES\n25 ok\n26 EACCES\n"
 unfolding digits
 group = refl

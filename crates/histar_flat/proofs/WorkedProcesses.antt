@@ -2,14 +2,20 @@
 use Rattle.std.specs.Prelude.{◌≡◌, [], ◌∷◌, codes, refl}
 use Rattle.std.specs.Fmt.{digits}
 use Rattle.histar_flat.specs.declared.calls.Mode.TheVariants as modes
-use Rattle.histar_flat.specs.declared.calls.UnixCall.TheVariants.{Create, Mkdir, Read, Append, List as ListCall, Stat, Rmdir, Rmtree, Rename, Spawn, Exit, Status, Kill, Whoami, Login}
+use Rattle.histar_flat.specs.declared.calls.UnixCall.TheVariants.{Create, Mkdir, Read, Append, List as ListCall, Stat, Rmdir, Rmtree, Rename, Spawn}
+use Rattle.histar_flat.specs.declared.calls.UnixCall.TheVariants.{Exit, Status, Kill, Whoami, Login}
 use Rattle.histar_flat.specs.Accounts.{Accounts}
 use Rattle.histar_flat.specs.Meaning.{meaning}
 use Rattle.histar_flat.proofs.WorkedScripts.{line_of, printed}
 
 -- root, who is the first user, and bob
 abbrev root_and_bob : Accounts
-root_and_bob = record { users = record { name = codes "root"; password = codes "rr" } ∷ record { name = codes "bob"; password = codes "bb" } ∷ []; groups = [] }
+root_and_bob =
+    record {
+      users = record { name = codes "root"; password = codes "rr" }
+          ∷ record { name = codes "bob"; password = codes "bb" } ∷ [];
+      groups = [];
+    }
 
 abbrev root_alone : Accounts
 root_alone = record { users = record { name = codes "root"; password = codes "rr" } ∷ []; groups = [] }
@@ -34,7 +40,8 @@ pub directories : printed (meaning root_and_bob (
     line_of 18 [] (Rmtree (codes "e" ∷ codes "tmp" ∷ [])) ∷
     line_of 19 [] (Rmtree (codes "tmp" ∷ [])) ∷
     line_of 20 [] (ListCall (codes "tmp" ∷ [])) ∷ [])) ≡
-    codes "3 ok\n4 ok\n5 ok\n6 ok\n7 ok\n8 ok\n9 = abc\n10 ok\n11 EACCES\n12 EACCES\n13 ok dir root private\n14 EACCES\n15 ok\n16 ok e/\n17 ok tmp/\n18 ok\n19 EACCES\n20 ok\n"
+    codes
+    "3 ok\n4 ok\n5 ok\n6 ok\n7 ok\n8 ok\n9 = abc\n10 ok\n11 EACCES\n12 EACCES\n13 ok dir root private\n14 EACCES\n15 ok\n16 ok e/\n17 ok tmp/\n18 ok\n19 EACCES\n20 ok\n"
 unfolding digits
 directories = refl
 
@@ -61,7 +68,8 @@ pub processes : printed (meaning root_alone (
     line_of 20 [] (Status (4 ∷ [])) ∷
     line_of 21 [] (Status []) ∷
     line_of 22 (1 ∷ []) (Kill (1 ∷ [])) ∷ [])) ≡
-    codes "2 ok 0.1\n3 ok\n4 ok 0.2\n5 ok nobody\n6 ok root\n7 ok\n8 EACCES\n9 ok 0.2.1\n10 ok\n11 gone\n12 ok root\n13 ok exited 3\n14 ok running\n15 EACCES\n16 ok\n17 ESRCH\n18 gone\n19 ok 0.3\n20 ESRCH\n21 ok running\n22 EACCES\n"
+    codes
+    "2 ok 0.1\n3 ok\n4 ok 0.2\n5 ok nobody\n6 ok root\n7 ok\n8 EACCES\n9 ok 0.2.1\n10 ok\n11 gone\n12 ok root\n13 ok exited 3\n14 ok running\n15 EACCES\n16 ok\n17 ESRCH\n18 gone\n19 ok 0.3\n20 ESRCH\n21 ok running\n22 EACCES\n"
 unfolding digits
 processes = refl
 

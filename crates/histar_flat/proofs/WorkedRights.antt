@@ -41,34 +41,42 @@ abbrev of_bob : List ProcName → List ProcName → Process
 of_bob chain held = record first_process { user = codes "bob"; chain = chain; held = held }
 
 -- nobody and other users read what is readable or open, and write what is open
-pub rights_of_nobody : (readable first_process ≡ false ∷ true ∷ true ∷ false ∷ false ∷ []) × (writable first_process ≡ false ∷ false ∷ true ∷ false ∷ false ∷ [])
+pub rights_of_nobody : (readable first_process ≡ false ∷ true ∷ true ∷ false ∷ false ∷ [])
+    × (writable first_process ≡ false ∷ false ∷ true ∷ false ∷ false ∷ [])
 rights_of_nobody = (refl, refl)
 
 pub rights_of_root : (readable of_root ≡ false ∷ true ∷ true ∷ false ∷ false ∷ []) × (writable of_root ≡ false ∷ false ∷ true ∷ false ∷ false ∷ [])
 rights_of_root = (refl, refl)
 
 -- bob reads and writes what is his, but for the scratch of jobs that his process doesn't hold
-pub rights_of_bob : (readable (of_bob [] []) ≡ true ∷ true ∷ true ∷ false ∷ false ∷ []) × (writable (of_bob [] []) ≡ true ∷ true ∷ true ∷ false ∷ false ∷ [])
+pub rights_of_bob : (readable (of_bob [] []) ≡ true ∷ true ∷ true ∷ false ∷ false ∷ [])
+    × (writable (of_bob [] []) ≡ true ∷ true ∷ true ∷ false ∷ false ∷ [])
 rights_of_bob = (refl, refl)
 
 -- with the outer job held, the scratch of that job too
-pub rights_of_a_holder : (readable (of_bob [] (outer ∷ [])) ≡ true ∷ true ∷ true ∷ true ∷ false ∷ []) × (writable (of_bob [] (outer ∷ [])) ≡ true ∷ true ∷ true ∷ true ∷ false ∷ [])
+pub rights_of_a_holder : (readable (of_bob [] (outer ∷ [])) ≡ true ∷ true ∷ true ∷ true ∷ false ∷ [])
+    × (writable (of_bob [] (outer ∷ [])) ≡ true ∷ true ∷ true ∷ true ∷ false ∷ [])
 rights_of_a_holder = (refl, refl)
 
 -- in the outer job a process reads as its user, and writes that job's scratch alone
-pub rights_in_a_job : (readable (of_bob (outer ∷ []) []) ≡ true ∷ true ∷ true ∷ true ∷ false ∷ []) × (writable (of_bob (outer ∷ []) []) ≡ false ∷ false ∷ false ∷ true ∷ false ∷ [])
+pub rights_in_a_job : (readable (of_bob (outer ∷ []) []) ≡ true ∷ true ∷ true ∷ true ∷ false ∷ [])
+    × (writable (of_bob (outer ∷ []) []) ≡ false ∷ false ∷ false ∷ true ∷ false ∷ [])
 rights_in_a_job = (refl, refl)
 
 -- holding the inner job there, it writes the scratch of that one too
-pub rights_of_a_holder_in_a_job : (readable (of_bob (outer ∷ []) (inner ∷ [])) ≡ true ∷ true ∷ true ∷ true ∷ true ∷ []) × (writable (of_bob (outer ∷ []) (inner ∷ [])) ≡ false ∷ false ∷ false ∷ true ∷ true ∷ [])
+pub rights_of_a_holder_in_a_job : (readable (of_bob (outer ∷ []) (inner ∷ [])) ≡ true ∷ true ∷ true ∷ true ∷ true ∷ [])
+    × (writable (of_bob (outer ∷ []) (inner ∷ [])) ≡ false ∷ false ∷ false ∷ true ∷ true ∷ [])
 rights_of_a_holder_in_a_job = (refl, refl)
 
 -- in the inner job it reads the scratch of both, and writes that of the inner one alone
-pub rights_in_an_inner_job : (readable (of_bob (outer ∷ inner ∷ []) []) ≡ true ∷ true ∷ true ∷ true ∷ true ∷ []) × (writable (of_bob (outer ∷ inner ∷ []) []) ≡ false ∷ false ∷ false ∷ false ∷ true ∷ [])
+pub rights_in_an_inner_job : (readable (of_bob (outer ∷ inner ∷ []) []) ≡ true ∷ true ∷ true ∷ true ∷ true ∷ [])
+    × (writable (of_bob (outer ∷ inner ∷ []) []) ≡ false ∷ false ∷ false ∷ false ∷ true ∷ [])
 rights_in_an_inner_job = (refl, refl)
 
 -- the scratch of a user is closed to other users, in whatever job their process is
-pub rights_of_another_user_in_the_job : (readable (record of_root { chain = outer ∷ [] }) ≡ false ∷ true ∷ true ∷ false ∷ false ∷ []) × (writable (record of_root { chain = outer ∷ [] }) ≡ false ∷ false ∷ false ∷ false ∷ false ∷ [])
+pub rights_of_another_user_in_the_job :
+    (readable (record of_root { chain = outer ∷ [] }) ≡ false ∷ true ∷ true ∷ false ∷ false ∷ [])
+    × (writable (record of_root { chain = outer ∷ [] }) ≡ false ∷ false ∷ false ∷ false ∷ false ∷ [])
 rights_of_another_user_in_the_job = (refl, refl)
 
 -- nobody makes nothing of these modes
@@ -80,22 +88,26 @@ pub made_by_bob : made (of_bob [] (outer ∷ [])) ≡ Some (Private (codes "bob"
 made_by_bob = refl
 
 -- in a job a process makes scratch of all its jobs, whatever mode is named
-pub made_in_a_job : made (of_bob (outer ∷ inner ∷ []) []) ≡ Some (Scratch (codes "bob") (outer ∷ inner ∷ [])) ∷ Some (Scratch (codes "bob") (outer ∷ inner ∷ [])) ∷ []
+pub made_in_a_job : made (of_bob (outer ∷ inner ∷ []) [])
+    ≡ Some (Scratch (codes "bob") (outer ∷ inner ∷ [])) ∷ Some (Scratch (codes "bob") (outer ∷ inner ∷ [])) ∷ []
 made_in_a_job = refl
 
 -- everyone makes what is open, and a member what is a group's; in a job both are scratch
 pub made_open : class_made of_team first_process modes.Open ≡ Some Open
 made_open = refl
 
-pub made_for_a_group : (class_made of_team (of_bob [] []) (modes.Group (codes "team")) ≡ Some (Grouped (codes "team"))) × (class_made of_team of_root (modes.Group (codes "team")) ≡ None)
+pub made_for_a_group : (class_made of_team (of_bob [] []) (modes.Group (codes "team")) ≡ Some (Grouped (codes "team")))
+    × (class_made of_team of_root (modes.Group (codes "team")) ≡ None)
 made_for_a_group = (refl, refl)
 
 pub made_for_a_group_in_a_job : class_made of_team (of_bob (outer ∷ []) []) (modes.Group (codes "team")) ≡ Some (Scratch (codes "bob") (outer ∷ []))
 made_for_a_group_in_a_job = refl
 
 -- a group's files are read by its members, and written by those in no job
-pub rights_of_a_member : map (λ p. may_read of_team p (Grouped (codes "team"))) (of_bob [] [] ∷ of_bob (outer ∷ []) [] ∷ of_root ∷ first_process ∷ []) ≡ true ∷ true ∷ false ∷ false ∷ []
+pub rights_of_a_member : map (λ p. may_read of_team p (Grouped (codes "team")))
+    (of_bob [] [] ∷ of_bob (outer ∷ []) [] ∷ of_root ∷ first_process ∷ []) ≡ true ∷ true ∷ false ∷ false ∷ []
 rights_of_a_member = refl
 
-pub writing_of_a_member : map (λ p. may_write of_team p (Grouped (codes "team"))) (of_bob [] [] ∷ of_bob (outer ∷ []) [] ∷ of_root ∷ first_process ∷ []) ≡ true ∷ false ∷ false ∷ false ∷ []
+pub writing_of_a_member : map (λ p. may_write of_team p (Grouped (codes "team")))
+    (of_bob [] [] ∷ of_bob (outer ∷ []) [] ∷ of_root ∷ first_process ∷ []) ≡ true ∷ false ∷ false ∷ false ∷ []
 writing_of_a_member = refl

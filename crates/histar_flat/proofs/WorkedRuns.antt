@@ -6,7 +6,8 @@ use Rattle.std.specs.Fmt.{digits}
 use Rattle.histar_flat.specs.declared.calls.CallLine.{CallLine}
 use Rattle.histar_flat.specs.declared.calls.Mode.TheVariants as modes
 use Rattle.histar_flat.specs.declared.calls.UnixCall.{UnixCall}
-use Rattle.histar_flat.specs.declared.calls.UnixCall.TheVariants.{Create, Read, Write, Append, List as ListCall, Stat, Rmdir, Rmtree, Rename, Exit, Status, Kill, Login, Wrap}
+use Rattle.histar_flat.specs.declared.calls.UnixCall.TheVariants.{Create, Read, Write, Append, List as ListCall, Stat, Rmdir, Rmtree, Rename, Exit}
+use Rattle.histar_flat.specs.declared.calls.UnixCall.TheVariants.{Status, Kill, Login, Wrap}
 use Rattle.histar_flat.specs.declared.replies.Reply.{Reply}
 use Rattle.histar_flat.specs.declared.replies.Reply.TheVariants.{Child}
 use Rattle.histar_flat.specs.Words.{Path, ProcName}
@@ -41,7 +42,9 @@ of_outsiders job = filter (λ (a : RepliedCall). is_outsider job a.call.process)
 abbrev lines_that_differ : List RepliedCall → List RepliedCall → List ℕ
 lines_that_differ [] answers = []
 lines_that_differ (a ∷ as') [] = []
-lines_that_differ (a ∷ as') (b ∷ bs) = cond (same (reply_text a.reply) (reply_text b.reply)) (lines_that_differ as' bs) (a.call.line ∷ lines_that_differ as' bs)
+lines_that_differ (a ∷ as') (b ∷ bs) =
+    cond (same (reply_text a.reply) (reply_text b.reply)) (lines_that_differ as' bs)
+    (a.call.line ∷ lines_that_differ as' bs)
 
 -- a directory of the job stands at the path
 abbrev is_directory_of : ProcName → Flat → Path → Bool
@@ -270,7 +273,10 @@ pub unnoticed_job_with_a_job_in_it : two_runs three_users (1 ∷ 1 ∷ []) calls
   is_started = true;
   lines_apart = [];
   paths_apart = [];
-  printed_with = tmp_printed ++ codes "10 ok 0.1.1\n11 ok 0.1.1.1\n12 ok\n13 ok file alice scratch\n14 ok k/\n15 EACCES\n16 EACCES\n17 ok\n18 = \n19 EACCES\n20 EACCES\n21 ok running\n22 EACCES\n23 EACCES\n24 ok\n25 ok\n";
+  printed_with =
+      tmp_printed
+      ++ codes
+      "10 ok 0.1.1\n11 ok 0.1.1.1\n12 ok\n13 ok file alice scratch\n14 ok k/\n15 EACCES\n16 EACCES\n17 ok\n18 = \n19 EACCES\n20 EACCES\n21 ok running\n22 EACCES\n23 EACCES\n24 ok\n25 ok\n";
   printed_without = tmp_printed ++ codes "10 ok 0.1.1\n14 ok\n15 ENOENT\n20 ESRCH\n24 ok\n25 ok\n";
   tree_with = codes "/ dir root readable\n/tmp dir - open\n";
   tree_without = codes "/ dir root readable\n/tmp dir - open\n";

@@ -45,14 +45,19 @@ tree_after accounts calls = flat_map (λ e. node_printed e.0 e.1) (flat_end acco
 -- root, alice and bob, in no group
 abbrev pub three_users : Accounts
 three_users = record {
-  users = record { name = codes "root"; password = codes "rr" } ∷ record { name = codes "alice"; password = codes "aa" } ∷ record { name = codes "bob"; password = codes "bb" } ∷ [];
+  users =
+      record { name = codes "root"; password = codes "rr" } ∷ record { name = codes "alice"; password = codes "aa" }
+      ∷ record { name = codes "bob"; password = codes "bb" } ∷ [];
   groups = [];
 }
 
 -- carol beside them, and a group of alice and bob
 abbrev pub with_a_team : Accounts
 with_a_team = record {
-  users = record { name = codes "root"; password = codes "rr" } ∷ record { name = codes "alice"; password = codes "aa" } ∷ record { name = codes "bob"; password = codes "bb" } ∷ record { name = codes "carol"; password = codes "cc" } ∷ [];
+  users =
+      record { name = codes "root"; password = codes "rr" } ∷ record { name = codes "alice"; password = codes "aa" }
+      ∷ record { name = codes "bob"; password = codes "bb" }
+      ∷ record { name = codes "carol"; password = codes "cc" } ∷ [];
   groups = record { name = codes "team"; members = codes "alice" ∷ codes "bob" ∷ [] } ∷ [];
 }
 

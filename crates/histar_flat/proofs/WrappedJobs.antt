@@ -51,14 +51,17 @@ has_longer (k ∷ jobs) job last h = by (same job k) refl (has_longer jobs job l
 -- ---- the processes of a job
 
 -- a name of which a longer one was given was given
-pub given_above : (processes : ProcName → Option Process) (above q : ProcName) → under_process above q ≡ true → is_given processes q ≡ true → is_given processes above ≡ true
+pub given_above : (processes : ProcName → Option Process) (above q : ProcName) → under_process above q ≡ true
+    → is_given processes q ≡ true → is_given processes above ≡ true
 given_above processes above [] under given = elim (same_name_found above []) [
   | inl e ↦ subst (λ x. is_given processes x ≡ true) (sym e.1) given
   | inr e ↦ absurd (true≢false (sym under ∙ e.0))
 ]
 given_above processes above (n ∷ q) under given = elim (same_name_found above (n ∷ q)) [
   | inl e ↦ subst (λ x. is_given processes x ≡ true) (sym e.1) given
-  | inr e ↦ given_above processes above q (sym (ap (λ b. b || under_process above q) e.0) ∙ under) (and_parts (was_given (processes q) n) (is_given processes q) given).1
+  | inr e ↦
+      given_above processes above q (sym (ap (λ b. b || under_process above q) e.0) ∙ under)
+      (and_parts (was_given (processes q) n) (is_given processes q) given).1
 ]
 
 -- each process of the job's name, and each below it, is in the job
@@ -67,7 +70,8 @@ AreInJob job f = (q : ProcName) (p : Process) → f.processes q ≡ Some p → u
 
 module _ (job : ProcName) where
   -- a process that is put there is in the job, where it has to be
-  put_in : (f : Flat) (me : ProcName) (p : Process) → AreInJob job f → (under_process job me ≡ true → has p.chain job ≡ true) → AreInJob job (with_process f me p)
+  put_in : (f : Flat) (me : ProcName) (p : Process) → AreInJob job f
+      → (under_process job me ≡ true → has p.chain job ≡ true) → AreInJob job (with_process f me p)
   put_in f me p all own q x at under = elim (same_name_found me q) [
     | inl e ↦
         let found : Some p ≡ Some x = sym (ap (λ b. cond b (Some p) (f.processes q)) e.0) ∙ at in
@@ -76,14 +80,17 @@ module _ (job : ProcName) where
     | inr e ↦ all q x (sym (ap (λ b. cond b (Some p) (f.processes q)) e.0) ∙ at) under
   ]
 
-  module _ (f : Flat) (given : is_given f.processes job ≡ true) (all : AreInJob job f) (me : ProcName) (p : Process) (here : f.processes me ≡ Some p) where
+  module _ (f : Flat) (given : is_given f.processes job ≡ true) (all : AreInJob job f) (me : ProcName) (p : Process)
+      (here : f.processes me ≡ Some p) where
     own_in : under_process job me ≡ true → has p.chain job ≡ true
     own_in under = all me p here under
 
     -- a child of a process in the job is in it, if it has the jobs of its parent
-    born_in : (q child : Process) → q.chain ≡ p.chain → (has p.chain job ≡ true → has child.chain job ≡ true) → AreInJob job (with_process (with_process f me q) (next_child me p) child)
+    born_in : (q child : Process) → q.chain ≡ p.chain → (has p.chain job ≡ true → has child.chain job ≡ true)
+        → AreInJob job (with_process (with_process f me q) (next_child me p) child)
     born_in q child same_jobs inherits =
-        put_in (with_process f me q) (next_child me p) child (put_in f me q all (λ under. ap (λ (jobs : List ProcName). has jobs job) same_jobs ∙ own_in under))
+        put_in (with_process f me q) (next_child me p) child
+        (put_in f me q all (λ under. ap (λ (jobs : List ProcName). has jobs job) same_jobs ∙ own_in under))
         (λ under. elim (same_name_found job (next_child me p)) [
           | inl e ↦ absurd (true≢false (sym given ∙ ap (is_given f.processes) e.1 ∙ next_is_new f me p here))
           | inr e ↦ inherits (own_in (sym (ap (λ b. b || under_process job me) e.0) ∙ under))
@@ -100,35 +107,48 @@ module _ (job : ProcName) where
       overwrites = λ n d bytes file w. all;
       cuts = λ n d takes w. all;
       renames = λ n k d takes apart free w. all;
-      spawns = λ is. born_in (record p { born = p.born + 1 }) (record { user = p.user; chain = p.chain; held = []; exited = None; born = 0 }) refl (λ h. h);
+      spawns =
+          λ is. born_in (record p { born = p.born + 1 })
+          (record { user = p.user; chain = p.chain; held = []; exited = None; born = 0 }) refl (λ h. h);
       exits = λ n is. put_in f me (record p { exited = Some n }) all own_in;
       logs_in = λ name is known free. put_in f me (record p { user = name; held = [] }) all own_in;
       kills = λ n q x at under. all q x (left_in (under_process (n ∷ me) q) (f.processes q) x at) under;
       wraps = λ n d is walked free w named.
-          born_in (record p { held = p.held ++ next_child me p ∷ []; born = p.born + 1 }) (record { user = p.user; chain = inner_chain me p; held = []; exited = None; born = 0 }) refl
+          born_in (record p { held = p.held ++ next_child me p ∷ []; born = p.born + 1 })
+          (record { user = p.user; chain = inner_chain me p; held = []; exited = None; born = 0 }) refl
           (has_longer p.chain job (next_child me p));
     }
 
   -- so each line leaves them in the job
-  in_after : (accounts : Accounts) (f : Flat) → is_given f.processes job ≡ true → AreInJob job f → (me : ProcName) (call : UnixCall) → AreInJob job (flat_after accounts f me call)
-  in_after accounts f given all me call = by_line accounts f me call (AreInJob job) all (λ p runs. in_changes f given all me p (runs_is_there (f.processes me) p runs) accounts call)
+  in_after : (accounts : Accounts) (f : Flat) → is_given f.processes job ≡ true → AreInJob job f
+      → (me : ProcName) (call : UnixCall) → AreInJob job (flat_after accounts f me call)
+  in_after accounts f given all me call =
+      by_line accounts f me call (AreInJob job) all
+      (λ p runs. in_changes f given all me p (runs_is_there (f.processes me) p runs) accounts call)
 
   -- and what its processes call are calls of the job
-  calls_of_job : (accounts : Accounts) (f : Flat) → is_given f.processes job ≡ true → AreInJob job f → (calls : List CallLine) → all_under job calls ≡ true → AreOfJob accounts job f calls
+  calls_of_job : (accounts : Accounts) (f : Flat) → is_given f.processes job ≡ true → AreInJob job f
+      → (calls : List CallLine) → all_under job calls ≡ true → AreOfJob accounts job f calls
   calls_of_job accounts f given all [] under = tt
   calls_of_job accounts f given all (c ∷ calls) under =
       let parts = and_parts (under_process job c.process) (all_under job calls) under in (
         by (running f c.process) refl parts.0,
-        calls_of_job accounts (flat_after accounts f c.process c.call) (given_stays accounts f c.process c.call job given) (in_after accounts f given all c.process c.call) calls parts.1,
+        calls_of_job accounts (flat_after accounts f c.process c.call)
+            (given_stays accounts f c.process c.call job given) (in_after accounts f given all c.process c.call) calls
+            parts.1,
       )
     where
-      by : (o : Option Process) → running f c.process ≡ o → under_process job c.process ≡ true → (running f c.process ≡ None) ⊎ (runs_in f c.process job ≡ true)
+      by : (o : Option Process) → running f c.process ≡ o → under_process job c.process ≡ true
+          → (running f c.process ≡ None) ⊎ (runs_in f c.process job ≡ true)
       by None gone under = inl gone
-      by (Some p) runs under = inr (ap (λ (r : Option Process). is_some_and r (λ x. has x.chain job)) runs ∙ all c.process p (runs_is_there (f.processes c.process) p runs) under)
+      by (Some p) runs under =
+          inr (ap (λ (r : Option Process). is_some_and r (λ x. has x.chain job)) runs
+          ∙ all c.process p (runs_is_there (f.processes c.process) p runs) under)
 
 -- ---- a wrap
 
-module _ (accounts : Accounts) (f : Flat) (tree : IsTree f) (names : NamesAreGiven f) (me : ProcName) (p : Process) (here : f.processes me ≡ Some p) (n : Name) (d : Path) where
+module _ (accounts : Accounts) (f : Flat) (tree : IsTree f) (names : NamesAreGiven f) (me : ProcName) (p : Process)
+    (here : f.processes me ≡ Some p) (n : Name) (d : Path) where
   abbrev job : ProcName
   job = next_child me p
 
@@ -168,21 +188,28 @@ module _ (accounts : Accounts) (f : Flat) (tree : IsTree f) (names : NamesAreGiv
 
   -- what is not the directory is as it was
   elsewhere : (q : Path) → under_path (n ∷ d) q ≡ false → get wrapped.files q ≡ get f.files q
-  elsewhere q apart = get_other f.files (n ∷ d) (record { class = Scratch p.user (inner_chain me p); content = Dir }) q (λ e. true≢false (sym (under_itself same same_path_found (n ∷ d)) ∙ ap (under_path (n ∷ d)) (sym e) ∙ apart))
+  elsewhere q apart =
+      get_other f.files (n ∷ d) (record { class = Scratch p.user (inner_chain me p); content = Dir }) q
+      (λ e. true≢false (sym (under_itself same same_path_found (n ∷ d)) ∙ ap (under_path (n ∷ d)) (sym e) ∙ apart))
 
   -- so nothing but the directory, and what lies below it, lies in a scratch directory of the job
   outside : (q : Path) → under_path (n ∷ d) q ≡ false → lies_in_scratch wrapped job q ≡ false
   outside [] apart = ap (λ (x : Option Node). is_some_and x (λ y. carries job y.class)) (elsewhere [] apart) ∙ no_one [] (get f.files []) refl
   outside (m ∷ q) apart =
       let parts = or_parts (same_path (n ∷ d) (m ∷ q)) (under_path (n ∷ d) q) apart in
-      (λ i. is_some_and (elsewhere (m ∷ q) apart i) (λ y. carries job y.class) || outside q parts.1 i) ∙ ap (λ b. b || false) (no_one (m ∷ q) (get f.files (m ∷ q)) refl)
+      (λ i. is_some_and (elsewhere (m ∷ q) apart i) (λ y. carries job y.class) || outside q parts.1 i)
+      ∙ ap (λ b. b || false) (no_one (m ∷ q) (get f.files (m ∷ q)) refl)
 
   -- the job's first process is there, so its name was given
   first_there : wrapped.processes job ≡ Some first
-  first_there = ap (λ b. cond b (Some first) (cond (same me job) (Some (record p { held = p.held ++ job ∷ []; born = p.born + 1 })) (f.processes job))) (same_itself job)
+  first_there =
+      ap (λ b.
+      cond b (Some first) (cond (same me job) (Some (record p { held = p.held ++ job ∷ []; born = p.born + 1 }))
+      (f.processes job))) (same_itself job)
 
   -- after it, whatever the job's processes call
-  inside_after : NamesAreGiven wrapped → IsTree wrapped → (calls : List CallLine) → all_under job calls ≡ true → (q : Path) → under_path (n ∷ d) q ≡ false → get (flat_end accounts wrapped calls).files q ≡ get f.files q
+  inside_after : NamesAreGiven wrapped → IsTree wrapped → (calls : List CallLine) → all_under job calls ≡ true
+      → (q : Path) → under_path (n ∷ d) q ≡ false → get (flat_end accounts wrapped calls).files q ≡ get f.files q
   inside_after later_names later_tree calls under q apart =
       jobs_stay_inside accounts wrapped later_tree job calls
       (calls_of_job job accounts wrapped (later_names.of_processes job first first_there) in_wrapped calls under) q (outside q apart)
@@ -195,7 +222,9 @@ wrapped_jobs_stay_inside accounts before wrap path job calls is_wrap said under 
     f : Flat
     f = flat_end accounts (boot accounts) before
 
-    by : (x : Path) → wrap.call ≡ Wrap x → reply_to accounts f wrap.process (Wrap x) ≡ Child job → under_path x q ≡ false → get (flat_end accounts (boot accounts) (before ++ wrap ∷ calls)).files q ≡ get f.files q
+    by : (x : Path) → wrap.call ≡ Wrap x → reply_to accounts f wrap.process (Wrap x) ≡ Child job
+        → under_path x q ≡ false
+        → get (flat_end accounts (boot accounts) (before ++ wrap ∷ calls)).files q ≡ get f.files q
     by [] is_call answered outside_it =
         let is = is_answered accounts f wrap.process (Wrap []) (Child job) (λ e. cc) (λ e g. cc) answered in
         let e : Some EEXIST ≡ None = passes_later (no_child wrap.process is.process) (Some EEXIST) is.passes in absurd cc
@@ -205,10 +234,13 @@ wrapped_jobs_stay_inside accounts before wrap path job calls is_wrap said under 
         let after = changed_after accounts f wrap.process (Wrap (n ∷ d)) (Child job) is in
         let name : Child (next_child wrap.process is.process) ≡ Child job = is.answers in
         let job_is : next_child wrap.process is.process ≡ job = cc in
-        let line_after : flat_after accounts f wrap.process wrap.call ≡ changed accounts f wrap.process is.process (Wrap (n ∷ d)) = ap (flat_after accounts f wrap.process) is_call ∙ after in
+        let line_after : flat_after accounts f wrap.process wrap.call
+        ≡ changed accounts f wrap.process is.process (Wrap (n ∷ d)) =
+        ap (flat_after accounts f wrap.process) is_call ∙ after in
         ap (λ (g : Flat). get g.files q) (states_go_on accounts (boot accounts) before (wrap ∷ calls))
         ∙ ap (λ (g : Flat). get (flat_end accounts g calls).files q) line_after
         ∙ inside_after accounts f (paths_are_a_tree accounts before) (names_are_given_once.old accounts before) wrap.process is.process there n d
-        (subst NamesAreGiven after (given_after accounts f wrap.process (Wrap (n ∷ d)) (paths_are_a_tree accounts before) (names_are_given_once.old accounts before)))
+        (subst NamesAreGiven after (given_after accounts f wrap.process (Wrap (n ∷ d)) (paths_are_a_tree accounts before)
+        (names_are_given_once.old accounts before)))
         (subst IsTree after (tree_after f (paths_are_a_tree accounts before) accounts wrap.process (Wrap (n ∷ d))))
         calls (ap (λ (x : ProcName). all_under x calls) job_is ∙ under) q outside_it

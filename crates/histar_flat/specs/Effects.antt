@@ -9,7 +9,8 @@ use Rattle.histar_flat.specs.Accounts.{Accounts}
 use Rattle.histar_flat.specs.Files.{get}
 use Rattle.histar_flat.specs.Classes.{Class, Process, is_free, class_made, class_owner, class_mode}
 use Rattle.histar_flat.specs.Classes.Class.{Open, Scratch}
-use Rattle.histar_flat.specs.FlatState.{Flat, Node, Content, is_dir, bytes_at, entries_in, with_node, with_bytes, without_below, with_renamed, with_process, with_child, without_process}
+use Rattle.histar_flat.specs.FlatState.{Flat, Node, Content, is_dir, bytes_at, entries_in, with_node, with_bytes, without_below, with_renamed}
+use Rattle.histar_flat.specs.FlatState.{with_process, with_child, without_process}
 use Rattle.histar_flat.specs.FlatState.Content.{Dir}
 
 -- the class that is made; where there is none the call was refused

@@ -5,7 +5,8 @@ use Rattle.std.proofs.lemmas.List.{length-take-le}
 use Rattle.histar_flat.specs.Padding.{padded, IsPadded}
 
 -- the array comes back
-pub padded-take : {A : Type 0} (places : ℕ) (fill : A) (items : List A) (len : ℕ) → IsPadded places fill items len → padded places fill (take len items) ≡ items
+pub padded-take : {A : Type 0} (places : ℕ) (fill : A) (items : List A) (len : ℕ) → IsPadded places fill items len
+    → padded places fill (take len items) ≡ items
 padded-take places fill items len h = h.filled
 
 -- the length comes back

@@ -5,7 +5,8 @@ use Rattle.std.specs.Fmt.{decimal}
 use Rattle.histar_flat.specs.declared.calls.Mode.{Mode}
 use Rattle.histar_flat.specs.declared.calls.Mode.TheVariants.{Private, Readable, Open, Group}
 use Rattle.histar_flat.specs.declared.replies.Errno.{Errno}
-use Rattle.histar_flat.specs.declared.replies.Errno.TheVariants.{ENOENT, ENOTDIR, EISDIR, EEXIST, EACCES, EPERM, ENOTEMPTY, EBUSY, ENOSPC, EFBIG, ESRCH, EAGAIN, EAUTH}
+use Rattle.histar_flat.specs.declared.replies.Errno.TheVariants.{ENOENT, ENOTDIR, EISDIR, EEXIST, EACCES, EPERM, ENOTEMPTY, EBUSY, ENOSPC, EFBIG}
+use Rattle.histar_flat.specs.declared.replies.Errno.TheVariants.{ESRCH, EAGAIN, EAUTH}
 use Rattle.histar_flat.specs.declared.replies.FileMode.{FileMode}
 use Rattle.histar_flat.specs.declared.replies.FileMode.TheVariants as file_modes
 use Rattle.histar_flat.specs.declared.replies.Stat.{Stat}

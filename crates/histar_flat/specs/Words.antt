@@ -1,5 +1,6 @@
 -- Names, passwords, paths and processes: what they are, and which bytes are read as one.
-use Rattle.std.specs.Prelude.{◌≡◌, ◌≢◌, ℕ, zero, suc, Bool, false, not, ◌&&◌, ◌||◌, ◌==◌, nat_le, nat_lt, slice_index, List, [], ◌∷◌, length, codes, Option, Some, None, if◌then◌else◌}
+use Rattle.std.specs.Prelude.{◌≡◌, ◌≢◌, ℕ, zero, suc, Bool, false, not, ◌&&◌, ◌||◌, ◌==◌, nat_le, nat_lt, slice_index, List, [], ◌∷◌, length, codes}
+use Rattle.std.specs.Prelude.{Option, Some, None, if◌then◌else◌}
 use Rattle.std.specs.List.{list_all}
 use Rattle.std.specs.Str.{bytes_eq}
 use Rattle.std.specs.Str.Parse.{digits_value}
@@ -115,7 +116,10 @@ unfoldable pub path_from : ℕ → Path → List ℕ → Option Path
 path_from zero directory bs = None
 path_from (suc most) directory bs =
     if is_name (split_at_first slash bs).0 then
-    elim (split_at_first slash bs).1 [ None ↦ Some ((split_at_first slash bs).0 ∷ directory) | Some rest ↦ path_from most ((split_at_first slash bs).0 ∷ directory) rest ]
+    elim (split_at_first slash bs).1 [
+      | None ↦ Some ((split_at_first slash bs).0 ∷ directory)
+      | Some rest ↦ path_from most ((split_at_first slash bs).0 ∷ directory) rest
+    ]
     else None
 
 -- the path that stands after its first slash: nothing is `/`

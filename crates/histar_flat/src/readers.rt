@@ -3,7 +3,11 @@ ghost use Rattle.std.specs.Prelude.{◌≡◌, ◌≤◌, ◌^◌, ◌↔◌, na
 ghost use Rattle.std.specs.List.{list_all};
 ghost use Rattle.std.specs.Option.{option_copied};
 ghost use Rattle.histar_flat.specs.Modes.{group_mode_of, mode_of};
-ghost use Rattle.histar_flat.specs.Words.{most_names, path_from, split_at_first as split, name_of, user_name_of, password_of, path_of, BeginsPlainly, number_of, status_of, most_numbers, process_from, process_of, is_child_number as child_number, is_name_byte as name_byte, is_dots as dots, is_letter as letter, begins_with_letter as letter_first, is_name as name, is_user_name as user_name, is_password_byte as password_byte, is_password as password};
+ghost use Rattle.histar_flat.specs.Words.{most_names, path_from, split_at_first as split, name_of, user_name_of, password_of};
+ghost use Rattle.histar_flat.specs.Words.{path_of, BeginsPlainly, number_of, status_of, most_numbers, process_from, process_of};
+ghost use Rattle.histar_flat.specs.Words.{is_child_number as child_number, is_name_byte as name_byte, is_dots as dots};
+ghost use Rattle.histar_flat.specs.Words.{is_letter as letter, begins_with_letter as letter_first, is_name as name};
+ghost use Rattle.histar_flat.specs.Words.{is_user_name as user_name, is_password_byte as password_byte, is_password as password};
 
 use crate::calls::Mode;
 use crate::names::{Name, Password};

@@ -1,5 +1,6 @@
 -- How the text of a page is read.
-use Rattle.std.specs.Prelude.{ℕ, zero, suc, ◌-◌, Bool, true, false, not, ◌&&◌, ◌||◌, List, [], ◌∷◌, ◌==◌, codes, length, find, Option, None, Some, is_some}
+use Rattle.std.specs.Prelude.{ℕ, zero, suc, ◌-◌, Bool, true, false, not, ◌&&◌, ◌||◌, List, [], ◌∷◌, ◌==◌, codes, length, find, Option, None, Some}
+use Rattle.std.specs.Prelude.{is_some}
 
 -- the text begins with these bytes
 abbrev pub begins_with : List ℕ → List ℕ → Bool

@@ -6,7 +6,8 @@ use Rattle.std.proofs.KnownBytes.{Consumes-trans}
 use Rattle.histar_io.specs.Input.{most_taken, TakesSome}
 
 -- some bytes, and then a piece
-pub takes_piece : (a b c : Option (List ℕ)) (taken piece : List ℕ) → Consumes a b taken → Consumes b c piece → length taken + length piece ≤ most_taken → TakesSome a c
+pub takes_piece : (a b c : Option (List ℕ)) (taken piece : List ℕ) → Consumes a b taken → Consumes b c piece
+    → length taken + length piece ≤ most_taken → TakesSome a c
 takes_piece a b c taken piece before after within = record {
   taken = taken ++ piece;
   consumed = Consumes-trans a b c taken piece before after;

@@ -1,5 +1,6 @@
 -- Writing a text piece by piece.
-use Rattle.std.proofs.Common.{◌≡◌, ℕ, ◌-◌, List, [], ◌++◌, length, take, drop, Option, refl, sym, ap, subst, ◌∙◌, append_assoc, append-nil, take-append-drop}
+use Rattle.std.proofs.Common.{◌≡◌, ℕ, ◌-◌, List, [], ◌++◌, length, take, drop, Option, refl, sym, ap, subst, ◌∙◌, append_assoc, append-nil}
+use Rattle.std.proofs.Common.{take-append-drop}
 use Rattle.std.proofs.lemmas.List.{take_rest, nil_from_length}
 use Rattle.std.specs.Io.KnownBytes.{Appends, Keeps}
 use Rattle.std.proofs.KnownBytes.{Appends-nil, Appends-trans, Appends-kept}
@@ -10,10 +11,14 @@ pub sent_none : (a : Option (List ℕ)) (text : List ℕ) → AppendsUpTo a a te
 sent_none a text = record { front = []; parts = refl; appended = Appends-nil a }
 
 -- a write takes n more bytes from the front of what is left
-pub sent_more : (a b c : Option (List ℕ)) (text rest : List ℕ) (n : ℕ) → AppendsUpTo a b text rest → Appends b c (take n rest) → AppendsUpTo a c text (take (length rest - n) (drop n rest))
+pub sent_more : (a b c : Option (List ℕ)) (text rest : List ℕ) (n : ℕ) → AppendsUpTo a b text rest
+    → Appends b c (take n rest) → AppendsUpTo a c text (take (length rest - n) (drop n rest))
 sent_more a b c text rest n sent more = record {
   front = sent.front ++ take n rest;
-  parts = sent.parts ∙ ap (λ (l : List ℕ). sent.front ++ l) (sym (take-append-drop n rest)) ∙ sym (append_assoc sent.front (take n rest) (drop n rest)) ∙ ap (λ (l : List ℕ). (sent.front ++ take n rest) ++ l) (sym (take_rest rest n));
+  parts =
+      sent.parts ∙ ap (λ (l : List ℕ). sent.front ++ l) (sym (take-append-drop n rest))
+      ∙ sym (append_assoc sent.front (take n rest) (drop n rest))
+      ∙ ap (λ (l : List ℕ). (sent.front ++ take n rest) ++ l) (sym (take_rest rest n));
   appended = Appends-trans a b c sent.front (take n rest) sent.appended more;
 }
 

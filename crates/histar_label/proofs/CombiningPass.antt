@@ -1,5 +1,6 @@
 -- One pass over the exceptions of two labels meets each category that one of them lists, and lists those of their combination.
-use Rattle.std.proofs.Common.{◌≡◌, ◌≢◌, ℕ, ◌+◌, ◌<◌, ◌≤◌, [], ◌∷◌, ◌++◌, length, Option, None, Some, unwrap_or, min, eqb, true, false, refl, sym, ap, ◌∙◌, subst, arith}
+use Rattle.std.proofs.Common.{◌≡◌, ◌≢◌, ℕ, ◌+◌, ◌<◌, ◌≤◌, [], ◌∷◌, ◌++◌, length, Option, None, Some, unwrap_or, min, eqb, true, false, refl, sym, ap}
+use Rattle.std.proofs.Common.{◌∙◌, subst, arith}
 use Rattle.std.specs.List.{insert}
 use Rattle.std.proofs.lemmas.Bool.Decides.{nat_tests}
 use Rattle.std.proofs.lemmas.List.Elements.{All-nil}
@@ -75,7 +76,8 @@ module _ (es : Exceptions) (c : ℕ) (gap : HasGap es c (length es)) where
     push_at_most = subst (IsAtMost c) (insert_end es (c, l)) (λ j lt.
         let new = insert es (length es) (c, l) in
         let longer = length-insert es (length es) (c, l) (omega arith) in
-        let below : j < length es → category_at new j ≡ category_at es j = λ lt. ap (λ (e : ℕ × Level). e.0) (get_or-insert_below es (length es) (c, l) (0, Star) j lt (omega arith)) in
+        let below : j < length es → category_at new j ≡ category_at es j =
+        λ lt. ap (λ (e : ℕ × Level). e.0) (get_or-insert_below es (length es) (c, l) (0, Star) j lt (omega arith)) in
         let here : category_at new (length es) ≡ c = ap (λ (e : ℕ × Level). e.0) (get_or-insert_at es (length es) (c, l) (0, Star) (omega arith)) in
         grind (arith, below, here, gap_at_most j, λ (is : j ≡ length es). ap (category_at new) is))
 
@@ -98,7 +100,8 @@ pub record IsCombined (by : Combination) (F S : Levels) (d : Level) (P A B : Exc
 
 module _ (by : Combination) (F S : Levels) (d : Level) where
   -- before the pass everything is left
-  pub combined_at_first : (A B : Exceptions) → d ≡ combine by (default_of F) (default_of S) → IsRising A → IsRising B → A ≡ exceptions_of F → B ≡ exceptions_of S → IsCombined by F S d [] A B
+  pub combined_at_first : (A B : Exceptions) → d ≡ combine by (default_of F) (default_of S) → IsRising A → IsRising B
+      → A ≡ exceptions_of F → B ≡ exceptions_of S → IsCombined by F S d [] A B
   combined_at_first A B default_is a b f s = record {
     default_is = default_is;
     canonical = record { rising = λ i j lt in_range. absurd (omega arith); differ = All-nil (λ (e : ℕ × Level). e.1 ≢ d) };
@@ -126,10 +129,15 @@ module _ (by : Combination) (F S : Levels) (d : Level) where
       front_is =
           let under = front_under A B c low in
           let none = find_in_gap P c (length P) (so_far.gap c low) in
-          rw (sym (level_at_front (default_of F) A so_far.first_rises c under.0), sym (level_at_front (default_of S) B so_far.second_rises c under.1)) (rw none at (so_far.whole c))
+          rw (
+            sym (level_at_front (default_of F) A so_far.first_rises c under.0),
+            sym
+                (level_at_front (default_of S) B so_far.second_rises c under.1),
+          ) (rw none at (so_far.whole c))
 
       -- where the exceptions have the front's level at the category, and else are as they were, what is left after the front is as good
-      step : (new : Exceptions) (found : Option Level) → IsCanonical d new → IsAtMost c new → FindsAfter P new c found → unwrap_or found d ≡ front → IsCombined by F S d new (after A c) (after B c)
+      step : (new : Exceptions) (found : Option Level) → IsCanonical d new → IsAtMost c new → FindsAfter P new c found
+          → unwrap_or found d ≡ front → IsCombined by F S d new (after A c) (after B c)
       step new found canonical most finds is = record {
         default_is = so_far.default_is;
         canonical = canonical;
@@ -148,7 +156,13 @@ module _ (by : Combination) (F S : Levels) (d : Level) where
               let under = front_under A B c low in
               let tested : eqb c c ≡ true = grind (arith, nat_tests) in
               let at_c = rw tested at (finds c) in
-              rw (at_c, level_gone (default_of F) A so_far.first_rises c under.0, level_gone (default_of S) B so_far.second_rises c under.1, sym so_far.default_is) (is ∙ front_is)
+              rw (
+                at_c,
+                level_gone (default_of F) A so_far.first_rises c under.0,
+                level_gone (default_of S) B
+                    so_far.second_rises c under.1,
+                sym so_far.default_is,
+              ) (is ∙ front_is)
 
           -- and each other one
           there : (q : ℕ) → eqb q c ≡ false → GivesCombined by F S new (after A c) (after B c) q

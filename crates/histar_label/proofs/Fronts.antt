@@ -1,6 +1,7 @@
 -- One pass over the exceptions of three labels meets each category that one of them lists. A pass over two is one over three of which
 -- the last two are the same.
-use Rattle.std.proofs.Common.{◌≡◌, ◌≢◌, ℕ, suc, ◌≤◌, [], ◌∷◌, max, min, is_some, eq-eqb, subst, Option, Some, None, unwrap_or, eqb, true, false, refl, sym, ap, ◌∙◌, arith}
+use Rattle.std.proofs.Common.{◌≡◌, ◌≢◌, ℕ, suc, ◌≤◌, [], ◌∷◌, max, min, is_some, eq-eqb, subst, Option, Some, None, unwrap_or, eqb, true, false, refl}
+use Rattle.std.proofs.Common.{sym, ap, ◌∙◌, arith}
 use Rattle.std.specs.Ordering.{nat_cmp}
 use mathlib.Core.Bool.{false≢true}
 use Rattle.std.specs.FinMap.{find}
@@ -29,7 +30,9 @@ looked d es q = unwrap_or (find nat_cmp q es) d
 
 -- in a list that rises the rest has none of the first categories
 none_later : (e : ℕ × Level) (es : Exceptions) → IsRising (e ∷ es) → (c : ℕ) → c ≤ e.0 → find nat_cmp c es ≡ None
-none_later e es rising c under = find_absent es c (λ j lt same. let rises = rising 0 (suc j) (omega arith) (omega arith) in absurd (omega (arith, rises, under, same)))
+none_later e es rising c under =
+    find_absent es c (λ j lt same.
+    let rises = rising 0 (suc j) (omega arith) (omega arith) in absurd (omega (arith, rises, under, same)))
 
 -- the level at the front is the one that the list gives
 pub level_at_front : (d : Level) (es : Exceptions) → IsRising es → (c : ℕ) → IsUnder c es → looked d es c ≡ level_at es c d
@@ -151,7 +154,8 @@ module _ (test : Test) (L F S : Levels) where
       rw (sym (level_of-beyond L far (omega arith)), sym (level_of-beyond F far (omega arith)), sym (level_of-beyond S far (omega arith))) (all far)
 
   -- before the pass everything is left
-  pub left_at_first : (A B C : Exceptions) → IsRising A → IsRising B → IsRising C → A ≡ exceptions_of L → B ≡ exceptions_of F → C ≡ exceptions_of S → IsLeft test L F S A B C
+  pub left_at_first : (A B C : Exceptions) → IsRising A → IsRising B → IsRising C → A ≡ exceptions_of L
+      → B ≡ exceptions_of F → C ≡ exceptions_of S → IsLeft test L F S A B C
   left_at_first A B C a b c l f s = record {
     first_rises = a;
     second_rises = b;
@@ -181,17 +185,33 @@ module _ (test : Test) (L F S : Levels) where
       front_is : FitsAt test L F S A B C c ≡ FrontFits test L F S A B C c
       front_is =
           let under = lowest_under A B C c low in
-          rw (level_at_front (default_of L) A left.first_rises c under.0, level_at_front (default_of F) B left.second_rises c under.1, level_at_front (default_of S) C left.third_rises c under.2) refl
+          rw (
+            level_at_front (default_of L) A left.first_rises c under.0,
+            level_at_front (default_of F) B
+                left.second_rises c under.1,
+            level_at_front (default_of S) C left.third_rises c under.2,
+          ) refl
 
       -- after the front the category has the defaults
       gone_is : FitsAt test L F S (after A c) (after B c) (after C c) c ≡ DefaultsFit test L F S
       gone_is =
           let under = lowest_under A B C c low in
-          rw (level_gone (default_of L) A left.first_rises c under.0, level_gone (default_of F) B left.second_rises c under.1, level_gone (default_of S) C left.third_rises c under.2) refl
+          rw (
+            level_gone (default_of L) A left.first_rises c under.0,
+            level_gone (default_of F) B left.second_rises c
+                under.1,
+            level_gone (default_of S) C left.third_rises c under.2,
+          ) refl
 
       -- another category has the levels that it had
       other_is : (q : ℕ) → c ≢ q → FitsAt test L F S (after A c) (after B c) (after C c) q ≡ FitsAt test L F S A B C q
-      other_is q other = rw (level_after (default_of L) A c q other, level_after (default_of F) B c q other, level_after (default_of S) C c q other) refl
+      other_is q other =
+          rw (
+            level_after (default_of L) A c q other,
+            level_after (default_of F) B c q other,
+            level_after
+                (default_of S) C c q other,
+          ) refl
 
       -- where the labels fit everywhere, the levels at the front do
       pub front_fits : ((q : ℕ) → Fits L F S test q) → FrontFits test L F S A B C c
@@ -203,8 +223,13 @@ module _ (test : Test) (L F S : Levels) where
         first_rises = rising_after A c left.first_rises;
         second_rises = rising_after B c left.second_rises;
         third_rises = rising_after C c left.third_rises;
-        whole = λ all. left.whole (λ q. at_each q (FitsAt test L F S A B C) (subst (λ T. T) (sym front_is) fits) (λ other. subst (λ T. T) (other_is q other) (all q)));
-        part = λ all q. at_each q (FitsAt test L F S (after A c) (after B c) (after C c)) (subst (λ T. T) (sym gone_is) default_fits) (λ other. subst (λ T. T) (sym (other_is q other)) (left.part all q));
+        whole =
+            λ all. left.whole (λ q. at_each q (FitsAt test L F S A B C) (subst (λ T. T) (sym front_is) fits)
+            (λ other. subst (λ T. T) (other_is q other) (all q)));
+        part =
+            λ all q. at_each q (FitsAt test L F S (after A c) (after B c) (after C c))
+            (subst (λ T. T) (sym gone_is) default_fits)
+            (λ other. subst (λ T. T) (sym (other_is q other)) (left.part all q));
       }
         where
           -- what holds at the category and at each other holds at each

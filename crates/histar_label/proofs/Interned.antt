@@ -1,5 +1,6 @@
 -- A store that interns labels has one Id for each, and right answers stay right when a label is added.
-use Rattle.std.proofs.Common.{◌≡◌, ℕ, zero, suc, ◌+◌, ◌<◌, Bool, true, false, List, [], ◌∷◌, ◌++◌, length, Some, unwrap_or, if◌then◌else◌, ◌||◌, refl, sym, ap, ◌∙◌, arith, length-append}
+use Rattle.std.proofs.Common.{◌≡◌, ℕ, zero, suc, ◌+◌, ◌<◌, Bool, true, false, List, [], ◌∷◌, ◌++◌, length, Some, unwrap_or, if◌then◌else◌, ◌||◌, refl}
+use Rattle.std.proofs.Common.{sym, ap, ◌∙◌, arith, length-append}
 use mathlib.Core.Bool.{false≢true}
 use Rattle.std.specs.List.{slice_get, list_any, IsDistinct, AllByRecursion}
 use Rattle.std.proofs.lemmas.Option.{slice_get-get_or}
@@ -45,7 +46,11 @@ module _ (eq : Levels → Levels → Bool) (ks : List Levels) (L : Levels) where
   IsRight-insert_key c answer right = record {
     lower_stands = omega (arith, right.lower_stands, longer);
     upper_stands = omega (arith, right.upper_stands, longer);
-    right = right.right ∙ sym (λ i. is_within (same_label_at c.lower right.lower_stands i) (same_label_at c.upper right.upper_stands i) (same_label_at c.upper right.upper_stands i) (BelowJoin c.reading));
+    right =
+        right.right
+        ∙ sym (λ i.
+        is_within (same_label_at c.lower right.lower_stands i) (same_label_at c.upper right.upper_stands i)
+        (same_label_at c.upper right.upper_stands i) (BelowJoin c.reading));
   }
 
 module _ (eq : Levels → Levels → Bool) (own : (L : Levels) → eq L L ≡ true) where
@@ -58,7 +63,8 @@ module _ (eq : Levels → Levels → Bool) (own : (L : Levels) → eq L L ≡ tr
   not_among (k ∷ ks) L (suc i) apart is = not_among ks L i apart.1 is
 
   -- the first of a list of labels apart is at no later place
-  only_first : (k : Levels) (ks : List Levels) → AllByRecursion (λ M. eq k M ≡ false) ks → (L : Levels) (i : ℕ) → Some k ≡ Some L → slice_get ks i ≡ Some L → ⊥
+  only_first : (k : Levels) (ks : List Levels) → AllByRecursion (λ M. eq k M ≡ false) ks → (L : Levels) (i : ℕ)
+      → Some k ≡ Some L → slice_get ks i ≡ Some L → ⊥
   only_first k ks apart L i first later = not_among ks k i apart (later ∙ sym first)
 
   -- where no two labels are equal, none has two Ids

@@ -97,14 +97,17 @@ pub floor_least : (L M : Levels) → IsFloor L M (floor_of L M)
 floor_least L M =
     let F = floor_of L M in
     let at = grades-floor_of L M in
-    let raised_at : (c : ℕ) → raised (level_of F c) ≡ max (raised (level_of L c)) (raised (level_of M c)) = λ c. raised_greater (level_of L c) (level_of M c) (level_of F c) (at c) in
+    let raised_at : (c : ℕ) → raised (level_of F c) ≡ max (raised (level_of L c)) (raised (level_of M c)) =
+    λ c. raised_greater (level_of L c) (level_of M c) (level_of F c) (at c) in
     record {
       itself = record {
         owns = λ c star. elim star [
           | inl first ↦ owns_first (level_of L c) (level_of M c) (level_of F c) (at c) first
           | inr second ↦ owns_second (level_of L c) (level_of M c) (level_of F c) (at c) second
         ];
-        bounds = λ c first second. let is = greater (level_of L c) (level_of M c) (level_of F c) (at c) first second in (omega (arith, is), omega (arith, is));
+        bounds =
+            λ c first second. let is = greater (level_of L c) (level_of M c) (level_of F c) (at c) first second in
+            (omega (arith, is), omega (arith, is));
       };
       least = λ N has. (is_below-law F N).1 (λ c. floor_below (level_of L c) (level_of M c) (level_of F c) (at c) (level_of N c) (has.bounds c));
       raised_above_first = λ c. omega (arith, raised_at c);

@@ -1,5 +1,6 @@
 -- What a label lists: in rising order each category that has another level than the default.
-use Rattle.std.proofs.Common.{◌≡◌, ◌≢◌, ℕ, zero, suc, ◌<◌, [], ◌∷◌, length, get_or, Bool, true, false, ◌&&◌, if◌then◌else◌, Contains, Option, Some, None, unwrap_or, refl, sym, ap, ◌∙◌, arith}
+use Rattle.std.proofs.Common.{◌≡◌, ◌≢◌, ℕ, zero, suc, ◌<◌, [], ◌∷◌, length, get_or, Bool, true, false, ◌&&◌, if◌then◌else◌, Contains, Option, Some}
+use Rattle.std.proofs.Common.{None, unwrap_or, refl, sym, ap, ◌∙◌, arith}
 use Rattle.std.specs.Prelude.{T}
 use Rattle.std.specs.Ordering.{nat_cmp, eq_by_cmp, is_lt}
 use Rattle.std.specs.FinMap.{find, is_sorted, entries, entries_sorted, get-entries}
@@ -8,7 +9,8 @@ use Rattle.std.proofs.lemmas.List.{get_or_default}
 use Rattle.std.proofs.lemmas.Bool.Decides.{nat_tests}
 use Rattle.histar_label.specs.declared.levels.Level.{Level}
 use Rattle.histar_label.specs.declared.levels.Level.TheVariants.{Star}
-use Rattle.histar_label.specs.Levels.{Levels, level_of, default_of, exceptions_of, beyond, level_of-exceptions, level_of-beyond, IsDefault, ListsExceptions}
+use Rattle.histar_label.specs.Levels.{Levels, level_of, default_of, exceptions_of, beyond, level_of-exceptions, level_of-beyond, IsDefault}
+use Rattle.histar_label.specs.Levels.{ListsExceptions}
 use Rattle.histar_label.specs.Exceptions.{Exceptions, category_at, IsRising, HasPlace}
 use Rattle.histar_label.proofs.Places.{find_at}
 
@@ -37,8 +39,11 @@ less_at x (e ∷ es) below (suc j) lt = less_at x es (second (is_lt (nat_cmp x e
 rising_from_sorted : (es : Exceptions) → T (is_sorted nat_cmp es) → IsRising es
 rising_from_sorted [] sorted i j lt in_range = absurd (omega arith)
 rising_from_sorted (e ∷ es) sorted i zero lt in_range = absurd (omega arith)
-rising_from_sorted (e ∷ es) sorted zero (suc j) lt in_range = less_at e.0 es (first (below_all nat_cmp e.0 es) (is_sorted nat_cmp es) sorted) j (omega arith)
-rising_from_sorted (e ∷ es) sorted (suc i) (suc j) lt in_range = rising_from_sorted es (second (below_all nat_cmp e.0 es) (is_sorted nat_cmp es) sorted) i j (omega arith) (omega arith)
+rising_from_sorted (e ∷ es) sorted zero (suc j) lt in_range =
+    less_at e.0 es (first (below_all nat_cmp e.0 es) (is_sorted nat_cmp es) sorted) j (omega arith)
+rising_from_sorted (e ∷ es) sorted (suc i) (suc j) lt in_range =
+    rising_from_sorted es (second (below_all nat_cmp e.0 es) (is_sorted nat_cmp es) sorted) i j (omega arith)
+    (omega arith)
 
 -- the exceptions of a label stand in rising order
 pub IsRising-exceptions_of : (L : Levels) → IsRising (exceptions_of L)
@@ -54,7 +59,8 @@ exception_differs L c found = L.differ c (get-entries L.others c ∙ found)
 found_there : (es : Exceptions) (c : ℕ) (l : Level) → find nat_cmp c es ≡ Some l → Contains es (c, l)
 found_there [] c l found = cc
 found_there (e ∷ es) c l found =
-    elim (eq_by_cmp nat_cmp c e.0) as (λ b. eq_by_cmp nat_cmp c e.0 ≡ b → (if b then Some e.1 else find nat_cmp c es) ≡ Some l → Contains (e ∷ es) (c, l)) [
+    elim (eq_by_cmp nat_cmp c e.0) as (λ b.
+    eq_by_cmp nat_cmp c e.0 ≡ b → (if b then Some e.1 else find nat_cmp c es) ≡ Some l → Contains (e ∷ es) (c, l)) [
       | true ↦ λ tested is.
           let category : e.0 ≡ c = grind (arith, nat_tests) in
           let level : e.1 ≡ l = ap (λ o. unwrap_or o l) is in
@@ -70,9 +76,11 @@ found_if_there es rising c l there =
     find_at es rising c there.0 place ∙ ap (λ e. Some e.1) at
 
 -- where a level is found that is not the default, it is the category's
-level_where_found : (L : Levels) (c : ℕ) (l : Level) (found : Option Level) → find nat_cmp c (exceptions_of L) ≡ found → level_of L c ≡ l → l ≢ default_of L → find nat_cmp c (exceptions_of L) ≡ Some l
+level_where_found : (L : Levels) (c : ℕ) (l : Level) (found : Option Level) → find nat_cmp c (exceptions_of L) ≡ found
+    → level_of L c ≡ l → l ≢ default_of L → find nat_cmp c (exceptions_of L) ≡ Some l
 level_where_found L c l None none level differs = absurd (differs (sym level ∙ level_of-exceptions L c ∙ ap (λ o. unwrap_or o (default_of L)) none))
-level_where_found L c l (Some m) some level differs = some ∙ ap Some (sym (ap (λ o. unwrap_or o (default_of L)) some) ∙ sym (level_of-exceptions L c) ∙ level)
+level_where_found L c l (Some m) some level differs =
+    some ∙ ap Some (sym (ap (λ o. unwrap_or o (default_of L)) some) ∙ sym (level_of-exceptions L c) ∙ level)
 
 -- a label lists each category that has another level than the default, and nothing else
 pub ListsExceptions-exceptions_of : (L : Levels) → ListsExceptions L (exceptions_of L)

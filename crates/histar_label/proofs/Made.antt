@@ -5,7 +5,8 @@ use Rattle.std.proofs.lemmas.List.Elements.{All-contains, Contains-get_or}
 use Rattle.std.proofs.lemmas.List.Sums.{AllPass-from_list_all, list_all-from_AllPass}
 use Rattle.std.proofs.lemmas.Bool.Decides.{nat_tests}
 use Rattle.histar_label.specs.declared.levels.Level.{Level}
-use Rattle.histar_label.specs.Levels.{Levels, level_of, exceptions_of, constant, with_level, level_of-constant, level_of-with_level, default_of-constant, default_of-with_level, NamesOnlyMade, is_made}
+use Rattle.histar_label.specs.Levels.{Levels, level_of, exceptions_of, constant, with_level, level_of-constant, level_of-with_level}
+use Rattle.histar_label.specs.Levels.{default_of-constant, default_of-with_level, NamesOnlyMade, is_made}
 use Rattle.histar_label.proofs.Listed.{ListsExceptions-exceptions_of}
 
 -- whether a category is made
@@ -31,7 +32,9 @@ unfolding is_made
 is_made-law next L = (
   λ all c differs.
       let there = (ListsExceptions-exceptions_of L c (level_of L c)).1 (refl, differs) in
-      let passed = All-contains (λ e. made next e.0 ≡ true) (exceptions_of L) (c, level_of L c) (AllPass-from_list_all (λ e. made next e.0) (exceptions_of L) all) there in
+      let passed =
+      All-contains (λ e. made next e.0 ≡ true) (exceptions_of L) (c, level_of L c)
+      (AllPass-from_list_all (λ e. made next e.0) (exceptions_of L) all) there in
       in_range next c (nat_lt 0 c) (nat_lt c next) refl refl passed,
   λ named. list_all-from_AllPass (λ e. made next e.0) (exceptions_of L) (λ k d lt.
       let e = get_or (exceptions_of L) k d in
@@ -49,7 +52,8 @@ is_made-constant next l = (is_made-law next (constant l)).1 (λ c differs. absur
 
 -- what is made stays so as more categories are made
 pub is_made-later : (next later : ℕ) (L : Levels) → next ≤ later → is_made next L ≡ true → is_made later L ≡ true
-is_made-later next later L le made = (is_made-law later L).1 (λ c differs. let is = (is_made-law next L).0 made c differs in (is.0, omega (arith, is.1)))
+is_made-later next later L le made =
+    (is_made-law later L).1 (λ c differs. let is = (is_made-law next L).0 made c differs in (is.0, omega (arith, is.1)))
 
 -- the levels of a label at other categories than the changed one, by the test of the category
 kept_level : (b : Bool) (l m n : Level) → m ≡ (if b then l else n) → b ≡ false → m ≡ n
@@ -57,11 +61,13 @@ kept_level true l m n is other = cc
 kept_level false l m n is other = is
 
 -- a new level at a category that is made names only categories that are made
-pub is_made-with_level : (next : ℕ) (L : Levels) (c : ℕ) (l : Level) → 0 < c → c < next → is_made next L ≡ true → is_made next (with_level L c l) ≡ true
+pub is_made-with_level : (next : ℕ) (L : Levels) (c : ℕ) (l : Level) → 0 < c → c < next → is_made next L ≡ true
+    → is_made next (with_level L c l) ≡ true
 is_made-with_level next L c l low high made =
     (is_made-law next (with_level L c l)).1 (λ q differs.
     elim (q == c) as (λ b. (q == c) ≡ b → (0 < q) × (q < next)) [
       | true ↦ λ same. let is : q ≡ c = grind (arith, nat_tests) in (omega arith, omega arith)
       | false ↦ λ other. (is_made-law next L).0 made q (λ is.
-          differs (kept_level (q == c) l (level_of (with_level L c l) q) (level_of L q) (level_of-with_level L c l q) other ∙ is ∙ sym (default_of-with_level L c l)))
+          differs (kept_level (q == c) l (level_of (with_level L c l) q) (level_of L q) (level_of-with_level L c l q) other
+          ∙ is ∙ sym (default_of-with_level L c l)))
     ] refl)

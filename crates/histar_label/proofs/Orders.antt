@@ -6,7 +6,8 @@ use Rattle.histar_label.specs.declared.levels.Level.TheVariants.{Star, L0, L1, L
 use Rattle.histar_label.specs.declared.levels.Raising.TheVariants.{Plain, Raised}
 use Rattle.histar_label.specs.declared.levels.Test.TheVariants.{BelowJoin, FloorBelow}
 use Rattle.histar_label.specs.Level.{rank, raised, same_level}
-use Rattle.histar_label.specs.Levels.{Levels, level_of, grades, raised_grades, joined, floor_grades, IsBelow, is_within, same_levels, is_below, is_below_raised, is_below_join, is_below_join_raised}
+use Rattle.histar_label.specs.Levels.{Levels, level_of, grades, raised_grades, joined, floor_grades, IsBelow, is_within, same_levels, is_below}
+use Rattle.histar_label.specs.Levels.{is_below_raised, is_below_join, is_below_join_raised}
 use Rattle.histar_label.specs.Floors.{join_of, floor_of}
 use Rattle.histar_label.specs.Same.{is_same, same_label, own_label}
 use Rattle.histar_label.specs.Laws.{IsSameFunction, ComparesFunctions, IsListed, TestsArePointwise, IsPartialOrder, IsLeastUpperBound}
@@ -95,7 +96,9 @@ pub below_order : IsPartialOrder is_below
 below_order = record {
   reflexive = is_below-refl;
   transitive = is_below-trans;
-  antisymmetric = λ L M there back c. same_level (level_of L c) (level_of M c) (omega (arith, (is_below-law L M).0 there c, (is_below-law M L).0 back c));
+  antisymmetric =
+      λ L M there back c. same_level (level_of L c) (level_of M c)
+      (omega (arith, (is_below-law L M).0 there c, (is_below-law M L).0 back c));
 }
 
 -- the join is the least upper bound
@@ -103,5 +106,7 @@ pub join_least : (L M : Levels) → IsLeastUpperBound L M (join_of L M)
 join_least L M = record {
   above_first = (is_below-law L (join_of L M)).1 (λ c. omega (arith, grades-join_of L M c));
   above_second = (is_below-law M (join_of L M)).1 (λ c. omega (arith, grades-join_of L M c));
-  least = λ N first second. (is_below-law (join_of L M) N).1 (λ c. omega (arith, grades-join_of L M c, (is_below-law L N).0 first c, (is_below-law M N).0 second c));
+  least =
+      λ N first second. (is_below-law (join_of L M) N).1
+      (λ c. omega (arith, grades-join_of L M c, (is_below-law L N).0 first c, (is_below-law M N).0 second c));
 }

@@ -1,5 +1,6 @@
 -- What a look-up and a put do to the answers that are remembered.
-use Rattle.std.proofs.Common.{◌≡◌, Bool, true, List, Contains, ◌⊎◌, inl, inr, Option, Some, None, Result, Ok, Err, OnOk, OnErr, IfSome, ◌&&◌, rules, sym, subst, arith}
+use Rattle.std.proofs.Common.{◌≡◌, Bool, true, List, Contains, ◌⊎◌, inl, inr, Option, Some, None, Result, Ok, Err, OnOk, OnErr, IfSome, ◌&&◌, rules}
+use Rattle.std.proofs.Common.{sym, subst, arith}
 use Rattle.std.specs.Prelude.{◌==◌}
 use denote.Enum.Bare.{sameb, same_true}
 use Rattle.std.proofs.lemmas.Bool.Decides.{nat_tests}
@@ -25,7 +26,8 @@ same_comparison c d h =
     sym (λ i. record { reading = reading i; lower = lower i; upper = upper i })
 
 -- an answer that is remembered after a put was so before, or is the one that was put
-answer_put : (c : LruCache Comparison Bool) (q : Comparison) (b : Bool) (e : Comparison × Bool) → Contains (put_entries is_same_comparison c q b) e → Contains c.entries e ⊎ (e ≡ (q, b))
+answer_put : (c : LruCache Comparison Bool) (q : Comparison) (b : Bool) (e : Comparison × Bool)
+    → Contains (put_entries is_same_comparison c q b) e → Contains c.entries e ⊎ (e ≡ (q, b))
 answer_put c q b e there = elim (Contains-put_entries is_same_comparison c q b e there) [
   | inl was ↦ inl was
   | inr put ↦ elim put.1 [
@@ -35,7 +37,9 @@ answer_put c q b e there = elim (Contains-put_entries is_same_comparison c q b e
 ]
 
 -- so it is whether or not the put found memory
-pub put_or_not : {X Y : Type 0} (r : Result X Y) (old new : LruCache Comparison Bool) (q : Comparison) (b : Bool) → OnOk r (new ≡ lru_cache (put_entries is_same_comparison old q b) old.cap) → OnErr r (new ≡ old) → (e : Comparison × Bool) → Contains new.entries e → Contains old.entries e ⊎ (e ≡ (q, b))
+pub put_or_not : {X Y : Type 0} (r : Result X Y) (old new : LruCache Comparison Bool) (q : Comparison) (b : Bool)
+    → OnOk r (new ≡ lru_cache (put_entries is_same_comparison old q b) old.cap) → OnErr r (new ≡ old)
+    → (e : Comparison × Bool) → Contains new.entries e → Contains old.entries e ⊎ (e ≡ (q, b))
 put_or_not (Ok x) old new q b ok err e there = answer_put old q b e (subst (λ (c : LruCache Comparison Bool). Contains c.entries e) ok there)
 put_or_not (Err y) old new q b ok err e there = inl (subst (λ (c : LruCache Comparison Bool). Contains c.entries e) err there)
 
@@ -46,6 +50,7 @@ found_answer es q b found =
     subst (λ r. Contains es (r, b)) (same_comparison q there.0 there.2) there.1
 
 -- so it is where the look-up finds one
-pub found_if : (es : List (Comparison × Bool)) (q : Comparison) (o : Option Bool) → o ≡ lookup (is_same_comparison q) es → IfSome o (λ b. Contains es (q, b))
+pub found_if : (es : List (Comparison × Bool)) (q : Comparison) (o : Option Bool) → o ≡ lookup (is_same_comparison q) es
+    → IfSome o (λ b. Contains es (q, b))
 found_if es q None is = tt
 found_if es q (Some b) is = found_answer es q b (sym is)

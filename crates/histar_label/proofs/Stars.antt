@@ -26,7 +26,8 @@ star_there L true star h = star_of_default L star
 star_there L false star h = star_of_exception L h
 
 -- a category with star makes the test pass: its level is the default, or an exception
-star_passes : (L : Levels) (c : ℕ) → level_of L c ≡ Star → (d : Bool) → is_star (default_of L) ≡ d → (d || list_any (λ e. is_star e.1) (exceptions_of L)) ≡ true
+star_passes : (L : Levels) (c : ℕ) → level_of L c ≡ Star → (d : Bool) → is_star (default_of L) ≡ d
+    → (d || list_any (λ e. is_star e.1) (exceptions_of L)) ≡ true
 star_passes L c star true default = refl
 star_passes L c star false default =
     let there = (ListsExceptions-exceptions_of L c Star).1 (star, λ is. false≢true (sym default ∙ is_star_from_star (default_of L) (sym is))) in

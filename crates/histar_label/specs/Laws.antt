@@ -2,7 +2,9 @@
 use Rattle.std.specs.Prelude.{◌≡◌, ◌≢◌, ◌↔◌, ◌⊎◌, ℕ, ◌≤◌, Bool, IsTrue}
 use Rattle.histar_label.specs.declared.levels.Level.TheVariants.{Star}
 use Rattle.histar_label.specs.Level.{rank}
-use Rattle.histar_label.specs.Levels.{Levels, level_of, default_of, exceptions_of, grades, raised_grades, joined, floor_grades, IsBelow, IsSame, IsDefault, ListsExceptions, HasStar, NamesOnlyMade, is_below, is_below_raised, is_below_join, is_below_join_raised, has_star, is_made}
+use Rattle.histar_label.specs.Levels.{Levels, level_of, default_of, exceptions_of, grades, raised_grades, joined, floor_grades, IsBelow, IsSame}
+use Rattle.histar_label.specs.Levels.{IsDefault, ListsExceptions, HasStar, NamesOnlyMade, is_below, is_below_raised, is_below_join}
+use Rattle.histar_label.specs.Levels.{is_below_join_raised, has_star, is_made}
 use Rattle.histar_label.specs.Floors.{join_of, floor_of}
 use Rattle.histar_label.specs.Exceptions.{IsRising}
 
@@ -47,7 +49,8 @@ pub record IsLeastUpperBound (L M J : Levels) : Type 0 where
 -- N has star where either label has star, and elsewhere is at least as high as both
 pub record OwnsAndBounds (L M N : Levels) : Type 0 where
   pub owns : (c : ℕ) → (level_of L c ≡ Star) ⊎ (level_of M c ≡ Star) → level_of N c ≡ Star
-  pub bounds : (c : ℕ) → level_of L c ≢ Star → level_of M c ≢ Star → (rank (level_of L c) ≤ rank (level_of N c)) × (rank (level_of M c) ≤ rank (level_of N c))
+  pub bounds : (c : ℕ) → level_of L c ≢ Star → level_of M c ≢ Star
+      → (rank (level_of L c) ≤ rank (level_of N c)) × (rank (level_of M c) ≤ rank (level_of N c))
 
 -- L is above M at no category, in the order where star is the highest level
 abbrev pub IsRaisedBelow : Levels → Levels → Type 0

@@ -1,5 +1,6 @@
 -- Bytes that are checked: what a beginning of the entries tells.
-use Rattle.std.proofs.Common.{◌≡◌, ℕ, ◌+◌, ◌<◌, true, IsTrue, refl, List, [], ◌∷◌, length, Option, Some, None, sym, ap, subst, ◌∙◌, length-append, append-nil, arith}
+use Rattle.std.proofs.Common.{◌≡◌, ℕ, ◌+◌, ◌<◌, true, IsTrue, refl, List, [], ◌∷◌, length, Option, Some, None, sym, ap, subst, ◌∙◌, length-append}
+use Rattle.std.proofs.Common.{append-nil, arith}
 use Rattle.std.specs.Cmp.Lexicographic.{slice_cmp}
 use Rattle.std.specs.Ordering.{nat_cmp, is_lt}
 use Rattle.std.specs.FinMap as map
@@ -40,17 +41,26 @@ pub nothing_checked : (bytes : List ℕ) → IsBytes bytes → IsCheckedUpTo byt
 nothing_checked bytes fits = record { dir = map.empty; read = starts bytes fits; count_is = sym (map.len-empty by_bytes Target) }
 
 -- one more entry is read
-pub checks_on : (bytes rest after : List ℕ) (last : Option Name) (next : Name) (target : Target) (count : ℕ) → IsCheckedUpTo bytes rest last count → entry_at rest ≡ Some ((next, target), after)
+pub checks_on : (bytes rest after : List ℕ) (last : Option Name) (next : Name) (target : Target) (count : ℕ)
+    → IsCheckedUpTo bytes rest last count → entry_at rest ≡ Some ((next, target), after)
     → count < 64 → comes_after last next ≡ true → IsCheckedUpTo bytes after (Some next) (count + 1)
 checks_on bytes rest after last next target count h read room rises = record {
   dir = map.insert h.dir next target;
   read = goes_on bytes rest after last h.dir next target h.read read (subst (λ (n : ℕ). n < 64) h.count_is room) rises;
   count_is =
       let grown = entry_added last h.dir next target h.read.last_is rises in
-      omega (arith, h.count_is, map.len-entries (map.insert h.dir next target), map.len-entries h.dir, ap length grown, length-append (map.entries h.dir) ((next, target) ∷ []));
+      omega (
+        arith,
+        h.count_is,
+        map.len-entries (map.insert h.dir next target),
+        map.len-entries h.dir,
+        ap length grown,
+        length-append (map.entries h.dir) ((next, target) ∷ []),
+      );
 }
 
 -- at the end the whole directory is read
-pub whole_checked : (bytes rest : List ℕ) (last : Option Name) (count : ℕ) → IsCheckedUpTo bytes rest last count → length rest ≡ 0 → (dir : Entries) × IsDirectory bytes dir
+pub whole_checked : (bytes rest : List ℕ) (last : Option Name) (count : ℕ) → IsCheckedUpTo bytes rest last count
+    → length rest ≡ 0 → (dir : Entries) × IsDirectory bytes dir
 whole_checked bytes [] last count h none = (h.dir, record { listable = h.read.listable; spelled = h.read.spelled ∙ append-nil (spelling h.dir) })
 whole_checked bytes (x ∷ rest) last count h none = absurd cc

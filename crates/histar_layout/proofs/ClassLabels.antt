@@ -1,5 +1,6 @@
 -- A label is of one class at most: the one that it shows, with the jobs that it has.
-use Rattle.std.proofs.Common.{◌≡◌, ℕ, ◌<◌, ◌≤◌, ◌==◌, Bool, true, false, inl, inr, ◌&&◌, ◌||◌, List, [], ◌∷◌, ◌++◌, Option, None, Some, arith, refl, sym, ap, ◌∙◌, subst}
+use Rattle.std.proofs.Common.{◌≡◌, ℕ, ◌<◌, ◌≤◌, ◌==◌, Bool, true, false, inl, inr, ◌&&◌, ◌||◌, List, [], ◌∷◌, ◌++◌, Option, None, Some, arith, refl}
+use Rattle.std.proofs.Common.{sym, ap, ◌∙◌, subst}
 use Rattle.std.specs.Prelude.{nat_le, option_map}
 use Rattle.std.proofs.lemmas.Bool.Decides.{nat_tests, eqb_tells}
 use Rattle.std.proofs.lemmas.Bool.{and_from, or_left}
@@ -18,7 +19,8 @@ use Rattle.histar_layout.specs.declared.shown.ShownClass.{ShownClass}
 use Rattle.histar_layout.specs.declared.shown.ShownClass.TheVariants as shown
 use Rattle.histar_layout.specs.declared.class.Class.{Class}
 use Rattle.histar_layout.specs.declared.class.Class.TheVariants.{Private, Readable, Open, Scratch, Group}
-use Rattle.histar_layout.specs.ClassLabels.{IsRisingFrom, first_after_groups, class_label, HasJobs, IsClassLabel, LabelsHaveOneClass, without_jobs, with_jobs, jobs_of, likely_class}
+use Rattle.histar_layout.specs.ClassLabels.{IsRisingFrom, first_after_groups, class_label, HasJobs, IsClassLabel, LabelsHaveOneClass, without_jobs}
+use Rattle.histar_layout.specs.ClassLabels.{with_jobs, jobs_of, likely_class}
 use Rattle.histar_layout.proofs.Members.{is_in, mapped_from, same_truth, first_of, second_of}
 use Rattle.histar_layout.proofs.LabelLevels.{guarded_level, at_guarded, default_kept}
 use Rattle.histar_layout.proofs.Rising.{not_smaller, not_among, one_rising, rises_above}
@@ -44,7 +46,8 @@ module _ (accounts : Accounts) (label : Levels) (plain : is_three (default_of la
   -- the jobs that a label has rise, behind the categories of users and groups
   jobs_rise : IsRisingFrom (first_after_groups accounts) (jobs_of accounts label)
   jobs_rise = rises_above 0 (first_after_groups accounts) (jobs_of accounts label) (passed_rise (is_job accounts) label)
-      (λ q e. le_from_test (first_after_groups accounts) q (second_of (is_three (level_of label q)) (nat_le (first_after_groups accounts) q) (sym (jobs_at q) ∙ e)))
+      (λ q e. le_from_test (first_after_groups accounts) q
+      (second_of (is_three (level_of label q)) (nat_le (first_after_groups accounts) q) (sym (jobs_at q) ∙ e)))
 
 -- the default of a label of a class is 1
 scratch_default : (user : ℕ) (jobs : List ℕ) → is_three (default_of (scratch_label user jobs)) ≡ false
@@ -55,7 +58,8 @@ secret_at : (s : Bool) → is_three (guarded_level s false) ≡ s
 secret_at true = refl
 secret_at false = refl
 
-module _ (accounts : Accounts) (user : ℕ) (jobs : List ℕ) (rising : IsRisingFrom (first_after_groups accounts) jobs) (known : write_category user < first_after_groups accounts) where
+module _ (accounts : Accounts) (user : ℕ) (jobs : List ℕ) (rising : IsRisingFrom (first_after_groups accounts) jobs)
+    (known : write_category user < first_after_groups accounts) where
   -- what stands behind the categories of users and groups is a job's exactly where the label has it at 3
   at_three : (q : ℕ) → is_three (level_of (scratch_label user jobs) q) ≡ (q == read_category user || is_in jobs q)
   at_three q = ap is_three (at_guarded (read_category user ∷ jobs) [] q) ∙ secret_at (q == read_category user || is_in jobs q)
@@ -69,23 +73,30 @@ module _ (accounts : Accounts) (user : ℕ) (jobs : List ℕ) (rising : IsRising
         (λ i. (e.0 i || is_in jobs q) && over i) ∙ sym (not_among (first_after_groups accounts) jobs q rising low)
     | inr e ↦
         ap (λ b. (b || is_in jobs q) && nat_le (first_after_groups accounts) q) e.0
-        ∙ same_truth (is_in jobs q && nat_le (first_after_groups accounts) q) (is_in jobs q) (first_of (is_in jobs q) (nat_le (first_after_groups accounts) q))
+        ∙ same_truth (is_in jobs q && nat_le (first_after_groups accounts) q) (is_in jobs q)
+        (first_of (is_in jobs q) (nat_le (first_after_groups accounts) q))
         (λ there. and_from _ _ there (test_from_le (first_after_groups accounts) q (not_smaller (first_after_groups accounts) jobs q rising there)))
   ]
 
   -- the label of what is for jobs has these very jobs
   jobs_read : jobs_of accounts (scratch_label user jobs) ≡ jobs
-  jobs_read = one_rising (first_after_groups accounts) (first_after_groups accounts) (jobs_of accounts (scratch_label user jobs)) jobs (jobs_rise accounts (scratch_label user jobs) (scratch_default user jobs)) rising
-      (λ q. jobs_at accounts (scratch_label user jobs) (scratch_default user jobs) q ∙ ap (λ b. b && nat_le (first_after_groups accounts) q) (at_three q) ∙ is_a_job q)
+  jobs_read =
+      one_rising (first_after_groups accounts) (first_after_groups accounts)
+      (jobs_of accounts (scratch_label user jobs)) jobs
+      (jobs_rise accounts (scratch_label user jobs) (scratch_default user jobs)) rising
+      (λ q. jobs_at accounts (scratch_label user jobs) (scratch_default user jobs) q
+      ∙ ap (λ b. b && nat_le (first_after_groups accounts) q) (at_three q) ∙ is_a_job q)
 
 -- the jobs that the label of a class has make the class of what it shows
-pub jobs_again : (accounts : Accounts) (class : Class) (label : Levels) → IsClassLabel accounts class label → with_jobs (jobs_of accounts label) (without_jobs class) ≡ class
+pub jobs_again : (accounts : Accounts) (class : Class) (label : Levels) → IsClassLabel accounts class label
+    → with_jobs (jobs_of accounts label) (without_jobs class) ≡ class
 jobs_again accounts (Private owner) label is = refl
 jobs_again accounts (Readable owner) label is = refl
 jobs_again accounts Open label is = refl
 jobs_again accounts (Scratch owner jobs) label is =
     let at = mapped_from _ _ label is.is in
-    ap (λ (chain : List ℕ). Scratch owner chain) (ap (jobs_of accounts) (sym at.2) ∙ jobs_read accounts at.0 jobs is.jobs (before_jobs accounts owner at.0 at.1))
+    ap (λ (chain : List ℕ). Scratch owner chain)
+    (ap (jobs_of accounts) (sym at.2) ∙ jobs_read accounts at.0 jobs is.jobs (before_jobs accounts owner at.0 at.1))
 jobs_again accounts (Group group) label is = refl
 
 -- the class of a label is the one that it can be of
@@ -104,7 +115,8 @@ pub none_found : (accounts : Accounts) (label : Levels) → likely_class account
 none_found accounts label none class is = none-some class (sym none ∙ likely_is accounts class label is)
 
 -- where it is not that of the one class that it can be of it is of none
-pub other_label : (accounts : Accounts) (label : Levels) (likely : Class) → likely_class accounts label ≡ Some likely → (class_label accounts likely ≡ Some label → ⊥) → (class : Class) → IsClassLabel accounts class label → ⊥
+pub other_label : (accounts : Accounts) (label : Levels) (likely : Class) → likely_class accounts label ≡ Some likely
+    → (class_label accounts likely ≡ Some label → ⊥) → (class : Class) → IsClassLabel accounts class label → ⊥
 other_label accounts label likely found other class is =
     let same : likely ≡ class = same_Some likely class (sym found ∙ likely_is accounts class label is) in
     other (ap (class_label accounts) same ∙ is.is)
@@ -118,7 +130,8 @@ shown_jobs jobs (shown.Scratch name) owner chain e = cc
 shown_jobs jobs (shown.Group name) owner chain e = absurd (cc)
 
 -- those of the class that a label can be of rise
-likely_jobs : (accounts : Accounts) (label : Levels) (class : Class) → likely_class accounts label ≡ Some class → class_label accounts class ≡ Some label → HasJobs accounts class
+likely_jobs : (accounts : Accounts) (label : Levels) (class : Class) → likely_class accounts label ≡ Some class
+    → class_label accounts class ≡ Some label → HasJobs accounts class
 likely_jobs accounts label (Private owner) likely is = tt
 likely_jobs accounts label (Readable owner) likely is = tt
 likely_jobs accounts label Open likely is = tt
@@ -130,5 +143,6 @@ likely_jobs accounts label (Scratch owner chain) likely is =
 likely_jobs accounts label (Group group) likely is = tt
 
 -- where the label is that of the one class that it can be of it is of this class
-pub found_class : (accounts : Accounts) (label : Levels) (class : Class) → likely_class accounts label ≡ Some class → class_label accounts class ≡ Some label → IsClassLabel accounts class label
+pub found_class : (accounts : Accounts) (label : Levels) (class : Class) → likely_class accounts label ≡ Some class
+    → class_label accounts class ≡ Some label → IsClassLabel accounts class label
 found_class accounts label class likely is = record { jobs = likely_jobs accounts label class likely is; is = is }

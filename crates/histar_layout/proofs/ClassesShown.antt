@@ -1,5 +1,6 @@
 -- The label of a class shows the class, but for its jobs.
-use Rattle.std.proofs.Common.{◌≡◌, ◌≢◌, ℕ, zero, suc, ◌+◌, ◌*◌, ◌-◌, ◌<◌, ◌≤◌, ◌==◌, Bool, true, false, inl, inr, ◌&&◌, ◌||◌, List, [], ◌∷◌, length, Option, None, Some, arith, refl, sym, ap, ◌∙◌, if◌then◌else◌}
+use Rattle.std.proofs.Common.{◌≡◌, ◌≢◌, ℕ, zero, suc, ◌+◌, ◌*◌, ◌-◌, ◌<◌, ◌≤◌, ◌==◌, Bool, true, false, inl, inr, ◌&&◌, ◌||◌, List, [], ◌∷◌, length}
+use Rattle.std.proofs.Common.{Option, None, Some, arith, refl, sym, ap, ◌∙◌, if◌then◌else◌}
 use Rattle.std.specs.Prelude.{position, slice_get}
 use Rattle.std.proofs.lemmas.Bool.Decides.{eqb_tells}
 use Rattle.std.proofs.lemmas.Option.{none-some, same_Some}
@@ -14,11 +15,13 @@ use Rattle.histar_label.specs.declared.levels.Level.TheVariants.{L0, L1, L3}
 use Rattle.histar_label.specs.Levels.{Levels, level_of, constant, default_of, level_of-constant, default_of-constant}
 use Rattle.histar_layout.specs.Categories.{read_category, write_category, group_owner, scratch_label}
 use Rattle.histar_layout.specs.Labelling.{guarded_by, written_by}
-use Rattle.histar_layout.specs.ShownClass.{class_at, group_class_at, group_class_from, is_plain_level, is_unnamed, is_all_plain, class_from, class_shown}
+use Rattle.histar_layout.specs.ShownClass.{class_at, group_class_at, group_class_from, is_plain_level, is_unnamed, is_all_plain, class_from}
+use Rattle.histar_layout.specs.ShownClass.{class_shown}
 use Rattle.histar_layout.specs.declared.shown.ShownClass.TheVariants as shown
 use Rattle.histar_layout.specs.declared.class.Class.{Class}
 use Rattle.histar_layout.specs.declared.class.Class.TheVariants.{Private, Readable, Open, Scratch, Group as Grouped}
-use Rattle.histar_layout.specs.ClassLabels.{IsRisingFrom, first_after_groups, owned_label, class_label, HasJobs, IsClassLabel, without_jobs, ClassesAreShown}
+use Rattle.histar_layout.specs.ClassLabels.{IsRisingFrom, first_after_groups, owned_label, class_label, HasJobs, IsClassLabel, without_jobs}
+use Rattle.histar_layout.specs.ClassLabels.{ClassesAreShown}
 use Rattle.histar_layout.proofs.Members.{is_in, mapped_from, equal_itself}
 use Rattle.histar_layout.proofs.LabelLevels.{guarded_level, at_guarded}
 use Rattle.histar_layout.proofs.Declared.{equal_names, placed, user_range, group_range}
@@ -28,43 +31,60 @@ use Rattle.histar_layout.proofs.Rising.{not_among}
 
 module _ (label : Levels) where
   -- a group that the label doesn't name is passed over
-  group_passed : (group : Group) (groups : List Group) (k : ℕ) → is_unnamed label k ≡ true → group_class_from label k (group ∷ groups) ≡ group_class_from label (k + 1) groups
-  group_passed group groups k is = ap (λ (b : Bool). if b then group_class_from label (k + 1) groups else group_class_at group.name (level_of label (read_category k)) (level_of label (write_category k))) is
+  group_passed : (group : Group) (groups : List Group) (k : ℕ) → is_unnamed label k ≡ true
+      → group_class_from label k (group ∷ groups) ≡ group_class_from label (k + 1) groups
+  group_passed group groups k is =
+      ap (λ (b : Bool). if b then group_class_from label (k + 1) groups else group_class_at group.name
+      (level_of label (read_category k)) (level_of label (write_category k))) is
 
   -- the first that it names shows the class
-  shown_by_group : (groups : List Group) (k m : ℕ) (group : Group) → slice_get groups m ≡ Some group → ((j : ℕ) → k ≤ j → j < k + m → is_unnamed label j ≡ true) → is_unnamed label (k + m) ≡ false
+  shown_by_group : (groups : List Group) (k m : ℕ) (group : Group) → slice_get groups m ≡ Some group
+      → ((j : ℕ) → k ≤ j → j < k + m → is_unnamed label j ≡ true) → is_unnamed label (k + m) ≡ false
       → group_class_from label k groups ≡ group_class_at group.name (level_of label (read_category (k + m))) (level_of label (write_category (k + m)))
   shown_by_group [] k m group at before named = absurd (none-some group at)
   shown_by_group (first ∷ groups) k zero group at before named =
       let here : k + zero ≡ k = omega arith in
       let same : first ≡ group = same_Some first group at in
-      ap (λ (b : Bool). if b then group_class_from label (k + 1) groups else group_class_at first.name (level_of label (read_category k)) (level_of label (write_category k))) (ap (is_unnamed label) (sym here) ∙ named)
+      ap (λ (b : Bool). if b then group_class_from label (k + 1) groups else group_class_at first.name
+      (level_of label (read_category k)) (level_of label (write_category k)))
+      (ap (is_unnamed label) (sym here) ∙ named)
       ∙ (λ i. group_class_at (same i).name (level_of label (read_category (sym here i))) (level_of label (write_category (sym here i))))
   shown_by_group (first ∷ groups) k (suc m) group at before named =
       let next : k + 1 + m ≡ k + suc m = omega arith in
       group_passed first groups k (before k (omega arith) (omega arith))
-      ∙ shown_by_group groups (k + 1) m group at (λ j low high. before j (omega (arith, low)) (omega (arith, high))) (ap (is_unnamed label) next ∙ named)
+      ∙ shown_by_group groups (k + 1) m group at (λ j low high. before j (omega (arith, low)) (omega (arith, high)))
+      (ap (is_unnamed label) next ∙ named)
       ∙ ap (λ (i : ℕ). group_class_at group.name (level_of label (read_category i)) (level_of label (write_category i))) next
 
   -- where it names none it is open, or shows no class
-  shown_by_no_group : (groups : List Group) (k : ℕ) → ((j : ℕ) → k ≤ j → j < k + length groups → is_unnamed label j ≡ true) → group_class_from label k groups ≡ (if is_all_plain label then Some shown.Open else None)
+  shown_by_no_group : (groups : List Group) (k : ℕ)
+      → ((j : ℕ) → k ≤ j → j < k + length groups → is_unnamed label j ≡ true)
+      → group_class_from label k groups ≡ (if is_all_plain label then Some shown.Open else None)
   shown_by_no_group [] k unnamed = refl
   shown_by_no_group (group ∷ groups) k unnamed =
-      group_passed group groups k (unnamed k (omega arith) (omega arith)) ∙ shown_by_no_group groups (k + 1) (λ j low high. unnamed j (omega (arith, low)) (omega (arith, high)))
+      group_passed group groups k (unnamed k (omega arith) (omega arith))
+      ∙ shown_by_no_group groups (k + 1) (λ j low high. unnamed j (omega (arith, low)) (omega (arith, high)))
 
   module _ (groups : List Group) where
     -- a user whom the label doesn't name is passed over
-    passed_over : (u : User) (users : List User) (k : ℕ) → is_unnamed label k ≡ true → class_from label k groups (u ∷ users) ≡ class_from label (k + 1) groups users
-    passed_over u users k is = ap (λ (b : Bool). if b then class_from label (k + 1) groups users else class_at u.name (level_of label (read_category k)) (level_of label (write_category k))) is
+    passed_over : (u : User) (users : List User) (k : ℕ) → is_unnamed label k ≡ true
+        → class_from label k groups (u ∷ users) ≡ class_from label (k + 1) groups users
+    passed_over u users k is =
+        ap (λ (b : Bool).
+        if b then class_from label (k + 1) groups users else class_at u.name (level_of label (read_category k))
+        (level_of label (write_category k))) is
 
     -- the first whom it names shows the class
-    shown_by : (users : List User) (k m : ℕ) (u : User) → slice_get users m ≡ Some u → ((j : ℕ) → k ≤ j → j < k + m → is_unnamed label j ≡ true) → is_unnamed label (k + m) ≡ false
+    shown_by : (users : List User) (k m : ℕ) (u : User) → slice_get users m ≡ Some u
+        → ((j : ℕ) → k ≤ j → j < k + m → is_unnamed label j ≡ true) → is_unnamed label (k + m) ≡ false
         → class_from label k groups users ≡ class_at u.name (level_of label (read_category (k + m))) (level_of label (write_category (k + m)))
     shown_by [] k m u at before named = absurd (none-some u at)
     shown_by (v ∷ users) k zero u at before named =
         let here : k + zero ≡ k = omega arith in
         let same : v ≡ u = same_Some v u at in
-        ap (λ (b : Bool). if b then class_from label (k + 1) groups users else class_at v.name (level_of label (read_category k)) (level_of label (write_category k))) (ap (is_unnamed label) (sym here) ∙ named)
+        ap (λ (b : Bool).
+        if b then class_from label (k + 1) groups users else class_at v.name (level_of label (read_category k))
+        (level_of label (write_category k))) (ap (is_unnamed label) (sym here) ∙ named)
         ∙ (λ i. class_at (same i).name (level_of label (read_category (sym here i))) (level_of label (write_category (sym here i))))
     shown_by (v ∷ users) k (suc m) u at before named =
         let next : k + 1 + m ≡ k + suc m = omega arith in
@@ -73,17 +93,20 @@ module _ (label : Levels) where
         ∙ ap (λ (i : ℕ). class_at u.name (level_of label (read_category i)) (level_of label (write_category i))) next
 
     -- where it names none the groups show it
-    shown_by_none : (users : List User) (k : ℕ) → ((j : ℕ) → k ≤ j → j < k + length users → is_unnamed label j ≡ true) → class_from label k groups users ≡ group_class_from label (k + length users) groups
+    shown_by_none : (users : List User) (k : ℕ) → ((j : ℕ) → k ≤ j → j < k + length users → is_unnamed label j ≡ true)
+        → class_from label k groups users ≡ group_class_from label (k + length users) groups
     shown_by_none [] k unnamed = let here : k + 0 ≡ k = omega arith in ap (λ (i : ℕ). group_class_from label i groups) (sym here)
     shown_by_none (v ∷ users) k unnamed =
         let next : k + 1 + length users ≡ k + length (v ∷ users) = omega arith in
-        passed_over v users k (unnamed k (omega arith) (omega arith)) ∙ shown_by_none users (k + 1) (λ j low high. unnamed j (omega (arith, low)) (omega (arith, high)))
+        passed_over v users k (unnamed k (omega arith) (omega arith))
+        ∙ shown_by_none users (k + 1) (λ j low high. unnamed j (omega (arith, low)) (omega (arith, high)))
         ∙ ap (λ (i : ℕ). group_class_from label i groups) next
 
 -- `{1}` names no category
 all_plain : is_all_plain (constant L1) ≡ true
 all_plain =
-    (λ i. elim (exceptions_of-from_exceptions L1 [] no_exceptions i) as (λ _. Bool) [ [] ↦ is_plain_level (default_of (constant L1)) | e ∷ es ↦ false ])
+    (λ i. elim (exceptions_of-from_exceptions L1 [] no_exceptions i) as (λ _. Bool)
+    [ [] ↦ is_plain_level (default_of (constant L1)) | e ∷ es ↦ false ])
     ∙ ap is_plain_level (default_of-constant L1)
   where
     no_exceptions : IsCanonical L1 []
@@ -107,9 +130,12 @@ module _ (S W : List ℕ) where
   level_by : (q : ℕ) (s w : Bool) → is_in S q ≡ s → is_in W q ≡ w → level_of (guarded_by S W) q ≡ guarded_level s w
   level_by q s w secret written = at_guarded S W q ∙ (λ i. guarded_level (secret i) (written i))
 
-  unnamed_by : (j : ℕ) → is_in S (read_category j) ≡ false → is_in W (read_category j) ≡ false → is_in S (write_category j) ≡ false → is_in W (write_category j) ≡ false
+  unnamed_by : (j : ℕ) → is_in S (read_category j) ≡ false → is_in W (read_category j) ≡ false
+      → is_in S (write_category j) ≡ false → is_in W (write_category j) ≡ false
       → is_unnamed (guarded_by S W) j ≡ true
-  unnamed_by j a b c d = (λ i. is_plain_level (level_by (read_category j) false false a b i) && is_plain_level (level_by (write_category j) false false c d i))
+  unnamed_by j a b c d =
+      (λ i. is_plain_level (level_by (read_category j) false false a b i)
+      && is_plain_level (level_by (write_category j) false false c d i))
 
 -- the user of a name, and its place
 pub record IsDeclaredUser (accounts : Accounts) (name : Name) (i : ℕ) : Type 0 where
@@ -155,10 +181,12 @@ module _ (accounts : Accounts) (label : Levels) where
       shown_by label accounts.groups accounts.users 1 u.place u.user u.at
       (λ j low high. before j (omega (arith, high, number)))
       (ap (is_unnamed label) number ∙ (λ k. is_plain_level (at_read k) && is_plain_level (at_write k)) ∙ named)
-      ∙ (λ k. class_at (u.named k) ((ap (λ n. level_of label (read_category n)) number ∙ at_read) k) ((ap (λ n. level_of label (write_category n)) number ∙ at_write) k))
+      ∙ (λ k. class_at (u.named k) ((ap (λ n. level_of label (read_category n)) number ∙ at_read) k)
+      ((ap (λ n. level_of label (write_category n)) number ∙ at_write) k))
 
   -- where it names no user's categories the groups show it
-  past_users : ((j : ℕ) → j ≤ length accounts.users → is_unnamed label j ≡ true) → class_shown accounts label ≡ group_class_from label (1 + length accounts.users) accounts.groups
+  past_users : ((j : ℕ) → j ≤ length accounts.users → is_unnamed label j ≡ true)
+      → class_shown accounts label ≡ group_class_from label (1 + length accounts.users) accounts.groups
   unfolding class_shown
   past_users before = shown_by_none label accounts.groups accounts.users 1 (λ j low high. before j (omega (arith, high)))
 
@@ -174,7 +202,8 @@ module _ (accounts : Accounts) (label : Levels) where
       ∙ shown_by_group label accounts.groups (1 + length accounts.users) g.place g.group g.at
       (λ j low high. before j (omega (arith, high, number)))
       (ap (is_unnamed label) number ∙ (λ i. is_plain_level (at_read i) && is_plain_level (at_write i)))
-      ∙ (λ i. group_class_at (g.named i) ((ap (λ n. level_of label (read_category n)) number ∙ at_read) i) ((ap (λ n. level_of label (write_category n)) number ∙ at_write) i))
+      ∙ (λ i. group_class_at (g.named i) ((ap (λ n. level_of label (read_category n)) number ∙ at_read) i)
+      ((ap (λ n. level_of label (write_category n)) number ∙ at_write) i))
 
 -- ---- what the labels of classes show
 
@@ -187,17 +216,26 @@ owned_unnamed owner j less = unnamed_by (read_category owner ∷ []) (write_cate
     (is_other (write_category j) (write_category owner) (λ e. omega (arith, e, less)))
 
 owned_read : (owner : ℕ) → level_of (owned_label owner) (read_category owner) ≡ L3
-owned_read owner = level_by (read_category owner ∷ []) (write_category owner ∷ []) (read_category owner) true false (is_one (read_category owner)) (is_other (read_category owner) (write_category owner) (λ e. omega (arith, e)))
+owned_read owner =
+    level_by (read_category owner ∷ []) (write_category owner ∷ []) (read_category owner) true false
+    (is_one (read_category owner)) (is_other (read_category owner) (write_category owner) (λ e. omega (arith, e)))
 
 owned_write : (owner : ℕ) → level_of (owned_label owner) (write_category owner) ≡ L0
-owned_write owner = level_by (read_category owner ∷ []) (write_category owner ∷ []) (write_category owner) false true (is_other (write_category owner) (read_category owner) (λ e. omega (arith, e))) (is_one (write_category owner))
+owned_write owner =
+    level_by (read_category owner ∷ []) (write_category owner ∷ []) (write_category owner) false true
+    (is_other (write_category owner) (read_category owner) (λ e. omega (arith, e))) (is_one (write_category owner))
 
 -- nor does what a user alone writes
 written_unnamed : (user j : ℕ) → j < user → is_unnamed (written_by (write_category user)) j ≡ true
-written_unnamed user j less = unnamed_by [] (write_category user ∷ []) j refl (is_other (read_category j) (write_category user) (λ e. omega (arith, e, less))) refl (is_other (write_category j) (write_category user) (λ e. omega (arith, e, less)))
+written_unnamed user j less =
+    unnamed_by [] (write_category user ∷ []) j refl
+    (is_other (read_category j) (write_category user) (λ e. omega (arith, e, less))) refl
+    (is_other (write_category j) (write_category user) (λ e. omega (arith, e, less)))
 
 written_read : (user : ℕ) → level_of (written_by (write_category user)) (read_category user) ≡ L1
-written_read user = level_by [] (write_category user ∷ []) (read_category user) false false refl (is_other (read_category user) (write_category user) (λ e. omega (arith, e)))
+written_read user =
+    level_by [] (write_category user ∷ []) (read_category user) false false refl
+    (is_other (read_category user) (write_category user) (λ e. omega (arith, e)))
 
 written_write : (user : ℕ) → level_of (written_by (write_category user)) (write_category user) ≡ L0
 written_write user = level_by [] (write_category user ∷ []) (write_category user) false true refl (is_one (write_category user))
@@ -213,46 +251,59 @@ module _ (first user : ℕ) (jobs : List ℕ) (rising : IsRisingFrom first jobs)
       (not_read (write_category j) (omega (arith, known, less)) (λ e. omega (arith, e, less))) refl
 
   scratch_read : level_of (scratch_label user jobs) (read_category user) ≡ L3
-  scratch_read = level_by (read_category user ∷ jobs) [] (read_category user) true false (ap (λ b. b || is_in jobs (read_category user)) (equal_itself (read_category user))) refl
+  scratch_read =
+      level_by (read_category user ∷ jobs) [] (read_category user) true false
+      (ap (λ b. b || is_in jobs (read_category user)) (equal_itself (read_category user))) refl
 
   scratch_write : level_of (scratch_label user jobs) (write_category user) ≡ L1
-  scratch_write = level_by (read_category user ∷ jobs) [] (write_category user) false false (not_read (write_category user) known (λ e. omega (arith, e))) refl
+  scratch_write =
+      level_by (read_category user ∷ jobs) [] (write_category user) false false
+      (not_read (write_category user) known (λ e. omega (arith, e))) refl
 
 -- `{1}` names none
 open_unnamed : (j : ℕ) → is_unnamed (constant L1) j ≡ true
 open_unnamed j = (λ i. is_plain_level (level_of-constant L1 (read_category j) i) && is_plain_level (level_of-constant L1 (write_category j) i))
 
 -- the categories of a user stand before those of jobs
-pub before_jobs : (accounts : Accounts) (owner : Name) (user : ℕ) → user_number accounts owner ≡ Some user → write_category user < first_after_groups accounts
+pub before_jobs : (accounts : Accounts) (owner : Name) (user : ℕ) → user_number accounts owner ≡ Some user
+    → write_category user < first_after_groups accounts
 before_jobs accounts owner user numbered = let range = user_range accounts owner user numbered in omega (arith, range.1)
 
 module _ (accounts : Accounts) (label : Levels) where
   -- a label that is given by an equation
-  by_label : (found : Levels) → found ≡ label → (o : Class) → class_shown accounts found ≡ Some (without_jobs o) → class_shown accounts label ≡ Some (without_jobs o)
+  by_label : (found : Levels) → found ≡ label → (o : Class) → class_shown accounts found ≡ Some (without_jobs o)
+      → class_shown accounts label ≡ Some (without_jobs o)
   by_label found is o shows = ap (class_shown accounts) (sym is) ∙ shows
 
-  shown_at : (class : Class) → HasJobs accounts class → class_label accounts class ≡ Some label → class_shown accounts label ≡ Some (without_jobs class)
+  shown_at : (class : Class) → HasJobs accounts class → class_label accounts class ≡ Some label
+      → class_shown accounts label ≡ Some (without_jobs class)
   shown_at (Private owner) jobs is =
       let at = mapped_from owned_label (user_number accounts owner) label is in
-      by_label (owned_label at.0) at.2 (Private owner) (shows_user accounts (owned_label at.0) owner at.0 L3 L0 at.1 (owned_unnamed at.0) refl (owned_read at.0) (owned_write at.0))
+      by_label (owned_label at.0) at.2 (Private owner) (shows_user accounts (owned_label at.0) owner at.0 L3 L0 at.1
+      (owned_unnamed at.0) refl (owned_read at.0) (owned_write at.0))
   shown_at (Readable owner) jobs is =
       let at = mapped_from (λ user. written_by (write_category user)) (user_number accounts owner) label is in
       by_label (written_by (write_category at.0)) at.2 (Readable owner)
-      (shows_user accounts (written_by (write_category at.0)) owner at.0 L1 L0 at.1 (written_unnamed at.0) refl (written_read at.0) (written_write at.0))
+      (shows_user accounts (written_by (write_category at.0)) owner at.0 L1 L0 at.1 (written_unnamed at.0) refl
+      (written_read at.0) (written_write at.0))
   shown_at Open jobs is =
       by_label (constant L1) (same_Some (constant L1) label is) Open
-      (past_users accounts (constant L1) (λ j low. open_unnamed j) ∙ shown_by_no_group (constant L1) accounts.groups (1 + length accounts.users) (λ j low high. open_unnamed j)
+      (past_users accounts (constant L1) (λ j low. open_unnamed j)
+      ∙ shown_by_no_group (constant L1) accounts.groups (1 + length accounts.users) (λ j low high. open_unnamed j)
       ∙ ap (λ (b : Bool). if b then Some shown.Open else None) all_plain)
   shown_at (Scratch owner chain) jobs is =
       let at = mapped_from (λ user. scratch_label user chain) (user_number accounts owner) label is in
       let first = first_after_groups accounts in
       let known = before_jobs accounts owner at.0 at.1 in
       by_label (scratch_label at.0 chain) at.2 (Scratch owner chain)
-      (shows_user accounts (scratch_label at.0 chain) owner at.0 L3 L1 at.1 (scratch_unnamed first at.0 chain jobs known) refl (scratch_read first at.0 chain jobs known) (scratch_write first at.0 chain jobs known))
+      (shows_user accounts (scratch_label at.0 chain) owner at.0 L3 L1 at.1
+      (scratch_unnamed first at.0 chain jobs known) refl (scratch_read first at.0 chain jobs known)
+      (scratch_write first at.0 chain jobs known))
   shown_at (Grouped group) jobs is =
       let at = mapped_from (λ number. owned_label (group_owner (length accounts.users) number)) (group_number accounts group) label is in
       let owner = group_owner (length accounts.users) at.0 in
-      by_label (owned_label owner) at.2 (Grouped group) (shows_group accounts (owned_label owner) group at.0 at.1 (owned_unnamed owner) (owned_read owner) (owned_write owner))
+      by_label (owned_label owner) at.2 (Grouped group) (shows_group accounts (owned_label owner) group at.0 at.1
+      (owned_unnamed owner) (owned_read owner) (owned_write owner))
 
 -- The label of a class shows the class, but for its jobs.
 pub classes_shown : ClassesAreShown

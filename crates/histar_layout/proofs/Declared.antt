@@ -1,5 +1,6 @@
 -- The places and the numbers of declared users and groups.
-use Rattle.std.proofs.Common.{◌≡◌, ◌≢◌, ℕ, zero, suc, ◌+◌, ◌<◌, ◌≤◌, ◌⊎◌, inl, inr, Bool, true, false, cond, List, [], ◌∷◌, length, Option, None, Some, arith, refl, sym, ap, ◌∙◌}
+use Rattle.std.proofs.Common.{◌≡◌, ◌≢◌, ℕ, zero, suc, ◌+◌, ◌<◌, ◌≤◌, ◌⊎◌, inl, inr, Bool, true, false, cond, List, [], ◌∷◌, length, Option, None}
+use Rattle.std.proofs.Common.{Some, arith, refl, sym, ap, ◌∙◌}
 use Rattle.std.specs.Prelude.{is_some, not, slice_get, nat_lt, option_map, position}
 use Rattle.std.specs.List.{position_or_len}
 use Rattle.std.proofs.lemmas.Bool.Decides.{nat_tests}
@@ -25,7 +26,8 @@ module _ {A : Type 0} (test : A → Bool) where
       → (y : A) × (slice_get (x ∷ xs) (position_or_len test (x ∷ xs)) ≡ Some y) × (test y ≡ true)
   place_by x xs true is lt later = (x, ap (λ b. slice_get (x ∷ xs) (cond (not b) (1 + position_or_len test xs) 0)) is, is)
   place_by x xs false is lt later =
-      let place : cond (not (test x)) (1 + position_or_len test xs) 0 ≡ 1 + position_or_len test xs = ap (λ b. cond (not b) (1 + position_or_len test xs) 0) is in
+      let place : cond (not (test x)) (1 + position_or_len test xs) 0 ≡ 1 + position_or_len test xs =
+      ap (λ b. cond (not b) (1 + position_or_len test xs) 0) is in
       let below : cond (not (test x)) (1 + position_or_len test xs) 0 < suc (length xs) = lt in
       let at = later (omega (arith, place, below)) in
       let next : 1 + position_or_len test xs ≡ suc (position_or_len test xs) = omega arith in
@@ -49,19 +51,26 @@ module _ {A : Type 0} (test : A → Bool) where
 
 module _ {A : Type 0} (test : A → Bool) where
   -- what passes the test has a place
-  place_found_by : (x : A) (xs : List A) (b : Bool) → test x ≡ b → (b ≡ false → position_or_len test xs < length xs) → position_or_len test (x ∷ xs) < length (x ∷ xs)
-  place_found_by x xs true is later = let place : cond (not (test x)) (1 + position_or_len test xs) 0 ≡ 0 = ap (λ b. cond (not b) (1 + position_or_len test xs) 0) is in omega (arith, place)
+  place_found_by : (x : A) (xs : List A) (b : Bool) → test x ≡ b → (b ≡ false → position_or_len test xs < length xs)
+      → position_or_len test (x ∷ xs) < length (x ∷ xs)
+  place_found_by x xs true is later =
+      let place : cond (not (test x)) (1 + position_or_len test xs) 0
+      ≡ 0 = ap (λ b. cond (not b) (1 + position_or_len test xs) 0) is in omega (arith, place)
   place_found_by x xs false is later =
-      let place : cond (not (test x)) (1 + position_or_len test xs) 0 ≡ 1 + position_or_len test xs = ap (λ b. cond (not b) (1 + position_or_len test xs) 0) is in
+      let place : cond (not (test x)) (1 + position_or_len test xs) 0 ≡ 1 + position_or_len test xs =
+      ap (λ b. cond (not b) (1 + position_or_len test xs) 0) is in
       omega (arith, place, later refl)
 
   pub place_found : (xs : List A) (i : ℕ) (x : A) → slice_get xs i ≡ Some x → test x ≡ true → position_or_len test xs < length xs
   place_found [] i x at is = absurd (none-some x at)
-  place_found (y ∷ xs) zero x at is = place_found_by y xs (test y) refl (λ fails. absurd (true≢false (sym is ∙ ap test (sym (same_Some y x at)) ∙ fails)))
+  place_found (y ∷ xs) zero x at is =
+      place_found_by y xs (test y) refl
+      (λ fails. absurd (true≢false (sym is ∙ ap test (sym (same_Some y x at)) ∙ fails)))
   place_found (y ∷ xs) (suc i) x at is = place_found_by y xs (test y) refl (λ _. place_found xs i x at is)
 
 -- so a user of a name has a number
-pub has_a_number : (accounts : Accounts) (name : Name) (i : ℕ) (user : User) → slice_get accounts.users i ≡ Some user → same user.name name ≡ true → is_some (user_number accounts name) ≡ true
+pub has_a_number : (accounts : Accounts) (name : Name) (i : ℕ) (user : User) → slice_get accounts.users i ≡ Some user
+    → same user.name name ≡ true → is_some (user_number accounts name) ≡ true
 has_a_number accounts name i user at is =
     let place = position_or_len (λ (u : User). same u.name name) accounts.users in
     let lt : place < length accounts.users = place_found (λ (u : User). same u.name name) accounts.users i user at is in

@@ -1,5 +1,6 @@
 -- The entries of a directory, gone over one after another.
-use Rattle.std.proofs.Common.{◌≡◌, ℕ, ◌<◌, List, [], ◌∷◌, ◌++◌, length, None, Some, refl, sym, ap, subst, ◌∙◌, append_assoc, append-nil, length-append, arith}
+use Rattle.std.proofs.Common.{◌≡◌, ℕ, ◌<◌, List, [], ◌∷◌, ◌++◌, length, None, Some, refl, sym, ap, subst, ◌∙◌, append_assoc, append-nil}
+use Rattle.std.proofs.Common.{length-append, arith}
 use Rattle.std.specs.List.{flat_map, AllByRecursion}
 use Rattle.std.specs.FinMap as map
 use Rattle.std.proofs.lemmas.Option.{same_Some}
@@ -43,7 +44,8 @@ module _ (rest : List ℕ) (passed : List Entry) (dir : Entries) (h : IsReadTo r
       go : (after : List Entry) → rest ≡ flat_map entry_bytes after → h.after ≡ after → map.entries dir ≡ passed
       go [] spelled is = all_gone is
       go (e ∷ more) spelled is =
-          absurd (let seen = sym none ∙ ap entry_at spelled ∙ entry_again e (flat_map entry_bytes more) (subst (AllByRecursion IsEntry) is h.each).0 in cc)
+          absurd (let seen = sym none ∙ ap entry_at spelled
+          ∙ entry_again e (flat_map entry_bytes more) (subst (AllByRecursion IsEntry) is h.each).0 in cc)
 
   -- and none is passed
   pub all_passed : slot_at rest ≡ None → map.entries dir ≡ passed
@@ -62,7 +64,9 @@ module _ (rest : List ℕ) (passed : List Entry) (dir : Entries) (h : IsReadTo r
         go [] spelled is = absurd (let seen = sym read ∙ ap entry_at spelled ∙ none_in_none in cc)
         go (e ∷ more) spelled is =
             let same : (e, flat_map entry_bytes more) ≡ x =
-            same_Some (e, flat_map entry_bytes more) x (sym (entry_again e (flat_map entry_bytes more) (subst (AllByRecursion IsEntry) is h.each).0) ∙ sym (ap entry_at spelled) ∙ read) in
+            same_Some (e, flat_map entry_bytes more) x
+            (sym (entry_again e (flat_map entry_bytes more) (subst (AllByRecursion IsEntry) is h.each).0)
+            ∙ sym (ap entry_at spelled) ∙ read) in
             subst (λ (y : Entry × List ℕ). IsReadTo y.1 (passed ++ y.0 ∷ []) dir) same (one_gone e more is)
 
     -- which takes bytes
@@ -73,7 +77,9 @@ module _ (rest : List ℕ) (passed : List Entry) (dir : Entries) (h : IsReadTo r
         go [] spelled is = absurd (let seen = sym read ∙ ap entry_at spelled ∙ none_in_none in cc)
         go (e ∷ more) spelled is =
             let same : (e, flat_map entry_bytes more) ≡ x =
-            same_Some (e, flat_map entry_bytes more) x (sym (entry_again e (flat_map entry_bytes more) (subst (AllByRecursion IsEntry) is h.each).0) ∙ sym (ap entry_at spelled) ∙ read) in
+            same_Some (e, flat_map entry_bytes more) x
+            (sym (entry_again e (flat_map entry_bytes more) (subst (AllByRecursion IsEntry) is h.each).0)
+            ∙ sym (ap entry_at spelled) ∙ read) in
             omega (arith, ap (λ (y : Entry × List ℕ). length y.1) same, ap length spelled, length-append (entry_bytes e) (flat_map entry_bytes more))
 
     -- so there are more
@@ -90,5 +96,6 @@ module _ (rest : List ℕ) (passed : List Entry) (dir : Entries) (h : IsReadTo r
       go [] spelled is = absurd (let seen = sym slot ∙ ap slot_at spelled ∙ none_at_end in cc)
       go (e ∷ more) spelled is =
           let same : ((e.0, target_bytes e.1), flat_map entry_bytes more) ≡ x =
-          same_Some ((e.0, target_bytes e.1), flat_map entry_bytes more) x (sym (slot_again e (flat_map entry_bytes more)) ∙ sym (ap slot_at spelled) ∙ slot) in
+          same_Some ((e.0, target_bytes e.1), flat_map entry_bytes more) x
+          (sym (slot_again e (flat_map entry_bytes more)) ∙ sym (ap slot_at spelled) ∙ slot) in
           (e, subst (λ (y : (List ℕ × List ℕ) × List ℕ). IsReadTo y.1 (passed ++ e ∷ []) dir) same (one_gone e more is))

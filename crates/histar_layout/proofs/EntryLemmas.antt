@@ -1,5 +1,6 @@
 -- An entry that is read is the entry that was written, and what was written is read again.
-use Rattle.std.proofs.Common.{◌≡◌, ℕ, suc, ◌+◌, ◌^◌, ◌<◌, ◌≤◌, true, false, not, cond, eqb, leb, ◌&&◌, List, [], ◌∷◌, ◌++◌, length, get_or, take, drop, Option, Some, None, refl, sym, ap, subst, ◌∙◌, append_assoc, length-append, inl, inr, arith}
+use Rattle.std.proofs.Common.{◌≡◌, ℕ, suc, ◌+◌, ◌^◌, ◌<◌, ◌≤◌, true, false, not, cond, eqb, leb, ◌&&◌, List, [], ◌∷◌, ◌++◌, length, get_or, take}
+use Rattle.std.proofs.Common.{drop, Option, Some, None, refl, sym, ap, subst, ◌∙◌, append_assoc, length-append, inl, inr, arith}
 use Rattle.std.specs.Int.{w64, to_be_bytes, from_be_bytes}
 use Rattle.std.proofs.lemmas.Bool.{cases_lt, leb-true, le-leb, eqb-true, and_parts}
 use Rattle.std.proofs.lemmas.Bool.Decides.{nat_tests}
@@ -76,7 +77,8 @@ pub record Takes (bytes text rest : List ℕ) : Type 0 where
 -- ---- numbers
 
 -- a number that is read was written so, and has 64 bits
-pub number_takes : (bytes : List ℕ) (x : ℕ × List ℕ) → IsBytes bytes → number_at bytes ≡ Some x → Takes bytes (to_be_bytes w64 x.0) x.1 × (x.0 < 2 ^ 64)
+pub number_takes : (bytes : List ℕ) (x : ℕ × List ℕ) → IsBytes bytes → number_at bytes ≡ Some x
+    → Takes bytes (to_be_bytes w64 x.0) x.1 × (x.0 < 2 ^ 64)
 unfolding number_at
 number_takes bytes x fits e =
     let a = bind_some (front_at 8 bytes) (λ front. Some (from_be_bytes w64 front.0, front.1)) x e in
@@ -92,7 +94,8 @@ number_takes bytes x fits e =
 pub number_again : (n : ℕ) (rest : List ℕ) → n < 2 ^ 64 → number_at (to_be_bytes w64 n ++ rest) ≡ Some (n, rest)
 unfolding number_at
 number_again n rest lt =
-    bind_at (front_at 8 (to_be_bytes w64 n ++ rest)) (λ front. Some (from_be_bytes w64 front.0, front.1)) (to_be_bytes w64 n, rest) (front_again 8 (to_be_bytes w64 n) rest refl)
+    bind_at (front_at 8 (to_be_bytes w64 n ++ rest)) (λ front. Some (from_be_bytes w64 front.0, front.1))
+    (to_be_bytes w64 n, rest) (front_again 8 (to_be_bytes w64 n) rest refl)
     ∙ ap (λ (m : ℕ). Some (m, rest)) (from_be_bytes-to_be_bytes_8 n lt)
 
 -- ---- targets
@@ -114,7 +117,8 @@ abbrev IsSpelledBy : ℕ → ℕ → ℕ → Target → Type 0
 IsSpelledBy letter object listing t = (letter ∷ to_be_bytes w64 object ++ to_be_bytes w64 listing ≡ target_bytes t) × IsTarget t
 
 -- a target that is made was spelled so
-target_is : (letter object listing : ℕ) (t : Target) → object < 2 ^ 64 → listing < 2 ^ 64 → target_of letter object listing ≡ Some t → IsSpelledBy letter object listing t
+target_is : (letter object listing : ℕ) (t : Target) → object < 2 ^ 64 → listing < 2 ^ 64
+    → target_of letter object listing ≡ Some t → IsSpelledBy letter object listing t
 unfolding target_of
 target_is letter object listing t lt1 lt2 e =
     let as_directory = cond (eqb letter 100 && not (eqb listing 0)) (Some (Directory object listing)) None in
@@ -146,14 +150,22 @@ target_takes : (bytes : List ℕ) (x : Target × List ℕ) → IsBytes bytes →
 unfolding target_at
 target_takes [] x fits e = absurd cc
 target_takes (letter ∷ bytes) x fits e =
-    let a = bind_some (number_at bytes) (λ object. number_at object.1 >>= λ listing. target_of letter object.0 listing.0 >>= λ target. Some (target, listing.1)) x e in
+    let a =
+    bind_some (number_at bytes) (λ object. number_at object.1 >>= λ listing. target_of letter object.0 listing.0 >>= λ target. Some
+    (target, listing.1)) x e in
     let b = bind_some (number_at a.0.1) (λ listing. target_of letter a.0.0 listing.0 >>= λ target. Some (target, listing.1)) x a.2 in
     let d = bind_some (target_of letter a.0.0 b.0.0) (λ target. Some (target, b.0.1)) x b.2 in
     let object = number_takes bytes a.0 (IsBytes-rest letter bytes fits) a.1 in
     let listing = number_takes a.0.1 b.0 object.0.rest_fits b.1 in
     let t = target_is letter a.0.0 b.0.0 d.0 object.1 listing.1 d.1 in
-    subst (λ (y : Target × List ℕ). Takes (letter ∷ bytes) (target_bytes y.0) y.1 × IsTarget y.0) {x = (d.0, b.0.1)} (same_Some (d.0, b.0.1) x d.2)
-    (record { parts = target_parts letter bytes (to_be_bytes w64 a.0.0) a.0.1 (to_be_bytes w64 b.0.0) b.0.1 (target_bytes d.0) object.0.parts listing.0.parts t.0; rest_fits = listing.0.rest_fits }, t.1)
+    subst (λ (y : Target × List ℕ). Takes (letter ∷ bytes) (target_bytes y.0) y.1 × IsTarget y.0) {x = (d.0, b.0.1)} (same_Some (d.0, b.0.1) x d.2) (
+      record {
+        parts = target_parts letter bytes (to_be_bytes w64 a.0.0) a.0.1 (to_be_bytes w64 b.0.0) b.0.1
+            (target_bytes d.0) object.0.parts listing.0.parts t.0;
+        rest_fits = listing.0.rest_fits;
+      },
+      t.1,
+    )
 
 -- `f` makes a file
 target_of_file : (file : ℕ) → 0 < file → target_of 102 file 0 ≡ Some (File file)
@@ -166,26 +178,35 @@ unfolding target_of
 target_of_directory container listing h k = rw (not_zero container h, not_zero listing k) refl
 
 -- a letter and two numbers that were written are read again
-numbers_again : (letter object listing : ℕ) (t : Target) (rest : List ℕ) → object < 2 ^ 64 → listing < 2 ^ 64 → target_of letter object listing ≡ Some t
+numbers_again : (letter object listing : ℕ) (t : Target) (rest : List ℕ) → object < 2 ^ 64 → listing < 2 ^ 64
+    → target_of letter object listing ≡ Some t
     → target_at (letter ∷ (to_be_bytes w64 object ++ to_be_bytes w64 listing) ++ rest) ≡ Some (t, rest)
 unfolding target_at
 numbers_again letter object listing t rest lt1 lt2 is =
-    bind_at (number_at ((to_be_bytes w64 object ++ to_be_bytes w64 listing) ++ rest)) (λ object. number_at object.1 >>= λ listing. target_of letter object.0 listing.0 >>= λ target. Some (target, listing.1)) (object, to_be_bytes w64 listing ++ rest)
+    bind_at (number_at ((to_be_bytes w64 object ++ to_be_bytes w64 listing) ++ rest))
+    (λ object. number_at object.1 >>= λ listing. target_of letter object.0 listing.0 >>= λ target. Some
+    (target, listing.1)) (object, to_be_bytes w64 listing ++ rest)
     (ap number_at (append_assoc (to_be_bytes w64 object) (to_be_bytes w64 listing) rest) ∙ number_again object (to_be_bytes w64 listing ++ rest) lt1)
-    ∙ bind_at (number_at (to_be_bytes w64 listing ++ rest)) (λ listing. target_of letter object listing.0 >>= λ target. Some (target, listing.1)) (listing, rest) (number_again listing rest lt2)
+    ∙ bind_at (number_at (to_be_bytes w64 listing ++ rest))
+    (λ listing. target_of letter object listing.0 >>= λ target. Some (target, listing.1)) (listing, rest)
+    (number_again listing rest lt2)
     ∙ bind_at (target_of letter object listing) (λ target. Some (target, rest)) t is
 
 -- a target that was written is read again
 pub target_again : (t : Target) (rest : List ℕ) → IsTarget t → target_at (target_bytes t ++ rest) ≡ Some (t, rest)
 target_again (File file) rest h = numbers_again 102 file 0 (File file) rest h.1 (omega arith) (target_of_file file h.0)
-target_again (Directory container listing) rest h = numbers_again 100 container listing (Directory container listing) rest h.0.1 h.1.1 (target_of_directory container listing h.0.0 h.1.0)
+target_again (Directory container listing) rest h =
+    numbers_again 100 container listing (Directory container listing) rest h.0.1 h.1.1
+    (target_of_directory container listing h.0.0 h.1.0)
 
 -- ---- entries
 
 -- a length, a name and a target, joined
-entry_parts : (len : ℕ) (bytes text after name target rest : List ℕ) → length text ≡ len → bytes ≡ text ++ after → text ≡ name → after ≡ target ++ rest → len ∷ bytes ≡ (length name ∷ name ++ target) ++ rest
+entry_parts : (len : ℕ) (bytes text after name target rest : List ℕ) → length text ≡ len → bytes ≡ text ++ after
+    → text ≡ name → after ≡ target ++ rest → len ∷ bytes ≡ (length name ∷ name ++ target) ++ rest
 entry_parts len bytes text after name target rest l p n a =
-    let whole : bytes ≡ (name ++ target) ++ rest = p ∙ ap (λ (t : List ℕ). t ++ after) n ∙ ap (λ (t : List ℕ). name ++ t) a ∙ sym (append_assoc name target rest) in
+    let whole : bytes ≡ (name ++ target) ++ rest =
+    p ∙ ap (λ (t : List ℕ). t ++ after) n ∙ ap (λ (t : List ℕ). name ++ t) a ∙ sym (append_assoc name target rest) in
     let size : len ≡ length name = sym l ∙ ap length n in
     λ i. size i ∷ whole i
 
@@ -200,7 +221,9 @@ pub entry_takes : (bytes : List ℕ) (x : (Name × Target) × List ℕ) → IsBy
 unfolding entry_at
 entry_takes [] x fits e = absurd cc
 entry_takes (len ∷ bytes) x fits e =
-    let a = bind_some (front_at len bytes) (λ text. name_of text.0 >>= λ name. target_at text.1 >>= λ target. Some ((name, target.0), target.1)) x e in
+    let a =
+    bind_some (front_at len bytes)
+    (λ text. name_of text.0 >>= λ name. target_at text.1 >>= λ target. Some ((name, target.0), target.1)) x e in
     let b = bind_some (name_of a.0.0) (λ name. target_at a.0.1 >>= λ target. Some ((name, target.0), target.1)) x a.2 in
     let d = bind_some (target_at a.0.1) (λ target. Some ((b.0, target.0), target.1)) x b.2 in
     let f = front_takes len bytes a.0 (IsBytes-rest len bytes fits) a.1 in
@@ -220,7 +243,9 @@ name_again name h = rw h refl
 pub entry_again : (e : Name × Target) (rest : List ℕ) → IsEntry e → entry_at (entry_bytes e ++ rest) ≡ Some (e, rest)
 unfolding entry_at
 entry_again e rest h =
-    bind_at (front_at (length e.0) ((e.0 ++ target_bytes e.1) ++ rest)) (λ text. name_of text.0 >>= λ name. target_at text.1 >>= λ target. Some ((name, target.0), target.1)) (e.0, target_bytes e.1 ++ rest)
+    bind_at (front_at (length e.0) ((e.0 ++ target_bytes e.1) ++ rest))
+    (λ text. name_of text.0 >>= λ name. target_at text.1 >>= λ target. Some ((name, target.0), target.1))
+    (e.0, target_bytes e.1 ++ rest)
     (ap (front_at (length e.0)) (append_assoc e.0 (target_bytes e.1) rest) ∙ front_again (length e.0) e.0 (target_bytes e.1 ++ rest) refl)
     ∙ bind_at (name_of e.0) (λ name. target_at (target_bytes e.1 ++ rest) >>= λ target. Some ((name, target.0), target.1)) e.0 (name_again e.0 h.0)
     ∙ bind_at (target_at (target_bytes e.1 ++ rest)) (λ target. Some ((e.0, target.0), target.1)) (e.1, rest) (target_again e.1 rest h.1)

@@ -2,7 +2,8 @@
 use Rattle.std.proofs.Common.{◌≡◌, ℕ, ◌==◌, Bool, true, false, ◌||◌, List, [], ◌∷◌, ◌++◌, if◌then◌else◌, refl, ap, ◌∙◌}
 use Rattle.histar_label.specs.declared.levels.Level.{Level}
 use Rattle.histar_label.specs.declared.levels.Level.TheVariants.{Star, L0, L1, L2, L3}
-use Rattle.histar_label.specs.Levels.{Levels, level_of, constant, with_level, default_of, level_of-constant, level_of-with_level, default_of-with_level}
+use Rattle.histar_label.specs.Levels.{Levels, level_of, constant, with_level, default_of, level_of-constant, level_of-with_level}
+use Rattle.histar_label.specs.Levels.{default_of-with_level}
 use Rattle.histar_layout.specs.Labelling.{with_levels, each_at, guarded_by, owner_label, cleared_at}
 use Rattle.histar_layout.proofs.LabellingLemmas.{with_levels-append}
 use Rattle.histar_layout.proofs.Members.{is_in}
@@ -15,13 +16,17 @@ either_level false true l m = refl
 either_level false false l m = refl
 
 -- a label with one level at some categories has it there, and at all others what it had
-pub level_of-each_at : (L : Levels) (cs : List ℕ) (l : Level) (q : ℕ) → level_of (with_levels L (each_at l cs)) q ≡ (if is_in cs q then l else level_of L q)
+pub level_of-each_at : (L : Levels) (cs : List ℕ) (l : Level) (q : ℕ)
+    → level_of (with_levels L (each_at l cs)) q ≡ (if is_in cs q then l else level_of L q)
 level_of-each_at L [] l q = refl
 level_of-each_at L (c ∷ cs) l q =
-    level_of-each_at (with_level L c l) cs l q ∙ ap (λ m. if is_in cs q then l else m) (level_of-with_level L c l q) ∙ either_level (q == c) (is_in cs q) l (level_of L q)
+    level_of-each_at (with_level L c l) cs l q ∙ ap (λ m. if is_in cs q then l else m) (level_of-with_level L c l q)
+    ∙ either_level (q == c) (is_in cs q) l (level_of L q)
 
 -- a label with one level at some categories and another one at others
-two_levels : (L : Levels) (cs ds : List ℕ) (l m : Level) (q : ℕ) → level_of (with_levels L (each_at l cs ++ each_at m ds)) q ≡ (if is_in ds q then m else (if is_in cs q then l else level_of L q))
+two_levels : (L : Levels) (cs ds : List ℕ) (l m : Level) (q : ℕ)
+    → level_of (with_levels L (each_at l cs ++ each_at m ds)) q
+    ≡ (if is_in ds q then m else (if is_in cs q then l else level_of L q))
 two_levels L cs ds l m q =
     ap (λ (M : Levels). level_of M q) (with_levels-append L (each_at l cs) (each_at m ds)) ∙ level_of-each_at (with_levels L (each_at l cs)) ds m q
     ∙ ap (λ k. if is_in ds q then m else k) (level_of-each_at L cs l q)
@@ -40,7 +45,9 @@ pub at_guarded : (S W : List ℕ) (q : ℕ) → level_of (guarded_by S W) q ≡ 
 at_guarded S W q = two_levels (constant L1) S W L3 L0 q ∙ ap (λ k. if is_in W q then L0 else (if is_in S q then L3 else k)) (level_of-constant L1 q)
 
 pub at_owning : (O T : List ℕ) (q : ℕ) → level_of (owner_label O T) q ≡ owning_level (is_in O q) (is_in T q)
-at_owning O T q = two_levels (constant L1) O T Star L3 q ∙ ap (λ k. if is_in T q then L3 else (if is_in O q then Star else k)) (level_of-constant L1 q)
+at_owning O T q =
+    two_levels (constant L1) O T Star L3 q
+    ∙ ap (λ k. if is_in T q then L3 else (if is_in O q then Star else k)) (level_of-constant L1 q)
 
 pub at_cleared : (C : List ℕ) (q : ℕ) → level_of (cleared_at C) q ≡ cleared_level (is_in C q)
 at_cleared C q = level_of-each_at (constant L2) C L3 q ∙ ap (λ k. if is_in C q then L3 else k) (level_of-constant L2 q)

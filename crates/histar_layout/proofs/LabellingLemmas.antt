@@ -16,7 +16,8 @@ with_levels-more L [] e = refl
 with_levels-more L (x ∷ es) e = with_levels-more (with_level L x.0 x.1) es e
 
 -- a label with one exception more
-pub labelled_next : (es : List (ℕ × Level)) (d : Level) (i : ℕ) (e : ℕ × Level) → i < length es → e ≡ get_or es i e → labelled (take (i + 1) es) d ≡ with_level (labelled (take i es) d) e.0 e.1
+pub labelled_next : (es : List (ℕ × Level)) (d : Level) (i : ℕ) (e : ℕ × Level) → i < length es → e ≡ get_or es i e
+    → labelled (take (i + 1) es) d ≡ with_level (labelled (take i es) d) e.0 e.1
 labelled_next es d i e lt is = ap (λ (l : List (ℕ × Level)). labelled l d) (take_next es i e lt is) ∙ with_levels-more _ (take i es) e
 
 -- levels at two lists of categories in turn
@@ -30,12 +31,17 @@ each_at-more level [] c = refl
 each_at-more level (x ∷ cs) c = ap (λ (es : List (ℕ × Level)). (x, level) ∷ es) (each_at-more level cs c)
 
 -- a label with one category more at the level
-pub each_next : (L : Levels) (level : Level) (cs : List ℕ) (i : ℕ) (c : ℕ) → i < length cs → c ≡ get_or cs i c → with_levels L (each_at level (take (i + 1) cs)) ≡ with_level (with_levels L (each_at level (take i cs))) c level
+pub each_next : (L : Levels) (level : Level) (cs : List ℕ) (i : ℕ) (c : ℕ) → i < length cs → c ≡ get_or cs i c
+    → with_levels L (each_at level (take (i + 1) cs)) ≡ with_level (with_levels L (each_at level (take i cs))) c level
 each_next L level cs i c lt is =
-    ap (λ (l : List ℕ). with_levels L (each_at level l)) (take_next cs i c lt is) ∙ ap (with_levels L) (each_at-more level (take i cs) c) ∙ with_levels-more L (each_at level (take i cs)) (c, level)
+    ap (λ (l : List ℕ). with_levels L (each_at level l)) (take_next cs i c lt is)
+    ∙ ap (with_levels L) (each_at-more level (take i cs) c)
+    ∙ with_levels-more L (each_at level (take i cs)) (c, level)
 
 -- a label that is made by two lists of categories in turn
-pub made_by_both : {E : Type 0} (result : Result Levels E) (L M : Levels) (d : Level) (es fs : List (ℕ × Level)) → M ≡ constant d → L ≡ with_levels M es → IfOk result (λ v. v ≡ with_levels L fs) → IfOk result (λ v. v ≡ labelled (es ++ fs) d)
+pub made_by_both : {E : Type 0} (result : Result Levels E) (L M : Levels) (d : Level) (es fs : List (ℕ × Level))
+    → M ≡ constant d → L ≡ with_levels M es → IfOk result (λ v. v ≡ with_levels L fs)
+    → IfOk result (λ v. v ≡ labelled (es ++ fs) d)
 made_by_both (Ok label) L M d es fs first second third =
     third ∙ ap (λ (l : Levels). with_levels l fs) (second ∙ ap (λ (l : Levels). with_levels l es) first) ∙ sym (with_levels-append (constant d) es fs)
 made_by_both (Err error) L M d es fs first second third = third

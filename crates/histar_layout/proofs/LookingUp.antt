@@ -1,5 +1,6 @@
 -- Looking a name up: what one entry at the front leaves to be looked up, and what is found in a directory.
-use Rattle.std.proofs.Common.{◌≡◌, ℕ, zero, suc, ◌+◌, ◌-◌, ◌<◌, ◌≤◌, Bool, true, false, refl, cond, leb, List, [], ◌∷◌, ◌++◌, length, take, drop, Some, None, sym, ap, ◌∙◌, append_assoc, append-nil, inl, inr, arith}
+use Rattle.std.proofs.Common.{◌≡◌, ℕ, zero, suc, ◌+◌, ◌-◌, ◌<◌, ◌≤◌, Bool, true, false, refl, cond, leb, List, [], ◌∷◌, ◌++◌, length, take, drop}
+use Rattle.std.proofs.Common.{Some, None, sym, ap, ◌∙◌, append_assoc, append-nil, inl, inr, arith}
 use Rattle.std.specs.Prelude.{slice_get}
 use Rattle.std.specs.List.{flat_map, AllByRecursion}
 use Rattle.std.specs.Cmp.Lexicographic.{texts_ties}
@@ -75,9 +76,13 @@ front_short n bytes short = rw (lt-leb n (length bytes) short) refl
 
 module _ (bytes : List ℕ) (start len : ℕ) (read : slice_get bytes start ≡ Some len) where
   -- from its length on an entry is read so
-  begun : slot_at (drop start bytes) ≡ (front_at len (drop (start + 1) bytes) >>= λ text. front_at 17 text.1 >>= λ revealed. Some ((text.0, revealed.0), revealed.1))
+  begun : slot_at (drop start bytes)
+      ≡ (front_at len (drop (start + 1) bytes) >>= λ text. front_at 17 text.1 >>= λ revealed. Some
+      ((text.0, revealed.0), revealed.1))
   unfolding slot_at
-  begun = ap slot_at (drop_more bytes start 0 (slice_get_within bytes start len read) ∙ ap (λ b. b ∷ drop (start + 1) bytes) (get_or_from_slice_get bytes start len 0 read))
+  begun =
+      ap slot_at (drop_more bytes start 0 (slice_get_within bytes start len read)
+      ∙ ap (λ b. b ∷ drop (start + 1) bytes) (get_or_from_slice_get bytes start len 0 read))
 
   -- an entry of which there are all bytes lies between its two ends
   pub entry_there : start + len + 18 ≤ length bytes → slot_at (drop start bytes) ≡ Some (entry_between bytes start (start + len + 18))
@@ -86,8 +91,10 @@ module _ (bytes : List ℕ) (start len : ℕ) (read : slice_get bytes start ≡ 
       let left : length rest ≡ length bytes - (start + 1) = length-drop (start + 1) bytes in
       let behind : length (drop len rest) ≡ length rest - len = length-drop len rest in
       begun
-      ∙ bind_at (front_at len rest) (λ text. front_at 17 text.1 >>= λ revealed. Some ((text.0, revealed.0), revealed.1)) (take len rest, drop len rest) (front_there len rest (omega arith))
-      ∙ bind_at (front_at 17 (drop len rest)) (λ revealed. Some ((take len rest, revealed.0), revealed.1)) (take 17 (drop len rest), drop 17 (drop len rest)) (front_there 17 (drop len rest) (omega arith))
+      ∙ bind_at (front_at len rest) (λ text. front_at 17 text.1 >>= λ revealed. Some ((text.0, revealed.0), revealed.1))
+      (take len rest, drop len rest) (front_there len rest (omega arith))
+      ∙ bind_at (front_at 17 (drop len rest)) (λ revealed. Some ((take len rest, revealed.0), revealed.1))
+      (take 17 (drop len rest), drop 17 (drop len rest)) (front_there 17 (drop len rest) (omega arith))
       ∙ (λ i. Some ((take (name_is i) rest, take (target_is i) (target i)), after i))
     where
       name_is : len ≡ start + len + 18 - 17 - (start + 1)
@@ -105,11 +112,15 @@ module _ (bytes : List ℕ) (start len : ℕ) (read : slice_get bytes start ≡ 
   -- an entry that breaks off is none
   pub entry_broken : length bytes < start + len + 18 → slot_at (drop start bytes) ≡ None
   entry_broken short = begun ∙ elim (cases_lt (length (drop (start + 1) bytes)) len) [
-    | inl less ↦ ap (λ o. o >>= λ text. front_at 17 text.1 >>= λ revealed. Some ((text.0, revealed.0), revealed.1)) (front_short len (drop (start + 1) bytes) less)
+    | inl less ↦
+        ap (λ o. o >>= λ text. front_at 17 text.1 >>= λ revealed. Some ((text.0, revealed.0), revealed.1))
+        (front_short len (drop (start + 1) bytes) less)
     | inr long ↦
         let rest = drop (start + 1) bytes in
-        bind_at (front_at len rest) (λ text. front_at 17 text.1 >>= λ revealed. Some ((text.0, revealed.0), revealed.1)) (take len rest, drop len rest) (front_there len rest long)
-        ∙ ap (λ o. o >>= λ revealed. Some ((take len rest, revealed.0), revealed.1)) (front_short 17 (drop len rest) (omega (arith, length-drop len rest, length-drop (start + 1) bytes)))
+        bind_at (front_at len rest) (λ text. front_at 17 text.1 >>= λ revealed. Some ((text.0, revealed.0), revealed.1))
+        (take len rest, drop len rest) (front_there len rest long)
+        ∙ ap (λ o. o >>= λ revealed. Some ((take len rest, revealed.0), revealed.1))
+        (front_short 17 (drop len rest) (omega (arith, length-drop len rest, length-drop (start + 1) bytes)))
   ]
 
 -- behind the bytes there is no entry
@@ -125,7 +136,9 @@ module _ (rest : List ℕ) (name : Name) (x : (List ℕ × List ℕ) × List ℕ
       ∙ ap (λ (c : Bool). cond c (target_from x.0.1) (found_among most x.1 name)) test
 
   -- so where at most so many are
-  over_first : (most : ℕ) → length rest ≤ most → (b : Bool) → same name x.0.0 ≡ b → (fewer : ℕ) × (most ≡ suc fewer) × (found_among most rest name ≡ cond b (target_from x.0.1) (found_among fewer x.1 name))
+  over_first : (most : ℕ) → length rest ≤ most → (b : Bool) → same name x.0.0 ≡ b
+      → (fewer : ℕ) × (most ≡ suc fewer)
+      × (found_among most rest name ≡ cond b (target_from x.0.1) (found_among fewer x.1 name))
   over_first zero enough b test = absurd (omega (arith, slot_shorter rest x is))
   over_first (suc most) enough b test = (most, refl, over_one most b test)
 
@@ -160,16 +173,23 @@ revealed_again t is =
 pub slot_again : (e : Entry) (rest : List ℕ) → slot_at (entry_bytes e ++ rest) ≡ Some ((e.0, target_bytes e.1), rest)
 unfolding slot_at
 slot_again e rest =
-    bind_at (front_at (length e.0) ((e.0 ++ target_bytes e.1) ++ rest)) (λ text. front_at 17 text.1 >>= λ revealed. Some ((text.0, revealed.0), revealed.1)) (e.0, target_bytes e.1 ++ rest)
+    bind_at (front_at (length e.0) ((e.0 ++ target_bytes e.1) ++ rest))
+    (λ text. front_at 17 text.1 >>= λ revealed. Some ((text.0, revealed.0), revealed.1))
+    (e.0, target_bytes e.1 ++ rest)
     (ap (front_at (length e.0)) (append_assoc e.0 (target_bytes e.1) rest) ∙ front_again (length e.0) e.0 (target_bytes e.1 ++ rest) refl)
-    ∙ bind_at (front_at 17 (target_bytes e.1 ++ rest)) (λ revealed. Some ((e.0, revealed.0), revealed.1)) (target_bytes e.1, rest) (front_again 17 (target_bytes e.1) rest (target_len e.1))
+    ∙ bind_at (front_at 17 (target_bytes e.1 ++ rest)) (λ revealed. Some ((e.0, revealed.0), revealed.1))
+    (target_bytes e.1, rest) (front_again 17 (target_bytes e.1) rest (target_len e.1))
 
 -- in the bytes of entries the first one of the name is found
-found_of_entries : (most : ℕ) (es : List Entry) (name : Name) → AllByRecursion IsEntry es → length (flat_map entry_bytes es) ≤ most → found_among most (flat_map entry_bytes es) name ≡ map.find by_bytes name es
+found_of_entries : (most : ℕ) (es : List Entry) (name : Name) → AllByRecursion IsEntry es
+    → length (flat_map entry_bytes es) ≤ most
+    → found_among most (flat_map entry_bytes es) name ≡ map.find by_bytes name es
 found_of_entries most [] name each enough = nowhere most [] name none_at_end
 found_of_entries most (e ∷ es) name each enough =
     let slot = slot_again e (flat_map entry_bytes es) in
-    let first = over_first (flat_map entry_bytes (e ∷ es)) name ((e.0, target_bytes e.1), flat_map entry_bytes es) slot most enough (same name e.0) refl in
+    let first =
+    over_first (flat_map entry_bytes (e ∷ es)) name ((e.0, target_bytes e.1), flat_map entry_bytes es) slot most
+    enough (same name e.0) refl in
     let shorter = slot_shorter (flat_map entry_bytes (e ∷ es)) ((e.0, target_bytes e.1), flat_map entry_bytes es) slot in
     let later = found_of_entries first.0 es name each.1 (omega (arith, enough, first.1, shorter)) in
     first.2

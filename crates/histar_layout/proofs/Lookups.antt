@@ -1,5 +1,6 @@
 -- Looking a user's number up by the name.
-use Rattle.std.proofs.Common.{◌≡◌, ◌≢◌, ℕ, zero, suc, ◌+◌, ◌<◌, ◌≤◌, Bool, true, false, cond, List, [], ◌∷◌, ◌++◌, length, get_or, take, None, Some, refl, sym, ap, ◌∙◌, arith, if◌then◌else◌}
+use Rattle.std.proofs.Common.{◌≡◌, ◌≢◌, ℕ, zero, suc, ◌+◌, ◌<◌, ◌≤◌, Bool, true, false, cond, List, [], ◌∷◌, ◌++◌, length, get_or, take, None, Some}
+use Rattle.std.proofs.Common.{refl, sym, ap, ◌∙◌, arith, if◌then◌else◌}
 use Rattle.std.specs.Prelude.{◌||◌, map, nat_eq, nat_lt, not, option_map, position}
 use Rattle.std.specs.List.{list_any, position_or_len}
 use Rattle.std.specs.Cmp.Lexicographic.{pointwise, nat_list_eq_equiv, same_text}
@@ -31,7 +32,9 @@ not_first true c never none = never refl
 not_first false c never none = none
 
 -- none of the users before a place has the name of another one
-none_before : (user : User) (users : List User) (place : ℕ) → place ≤ length users → ((j : ℕ) → j < place → (get_or users j user).name ≢ user.name) → list_any (same_user (key user)) (map key (take place users)) ≡ false
+none_before : (user : User) (users : List User) (place : ℕ) → place ≤ length users
+    → ((j : ℕ) → j < place → (get_or users j user).name ≢ user.name)
+    → list_any (same_user (key user)) (map key (take place users)) ≡ false
 none_before user [] zero within apart = refl
 none_before user (x ∷ users) zero within apart = refl
 none_before user [] (suc place) within apart = absurd (omega arith)
@@ -41,7 +44,8 @@ none_before user (x ∷ users) (suc place) within apart =
     (none_before user users place (omega arith) (λ j lt. apart (suc j) (omega arith)))
 
 -- one name more is kept
-pub names_more : (users : List User) (place : ℕ) (user : User) → HaveOwnNames users → place < length users → user ≡ get_or users place user → (kept : List UserName) → kept ≡ map key (take place users)
+pub names_more : (users : List User) (place : ℕ) (user : User) → HaveOwnNames users → place < length users
+    → user ≡ get_or users place user → (kept : List UserName) → kept ≡ map key (take place users)
     → insert_key same_user kept (key user) ≡ map key (take (place + 1) users)
 names_more users place user own below at kept is =
     let alone = none_before user users place (omega arith) (λ j lt e. own j place user lt below (e ∙ ap (λ (u : User). u.name) at)) in
@@ -50,7 +54,9 @@ names_more users place user own below at kept is =
     ∙ sym (ap (map key) (take_next users place user below at) ∙ map-append key (take place users) (user ∷ []))
 
 -- a name stands at the place of its user
-same_place : (name : Name) (kept : List UserName) → position_or_len (λ (u : User). same u.name name) (map known kept) ≡ position_or_len (same_user (record { name = name })) kept
+same_place : (name : Name) (kept : List UserName)
+    → position_or_len (λ (u : User). same u.name name) (map known kept)
+    ≡ position_or_len (same_user (record { name = name })) kept
 same_place name [] = refl
 same_place name (k ∷ kept) = λ i. cond (not (nat_list_eq_equiv.symm k.name name i)) (1 + same_place name kept i) 0
 
@@ -59,8 +65,12 @@ as_many : (kept : List UserName) → length (map known kept) ≡ length kept
 as_many kept = search length-map
 
 -- so the number that is looked up is the user's
-pub number_is : (name : Name) (kept : List UserName) (groups : List Group) → option_map (λ (place : ℕ). place + 1) (position (same_user (record { name = name })) kept) ≡ user_number (record { users = map known kept; groups = groups }) name
-number_is name kept groups = λ i. option_map (λ (place : ℕ). place + 1) (cond (nat_lt (sym (same_place name kept) i) (sym (as_many kept) i)) (Some (sym (same_place name kept) i)) None)
+pub number_is : (name : Name) (kept : List UserName) (groups : List Group)
+    → option_map (λ (place : ℕ). place + 1) (position (same_user (record { name = name })) kept)
+    ≡ user_number (record { users = map known kept; groups = groups }) name
+number_is name kept groups =
+    λ i. option_map (λ (place : ℕ). place + 1) (cond (nat_lt (sym (same_place name kept) i) (sym (as_many kept) i))
+    (Some (sym (same_place name kept) i)) None)
 
 -- the users of the names that are kept are those of the session, with no passwords
 pub known_again : (users : List User) → map known (map key users) ≡ map without_password users

@@ -1,12 +1,15 @@
 -- Directories as finite maps: the entries in their order, and what one entry more or less changes.
-use Rattle.std.proofs.Common.{◌≡◌, ℕ, ◌+◌, ◌-◌, ◌<◌, ◌≤◌, Bool, true, false, cond, List, [], ◌∷◌, ◌++◌, length, Some, refl, sym, ap, subst, ◌∙◌, arith, Option, None}
+use Rattle.std.proofs.Common.{◌≡◌, ℕ, ◌+◌, ◌-◌, ◌<◌, ◌≤◌, Bool, true, false, cond, List, [], ◌∷◌, ◌++◌, length, Some, refl, sym, ap, subst, ◌∙◌}
+use Rattle.std.proofs.Common.{arith, Option, None}
 use Rattle.std.specs.Prelude.{T, is_some}
 use Rattle.std.specs.List.{AllByRecursion}
 use Rattle.std.specs.Ordering.{nat_cmp, is_lt, ordering_reverse, eq_by_cmp}
 use Rattle.std.specs.declared.cmp.Ordering.{Ordering}
 use Rattle.std.specs.declared.cmp.Ordering.TheVariants.{Less, Equal, Greater}
 use Rattle.std.specs.Cmp.Lexicographic.{slice_cmp, nat_list_cmp_total}
-use Rattle.std.specs.FinMap.{IsAntisymmetric, empty, get, insert, len, contains_key, entries, from_entries, from_sorted, find, is_sorted, get-from_entries, get-from_sorted, get-entries, get-remove, remove, len-entries, len-insert, len-remove, len-empty, entries-from_sorted, entries-insert, same_map, nat_cmp-IsAntisymmetric, slice_cmp-IsAntisymmetric, entries_sorted}
+use Rattle.std.specs.FinMap.{IsAntisymmetric, empty, get, insert, len, contains_key, entries, from_entries, from_sorted, find, is_sorted}
+use Rattle.std.specs.FinMap.{get-from_entries, get-from_sorted, get-entries, get-remove, remove, len-entries, len-insert, len-remove, len-empty}
+use Rattle.std.specs.FinMap.{entries-from_sorted, entries-insert, same_map, nat_cmp-IsAntisymmetric, slice_cmp-IsAntisymmetric, entries_sorted}
 use Rattle.std.specs.FinMap.Entries.{below_all, by_order, put}
 use Rattle.std.proofs.lemmas.List.{nil_from_length}
 use Rattle.histar_flat.specs.Words.{Name}
@@ -27,7 +30,9 @@ antisymmetric = slice_cmp-IsAntisymmetric nat_cmp-IsAntisymmetric
 -- entries in order are those of the directory that they make
 pub sorted_made : (es : List (Name × Target)) → T (is_sorted by_bytes es) → entries (from_entries {R = by_bytes} es) ≡ es
 sorted_made es h =
-    let same : from_entries {R = by_bytes} es ≡ from_sorted es = same_map nat_list_cmp_total antisymmetric _ _ (λ q. get-from_entries nat_list_cmp_total es q ∙ sym (get-from_sorted by_bytes es q h)) in
+    let same : from_entries {R = by_bytes} es ≡ from_sorted es =
+    same_map nat_list_cmp_total antisymmetric _ _
+    (λ q. get-from_entries nat_list_cmp_total es q ∙ sym (get-from_sorted by_bytes es q h)) in
     ap entries same ∙ entries-from_sorted by_bytes es h
 
 -- and they are as many
@@ -45,13 +50,16 @@ pub listable_empty : IsListable empty
 listable_empty = record { each = subst (AllByRecursion IsEntry) (sym entries-empty) tt; few = omega (arith, len-empty by_bytes Target) }
 
 -- what holds of each entry holds after one more
-all_put : (k : Name) (v : Target) (es : List (Name × Target)) → AllByRecursion IsEntry es → IsEntry (k, v) → AllByRecursion IsEntry (put by_bytes k v es)
+all_put : (k : Name) (v : Target) (es : List (Name × Target)) → AllByRecursion IsEntry es → IsEntry (k, v)
+    → AllByRecursion IsEntry (put by_bytes k v es)
 all_put k v [] h p = (p, tt)
-all_put k v (e ∷ es) h p = elim (by_bytes k e.0) as (λ o. AllByRecursion IsEntry (by_order o ((k, v) ∷ e ∷ es) ((e.0, v) ∷ es) (e ∷ put by_bytes k v es))) [
-  | Less ↦ (p, h)
-  | Equal ↦ ((h.0.0, p.1), h.1)
-  | Greater ↦ (h.0, all_put k v es h.1 p)
-]
+all_put k v (e ∷ es) h p =
+    elim (by_bytes k e.0) as
+    (λ o. AllByRecursion IsEntry (by_order o ((k, v) ∷ e ∷ es) ((e.0, v) ∷ es) (e ∷ put by_bytes k v es))) [
+      | Less ↦ (p, h)
+      | Equal ↦ ((h.0.0, p.1), h.1)
+      | Greater ↦ (h.0, all_put k v es h.1 p)
+    ]
 
 -- one more than less than the most
 one_more_at_most : (b : Bool) (n : ℕ) → n < 64 → cond b n (n + 1) ≤ 64
@@ -90,11 +98,14 @@ room_without dir q v h at =
     omega (arith, fewer, h.few)
 
 -- where what is found is an entry, each is
-each_from_find : (es : List (Name × Target)) → T (is_sorted by_bytes es) → ((q : Name) (v : Target) → find by_bytes q es ≡ Some v → IsEntry (q, v)) → AllByRecursion IsEntry es
+each_from_find : (es : List (Name × Target)) → T (is_sorted by_bytes es)
+    → ((q : Name) (v : Target) → find by_bytes q es ≡ Some v → IsEntry (q, v)) → AllByRecursion IsEntry es
 each_from_find [] h p = tt
 each_from_find (e ∷ es) h p = (
   p e.0 e.1 (find_first nat_list_cmp_total antisymmetric e.0 e.1 es),
-  each_from_find es (second (below_all by_bytes e.0 es) _ h) (λ q v f. p q v (find_later nat_list_cmp_total antisymmetric e.0 e.1 es q v (first _ (is_sorted by_bytes es) h) f)),
+  each_from_find es (second (below_all by_bytes e.0 es) _ h)
+      (λ q v f.
+      p q v (find_later nat_list_cmp_total antisymmetric e.0 e.1 es q v (first _ (is_sorted by_bytes es) h) f)),
 )
 
 -- what is not cleared was there
@@ -111,7 +122,8 @@ one_less_at_most false n h = h
 pub listable_remove : (dir : Entries) (k : Name) → IsListable dir → IsListable (remove dir k)
 listable_remove dir k h = record {
   each = each_from_find (entries (remove dir k)) (entries_sorted (remove dir k)) (λ q v f.
-      entry_found dir q v h (kept (eq_by_cmp by_bytes q k) (get dir q) v (sym (get-remove nat_list_cmp_total dir k q) ∙ get-entries (remove dir k) q ∙ f)));
+      entry_found dir q v h (kept (eq_by_cmp by_bytes q k) (get dir q) v
+      (sym (get-remove nat_list_cmp_total dir k q) ∙ get-entries (remove dir k) q ∙ f)));
   few = subst (λ (n : ℕ). n ≤ 64) (sym (len-remove nat_list_cmp_total dir k)) (one_less_at_most (contains_key dir k) (len dir) h.few);
 }
 
@@ -123,18 +135,24 @@ below_last b [] x h = less _ (first _ _ h)
 below_last b (e ∷ before) x h = below_last b before x (second (is_lt (by_bytes b e.0)) _ h)
 
 -- what is greater than the first entry comes behind it
-pub put_behind : (e : Name × Target) (es : List (Name × Target)) (k : Name) (v : Target) → by_bytes e.0 k ≡ Less → put by_bytes k v (e ∷ es) ≡ e ∷ put by_bytes k v es
-put_behind e es k v h = ap (λ o. by_order o ((k, v) ∷ e ∷ es) ((e.0, v) ∷ es) (e ∷ put by_bytes k v es)) (nat_list_cmp_total.antisymm k e.0 ∙ ap ordering_reverse h)
+pub put_behind : (e : Name × Target) (es : List (Name × Target)) (k : Name) (v : Target) → by_bytes e.0 k ≡ Less
+    → put by_bytes k v (e ∷ es) ≡ e ∷ put by_bytes k v es
+put_behind e es k v h =
+    ap (λ o. by_order o ((k, v) ∷ e ∷ es) ((e.0, v) ∷ es) (e ∷ put by_bytes k v es))
+    (nat_list_cmp_total.antisymm k e.0 ∙ ap ordering_reverse h)
 
 -- an entry with a greater name than the last one comes at the end
-pub put_last : (before : List (Name × Target)) (x : Name × Target) (k : Name) (v : Target) → T (is_sorted by_bytes (before ++ x ∷ [])) → by_bytes x.0 k ≡ Less
+pub put_last : (before : List (Name × Target)) (x : Name × Target) (k : Name) (v : Target)
+    → T (is_sorted by_bytes (before ++ x ∷ [])) → by_bytes x.0 k ≡ Less
     → put by_bytes k v (before ++ x ∷ []) ≡ (before ++ x ∷ []) ++ (k, v) ∷ []
 put_last [] x k v h lt = put_behind x [] k v lt
 put_last (e ∷ before) x k v h lt =
-    put_behind e (before ++ x ∷ []) k v (nat_list_cmp_total.trans e.0 x.0 k (below_last e.0 before x (first _ (is_sorted by_bytes (before ++ x ∷ [])) h)) lt)
+    put_behind e (before ++ x ∷ []) k v (nat_list_cmp_total.trans e.0 x.0 k
+    (below_last e.0 before x (first _ (is_sorted by_bytes (before ++ x ∷ [])) h)) lt)
     ∙ ap (λ (es : List (Name × Target)). e ∷ es) (put_last before x k v (second (below_all by_bytes e.0 (before ++ x ∷ [])) _ h) lt)
 
 -- in entries by rising names, the one behind the last has a greater name
-pub last_below : (before : List (Name × Target)) (x e : Name × Target) (es : List (Name × Target)) → T (is_sorted by_bytes ((before ++ x ∷ []) ++ e ∷ es)) → by_bytes x.0 e.0 ≡ Less
+pub last_below : (before : List (Name × Target)) (x e : Name × Target) (es : List (Name × Target))
+    → T (is_sorted by_bytes ((before ++ x ∷ []) ++ e ∷ es)) → by_bytes x.0 e.0 ≡ Less
 last_below [] x e es h = less _ (first (is_lt (by_bytes x.0 e.0)) _ (first _ (is_sorted by_bytes (e ∷ es)) h))
 last_below (b ∷ before) x e es h = last_below before x e es (second (below_all by_bytes b.0 ((before ++ x ∷ []) ++ e ∷ es)) _ h)

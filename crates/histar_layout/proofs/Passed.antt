@@ -1,5 +1,6 @@
 -- The categories of a label whose levels pass a test.
-use Rattle.std.proofs.Common.{◌≡◌, ℕ, zero, suc, ◌+◌, ◌<◌, ◌≤◌, ◌==◌, ◌||◌, inl, inr, Bool, true, false, cond, Contains, List, [], ◌∷◌, length, get_or, arith, refl, sym, ap, ◌∙◌}
+use Rattle.std.proofs.Common.{◌≡◌, ℕ, zero, suc, ◌+◌, ◌<◌, ◌≤◌, ◌==◌, ◌||◌, inl, inr, Bool, true, false, cond, Contains, List, [], ◌∷◌, length}
+use Rattle.std.proofs.Common.{get_or, arith, refl, sym, ap, ◌∙◌}
 use Rattle.std.specs.Prelude.{map}
 use Rattle.std.specs.List.{filter}
 use Rattle.std.proofs.lemmas.Bool.Decides.{eqb_tells}
@@ -39,28 +40,35 @@ module _ (test : ℕ × Level → Bool) where
   passed_there (x ∷ es) c e = passed_by x es (filter test es) c (passed_there es c) (test x) refl e
 
   -- what is picked later is picked
-  passed_later : (x : ℕ × Level) (more : List (ℕ × Level)) (c : ℕ) → is_in (map (λ (e : ℕ × Level). e.0) more) c ≡ true → (b : Bool) → is_in (map (λ (e : ℕ × Level). e.0) (cond b (x ∷ more) more)) c ≡ true
+  passed_later : (x : ℕ × Level) (more : List (ℕ × Level)) (c : ℕ) → is_in (map (λ (e : ℕ × Level). e.0) more) c ≡ true
+      → (b : Bool) → is_in (map (λ (e : ℕ × Level). e.0) (cond b (x ∷ more) more)) c ≡ true
   passed_later x more c found true = or_right (c == x.0) _ found
   passed_later x more c found false = found
 
   -- and a category that is listed with a level that passes is picked
-  passed_if_there : (es : List (ℕ × Level)) (c : ℕ) (l : Level) → test (c, l) ≡ true → (j : ℕ) → j < length es → get_or es j (0, Star) ≡ (c, l) → is_in (passed test es) c ≡ true
+  passed_if_there : (es : List (ℕ × Level)) (c : ℕ) (l : Level) → test (c, l) ≡ true → (j : ℕ) → j < length es
+      → get_or es j (0, Star) ≡ (c, l) → is_in (passed test es) c ≡ true
   passed_if_there [] c l passes j low at = absurd (omega (arith, low))
   passed_if_there (x ∷ es) c l passes zero low at =
       ap (λ b. is_in (map (λ (e : ℕ × Level). e.0) (cond b (x ∷ filter test es) (filter test es))) c) (ap test at ∙ passes)
       ∙ or_left (c == x.0) _ (ap (λ (e : ℕ × Level). c == e.0) at ∙ equal_itself c)
-  passed_if_there (x ∷ es) c l passes (suc j) low at = passed_later x (filter test es) c (passed_if_there es c l passes j (omega (arith, low)) at) (test x)
+  passed_if_there (x ∷ es) c l passes (suc j) low at =
+      passed_later x (filter test es) c (passed_if_there es c l passes j (omega (arith, low)) at) (test x)
 
   -- where the default fails, the categories that pass are those whose levels do
-  pub in_passed : (L : Levels) → ((c : ℕ) → test (c, default_of L) ≡ false) → (c : ℕ) → is_in (passed test (exceptions_of L)) c ≡ test (c, level_of L c)
+  pub in_passed : (L : Levels) → ((c : ℕ) → test (c, default_of L) ≡ false) → (c : ℕ)
+      → is_in (passed test (exceptions_of L)) c ≡ test (c, level_of L c)
   in_passed L fails c = same_truth (is_in (passed test (exceptions_of L)) c) (test (c, level_of L c))
       (λ e. let there = passed_there (exceptions_of L) c e in
       ap (λ (l : Level). test (c, l)) ((ListsExceptions-exceptions_of L c there.0).0 there.1).0 ∙ there.2)
-      (λ e. let there = (ListsExceptions-exceptions_of L c (level_of L c)).1 (refl, λ same. true≢false (sym e ∙ ap (λ (l : Level). test (c, l)) same ∙ fails c)) in
-      passed_if_there (exceptions_of L) c (level_of L c) e there.0 there.1 (get_or_default (exceptions_of L) there.0 (0, Star) (c, level_of L c) there.1 ∙ there.2))
+      (λ e. let there = (ListsExceptions-exceptions_of L c (level_of L c)).1
+      (refl, λ same. true≢false (sym e ∙ ap (λ (l : Level). test (c, l)) same ∙ fails c)) in
+      passed_if_there (exceptions_of L) c (level_of L c) e there.0 there.1
+      (get_or_default (exceptions_of L) there.0 (0, Star) (c, level_of L c) there.1 ∙ there.2))
 
   -- they rise, by the test of the first one
-  rise_by : (n : ℕ) (x : ℕ × Level) (more : List (ℕ × Level)) (b : Bool) → n ≤ x.0 → IsRisingFrom (x.0 + 1) (map (λ (e : ℕ × Level). e.0) more) → IsRisingFrom n (map (λ (e : ℕ × Level). e.0) more)
+  rise_by : (n : ℕ) (x : ℕ × Level) (more : List (ℕ × Level)) (b : Bool) → n ≤ x.0
+      → IsRisingFrom (x.0 + 1) (map (λ (e : ℕ × Level). e.0) more) → IsRisingFrom n (map (λ (e : ℕ × Level). e.0) more)
       → IsRisingFrom n (map (λ (e : ℕ × Level). e.0) (cond b (x ∷ more) more))
   rise_by n x more true low later here = (low, later)
   rise_by n x more false low later here = here

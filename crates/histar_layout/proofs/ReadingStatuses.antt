@@ -1,5 +1,6 @@
 -- Going over the bytes of a process segment, child by child.
-use Rattle.std.proofs.Common.{◌≡◌, ℕ, zero, suc, ◌-◌, ◌<◌, ◌≤◌, Bool, true, false, cond, eqb, leb, List, [], ◌∷◌, length, take, drop, Option, Some, None, Result, Ok, refl, sym, ap, ◌∙◌, length-drop, eq-eqb, get_or, arith}
+use Rattle.std.proofs.Common.{◌≡◌, ℕ, zero, suc, ◌-◌, ◌<◌, ◌≤◌, Bool, true, false, cond, eqb, leb, List, [], ◌∷◌, length, take, drop, Option, Some}
+use Rattle.std.proofs.Common.{None, Result, Ok, refl, sym, ap, ◌∙◌, length-drop, eq-eqb, get_or, arith}
 use Rattle.std.proofs.lemmas.List.{drop-drop}
 use Rattle.std.specs.Prelude.{option_map, is_some}
 use Rattle.std.specs.Int.{w64, from_be_bytes}
@@ -23,7 +24,8 @@ number_there : (bytes : List ℕ) → 8 ≤ length bytes → number_at bytes ≡
 unfolding number_at front_at
 number_there bytes long =
     let enough : leb 8 (length bytes) ≡ true = grind (arith, nat_tests) in
-    ap (λ (b : Bool). cond b (Some (take 8 bytes, drop 8 bytes)) None >>= λ (front : List ℕ × List ℕ). Some (from_be_bytes w64 front.0, front.1)) enough
+    ap (λ (b : Bool). cond b (Some (take 8 bytes, drop 8 bytes)) None >>= λ (front : List ℕ × List ℕ). Some
+    (from_be_bytes w64 front.0, front.1)) enough
 
 -- fewer are none
 number_short : (bytes : List ℕ) → length bytes < 8 → number_at bytes ≡ None
@@ -34,16 +36,35 @@ number_short bytes short =
 
 -- the first byte and two numbers are a child
 child_there : (number : ℕ) (bytes : List ℕ) → 16 ≤ length bytes
-    → child_in (number ∷ bytes) ≡ Some (record { number = number; container = from_be_bytes w64 (take 8 bytes); segment = from_be_bytes w64 (take 8 (drop 8 bytes)) }, drop 16 bytes)
+    → child_in (number ∷ bytes)
+    ≡ Some (
+      record {
+        number = number;
+        container = from_be_bytes w64 (take 8 bytes);
+        segment = from_be_bytes w64 (take 8 (drop 8 bytes));
+      },
+      drop 16 bytes,
+    )
 unfolding child_in
 child_there number bytes long =
-    let child : Child = record { number = number; container = from_be_bytes w64 (take 8 bytes); segment = from_be_bytes w64 (take 8 (drop 8 bytes)) } in
-    bind_at (number_at bytes) (λ container. number_at container.1 >>= λ segment. Some (record { number = number; container = container.0; segment = segment.0 }, segment.1)) _ (number_there bytes (omega arith))
-    ∙ bind_at (number_at (drop 8 bytes)) (λ segment. Some (record { number = number; container = from_be_bytes w64 (take 8 bytes); segment = segment.0 }, segment.1)) _ (number_there (drop 8 bytes) (omega (arith, length-drop 8 bytes)))
+    let child : Child =
+    record {
+      number = number;
+      container = from_be_bytes w64 (take 8 bytes);
+      segment = from_be_bytes w64 (take 8 (drop 8 bytes));
+    } in
+    bind_at (number_at bytes) (λ container. number_at container.1 >>= λ segment. Some
+    (record { number = number; container = container.0; segment = segment.0 }, segment.1)) _
+    (number_there bytes (omega arith))
+    ∙ bind_at (number_at (drop 8 bytes)) (λ segment. Some (
+      record { number = number; container = from_be_bytes w64 (take 8 bytes); segment = segment.0 },
+      segment.1,
+    )) _ (number_there (drop 8 bytes) (omega (arith, length-drop 8 bytes)))
     ∙ ap (λ (after : List ℕ). Some (child, after)) (drop-drop 8 8 bytes)
 
 -- seventeen bytes are a child, with the first as its number
-pub whole_child : (rest : List ℕ) → 17 ≤ length rest → (child : Child) × (child_in rest ≡ Some (child, drop 17 rest)) × (child.number ≡ get_or (take 17 rest) 0 0)
+pub whole_child : (rest : List ℕ) → 17 ≤ length rest
+    → (child : Child) × (child_in rest ≡ Some (child, drop 17 rest)) × (child.number ≡ get_or (take 17 rest) 0 0)
 whole_child [] long = absurd (omega arith)
 whole_child (number ∷ bytes) long = (_, child_there number bytes (omega arith), refl)
 
@@ -53,9 +74,19 @@ unfolding child_in
 short_child [] short = refl
 short_child (number ∷ bytes) short = elim (leb 8 (length bytes)) as (λ b. leb 8 (length bytes) ≡ b → child_in (number ∷ bytes) ≡ None) [
   | true ↦ λ enough.
-      bind_at (number_at bytes) (λ container. number_at container.1 >>= λ segment. Some (record { number = number; container = container.0; segment = segment.0 }, segment.1)) _ (number_there bytes (grind (arith, nat_tests)))
-      ∙ ap (λ o. o >>= λ (segment : ℕ × List ℕ). Some (record { number = number; container = from_be_bytes w64 (take 8 bytes); segment = segment.0 }, segment.1)) (number_short (drop 8 bytes) (omega (arith, length-drop 8 bytes)))
-  | false ↦ λ few. ap (λ o. o >>= λ (container : ℕ × List ℕ). number_at container.1 >>= λ segment. Some (record { number = number; container = container.0; segment = segment.0 }, segment.1)) (number_short bytes (grind (arith, nat_tests)))
+      bind_at (number_at bytes) (λ container. number_at container.1 >>= λ segment. Some
+      (record { number = number; container = container.0; segment = segment.0 }, segment.1)) _
+      (number_there bytes (grind (arith, nat_tests)))
+      ∙ ap (λ o. o >>= λ (segment : ℕ × List ℕ). Some (
+        record
+            { number = number; container = from_be_bytes w64 (take 8 bytes); segment = segment.0 },
+        segment.1,
+      ))
+      (number_short (drop 8 bytes) (omega (arith, length-drop 8 bytes)))
+  | false ↦
+      λ few. ap (λ o. o >>= λ (container : ℕ × List ℕ). number_at container.1 >>= λ segment. Some
+      (record { number = number; container = container.0; segment = segment.0 }, segment.1))
+      (number_short bytes (grind (arith, nat_tests)))
 ] refl
 
 -- ---- the children of the rest
@@ -68,7 +99,8 @@ no_children (suc left) [] none = refl
 no_children left (b ∷ rest) none = absurd (omega arith)
 
 -- one child more
-pub next_child : (left : ℕ) (rest after : List ℕ) (child : Child) → 0 < left → child_in rest ≡ Some (child, after) → children_in left rest ≡ (children_in (left - 1) after >>= λ more. Some (child ∷ more))
+pub next_child : (left : ℕ) (rest after : List ℕ) (child : Child) → 0 < left → child_in rest ≡ Some (child, after)
+    → children_in left rest ≡ (children_in (left - 1) after >>= λ more. Some (child ∷ more))
 unfolding children_in child_in
 next_child zero rest after child room e = absurd (omega arith)
 next_child (suc left) [] after child room e = absurd cc
@@ -98,11 +130,14 @@ some_more child None = refl
 some_more child (Some cs) = refl
 
 -- they do where the rest does
-pub list_on : (left : ℕ) (rest after : List ℕ) (child : Child) (all : Bool) → all ≡ is_some (children_in left rest) → 0 < left → child_in rest ≡ Some (child, after) → all ≡ is_some (children_in (left - 1) after)
-list_on left rest after child all so_far room e = so_far ∙ ap is_some (next_child left rest after child room e) ∙ some_more child (children_in (left - 1) after)
+pub list_on : (left : ℕ) (rest after : List ℕ) (child : Child) (all : Bool) → all ≡ is_some (children_in left rest)
+    → 0 < left → child_in rest ≡ Some (child, after) → all ≡ is_some (children_in (left - 1) after)
+list_on left rest after child all so_far room e =
+    so_far ∙ ap is_some (next_child left rest after child room e) ∙ some_more child (children_in (left - 1) after)
 
 -- bytes too short for a child list children where there are none
-pub list_end : (left : ℕ) (rest : List ℕ) (all empty : Bool) → all ≡ is_some (children_in left rest) → length rest < 17 → eqb (length rest) 0 ≡ empty → empty ≡ all
+pub list_end : (left : ℕ) (rest : List ℕ) (all empty : Bool) → all ≡ is_some (children_in left rest) → length rest < 17
+    → eqb (length rest) 0 ≡ empty → empty ≡ all
 list_end left [] all empty so_far short is =
     let none : true ≡ empty = is in
     let lists : all ≡ true = so_far ∙ ap is_some (no_children left [] refl) in
@@ -124,24 +159,38 @@ IsSought due number rest = (left : ℕ) × (children : List Child) × (children_
 
 -- at the front of bytes that are long enough there is one of them
 front_child : (left : ℕ) (rest : List ℕ) (children : List Child) → children_in left rest ≡ Some children → 17 ≤ length rest
-    → (child : Child) × (more : List Child) × (children ≡ child ∷ more) × (children_in (left - 1) (drop 17 rest) ≡ Some more) × (child_in rest ≡ Some (child, drop 17 rest)) × (child.number ≡ get_or (take 17 rest) 0 0)
+    → (child : Child) × (more : List Child) × (children ≡ child ∷ more)
+    × (children_in (left - 1) (drop 17 rest) ≡ Some more) × (child_in rest ≡ Some (child, drop 17 rest))
+    × (child.number ≡ get_or (take 17 rest) 0 0)
 front_child zero rest children is long =
     let none : ◌≡◌ {A = Option (List Child)} None (Some children) = sym (no_room zero rest (omega arith) refl) ∙ is in
     absurd cc
 front_child (suc left) rest children is long =
     let child = whole_child rest long in
-    let more = bind_some (children_in (suc left - 1) (drop 17 rest)) (λ more. Some (child.0 ∷ more)) children (sym (next_child (suc left) rest (drop 17 rest) child.0 (omega arith) child.1) ∙ is) in
+    let more =
+    bind_some (children_in (suc left - 1) (drop 17 rest)) (λ more. Some (child.0 ∷ more)) children
+    (sym (next_child (suc left) rest (drop 17 rest) child.0 (omega arith) child.1) ∙ is) in
     (child.0, more.0, sym (same_Some (child.0 ∷ more.0) children more.2), more.1, child.1, child.2)
 
 -- where it has another number, the one that is due is in the bytes behind it
-pub seek_on : (due : Result (Option Child) NotAStatus) (number : ℕ) (rest front after : List ℕ) → IsSought due number rest → 17 ≤ length rest → front ≡ take 17 rest → after ≡ drop 17 rest → (get_or front 0 0 ≡ number → ⊥) → IsSought due number after
+pub seek_on : (due : Result (Option Child) NotAStatus) (number : ℕ) (rest front after : List ℕ)
+    → IsSought due number rest → 17 ≤ length rest → front ≡ take 17 rest → after ≡ drop 17 rest
+    → (get_or front 0 0 ≡ number → ⊥) → IsSought due number after
 seek_on due number rest front after (left, children, is, due_is) long front_is after_is other =
     let at = front_child left rest children is long in
-    let differ : eqb at.0.number number ≡ false = differs at.0.number number (λ same. other (ap (λ (t : List ℕ). get_or t 0 0) front_is ∙ sym at.5 ∙ same)) in
-    (left - 1, at.1, ap (children_in (left - 1)) after_is ∙ at.3, due_is ∙ ap (λ cs. Ok (child_at cs number)) at.2 ∙ ap (λ (b : Bool). Ok (cond b (Some at.0) (child_at at.1 number))) differ)
+    let differ : eqb at.0.number number ≡ false =
+    differs at.0.number number (λ same. other (ap (λ (t : List ℕ). get_or t 0 0) front_is ∙ sym at.5 ∙ same)) in (
+      left - 1,
+      at.1,
+      ap (children_in (left - 1)) after_is ∙ at.3,
+      due_is ∙ ap (λ cs. Ok (child_at cs number)) at.2
+          ∙ ap (λ (b : Bool). Ok (cond b (Some at.0) (child_at at.1 number))) differ,
+    )
 
 -- where it has the number, it is the one
-pub sought_here : (due : Result (Option Child) NotAStatus) (number : ℕ) (rest front : List ℕ) → IsSought due number rest → 17 ≤ length rest → front ≡ take 17 rest → get_or front 0 0 ≡ number → due ≡ Ok (option_map (λ (found : Child × List ℕ). found.0) (child_in rest))
+pub sought_here : (due : Result (Option Child) NotAStatus) (number : ℕ) (rest front : List ℕ) → IsSought due number rest
+    → 17 ≤ length rest → front ≡ take 17 rest → get_or front 0 0 ≡ number
+    → due ≡ Ok (option_map (λ (found : Child × List ℕ). found.0) (child_in rest))
 sought_here due number rest front (left, children, is, due_is) long front_is same =
     let at = front_child left rest children is long in
     let it : eqb at.0.number number ≡ true = eq-eqb at.0.number number (at.5 ∙ ap (λ (t : List ℕ). get_or t 0 0) (sym front_is) ∙ same) in
@@ -149,25 +198,34 @@ sought_here due number rest front (left, children, is, due_is) long front_is sam
     ∙ ap (λ o. Ok (option_map (λ (found : Child × List ℕ). found.0) o)) (sym at.4)
 
 -- where the bytes are too short for one, there is none
-pub sought_nowhere : (due : Result (Option Child) NotAStatus) (number : ℕ) (rest : List ℕ) → IsSought due number rest → length rest < 17 → due ≡ Ok None
+pub sought_nowhere : (due : Result (Option Child) NotAStatus) (number : ℕ) (rest : List ℕ) → IsSought due number rest
+    → length rest < 17 → due ≡ Ok None
 sought_nowhere due number [] (left, children, is, due_is) short =
     due_is ∙ ap (λ cs. Ok (child_at cs number)) (sym (same_Some [] children (sym (no_children left [] refl) ∙ is)))
 sought_nowhere due number (b ∷ rest) (left, children, is, due_is) short =
-    let none : ◌≡◌ {A = Option (List Child)} None (Some children) = sym (no_child left (b ∷ rest) (omega arith) (short_child (b ∷ rest) short)) ∙ is in
+    let none : ◌≡◌ {A = Option (List Child)} None (Some children) =
+    sym (no_child left (b ∷ rest) (omega arith) (short_child (b ∷ rest) short)) ∙ is in
     absurd cc
 
 -- where bytes have a head, what is looked for is looked for in the bytes of the children
-look_behind : (bytes : List ℕ) (head : StatusHead) (rest : List ℕ) (number : ℕ) → head_in bytes ≡ Some (head, rest) → (o : Option (List Child)) → children_in most_children rest ≡ o → look_for (status_in bytes) number ≡ look_for (option_map (status_of head) o) number
+look_behind : (bytes : List ℕ) (head : StatusHead) (rest : List ℕ) (number : ℕ) → head_in bytes ≡ Some (head, rest)
+    → (o : Option (List Child)) → children_in most_children rest ≡ o
+    → look_for (status_in bytes) number ≡ look_for (option_map (status_of head) o) number
 unfolding status_in
 look_behind bytes head rest number h o is =
-    ap (λ o. look_for o number) (bind_at (head_in bytes) (λ head. children_in most_children head.1 >>= λ children. Some (status_of head.0 children)) (head, rest) h) ∙ ap (λ x. look_for (x >>= λ children. Some (status_of head children)) number) is ∙ by o
+    ap (λ o. look_for o number) (bind_at (head_in bytes)
+    (λ head. children_in most_children head.1 >>= λ children. Some (status_of head.0 children)) (head, rest) h)
+    ∙ ap (λ x. look_for (x >>= λ children. Some (status_of head children)) number) is ∙ by o
   where
-    by : (o : Option (List Child)) → look_for (o >>= λ children. Some (status_of head children)) number ≡ look_for (option_map (status_of head) o) number
+    by : (o : Option (List Child))
+        → look_for (o >>= λ children. Some (status_of head children)) number
+        ≡ look_for (option_map (status_of head) o) number
     by None = refl
     by (Some children) = refl
 
 -- they list the one that is due
-pub sought_first : (bytes : List ℕ) (head : StatusHead) (rest : List ℕ) (number : ℕ) → head_in bytes ≡ Some (head, rest) → is_some (children_in most_children rest) ≡ true → IsSought (look_for (status_in bytes) number) number rest
+pub sought_first : (bytes : List ℕ) (head : StatusHead) (rest : List ℕ) (number : ℕ) → head_in bytes ≡ Some (head, rest)
+    → is_some (children_in most_children rest) ≡ true → IsSought (look_for (status_in bytes) number) number rest
 sought_first bytes head rest number h some = by (children_in most_children rest) refl some
   where
     by : (o : Option (List Child)) → children_in most_children rest ≡ o → is_some o ≡ true → IsSought (look_for (status_in bytes) number) number rest
@@ -177,22 +235,27 @@ sought_first bytes head rest number h some = by (children_in most_children rest)
 -- where they have none, they tell nothing
 pub no_head : (bytes : List ℕ) → head_in bytes ≡ None → status_in bytes ≡ None
 unfolding status_in
-no_head bytes none = ap (λ o. o >>= λ (head : StatusHead × List ℕ). children_in most_children head.1 >>= λ children. Some (status_of head.0 children)) none
+no_head bytes none =
+    ap (λ o. o >>= λ (head : StatusHead × List ℕ). children_in most_children head.1 >>= λ children. Some
+    (status_of head.0 children)) none
 
 -- ---- the head and the bytes of the children
 
 -- where the children are none, bytes tell nothing
-pub not_split : (bytes : List ℕ) (head : StatusHead) (rest : List ℕ) → head_in bytes ≡ Some (head, rest) → is_some (children_in most_children rest) ≡ false → status_in bytes ≡ None
+pub not_split : (bytes : List ℕ) (head : StatusHead) (rest : List ℕ) → head_in bytes ≡ Some (head, rest)
+    → is_some (children_in most_children rest) ≡ false → status_in bytes ≡ None
 unfolding status_in
 not_split bytes head rest h none =
-    bind_at (head_in bytes) (λ head. children_in most_children head.1 >>= λ children. Some (status_of head.0 children)) (head, rest) h ∙ by (children_in most_children rest) none
+    bind_at (head_in bytes) (λ head. children_in most_children head.1 >>= λ children. Some (status_of head.0 children))
+    (head, rest) h ∙ by (children_in most_children rest) none
   where
     by : (o : Option (List Child)) → is_some o ≡ false → (o >>= λ children. Some (status_of head children)) ≡ None
     by None is = refl
     by (Some children) is = absurd cc
 
 -- where they are some, bytes are split into the head and them
-pub is_split : (bytes : List ℕ) (head : StatusHead) (rest : List ℕ) → IsBytes bytes → head_in bytes ≡ Some (head, rest) → is_some (children_in most_children rest) ≡ true → IsSplit bytes head rest
+pub is_split : (bytes : List ℕ) (head : StatusHead) (rest : List ℕ) → IsBytes bytes → head_in bytes ≡ Some (head, rest)
+    → is_some (children_in most_children rest) ≡ true → IsSplit bytes head rest
 is_split bytes head rest fits h some = by (children_in most_children rest) refl some
   where
     by : (o : Option (List Child)) → children_in most_children rest ≡ o → is_some o ≡ true → IsSplit bytes head rest

@@ -1,5 +1,6 @@
 -- Where the entry of a name lies: what the entries before it leave to be looked at.
-use Rattle.std.proofs.Common.{◌≡◌, ℕ, ◌-◌, ◌<◌, Bool, true, false, cond, not, List, [], ◌∷◌, ◌++◌, length, take, drop, Some, None, refl, sym, ap, subst, ◌∙◌, append_assoc, append-nil, length-append, arith}
+use Rattle.std.proofs.Common.{◌≡◌, ℕ, ◌-◌, ◌<◌, Bool, true, false, cond, not, List, [], ◌∷◌, ◌++◌, length, take, drop, Some, None, refl, sym, ap}
+use Rattle.std.proofs.Common.{subst, ◌∙◌, append_assoc, append-nil, length-append, arith}
 use Rattle.std.specs.Prelude.{T}
 use Rattle.std.specs.List.{flat_map, AllByRecursion}
 use Rattle.std.specs.Ordering.{is_eq, is_lt, eq_by_cmp, ordering_reverse}
@@ -40,13 +41,15 @@ turned false x y = refl
 -- without a name a directory has the entries of all others
 removed : (dir : Entries) (name : Name) → map.entries (map.remove dir name) ≡ others name (map.entries dir)
 removed dir name =
-    same_entries by_bytes nat_list_cmp_total antisymmetric (map.entries (map.remove dir name)) (others name (map.entries dir)) (map.entries_sorted (map.remove dir name))
+    same_entries by_bytes nat_list_cmp_total antisymmetric (map.entries (map.remove dir name))
+    (others name (map.entries dir)) (map.entries_sorted (map.remove dir name))
     (is_sorted-where_key by_bytes (λ x. not (eq_by_cmp by_bytes name x)) (map.entries dir) (map.entries_sorted dir))
     (λ q.
     sym (map.get-entries (map.remove dir name) q) ∙ map.get-remove nat_list_cmp_total dir name q
     ∙ turned (eq_by_cmp by_bytes q name) None (map.get dir q)
     ∙ (λ i. cond (not ((eq_by_cmp_equiv nat_list_cmp_total).symm q name i)) (map.get-entries dir q i) None)
-    ∙ sym (find-where_key by_bytes (λ x. not (eq_by_cmp by_bytes name x)) q (λ x ties. ap (λ y. not (eq_by_cmp by_bytes name y)) (sym (antisymmetric q x ties))) (map.entries dir)))
+    ∙ sym (find-where_key by_bytes (λ x. not (eq_by_cmp by_bytes name x)) q
+    (λ x ties. ap (λ y. not (eq_by_cmp by_bytes name y)) (sym (antisymmetric q x ties))) (map.entries dir)))
 
 -- the other way round the order is turned
 reversed : (a b : Name) (o : Ordering) → by_bytes a b ≡ o → by_bytes b a ≡ ordering_reverse o
@@ -110,11 +113,13 @@ none_passed bytes name dir is = record {
 -- the bytes before the rest, and those behind what the rest begins with
 front_is : (bytes front rest : List ℕ) → bytes ≡ front ++ rest → take (length bytes - length rest) bytes ≡ front
 front_is bytes front rest is =
-    (λ i. take (length bytes - length rest) (is i)) ∙ take_at front rest (length bytes - length rest) (omega (arith, ap length is, length-append front rest))
+    (λ i. take (length bytes - length rest) (is i))
+    ∙ take_at front rest (length bytes - length rest) (omega (arith, ap length is, length-append front rest))
 
 rest_is : (bytes front rest : List ℕ) → bytes ≡ front ++ rest → drop (length bytes - length rest) bytes ≡ rest
 rest_is bytes front rest is =
-    (λ i. drop (length bytes - length rest) (is i)) ∙ drop_at front rest (length bytes - length rest) (omega (arith, ap length is, length-append front rest))
+    (λ i. drop (length bytes - length rest) (is i))
+    ∙ drop_at front rest (length bytes - length rest) (omega (arith, ap length is, length-append front rest))
 
 module _ (bytes rest : List ℕ) (name : Name) (dir : Entries) (h : IsPassed bytes rest name dir) where
   -- the span of the name, where between the entries before and those behind it these bytes lie
@@ -127,7 +132,9 @@ module _ (bytes rest : List ℕ) (name : Name) (dir : Entries) (h : IsPassed byt
     rises = omega (arith, ap length parted, length-append between behind);
     within = omega arith;
     front = front_is bytes (text h.before) rest h.front;
-    rest = rest_is bytes (text h.before ++ between) behind (h.front ∙ ap (λ (r : List ℕ). text h.before ++ r) parted ∙ sym (append_assoc (text h.before) between behind)) ∙ spelled;
+    rest =
+        rest_is bytes (text h.before ++ between) behind (h.front ∙ ap (λ (r : List ℕ). text h.before ++ r) parted
+        ∙ sym (append_assoc (text h.before) between behind)) ∙ spelled;
     made = λ target. map.entries-insert nat_list_cmp_total dir name target ∙ h.puts target ∙ ap (λ (es : List Entry). h.before ++ es) (made target);
     taken = removed dir name ∙ h.leaves ∙ ap (λ (es : List Entry). h.before ++ es) left;
   }
@@ -136,7 +143,8 @@ module _ (bytes rest : List ℕ) (name : Name) (dir : Entries) (h : IsPassed byt
   pub span_at_end : slot_at rest ≡ None → IsSpan bytes dir name (length bytes - length rest) (length bytes - length rest)
   span_at_end none = go h.after h.spelled refl
     where
-      go : (after : List Entry) → rest ≡ text after → h.after ≡ after → IsSpan bytes dir name (length bytes - length rest) (length bytes - length rest)
+      go : (after : List Entry) → rest ≡ text after → h.after ≡ after
+          → IsSpan bytes dir name (length bytes - length rest) (length bytes - length rest)
       go [] spelled is = span [] rest [] refl spelled (λ target. ap (put by_bytes name target) is) (ap (others name) is)
       go (e ∷ more) spelled is = absurd (let seen = sym none ∙ ap slot_at spelled ∙ slot_again e (text more) in cc)
 
@@ -156,7 +164,9 @@ module _ (bytes rest : List ℕ) (name : Name) (dir : Entries) (h : IsPassed byt
         go : (after : List Entry) → rest ≡ text after → h.after ≡ after → HasFirst
         go [] spelled is = absurd (let seen = sym slot ∙ ap slot_at spelled ∙ none_at_end in cc)
         go (e ∷ more) spelled is =
-            let same : x ≡ ((e.0, target_bytes e.1), text more) = same_Some x ((e.0, target_bytes e.1), text more) (sym slot ∙ ap slot_at spelled ∙ slot_again e (text more)) in
+            let same : x ≡ ((e.0, target_bytes e.1), text more) =
+            same_Some x ((e.0, target_bytes e.1), text more)
+            (sym slot ∙ ap slot_at spelled ∙ slot_again e (text more)) in
             let behind_is : x.1 ≡ text more = ap (λ (y : (List ℕ × List ℕ) × List ℕ). y.1) same in
             record {
               e = e;
@@ -178,7 +188,8 @@ module _ (bytes rest : List ℕ) (name : Name) (dir : Entries) (h : IsPassed byt
     below_behind : T (below_all by_bytes f.e.0 f.more)
     below_behind =
         first (below_all by_bytes f.e.0 f.more) _
-        (rises_behind h.before (f.e ∷ f.more) (subst (λ (es : List Entry). T (is_sorted by_bytes es)) (h.parts ∙ ap (λ (es : List Entry). h.before ++ es) f.is) (map.entries_sorted dir)))
+        (rises_behind h.before (f.e ∷ f.more) (subst (λ (es : List Entry). T (is_sorted by_bytes es))
+        (h.parts ∙ ap (λ (es : List Entry). h.before ++ es) f.is) (map.entries_sorted dir)))
 
     -- an entry of a lesser name is passed
     pub one_passed : by_bytes x.0.0 name ≡ Less → IsPassed bytes x.1 name dir
@@ -190,14 +201,17 @@ module _ (bytes rest : List ℕ) (name : Name) (dir : Entries) (h : IsPassed byt
           parts = h.parts ∙ ap (λ (es : List Entry). h.before ++ es) f.is ∙ sym (append_assoc h.before (f.e ∷ []) f.more);
           front =
               h.front ∙ ap (λ (r : List ℕ). text h.before ++ r) f.parted ∙ sym (append_assoc (text h.before) (entry_bytes f.e) x.1)
-              ∙ ap (λ (t : List ℕ). t ++ x.1) (ap (λ (t : List ℕ). text h.before ++ t) (sym (append-nil (entry_bytes f.e))) ∙ sym (flat_map-append entry_bytes h.before (f.e ∷ [])));
+              ∙ ap (λ (t : List ℕ). t ++ x.1) (ap (λ (t : List ℕ). text h.before ++ t) (sym (append-nil (entry_bytes f.e)))
+              ∙ sym (flat_map-append entry_bytes h.before (f.e ∷ [])));
           spelled = f.behind_is;
           each = (subst (AllByRecursion IsEntry) f.is h.each).1;
           puts = λ target.
-              h.puts target ∙ ap (λ (es : List Entry). h.before ++ put by_bytes name target es) f.is ∙ ap (λ (es : List Entry). h.before ++ es) (put_behind f.e f.more name target is)
+              h.puts target ∙ ap (λ (es : List Entry). h.before ++ put by_bytes name target es) f.is
+              ∙ ap (λ (es : List Entry). h.before ++ es) (put_behind f.e f.more name target is)
               ∙ sym (append_assoc h.before (f.e ∷ []) (put by_bytes name target f.more));
           leaves =
-              h.leaves ∙ ap (λ (es : List Entry). h.before ++ others name es) f.is ∙ ap (λ (es : List Entry). h.before ++ es) (kept_first name f.e f.more is)
+              h.leaves ∙ ap (λ (es : List Entry). h.before ++ others name es) f.is
+              ∙ ap (λ (es : List Entry). h.before ++ es) (kept_first name f.e f.more is)
               ∙ sym (append_assoc h.before (f.e ∷ []) (others name f.more));
         }
 
@@ -209,7 +223,8 @@ module _ (bytes rest : List ℕ) (name : Name) (dir : Entries) (h : IsPassed byt
         span (entry_bytes f.e) x.1 f.more f.parted f.behind_is
         (λ target.
         ap (put by_bytes name target) f.is
-        ∙ ap (λ (o : Ordering). by_order o ((name, target) ∷ f.e ∷ f.more) ((f.e.0, target) ∷ f.more) (f.e ∷ put by_bytes name target f.more)) (reversed f.e.0 name Equal is)
+        ∙ ap (λ (o : Ordering). by_order o ((name, target) ∷ f.e ∷ f.more) ((f.e.0, target) ∷ f.more)
+        (f.e ∷ put by_bytes name target f.more)) (reversed f.e.0 name Equal is)
         ∙ ap (λ (n : Name). (n, target) ∷ f.more) same)
         (ap (others name) f.is ∙ first_left_out name f.e f.more is below_behind)
 
@@ -221,12 +236,15 @@ module _ (bytes rest : List ℕ) (name : Name) (dir : Entries) (h : IsPassed byt
         (λ target.
         ap (put by_bytes name target) f.is
         ∙ ap (λ (o : Ordering). by_order o ((name, target) ∷ f.e ∷ f.more) ((f.e.0, target) ∷ f.more) (f.e ∷ put by_bytes name target f.more)) is)
-        (ap (others name) f.is ∙ all_kept name (f.e ∷ f.more) (both _ _ (subst (λ o. T (is_lt o)) (sym is) tt) (below_more name f.e.0 f.more is below_behind)))
+        (ap (others name) f.is
+        ∙ all_kept name (f.e ∷ f.more)
+        (both _ _ (subst (λ o. T (is_lt o)) (sym is) tt) (below_more name f.e.0 f.more is below_behind)))
 
 -- ---- what is made and taken out
 
 -- bytes with an entry made in the span of its name are the directory with it
-pub entry_made : (bytes new : List ℕ) (dir : Entries) (name : Name) (target : Target) (start end : ℕ) → IsDirectory bytes dir → IsSpan bytes dir name start end → map.len dir < 64 → IsEntry (name, target)
+pub entry_made : (bytes new : List ℕ) (dir : Entries) (name : Name) (target : Target) (start end : ℕ)
+    → IsDirectory bytes dir → IsSpan bytes dir name start end → map.len dir < 64 → IsEntry (name, target)
     → new ≡ (take start bytes ++ entry_bytes (name, target)) ++ drop end bytes → IsDirectory new (map.insert dir name target)
 entry_made bytes new dir name target start end is h room entry grown = record {
   listable = listable_insert dir name target is.listable room entry;
@@ -236,7 +254,8 @@ entry_made bytes new dir name target start end is h room entry grown = record {
 }
 
 -- bytes without the span of a name are the directory without it
-pub entry_taken : (bytes new : List ℕ) (dir : Entries) (name : Name) (start end : ℕ) → IsDirectory bytes dir → IsSpan bytes dir name start end → new ≡ take start bytes ++ drop end bytes → IsDirectory new (map.remove dir name)
+pub entry_taken : (bytes new : List ℕ) (dir : Entries) (name : Name) (start end : ℕ) → IsDirectory bytes dir
+    → IsSpan bytes dir name start end → new ≡ take start bytes ++ drop end bytes → IsDirectory new (map.remove dir name)
 entry_taken bytes new dir name start end is h left = record {
   listable = listable_remove dir name is.listable;
   spelled = left ∙ (λ i. h.front i ++ h.rest i) ∙ sym (flat_map-append entry_bytes h.before h.after) ∙ ap text (sym h.taken);

@@ -15,14 +15,19 @@ unfolding entry_at
 none_in_none = refl
 
 -- entries that were spelled are read again
-among_again : (most : ℕ) (es : List Entry) → AllByRecursion IsEntry es → length (flat_map entry_bytes es) ≤ most → entries_among most (flat_map entry_bytes es) ≡ es
+among_again : (most : ℕ) (es : List Entry) → AllByRecursion IsEntry es → length (flat_map entry_bytes es) ≤ most
+    → entries_among most (flat_map entry_bytes es) ≡ es
 unfolding entries_among
 among_again zero [] each enough = refl
-among_again (suc most) [] each enough = ap (λ (found : Option (Entry × List ℕ)). elim found [ None ↦ [] | Some f ↦ f.0 ∷ entries_among most f.1 ]) none_in_none
+among_again (suc most) [] each enough =
+    ap (λ (found : Option (Entry × List ℕ)). elim found [ None ↦ [] | Some f ↦ f.0 ∷ entries_among most f.1 ])
+    none_in_none
 among_again zero (e ∷ es) each enough = absurd (omega arith)
 among_again (suc most) (e ∷ es) each enough =
-    ap (λ (found : Option (Entry × List ℕ)). elim found [ None ↦ [] | Some f ↦ f.0 ∷ entries_among most f.1 ]) (entry_again e (flat_map entry_bytes es) each.0)
-    ∙ ap (λ (rest : List Entry). e ∷ rest) (among_again most es each.1 (omega (arith, enough, length-append (entry_bytes e) (flat_map entry_bytes es))))
+    ap (λ (found : Option (Entry × List ℕ)). elim found [ None ↦ [] | Some f ↦ f.0 ∷ entries_among most f.1 ])
+    (entry_again e (flat_map entry_bytes es) each.0)
+    ∙ ap (λ (rest : List Entry). e ∷ rest)
+    (among_again most es each.1 (omega (arith, enough, length-append (entry_bytes e) (flat_map entry_bytes es))))
 
 -- the entries of a directory make it again
 made_again : (dir : Entries) → map.from_entries {R = by_bytes} (map.entries dir) ≡ dir

@@ -1,6 +1,7 @@
 -- The user of a label is the first one whose read category it owns.
 use Rattle.std.specs.Prelude.{not, IfOk}
-use Rattle.std.proofs.Common.{Result, Ok, Err, ◌≡◌, ℕ, zero, suc, ◌+◌, ◌<◌, ◌≤◌, ◌⊎◌, inl, inr, Bool, true, false, refl, sym, ap, ◌∙◌, arith, length, if◌then◌else◌}
+use Rattle.std.proofs.Common.{Result, Ok, Err, ◌≡◌, ℕ, zero, suc, ◌+◌, ◌<◌, ◌≤◌, ◌⊎◌, inl, inr, Bool, true, false, refl, sym, ap, ◌∙◌, arith, length}
+use Rattle.std.proofs.Common.{if◌then◌else◌}
 use Rattle.std.proofs.lemmas.Bool.{cases_lt}
 use mathlib.Core.Bool.{true≢false}
 use Rattle.histar_label.specs.Levels.{Levels}
@@ -40,26 +41,32 @@ module _ (own : Levels) (users user : ℕ) (is : IsUserOf own users user) where
     | inl none ↦ sym none
     | inr later ↦ let most : user ≤ users = is.known in absurd (omega arith)
   ]
-  from (suc n) k positive end at = by_case (owner_from own (suc k) n) k user (owns own k) (owns own k) (here_at n k positive end at) (λ e. from n (suc k) (omega arith) (omega arith) (next_at k positive at e)) refl
+  from (suc n) k positive end at =
+      by_case (owner_from own (suc k) n) k user (owns own k) (owns own k) (here_at n k positive end at)
+      (λ e. from n (suc k) (omega arith) (omega arith) (next_at k positive at e)) refl
 
   pub user_is : user_of own users ≡ user
   unfolding user_of
   user_is = from users 1 (omega arith) (omega arith) (elim (cases_lt 0 user) [ inl less ↦ inr less | inr none ↦ inl (omega arith) ])
 
 -- in no job what is made is made in the mode
-pub made_free : {E : Type 0} (result : Result Levels E) (own : Levels) (accounts : Accounts) (user : ℕ) (mode : Mode) → IsUserOf own (length accounts.users) user → is_empty (jobs_in own) ≡ true
+pub made_free : {E : Type 0} (result : Result Levels E) (own : Levels) (accounts : Accounts) (user : ℕ) (mode : Mode)
+    → IsUserOf own (length accounts.users) user → is_empty (jobs_in own) ≡ true
     → IfOk result (λ label. label ≡ file_label accounts mode user) → IfOk result (λ label. label ≡ label_made accounts own mode)
 made_free (Ok label) own accounts user mode is free right =
     right ∙ ap (file_label accounts mode) (sym (user_is own (length accounts.users) user is))
-    ∙ ap (λ (b : Bool). if b then file_label accounts mode (user_of own (length accounts.users)) else scratch_label (user_of own (length accounts.users)) (jobs_in own)) (sym free)
+    ∙ ap (λ (b : Bool). if b then file_label accounts mode (user_of own (length accounts.users)) else scratch_label
+    (user_of own (length accounts.users)) (jobs_in own)) (sym free)
 made_free (Err error) own accounts user mode is free right = right
 
 -- and in jobs it is for these
-pub made_in_jobs : {E : Type 0} (result : Result Levels E) (own : Levels) (accounts : Accounts) (user : ℕ) (mode : Mode) → IsUserOf own (length accounts.users) user → is_empty (jobs_in own) ≡ false
+pub made_in_jobs : {E : Type 0} (result : Result Levels E) (own : Levels) (accounts : Accounts) (user : ℕ) (mode : Mode)
+    → IsUserOf own (length accounts.users) user → is_empty (jobs_in own) ≡ false
     → IfOk result (λ label. label ≡ scratch_label user (jobs_in own)) → IfOk result (λ label. label ≡ label_made accounts own mode)
 made_in_jobs (Ok label) own accounts user mode is busy right =
     right ∙ ap (λ (i : ℕ). scratch_label i (jobs_in own)) (sym (user_is own (length accounts.users) user is))
-    ∙ ap (λ (b : Bool). if b then file_label accounts mode (user_of own (length accounts.users)) else scratch_label (user_of own (length accounts.users)) (jobs_in own)) (sym busy)
+    ∙ ap (λ (b : Bool). if b then file_label accounts mode (user_of own (length accounts.users)) else scratch_label
+    (user_of own (length accounts.users)) (jobs_in own)) (sym busy)
 made_in_jobs (Err error) own accounts user mode is busy right = right
 
 -- what is not so twice is so

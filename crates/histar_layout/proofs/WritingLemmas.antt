@@ -21,4 +21,6 @@ pub target_written : (old first second third a b : List ℕ) (letter : ℕ) (num
     → first ≡ old ++ letter ∷ [] → second ≡ first ++ a → third ≡ second ++ b → third ≡ old ++ target_bytes t
 target_written old first second third a b letter numbers t l n p q x y z =
     z ∙ (λ i. (y ∙ ap (λ (w : List ℕ). w ++ a) x) i ++ b) ∙ in_pieces old (letter ∷ []) a b
-    ∙ ap (λ (w : List ℕ). old ++ w) ((λ i. (l i ∷ p i) ++ q i) ∙ ap (λ (m : ℕ × ℕ). letter_of t ∷ to_be_bytes w64 m.0 ++ to_be_bytes w64 m.1) n ∙ letter_and_numbers t)
+    ∙ ap (λ (w : List ℕ). old ++ w)
+    ((λ i. (l i ∷ p i) ++ q i) ∙ ap (λ (m : ℕ × ℕ). letter_of t ∷ to_be_bytes w64 m.0 ++ to_be_bytes w64 m.1) n
+    ∙ letter_and_numbers t)

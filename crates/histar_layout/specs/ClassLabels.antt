@@ -49,7 +49,9 @@ pub record IsClassLabel (accounts : Accounts) (class : Class) (label : Levels) :
 
 -- what was found is the class of a label, and nothing was found exactly where the label is of no class
 abbrev pub FindsClass : Accounts → Levels → Option Class → Type 0
-FindsClass accounts label found = MatchOption found ((class : Class) → IsClassLabel accounts class label → ⊥) (λ class. IsClassLabel accounts class label)
+FindsClass accounts label found =
+    MatchOption found ((class : Class) → IsClassLabel accounts class label → ⊥)
+    (λ class. IsClassLabel accounts class label)
 
 -- a label is of one class at most
 abbrev pub LabelsHaveOneClass : Type 0
@@ -65,7 +67,9 @@ without_jobs (Group group) = shown.Group group
 
 -- a label of a class shows this class, but for its jobs
 abbrev pub ClassesAreShown : Type 0
-ClassesAreShown = (accounts : Accounts) (class : Class) (label : Levels) → IsClassLabel accounts class label → class_shown accounts label ≡ Some (without_jobs class)
+ClassesAreShown =
+    (accounts : Accounts) (class : Class) (label : Levels) → IsClassLabel accounts class label
+    → class_shown accounts label ≡ Some (without_jobs class)
 
 -- a class that is shown, for these jobs
 abbrev pub with_jobs : List ℕ → ShownClass → Class

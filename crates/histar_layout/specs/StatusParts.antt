@@ -24,7 +24,9 @@ others number children = filter (λ (child : Child). not (child.number == number
 
 -- the children of other numbers than this stand behind the old bytes, as they stood in the listed ones
 abbrev pub AppendsOthers : ℕ → List ℕ → List ℕ → List ℕ → Type 0
-AppendsOthers number listed old new = (children : List Child) → listed ≡ flat_map child_bytes children → new ≡ old ++ flat_map child_bytes (others number children)
+AppendsOthers number listed old new =
+    (children : List Child) → listed ≡ flat_map child_bytes children
+    → new ≡ old ++ flat_map child_bytes (others number children)
 
 -- the process that the bytes tell of can have a child more
 abbrev pub HasRoomForChild : List ℕ → Type 0
@@ -32,5 +34,7 @@ HasRoomForChild bytes = (status : ProcessStatus) → status_in bytes ≡ Some st
 
 -- What is read in bytes of a process is spelled by them; and what is spelled, with no more children than a process can have, is read.
 pub record StatusesAreSpelled : Type 0 where
-  pub read_is_spelled : (bytes : List ℕ) (status : ProcessStatus) → ((i : ℕ) → slice_index bytes i < 256) → status_in bytes ≡ Some status → IsStatus bytes status
-  pub spelled_is_read : (bytes : List ℕ) (status : ProcessStatus) → IsStatus bytes status → length status.children ≤ most_children → status_in bytes ≡ Some status
+  pub read_is_spelled : (bytes : List ℕ) (status : ProcessStatus) → ((i : ℕ) → slice_index bytes i < 256)
+      → status_in bytes ≡ Some status → IsStatus bytes status
+  pub spelled_is_read : (bytes : List ℕ) (status : ProcessStatus) → IsStatus bytes status
+      → length status.children ≤ most_children → status_in bytes ≡ Some status

@@ -2,7 +2,9 @@
 ghost use Rattle.std.specs.Prelude.{◌≡◌, ◌++◌, ◌<◌, List, Some, None, IfOk, OnOk, MatchOption, option_map, is_some};
 ghost use Rattle.histar_flat.specs.Words.{most_children};
 ghost use Rattle.histar_layout.specs.Reading.{Gives};
-ghost use Rattle.histar_layout.specs.Status.{ProcessStatus, IsChanged, child_bytes, child_in, children_in, head_in, head_of, life_in, look_for, once_exited, started, status_bytes, status_in, with_child_listed, without_child};
+ghost use Rattle.histar_layout.specs.Status.{ProcessStatus, IsChanged, child_bytes, child_in, children_in, head_in, head_of};
+ghost use Rattle.histar_layout.specs.Status.{life_in, look_for, once_exited, started, status_bytes, status_in, with_child_listed};
+ghost use Rattle.histar_layout.specs.Status.{without_child};
 ghost use Rattle.histar_layout.specs.StatusParts.{AppendsOthers, HasRoomForChild, IsSplit, StatusesAreSpelled, head_bytes};
 
 use crate::read_entry::read_number;

@@ -41,7 +41,8 @@ no_user text bad =
         | inr rest ↦ elim (none_at (password_of rest.0) _ rest.2) [
           | inl none ↦
               let same : rest_of text ≡ rest.0 = ap (λ (o : Option (List ℕ)). unwrap_or o []) rest.1 in
-              let wrong : is_none (password_of (rest_of text)) ≡ true = ap (λ (word : List ℕ). is_none (password_of word)) same ∙ is_nothing (password_of rest.0) none in
+              let wrong : is_none (password_of (rest_of text)) ≡ true =
+              ap (λ (word : List ℕ). is_none (password_of word)) same ∙ is_nothing (password_of rest.0) none in
               or_second (is_none name) _ (or_second (is_none (after_word text)) _ (or_first (is_none (password_of (rest_of text))) false wrong))
           | inr password ↦ absurd cc
         ]
@@ -57,7 +58,8 @@ one_of_four true true true true e = refl
 one_of_four true true true false e = absurd cc
 
 -- a user that may not be declared where it is
-misplaced_user : (lines : List (List ℕ)) (s : ScriptModel) (text : List ℕ) (u : User) → user_of text ≡ Some u → takes_user s u ≡ false → some_broken (user_place_rules lines s text) ≡ true
+misplaced_user : (lines : List (List ℕ)) (s : ScriptModel) (text : List ℕ) (u : User) → user_of text ≡ Some u
+    → takes_user s u ≡ false → some_broken (user_place_rules lines s text) ≡ true
 unfolding user_of
 misplaced_user lines s text u is bad =
     let named = bind_some (user_name_of (word_of text)) _ u is in
@@ -66,10 +68,12 @@ misplaced_user lines s text u is bad =
     let own : u.name ≡ named.0 = cc in
     let taken : is_taken (has_user s.accounts.users) text ≡ has_user s.accounts.users u.name =
     ap (λ (o : Option (List ℕ)). option_map_or (has_user s.accounts.users) o false) named.1 ∙ ap (has_user s.accounts.users) (sym own) in
-    rw taken (one_of_four (is_empty s.accounts.groups) (is_empty s.calls) (nat_lt (length s.accounts.users) most_users) (has_user s.accounts.users u.name) bad)
+    rw taken (one_of_four (is_empty s.accounts.groups) (is_empty s.calls) (nat_lt (length s.accounts.users) most_users)
+    (has_user s.accounts.users u.name) bad)
 
 -- six tests, one of which fails
-one_of_six : (a b u h m d : Bool) → (a && b && (not u && not h) && m && d) ≡ false → (not a || (not b || (u || (h || (not m || (not d || false)))))) ≡ true
+one_of_six : (a b u h m d : Bool) → (a && b && (not u && not h) && m && d) ≡ false
+    → (not a || (not b || (u || (h || (not m || (not d || false)))))) ≡ true
 one_of_six false b u h m d e = refl
 one_of_six true false u h m d e = refl
 one_of_six true true true h m d e = refl
@@ -89,12 +93,16 @@ name_of_group text g is =
     named.1 ∙ ap (λ (n : List ℕ). Some n) own
 
 -- a group that may not be declared where it is
-misplaced_group : (s : ScriptModel) (text : List ℕ) (g : Group) → group_of text ≡ Some g → takes_group s g ≡ false → some_broken (group_place_rules s text) ≡ true
+misplaced_group : (s : ScriptModel) (text : List ℕ) (g : Group) → group_of text ≡ Some g → takes_group s g ≡ false
+    → some_broken (group_place_rules s text) ≡ true
 misplaced_group s text g is bad =
     let name = name_of_group text g is in
-    let user : is_taken (has_user s.accounts.users) text ≡ has_user s.accounts.users g.name = ap (λ (o : Option (List ℕ)). option_map_or (has_user s.accounts.users) o false) name in
-    let group : is_taken (is_group s.accounts) text ≡ is_group s.accounts g.name = ap (λ (o : Option (List ℕ)). option_map_or (is_group s.accounts) o false) name in
-    let stranger : has_stranger s.accounts.users (group_of text) ≡ not (are_users s.accounts.users g.members) = ap (has_stranger s.accounts.users) is in
+    let user : is_taken (has_user s.accounts.users) text ≡ has_user s.accounts.users g.name =
+    ap (λ (o : Option (List ℕ)). option_map_or (has_user s.accounts.users) o false) name in
+    let group : is_taken (is_group s.accounts) text ≡ is_group s.accounts g.name =
+    ap (λ (o : Option (List ℕ)). option_map_or (is_group s.accounts) o false) name in
+    let stranger : has_stranger s.accounts.users (group_of text) ≡ not (are_users s.accounts.users g.members) =
+    ap (has_stranger s.accounts.users) is in
     let twin : has_twin (group_of text) ≡ not (are_distinct g.members) = ap has_twin is in
     rw (user, group, stranger, twin)
     (one_of_six (is_empty s.calls) (nat_lt (length s.accounts.groups) most_groups) (has_user s.accounts.users g.name) (is_group s.accounts g.name)
@@ -104,7 +112,8 @@ misplaced_group s text g is bad =
 no_words : (text : List ℕ) (o : Option Shape) → call_of text ≡ None → some_broken (shape_rules text o) ≡ true
 no_words text None bad = refl
 no_words text (Some shape) bad =
-    or_second (has_too_much text shape) _ (or_second (has_too_little text shape) _ (or_first (is_none (call_of text)) false (is_nothing (call_of text) bad)))
+    or_second (has_too_much text shape) _ (or_second (has_too_little text shape) _
+    (or_first (is_none (call_of text)) false (is_nothing (call_of text) bad)))
 
 -- a call line that says nothing
 no_call : (process text : List ℕ) → call_item process text ≡ None → some_broken (call_word_rules process text) ≡ true
@@ -124,7 +133,8 @@ one_of_two false false e = refl
 one_of_two false true e = absurd cc
 
 -- a call that may not be where it is
-misplaced_call : (s : ScriptModel) (text : List ℕ) (c : UnixCall) → call_of text ≡ Some c → takes_call s c ≡ false → some_broken (call_place_rules s text) ≡ true
+misplaced_call : (s : ScriptModel) (text : List ℕ) (c : UnixCall) → call_of text ≡ Some c → takes_call s c ≡ false
+    → some_broken (call_place_rules s text) ≡ true
 misplaced_call s text c is bad =
     let undeclared : is_undeclared s.accounts (call_of text) ≡ not (is_declared_call s.accounts c) = ap (is_undeclared s.accounts) is in
     rw undeclared (one_of_two (is_empty s.accounts.users) (is_declared_call s.accounts c) bad)
@@ -134,7 +144,8 @@ found_byte : (n : ℕ) (line : List ℕ) → list_all is_plain_byte line ≡ fal
 found_byte n [] bad = absurd cc
 found_byte n (b ∷ line) bad = by n line (is_plain_byte b) b bad (found_byte (n + 1) line)
   where
-    by : (n : ℕ) (line : List ℕ) (plain : Bool) (b : ℕ) → (plain && list_all is_plain_byte line) ≡ false → (list_all is_plain_byte line ≡ false → is_some (unprintable_from (n + 1) line) ≡ true)
+    by : (n : ℕ) (line : List ℕ) (plain : Bool) (b : ℕ) → (plain && list_all is_plain_byte line) ≡ false
+        → (list_all is_plain_byte line ≡ false → is_some (unprintable_from (n + 1) line) ≡ true)
         → is_some (cond plain (unprintable_from (n + 1) line) (Some (n, b))) ≡ true
     by n line true b bad go_on = go_on bad
     by n line false b bad go_on = refl
@@ -144,15 +155,20 @@ not_plain : (line : List ℕ) → is_plain line ≡ false → some_broken (byte_
 unfolding is_plain
 not_plain line bad = by (nat_le (length line) most_line_bytes) refl bad
   where
-    by : (short : Bool) → nat_le (length line) most_line_bytes ≡ short → (short && list_all is_plain_byte line) ≡ false → some_broken (byte_rules line) ≡ true
+    by : (short : Bool) → nat_le (length line) most_line_bytes ≡ short → (short && list_all is_plain_byte line) ≡ false
+        → some_broken (byte_rules line) ≡ true
     by false is bad = or_first (nat_lt most_line_bytes (length line)) _ (grind (arith, is))
-    by true is bad = or_second (nat_lt most_line_bytes (length line)) _ (or_second (ends_with 13 line) _ (or_first (is_some (unprintable_from 1 line)) false (found_byte 1 line bad)))
+    by true is bad =
+        or_second (nat_lt most_line_bytes (length line)) _ (or_second (ends_with 13 line) _
+        (or_first (is_some (unprintable_from 1 line)) false (found_byte 1 line bad)))
 
 -- what a line says by its words, by its kind
 pub data IsKind (word rest : List ℕ) : Item → Type 0 where
   user : (u : User) → bytes_eq word (codes "user") ≡ true → user_of rest ≡ Some u → IsKind word rest (items.User u)
-  group : (g : Group) → bytes_eq word (codes "user") ≡ false → bytes_eq word (codes "group") ≡ true → group_of rest ≡ Some g → IsKind word rest (items.Group g)
-  call : (p : ProcName) (c : UnixCall) → bytes_eq word (codes "user") ≡ false → bytes_eq word (codes "group") ≡ false → call_of rest ≡ Some c → IsKind word rest (items.Call p c)
+  group : (g : Group) → bytes_eq word (codes "user") ≡ false → bytes_eq word (codes "group") ≡ true
+      → group_of rest ≡ Some g → IsKind word rest (items.Group g)
+  call : (p : ProcName) (c : UnixCall) → bytes_eq word (codes "user") ≡ false → bytes_eq word (codes "group") ≡ false
+      → call_of rest ≡ Some c → IsKind word rest (items.Call p c)
 
 -- each line that says something is of a kind
 kind : (word rest : List ℕ) (item : Item) (u g : Bool) → bytes_eq word (codes "user") ≡ u → bytes_eq word (codes "group") ≡ g
@@ -178,20 +194,29 @@ rules_of_kind lines s word rest u g =
     (cond g (group_word_rules rest ++ group_place_rules s rest) (call_word_rules word rest ++ call_place_rules s rest))
 
 -- a line whose words say nothing
-no_kind : (lines : List (List ℕ)) (s : ScriptModel) (word rest : List ℕ) (u g : Bool) → cond u (user_item rest) (cond g (group_item rest) (call_item word rest)) ≡ None
+no_kind : (lines : List (List ℕ)) (s : ScriptModel) (word rest : List ℕ) (u g : Bool)
+    → cond u (user_item rest) (cond g (group_item rest) (call_item word rest)) ≡ None
     → some_broken (rules_of_kind lines s word rest u g) ≡ true
 no_kind lines s word rest true g bad =
-    elim (none_at (user_of rest) _ bad) [ inl none ↦ in_front (user_word_rules rest) (user_place_rules lines s rest) (no_user rest none) | inr found ↦ absurd cc ]
+    elim (none_at (user_of rest) _ bad) [
+      | inl none ↦ in_front (user_word_rules rest) (user_place_rules lines s rest) (no_user rest none)
+      | inr found ↦ absurd cc
+    ]
 no_kind lines s word rest false true bad =
-    elim (none_at (group_of rest) _ bad) [ inl none ↦ in_front (group_word_rules rest) (group_place_rules s rest) (no_group rest none) | inr found ↦ absurd cc ]
+    elim (none_at (group_of rest) _ bad) [
+      | inl none ↦ in_front (group_word_rules rest) (group_place_rules s rest) (no_group rest none)
+      | inr found ↦ absurd cc
+    ]
   where
     no_group : (text : List ℕ) → group_of text ≡ None → some_broken (group_word_rules text) ≡ true
     no_group text none =
-        or_second (is_none (user_name_of (word_of text))) _ (or_second (is_none (after_word text)) _ (or_first (is_none (group_of text)) false (is_nothing (group_of text) none)))
+        or_second (is_none (user_name_of (word_of text))) _ (or_second (is_none (after_word text)) _
+        (or_first (is_none (group_of text)) false (is_nothing (group_of text) none)))
 no_kind lines s word rest false false bad = in_front (call_word_rules word rest) (call_place_rules s rest) (no_call word rest bad)
 
 -- an item that may not be where it is
-refused_item : (lines : List (List ℕ)) (s : ScriptModel) (n : ℕ) (word rest : List ℕ) (item : Item) → IsKind word rest item → with_item s n item ≡ None
+refused_item : (lines : List (List ℕ)) (s : ScriptModel) (n : ℕ) (word rest : List ℕ) (item : Item)
+    → IsKind word rest item → with_item s n item ≡ None
     → some_broken (rules_of_kind lines s word rest (bytes_eq word (codes "user")) (bytes_eq word (codes "group"))) ≡ true
 unfolding with_item
 refused_item lines s n word rest _ (user u is_user says) bad =
@@ -212,26 +237,33 @@ refused_item lines s n word rest _ (call p c is_user is_group says) bad =
 
 -- behind the rules for the bytes and the words of any line come those for its kind
 by_kind : (lines : List (List ℕ)) (s : ScriptModel) (line rest : List ℕ) → after_word line ≡ Some rest
-    → some_broken (rules_of_kind lines s (word_of line) rest (bytes_eq (word_of line) (codes "user")) (bytes_eq (word_of line) (codes "group"))) ≡ true
+    → some_broken (rules_of_kind lines s (word_of line) rest (bytes_eq (word_of line) (codes "user"))
+    (bytes_eq (word_of line) (codes "group"))) ≡ true
     → some_broken (rules_for lines s line) ≡ true
 by_kind lines s line rest is broken =
     let same : rest ≡ rest_of line = sym (ap (λ (o : Option (List ℕ)). unwrap_or o []) is) in
     behind (byte_rules line) (word_rules line ++ kind_rules lines s line)
     (behind (word_rules line) (kind_rules lines s line)
-    (subst (λ text. some_broken (rules_of_kind lines s (word_of line) text (bytes_eq (word_of line) (codes "user")) (bytes_eq (word_of line) (codes "group"))) ≡ true) same broken))
+    (subst (λ text. some_broken (rules_of_kind lines s (word_of line) text (bytes_eq (word_of line) (codes "user"))
+    (bytes_eq (word_of line) (codes "group"))) ≡ true) same broken))
 
 -- a line whose words say nothing
 no_words_item : (lines : List (List ℕ)) (s : ScriptModel) (line : List ℕ) → words_item line ≡ None → some_broken (rules_for lines s line) ≡ true
 unfolding words_item
 no_words_item lines s line bad =
     elim (none_at (after_word line) _ bad) [
-      | inl none ↦ behind (byte_rules line) (word_rules line ++ kind_rules lines s line) (in_front (word_rules line) (kind_rules lines s line) (lone_word line none))
-      | inr found ↦ by_kind lines s line found.0 found.1 (no_kind lines s (word_of line) found.0 (bytes_eq (word_of line) (codes "user")) (bytes_eq (word_of line) (codes "group")) found.2)
+      | inl none ↦
+          behind (byte_rules line) (word_rules line ++ kind_rules lines s line)
+          (in_front (word_rules line) (kind_rules lines s line) (lone_word line none))
+      | inr found ↦
+          by_kind lines s line found.0 found.1 (no_kind lines s (word_of line) found.0 (bytes_eq (word_of line) (codes "user"))
+          (bytes_eq (word_of line) (codes "group")) found.2)
     ]
   where
     lone_word : (line : List ℕ) → after_word line ≡ None → some_broken (word_rules line) ≡ true
     lone_word line none =
-        or_second (begins_with 32 line) _ (or_second (ends_with 32 line) _ (or_second (has_comment line) _ (or_first (is_none (after_word line)) false (is_nothing (after_word line) none))))
+        or_second (begins_with 32 line) _ (or_second (ends_with 32 line) _ (or_second (has_comment line) _
+        (or_first (is_none (after_word line)) false (is_nothing (after_word line) none))))
 
 -- a line that says nothing
 no_item : (lines : List (List ℕ)) (s : ScriptModel) (line : List ℕ) → item_of line ≡ None → some_broken (rules_for lines s line) ≡ true
@@ -244,7 +276,8 @@ no_item lines s (b ∷ line) bad =
     ]
 
 -- a line that says something by its words that may not be there
-misplaced_words : (lines : List (List ℕ)) (s : ScriptModel) (n : ℕ) (line : List ℕ) (item : Item) → words_item line ≡ Some item → with_item s n item ≡ None → some_broken (rules_for lines s line) ≡ true
+misplaced_words : (lines : List (List ℕ)) (s : ScriptModel) (n : ℕ) (line : List ℕ) (item : Item)
+    → words_item line ≡ Some item → with_item s n item ≡ None → some_broken (rules_for lines s line) ≡ true
 unfolding words_item
 misplaced_words lines s n line item is bad =
     let rest = bind_some (after_word line) _ item is in
@@ -253,7 +286,8 @@ misplaced_words lines s n line item is bad =
     (kind (word_of line) rest.0 item (bytes_eq (word_of line) (codes "user")) (bytes_eq (word_of line) (codes "group")) refl refl rest.2) bad)
 
 -- a comment may be anywhere
-no_comment : (lines : List (List ℕ)) (s : ScriptModel) (n : ℕ) (line : List ℕ) (item : Item) → Some items.Comment ≡ Some item → with_item s n item ≡ None → some_broken (rules_for lines s line) ≡ true
+no_comment : (lines : List (List ℕ)) (s : ScriptModel) (n : ℕ) (line : List ℕ) (item : Item)
+    → Some items.Comment ≡ Some item → with_item s n item ≡ None → some_broken (rules_for lines s line) ≡ true
 unfolding with_item
 no_comment lines s n line item is bad =
     let same : item ≡ items.Comment = cc in
@@ -261,7 +295,8 @@ no_comment lines s n line item is bad =
     absurd cc
 
 -- a line that says something that may not be there
-misplaced : (lines : List (List ℕ)) (s : ScriptModel) (n : ℕ) (line : List ℕ) (item : Item) → item_of line ≡ Some item → with_item s n item ≡ None → some_broken (rules_for lines s line) ≡ true
+misplaced : (lines : List (List ℕ)) (s : ScriptModel) (n : ℕ) (line : List ℕ) (item : Item) → item_of line ≡ Some item
+    → with_item s n item ≡ None → some_broken (rules_for lines s line) ≡ true
 unfolding item_of
 misplaced lines s n [] item is bad = no_comment lines s n [] item is bad
 misplaced lines s n (b ∷ line) item is bad =
@@ -277,4 +312,5 @@ pub each_bad_line_breaks_one : EachBadLineBreaksOne
 unfolding with_line
 each_bad_line_breaks_one lines s n line bad =
     is_said (rules_for lines s line)
-    (elim (none_at (item_of line) (λ item. with_item s n item) bad) [ inl none ↦ no_item lines s line none | inr some ↦ misplaced lines s n line some.0 some.1 some.2 ])
+    (elim (none_at (item_of line) (λ item. with_item s n item) bad)
+    [ inl none ↦ no_item lines s line none | inr some ↦ misplaced lines s n line some.0 some.1 some.2 ])

@@ -33,15 +33,20 @@ pub is_ahead : (text rest : List ℕ) (s : ScriptModel) (count bad : ℕ) → Is
 is_ahead text rest s count bad at = later_bad s count (lines_of rest) bad at.found
 
 -- a line that comes before the bad one is right
-right_by : (s : ScriptModel) (count bad : ℕ) (line : List ℕ) (lines : List (List ℕ)) → with_lines s count (line ∷ lines) ≡ failed bad → count + 1 < bad → (t : ScriptModel) × (with_line s (count + 1) line ≡ Some t)
+right_by : (s : ScriptModel) (count bad : ℕ) (line : List ℕ) (lines : List (List ℕ))
+    → with_lines s count (line ∷ lines) ≡ failed bad → count + 1 < bad
+    → (t : ScriptModel) × (with_line s (count + 1) line ≡ Some t)
 unfolding with_lines
 right_by s count bad line lines found more = by (with_line s (count + 1) line) refl found
   where
-    by : (o : Option ScriptModel) → with_line s (count + 1) line ≡ o → after (count + 1) (λ t. with_lines t (count + 1) lines) o ≡ failed bad → (t : ScriptModel) × (with_line s (count + 1) line ≡ Some t)
+    by : (o : Option ScriptModel) → with_line s (count + 1) line ≡ o
+        → after (count + 1) (λ t. with_lines t (count + 1) lines) o ≡ failed bad
+        → (t : ScriptModel) × (with_line s (count + 1) line ≡ Some t)
     by None is found = let same : count + 1 ≡ bad = cc in absurd (omega arith)
     by (Some t) is found = (t, is)
 
-pub is_right : (text rest : List ℕ) (s : ScriptModel) (count bad : ℕ) (line behind : List ℕ) → IsAt text rest s count bad → lines_of rest ≡ line ∷ lines_of behind → count + 1 < bad
+pub is_right : (text rest : List ℕ) (s : ScriptModel) (count bad : ℕ) (line behind : List ℕ)
+    → IsAt text rest s count bad → lines_of rest ≡ line ∷ lines_of behind → count + 1 < bad
     → is_some (with_line s (count + 1) line) ≡ true
 is_right text rest s count bad line behind at parts more =
     let found = subst (λ lines. with_lines s count lines ≡ failed bad) parts at.found in
@@ -58,13 +63,15 @@ has_line text rest s count bad at more none =
     ]
 
 -- what was found bad is so at the next line, and behind it
-found_at : (s : ScriptModel) (count bad : ℕ) (line : List ℕ) (lines others : List (List ℕ)) → lines ≡ line ∷ others → with_lines s count lines ≡ failed bad
+found_at : (s : ScriptModel) (count bad : ℕ) (line : List ℕ) (lines others : List (List ℕ)) → lines ≡ line ∷ others
+    → with_lines s count lines ≡ failed bad
     → after (count + 1) (λ m. with_lines m (count + 1) others) (with_line s (count + 1) line) ≡ failed bad
 unfolding with_lines
 found_at s count bad line lines others parts found = subst (λ given. with_lines s count given ≡ failed bad) parts found
 
 -- behind a right line
-pub went_on : (text rest : List ℕ) (s t : ScriptModel) (count bad : ℕ) (line behind : List ℕ) → IsAt text rest s count bad → lines_of rest ≡ line ∷ lines_of behind
+pub went_on : (text rest : List ℕ) (s t : ScriptModel) (count bad : ℕ) (line behind : List ℕ)
+    → IsAt text rest s count bad → lines_of rest ≡ line ∷ lines_of behind
     → with_line s (count + 1) line ≡ Some t → IsAt text behind t (count + 1) bad
 went_on text rest s t count bad line behind at parts taken =
     let lines = lines_of text in
@@ -77,7 +84,8 @@ went_on text rest s t count bad line behind at parts taken =
     let later : lines_of behind ≡ drop (suc count) lines = cc in
     let next : suc count ≡ count + 1 = omega arith in
     let size : length (take count lines) ≡ count = length-take-le count lines at.within in
-    let front : take (count + 1) lines ≡ take count lines ++ line ∷ [] = take_more lines count line more ∙ ap (λ (l : List ℕ). take count lines ++ l ∷ []) first in
+    let front : take (count + 1) lines ≡ take count lines ++ line ∷ [] =
+    take_more lines count line more ∙ ap (λ (l : List ℕ). take count lines ++ l ∷ []) first in
     let number : count + 1 ≡ 0 + length (take count lines) + 1 = ap (λ (n : ℕ). n + 1) (sym size) ∙ omega arith in
     record {
       read =
@@ -90,22 +98,26 @@ went_on text rest s t count bad line behind at parts taken =
     }
 
 -- a bad line is not right
-said_by : (all : List (List ℕ)) (s : ScriptModel) (count bad : ℕ) (lines : List (List ℕ)) → with_lines s count lines ≡ failed bad → bad ≤ count + 1 → is_some (said_of all s lines) ≡ true
+said_by : (all : List (List ℕ)) (s : ScriptModel) (count bad : ℕ) (lines : List (List ℕ))
+    → with_lines s count lines ≡ failed bad → bad ≤ count + 1 → is_some (said_of all s lines) ≡ true
 unfolding with_lines
 said_by all s count bad [] found last = refl
 said_by all s count bad (line ∷ lines) found last = by all s count bad line lines (with_line s (count + 1) line) refl found last
   where
-    by : (all : List (List ℕ)) (s : ScriptModel) (count bad : ℕ) (line : List ℕ) (lines : List (List ℕ)) (o : Option ScriptModel) → with_line s (count + 1) line ≡ o
+    by : (all : List (List ℕ)) (s : ScriptModel) (count bad : ℕ) (line : List ℕ) (lines : List (List ℕ))
+        (o : Option ScriptModel) → with_line s (count + 1) line ≡ o
         → after (count + 1) (λ t. with_lines t (count + 1) lines) o ≡ failed bad → bad ≤ count + 1 → is_some (said_of all s (line ∷ lines)) ≡ true
     by all s count bad line lines None is found last = each_bad_line_breaks_one all s (count + 1) line is
     by all s count bad line lines (Some t) is found last = let late = later_bad t (count + 1) lines bad found in absurd (omega arith)
 
 -- of the bad line something is said
-pub is_said_of : (text rest : List ℕ) (s : ScriptModel) (count bad : ℕ) → IsAt text rest s count bad → bad ≤ count + 1 → is_some (said_of (lines_of text) s (lines_of rest)) ≡ true
+pub is_said_of : (text rest : List ℕ) (s : ScriptModel) (count bad : ℕ) → IsAt text rest s count bad → bad ≤ count + 1
+    → is_some (said_of (lines_of text) s (lines_of rest)) ≡ true
 is_said_of text rest s count bad at last = said_by (lines_of text) s count bad (lines_of rest) at.found last
 
 -- which is what is found
-pub is_finding : (text rest : List ℕ) (s : ScriptModel) (count bad : ℕ) (said : List ℕ) → IsAt text rest s count bad → bad ≤ count + 1 → said_of (lines_of text) s (lines_of rest) ≡ Some said
+pub is_finding : (text rest : List ℕ) (s : ScriptModel) (count bad : ℕ) (said : List ℕ) → IsAt text rest s count bad
+    → bad ≤ count + 1 → said_of (lines_of text) s (lines_of rest) ≡ Some said
     → IsFinding text bad said
 is_finding text rest s count bad said at last is =
     let ahead = is_ahead text rest s count bad at in

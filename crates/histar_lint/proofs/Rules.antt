@@ -18,7 +18,8 @@ pub or_second : (b c : Bool) → c ≡ true → (b || c) ≡ true
 or_second true c h = refl
 or_second false c h = h
 
-said_by : (b : Bool) (said : List ℕ) (later : Bool) (rest : Option (List ℕ)) → (b || later) ≡ true → (later ≡ true → is_some rest ≡ true) → is_some (cond b (Some said) rest) ≡ true
+said_by : (b : Bool) (said : List ℕ) (later : Bool) (rest : Option (List ℕ)) → (b || later) ≡ true
+    → (later ≡ true → is_some rest ≡ true) → is_some (cond b (Some said) rest) ≡ true
 said_by true said later rest broken go_on = refl
 said_by false said later rest broken go_on = go_on broken
 
@@ -41,23 +42,29 @@ pub behind : (rules others : List Rule) → some_broken others ≡ true → some
 behind [] others broken = broken
 behind (rule ∷ rules) others broken = or_second rule.0 (some_broken (rules ++ others)) (behind rules others broken)
 
-front_by : (b : Bool) (own said : List ℕ) (rest other : Option (List ℕ)) → cond b (Some own) rest ≡ Some said → (rest ≡ Some said → other ≡ Some said) → cond b (Some own) other ≡ Some said
+front_by : (b : Bool) (own said : List ℕ) (rest other : Option (List ℕ)) → cond b (Some own) rest ≡ Some said
+    → (rest ≡ Some said → other ≡ Some said) → cond b (Some own) other ≡ Some said
 front_by true own said rest other e go_on = e
 front_by false own said rest other e go_on = go_on e
 
 -- what rules in front say is said
 pub said_in_front : (rules others : List Rule) (said : List ℕ) → first_sentence rules ≡ Some said → first_sentence (rules ++ others) ≡ Some said
 said_in_front [] others said e = absurd cc
-said_in_front (rule ∷ rules) others said e = front_by rule.0 rule.1 said (first_sentence rules) (first_sentence (rules ++ others)) e (said_in_front rules others said)
+said_in_front (rule ∷ rules) others said e =
+    front_by rule.0 rule.1 said (first_sentence rules) (first_sentence (rules ++ others)) e
+    (said_in_front rules others said)
 
-behind_by : (b : Bool) (own : List ℕ) (rest other last : Option (List ℕ)) → cond b (Some own) rest ≡ None → (rest ≡ None → other ≡ last) → cond b (Some own) other ≡ last
+behind_by : (b : Bool) (own : List ℕ) (rest other last : Option (List ℕ)) → cond b (Some own) rest ≡ None
+    → (rest ≡ None → other ≡ last) → cond b (Some own) other ≡ last
 behind_by true own rest other last e go_on = absurd cc
 behind_by false own rest other last e go_on = go_on e
 
 -- where rules in front are kept, what those behind say is said
 pub said_behind : (rules others : List Rule) → first_sentence rules ≡ None → first_sentence (rules ++ others) ≡ first_sentence others
 said_behind [] others e = refl
-said_behind (rule ∷ rules) others e = behind_by rule.0 rule.1 (first_sentence rules) (first_sentence (rules ++ others)) (first_sentence others) e (said_behind rules others)
+said_behind (rule ∷ rules) others e =
+    behind_by rule.0 rule.1 (first_sentence rules) (first_sentence (rules ++ others)) (first_sentence others) e
+    (said_behind rules others)
 
 -- a chain without a value lacks one at its first part, or behind that
 pub none_at : {A B : Type 0} (o : Option A) (f : A → Option B) → option_and_then f o ≡ None → (o ≡ None) ⊎ ((x : A) × (o ≡ Some x) × (f x ≡ None))

@@ -16,11 +16,14 @@ module _ {V : Type 0} (items : V → List ℕ) (rules others : List Rule) (o : O
   front_says v is = sym (said_in_front rules others (items v) (sym said ∙ ap (option_map items) is))
 
   -- or those behind
-  pub behind_says : {E : Type 0} (r : Result (Option V) E) → o ≡ None → IfOk r (λ more. option_map items more ≡ first_sentence others) → IfOk r (λ more. option_map items more ≡ first_sentence (rules ++ others))
+  pub behind_says : {E : Type 0} (r : Result (Option V) E) → o ≡ None
+      → IfOk r (λ more. option_map items more ≡ first_sentence others)
+      → IfOk r (λ more. option_map items more ≡ first_sentence (rules ++ others))
   behind_says r none more = IfOk-weaker r _ _ (λ given is. is ∙ sym (said_behind rules others (sym said ∙ ap (option_map items) none))) more
 
 -- a sentence that is there
-pub unpacked : {V : Type 0} (items : V → List ℕ) (o : Option V) (v : V) (x : Option (List ℕ)) → x ≡ option_map items o → o ≡ Some v → x ≡ Some (items v)
+pub unpacked : {V : Type 0} (items : V → List ℕ) (o : Option V) (v : V) (x : Option (List ℕ)) → x ≡ option_map items o
+    → o ≡ Some v → x ≡ Some (items v)
 unpacked items o v x same is = same ∙ ap (option_map items) is
 
 -- a sentence that isn't

@@ -23,11 +23,13 @@ unfolding with_line
 line_is s n line item is = ap (option_and_then (λ i. with_item s n i)) is
 
 -- it is taken, unless memory runs out
-pub is_taken : (n : ℕ) (result : Result (Unit {0}) Fault) (new : ScriptModel) (item line : Option ScriptModel) → line ≡ item → GivesNext n result new item → OnOk result (line ≡ Some new)
+pub is_taken : (n : ℕ) (result : Result (Unit {0}) Fault) (new : ScriptModel) (item line : Option ScriptModel)
+    → line ≡ item → GivesNext n result new item → OnOk result (line ≡ Some new)
 is_taken n (Ok u) new item line same gives = same ∙ gives
 is_taken n (Err e) new item line same gives = tt
 
-pub is_memory : (n : ℕ) (result : Result (Unit {0}) Fault) (new : ScriptModel) (item line : Option ScriptModel) → line ≡ item → is_some line ≡ true → GivesNext n result new item → IfErr result IsMemory
+pub is_memory : (n : ℕ) (result : Result (Unit {0}) Fault) (new : ScriptModel) (item line : Option ScriptModel)
+    → line ≡ item → is_some line ≡ true → GivesNext n result new item → IfErr result IsMemory
 is_memory n (Ok u) new item line same right gives = tt
 is_memory n (Err (BadScript k)) new item line same right gives = let wrong : is_some line ≡ false = ap is_some (same ∙ gives.1) in absurd cc
 is_memory n (Err OutOfMemory) new item line same right gives = refl

@@ -5,7 +5,8 @@ ghost use Rattle.histar_flat.specs.Accounts.{is_group};
 ghost use Rattle.histar_script.specs.Lines.{lines_of};
 ghost use Rattle.histar_script.specs.Reading.{has_user};
 ghost use Rattle.histar_lint.specs.Lines.{first_sentence};
-ghost use Rattle.histar_lint.specs.Rules.{declared_on, declared_twice, declares, group_place_rules, group_word_rules, has_stranger, has_twin, is_taken, read_so_far, user_place_rules, user_word_rules};
+ghost use Rattle.histar_lint.specs.Rules.{declared_on, declared_twice, declares, group_place_rules, group_word_rules};
+ghost use Rattle.histar_lint.specs.Rules.{has_stranger, has_twin, is_taken, read_so_far, user_place_rules, user_word_rules};
 
 use crate::shapes::{Kind, kind_text};
 use crate::texts::push_number;

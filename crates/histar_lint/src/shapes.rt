@@ -2,7 +2,8 @@
 ghost use Rattle.std.specs.Prelude.{◌≡◌, ◌++◌, IfOk, OnOk, codes, map};
 ghost use Rattle.std.specs.Option.{option_copied};
 ghost use Rattle.histar_script.specs.CallForms.{call_forms, entry_calls, process_calls, reading_calls};
-ghost use Rattle.histar_lint.specs.Calls.{arguments_text, first_near, is_near, is_value, kind_name, kind_text, nearest, shape_among, shape_named, usage_text};
+ghost use Rattle.histar_lint.specs.Calls.{arguments_text, first_near, is_near, is_value, kind_name, kind_text, nearest};
+ghost use Rattle.histar_lint.specs.Calls.{shape_among, shape_named, usage_text};
 
 use histar_flat::{read_mode, read_name, read_password, read_path, read_process, read_status};
 use std::alloc::{AllocError, Global};

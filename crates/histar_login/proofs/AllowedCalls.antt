@@ -1,5 +1,6 @@
 -- The raw calls of boot that the rules allow.
-use Rattle.std.proofs.Common.{◌≡◌, ℕ, suc, ◌+◌, ◌<◌, ◌≤◌, Bool, true, ◌&&◌, List, [], ◌∷◌, ◌++◌, length, get_or, Option, None, Some, refl, ap, ◌∙◌, arith}
+use Rattle.std.proofs.Common.{◌≡◌, ℕ, suc, ◌+◌, ◌<◌, ◌≤◌, Bool, true, ◌&&◌, List, [], ◌∷◌, ◌++◌, length, get_or, Option, None, Some, refl, ap, ◌∙◌}
+use Rattle.std.proofs.Common.{arith}
 use Rattle.std.specs.Prelude.{not}
 use Rattle.std.proofs.lemmas.Bool.Decides.{nat_tests}
 use Rattle.std.specs.FinSet as set
@@ -49,13 +50,18 @@ module _ (s : State) (boot : Object Levels) (is_boot : s.objects 2 ≡ Some boot
       ∙ and_true _ _ (under_made s.next_category boot owner label made) (cleared_made s.next_category boot owner L1 label (omega arith) made)
 
   -- a label and a clearance are in its span
-  span_passes : (label clearance : Levels) → IsMadeLabel s.next_category L1 label → IsMadeLabel s.next_category L2 clearance → is_below label clearance ≡ true → in_span (s.objects 2) label clearance ≡ true
+  span_passes : (label clearance : Levels) → IsMadeLabel s.next_category L1 label
+      → IsMadeLabel s.next_category L2 clearance → is_below label clearance ≡ true
+      → in_span (s.objects 2) label clearance ≡ true
   span_passes label clearance made cleared below =
       ap (λ (x : Found). in_span x label clearance) is_boot
-      ∙ ap (λ k. both (Some boot.label) (kind_clearance k) (λ own own_clearance. is_below own label && is_below label clearance && is_below clearance own_clearance)) owner.is_thread
-      ∙ and_true _ _ (and_true _ _ (under_made s.next_category boot owner label made) below) (cleared_made s.next_category boot owner L2 clearance (omega arith) cleared)
+      ∙ ap (λ k. both (Some boot.label) (kind_clearance k) (λ own own_clearance.
+      is_below own label && is_below label clearance && is_below clearance own_clearance)) owner.is_thread
+      ∙ and_true _ _ (and_true _ _ (under_made s.next_category boot owner label made) below)
+      (cleared_made s.next_category boot owner L2 clearance (omega arith) cleared)
 
-  module _ (d : ℕ) (o : Object Levels) (there : s.objects d ≡ Some o) (holds : kind_is_container o.kind ≡ true) (made : IsMadeLabel s.next_category L1 o.label) where
+  module _ (d : ℕ) (o : Object Levels) (there : s.objects d ≡ Some o) (holds : kind_is_container o.kind ≡ true)
+      (made : IsMadeLabel s.next_category L1 o.label) where
     -- it may look into a container with such a label
     container_passes : no_container s 2 d ≡ None
     container_passes =
@@ -67,19 +73,23 @@ module _ (s : State) (boot : Object Levels) (is_boot : s.objects 2 ≡ Some boot
     -- and change it
     modify_passes : modifies (s.objects 2) (s.objects d) ≡ true
     modify_passes =
-        (λ i. modifies (is_boot i) (there i)) ∙ and_true _ _ (under_made s.next_category boot owner o.label made) (sees_made s.next_category boot owner o.label made)
+        (λ i. modifies (is_boot i) (there i))
+        ∙ and_true _ _ (under_made s.next_category boot owner o.label made)
+        (sees_made s.next_category boot owner o.label made)
 
     making_passes : no_making s 2 d ≡ None
     making_passes = and_then_none _ _ container_passes (passes _ _ modify_passes)
 
     -- it makes a segment there
-    segment_passes : (label : Levels) (bytes : List ℕ) → IsMadeGuard s.next_category label → length bytes ≤ 4096 → s.next_object < greatest → check s 2 (MakeSegment d label bytes) ≡ None
+    segment_passes : (label : Levels) (bytes : List ℕ) → IsMadeGuard s.next_category label → length bytes ≤ 4096
+        → s.next_object < greatest → check s 2 (MakeSegment d label bytes) ≡ None
     segment_passes label bytes guard few room =
         and_then_none _ _ making_passes
         (and_then_none _ _ (passes _ _ (range_passes label guard.label))
         (and_then_none _ _ (passes _ _ guard.label.made)
         (and_then_none _ _ (passes _ _ (ap not guard.starless))
-        (and_then_none _ _ (passes (fits_segment (length bytes)) _ (grind (arith, nat_tests))) (passes (has_number s) _ (grind (arith, nat_tests)))))))
+        (and_then_none _ _ (passes (fits_segment (length bytes)) _ (grind (arith, nat_tests)))
+        (passes (has_number s) _ (grind (arith, nat_tests)))))))
 
     -- a container
     inner_passes : (label : Levels) → IsMadeGuard s.next_category label → s.next_object < greatest → check s 2 (MakeContainer d label) ≡ None
@@ -90,7 +100,8 @@ module _ (s : State) (boot : Object Levels) (is_boot : s.objects 2 ≡ Some boot
         (and_then_none _ _ (passes _ _ (ap not guard.starless)) (passes (has_number s) _ (grind (arith, nat_tests))))))
 
     -- a thread
-    born_passes : (label clearance : Levels) → IsMadeLabel s.next_category L1 label → IsMadeLabel s.next_category L2 clearance → is_below label clearance ≡ true → s.next_object < greatest
+    born_passes : (label clearance : Levels) → IsMadeLabel s.next_category L1 label
+        → IsMadeLabel s.next_category L2 clearance → is_below label clearance ≡ true → s.next_object < greatest
         → check s 2 (MakeThread d label clearance) ≡ None
     born_passes label clearance owns cleared below room =
         and_then_none _ _ making_passes
@@ -98,7 +109,8 @@ module _ (s : State) (boot : Object Levels) (is_boot : s.objects 2 ≡ Some boot
         (and_then_none _ _ (passes _ _ owns.made) (and_then_none _ _ (passes _ _ cleared.made) (passes (has_number s) _ (grind (arith, nat_tests))))))
 
     -- a gate
-    gate_passes : (label clearance : Levels) (entry : Entry) → IsMadeLabel s.next_category L1 label → IsMadeLabel s.next_category L2 clearance → is_below label clearance ≡ true → s.next_object < greatest
+    gate_passes : (label clearance : Levels) (entry : Entry) → IsMadeLabel s.next_category L1 label
+        → IsMadeLabel s.next_category L2 clearance → is_below label clearance ≡ true → s.next_object < greatest
         → check s 2 (MakeGate d label clearance entry) ≡ None
     gate_passes label clearance entry owns cleared below room =
         and_then_none _ _ making_passes
@@ -108,7 +120,9 @@ module _ (s : State) (boot : Object Levels) (is_boot : s.objects 2 ≡ Some boot
     -- and takes away what it links
     unlink_passes : (q : ℕ) → set.contains (kind_links o.kind) q ≡ true → check s 2 (Unlink d q) ≡ None
     unlink_passes q linked =
-        and_then_none _ _ (and_then_none _ _ container_passes (passes _ _ (ap (λ (x : Found). set.contains (links_in x) q) there ∙ linked))) (passes _ _ modify_passes)
+        and_then_none _ _ (and_then_none _ _ container_passes
+        (passes _ _ (ap (λ (x : Found). set.contains (links_in x) q) there ∙ linked)))
+        (passes _ _ modify_passes)
 
 -- what stands behind the front
 found_behind : (front : List Found) (x : Found) (back : List Found) → get_or (front ++ x ∷ back) (length front) None ≡ x
@@ -133,14 +147,17 @@ module _ (first now : KernelModel) (p : Part) (boots : Boots first now p) where
   }
 
   -- and so is one of the objects behind the boot thread
-  pub inside_there : (d : ℕ) (front back : List Found) (label : Levels) (numbers : List ℕ) → p.objects ≡ front ++ container label numbers ∷ back → d ≡ 3 + length front
+  pub inside_there : (d : ℕ) (front back : List Found) (label : Levels) (numbers : List ℕ)
+      → p.objects ≡ front ++ container label numbers ∷ back → d ≡ 3 + length front
       → IsMadeLabel (next_made p) L1 label → HasContainer d
   inside_there d front back label numbers parts at made =
       let place : d ≡ suc (suc (suc (length front))) = at ∙ omega arith in
       record {
         label = label;
         numbers = numbers;
-        there = ap (object_at (table_of boots.boot p)) place ∙ ap (λ (l : List Found). get_or l (length front) None) parts ∙ found_behind front (container label numbers) back;
+        there =
+            ap (object_at (table_of boots.boot p)) place ∙ ap (λ (l : List Found). get_or l (length front) None) parts
+            ∙ found_behind front (container label numbers) back;
         made = made;
       }
 
@@ -154,29 +171,40 @@ module _ (first now : KernelModel) (p : Part) (boots : Boots first now p) where
 
   module _ (d : ℕ) (at : HasContainer d) (room : next_number p < greatest) where
     -- a segment
-    pub segment_allowed : (label : Levels) (bytes : List ℕ) → IsMadeGuard (next_made p) label → length bytes ≤ 4096 → Allows now (MakeSegment d label bytes)
+    pub segment_allowed : (label : Levels) (bytes : List ℕ) → IsMadeGuard (next_made p) label → length bytes ≤ 4096
+        → Allows now (MakeSegment d label bytes)
     segment_allowed label bytes guard few =
-        allowed (MakeSegment d label bytes) (segment_passes (state_with (table_of boots.boot p) (next_made p)) boots.boot refl boots.owner d _ at.there refl at.made label bytes guard few (omega (arith, room)))
+        allowed (MakeSegment d label bytes) (segment_passes (state_with (table_of boots.boot p) (next_made p))
+        boots.boot refl boots.owner d _ at.there refl at.made label bytes guard few (omega (arith, room)))
 
     -- a container
     pub container_allowed : (label : Levels) → IsMadeGuard (next_made p) label → Allows now (MakeContainer d label)
     container_allowed label guard =
-        allowed (MakeContainer d label) (inner_passes (state_with (table_of boots.boot p) (next_made p)) boots.boot refl boots.owner d _ at.there refl at.made label guard (omega (arith, room)))
+        allowed (MakeContainer d label) (inner_passes (state_with (table_of boots.boot p) (next_made p)) boots.boot
+        refl boots.owner d _ at.there refl at.made label guard (omega (arith, room)))
 
     -- a thread
-    pub thread_allowed : (label clearance : Levels) → IsMadeLabel (next_made p) L1 label → IsMadeLabel (next_made p) L2 clearance → is_below label clearance ≡ true → Allows now (MakeThread d label clearance)
+    pub thread_allowed : (label clearance : Levels) → IsMadeLabel (next_made p) L1 label
+        → IsMadeLabel (next_made p) L2 clearance → is_below label clearance ≡ true
+        → Allows now (MakeThread d label clearance)
     thread_allowed label clearance owns cleared below =
-        allowed (MakeThread d label clearance) (born_passes (state_with (table_of boots.boot p) (next_made p)) boots.boot refl boots.owner d _ at.there refl at.made label clearance owns cleared below (omega (arith, room)))
+        allowed (MakeThread d label clearance) (born_passes (state_with (table_of boots.boot p) (next_made p))
+        boots.boot refl boots.owner d _ at.there refl at.made label clearance owns cleared below
+        (omega (arith, room)))
 
     -- a gate
-    pub gate_allowed : (label clearance : Levels) (entry : Entry) → IsMadeLabel (next_made p) L1 label → IsMadeLabel (next_made p) L2 clearance → is_below label clearance ≡ true
+    pub gate_allowed : (label clearance : Levels) (entry : Entry) → IsMadeLabel (next_made p) L1 label
+        → IsMadeLabel (next_made p) L2 clearance → is_below label clearance ≡ true
         → Allows now (MakeGate d label clearance entry)
     gate_allowed label clearance entry owns cleared below =
-        allowed (MakeGate d label clearance entry) (gate_passes (state_with (table_of boots.boot p) (next_made p)) boots.boot refl boots.owner d _ at.there refl at.made label clearance entry owns cleared below (omega (arith, room)))
+        allowed (MakeGate d label clearance entry) (gate_passes (state_with (table_of boots.boot p) (next_made p))
+        boots.boot refl boots.owner d _ at.there refl at.made label clearance entry owns cleared below
+        (omega (arith, room)))
 
   -- the boot thread takes itself away
   pub last_allowed : Allows now last_call
   unfolding root_there
   last_allowed =
-      allowed last_call (unlink_passes (state_with (table_of boots.boot p) (next_made p)) boots.boot refl boots.owner 1 _ root_there.there refl root_there.made 2
+      allowed last_call
+      (unlink_passes (state_with (table_of boots.boot p) (next_made p)) boots.boot refl boots.owner 1 _ root_there.there refl root_there.made 2
       (set.contains-from_list nat_cmp_total (boot_thread_number ∷ p.linked) 2))

@@ -24,7 +24,8 @@ module _ (accounts : Accounts) (first k0 : KernelModel) (p : Part) (b0 : Boots f
   -- the rules allow to make the user table
   pub table_allowed : IsBeforeDirectory accounts p → length (user_table accounts) ≤ 4096 → Allows k0 (table_call accounts)
   table_allowed before few =
-      segment_allowed first k0 p b0 root_number (root_there first k0 p b0) (omega (arith, before.room.room_for_objects)) (written_by root_category) (user_table accounts)
+      segment_allowed first k0 p b0 root_number (root_there first k0 p b0) (omega (arith, before.room.room_for_objects))
+      (written_by root_category) (user_table accounts)
       (written_made (next_made p) root_category (omega arith) (omega arith)) few
 
   -- boot stops before the user table
@@ -52,7 +53,9 @@ module _ (accounts : Accounts) (first k0 : KernelModel) (p : Part) (b0 : Boots f
     pub slash_allowed : IsBeforeDirectory accounts p → 0 < length accounts.users → Allows k1 slash_call
     unfolding p1
     slash_allowed before some =
-        container_allowed first k1 p1 b1 root_number (root_there first k1 p1 b1) (omega (arith, before.room.room_for_objects, length-append p.objects (Some table_object ∷ []))) (written_by (write_category 1)) (first_made before some)
+        container_allowed first k1 p1 b1 root_number (root_there first k1 p1 b1)
+        (omega (arith, before.room.room_for_objects, length-append p.objects (Some table_object ∷ [])))
+        (written_by (write_category 1)) (first_made before some)
 
     -- boot stops before `/`
     pub directory_begun_one : (n : ℕ) (new : KernelModel) → IsUnchanged k1 new → HasBegun first new p.calls (directory_calls n accounts)
@@ -85,7 +88,13 @@ module _ (accounts : Accounts) (first k0 : KernelModel) (p : Part) (b0 : Boots f
       -- the number behind both
       after2 : next_number p2 ≡ 2 + next_number p
       unfolding p1 p2
-      after2 = omega (arith, length-append p.objects (Some table_object ∷ []), length-append (p.objects ++ Some table_object ∷ []) (Some root_object ∷ []))
+      after2 =
+          omega (
+            arith,
+            length-append p.objects (Some table_object ∷ []),
+            length-append
+                (p.objects ++ Some table_object ∷ []) (Some root_object ∷ []),
+          )
 
       -- the rules allow to make its directory segment
       pub listing_allowed : IsBeforeDirectory accounts p → 0 < length accounts.users → Allows k2 (listing_call root)
@@ -100,7 +109,8 @@ module _ (accounts : Accounts) (first k0 : KernelModel) (p : Part) (b0 : Boots f
       pub directory_begun_two : (n : ℕ) (new : KernelModel) → IsUnchanged k2 new → HasBegun first new p.calls (directory_calls n accounts)
       directory_begun_two n new same = begun_at first k2 new p.calls p2 (directory_calls n accounts) 2 b2 same calls2 (omega arith)
 
-      module _ (listing : ℕ) (k3 : KernelModel) (c3 : Called k2 k3 boot_thread_number (listing_call root) None) (is_listing : listing ≡ k2.kept.next_object) (n : ℕ) (at : next_number p ≡ 3 + 2 * n) where
+      module _ (listing : ℕ) (k3 : KernelModel) (c3 : Called k2 k3 boot_thread_number (listing_call root) None)
+          (is_listing : listing ≡ k2.kept.next_object) (n : ℕ) (at : next_number p ≡ 3 + 2 * n) where
         -- its directory segment
         listing_object : Object Levels
         listing_object = record { label = written_by (write_category 1); kind = Segment [] }
@@ -110,13 +120,17 @@ module _ (accounts : Accounts) (first k0 : KernelModel) (p : Part) (b0 : Boots f
         p3 = record {
           calls = p2.calls ++ listing_call root ∷ [];
           linked = p2.linked;
-          objects = (p.objects ++ Some table_object ∷ []) ++ container (written_by (write_category 1)) (next_number p2 ∷ []) ∷ Some listing_object ∷ [];
+          objects =
+              (p.objects ++ Some table_object ∷ [])
+              ++ container (written_by (write_category 1)) (next_number p2 ∷ []) ∷ Some listing_object ∷ [];
           categories = p.categories;
         }
 
         b3 : Boots first k3 p3
         unfolding listing_object root_object p1 p2 p3
-        b3 = boots_within first k2 k3 p2 b2 (listing_call root) listing_object root (p.objects ++ Some table_object ∷ []) [] (written_by (write_category 1)) [] refl root_at c3 c3.state
+        b3 =
+            boots_within first k2 k3 p2 b2 (listing_call root) listing_object root (p.objects ++ Some table_object ∷ [])
+            [] (written_by (write_category 1)) [] refl root_at c3 c3.state
 
         -- the numbers of the objects
         next1 : next_number p1 ≡ 4 + 2 * n
@@ -139,9 +153,11 @@ module _ (accounts : Accounts) (first k0 : KernelModel) (p : Part) (b0 : Boots f
         unfolding table_object root_object listing_object p1 p2 p3
         directory_boots =
             boots_same first k3 p3 (and_then p (directory_part n accounts)) b3
-            (calls_more p.calls (table_call accounts ∷ slash_call ∷ []) p2.calls (listing_call root) calls2 ∙ ap (λ (k : ℕ). p.calls ++ table_call accounts ∷ slash_call ∷ listing_call k ∷ []) directory_root)
+            (calls_more p.calls (table_call accounts ∷ slash_call ∷ []) p2.calls (listing_call root) calls2
+            ∙ ap (λ (k : ℕ). p.calls ++ table_call accounts ∷ slash_call ∷ listing_call k ∷ []) directory_root)
             (append_assoc p.linked (next_number p ∷ []) (next_number p1 ∷ []) ∙ (λ j. p.linked ++ at j ∷ next1 j ∷ []))
-            (append_assoc p.objects (Some table_object ∷ []) (container (written_by (write_category 1)) (next_number p2 ∷ []) ∷ Some listing_object ∷ [])
+            (append_assoc p.objects (Some table_object ∷ [])
+            (container (written_by (write_category 1)) (next_number p2 ∷ []) ∷ Some listing_object ∷ [])
             ∙ (λ j. p.objects ++ Some table_object ∷ container (written_by (write_category 1)) (next2 j ∷ []) ∷ Some listing_object ∷ []))
             (omega arith)
 

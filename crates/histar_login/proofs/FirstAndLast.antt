@@ -1,5 +1,6 @@
 -- The table of the empty kernel, and what is left once the boot thread took itself away.
-use Rattle.std.proofs.Common.{◌≡◌, ℕ, zero, suc, ◌+◌, ◌<◌, ◌==◌, Bool, true, false, not, ◌&&◌, ◌||◌, List, [], ◌∷◌, ◌++◌, None, Some, if◌then◌else◌, refl, sym, ap, ◌∙◌, arith}
+use Rattle.std.proofs.Common.{◌≡◌, ℕ, zero, suc, ◌+◌, ◌<◌, ◌==◌, Bool, true, false, not, ◌&&◌, ◌||◌, List, [], ◌∷◌, ◌++◌, None, Some, if◌then◌else◌}
+use Rattle.std.proofs.Common.{refl, sym, ap, ◌∙◌, arith}
 use Rattle.std.proofs.lemmas.Bool.{eqb-true, or_from}
 use Rattle.std.proofs.lemmas.Bool.Decides.{nat_tests}
 use Rattle.std.specs.FinSet as set
@@ -53,7 +54,8 @@ removed_again numbers n none =
     set.same_set nat_cmp_total set.nat_cmp-IsAntisymmetric (set.remove (set.insert numbers n) n) numbers (λ q.
     set.contains-remove nat_cmp_total (set.insert numbers n) n q
     ∙ ap (λ (b : Bool). not (eq_by_cmp nat_cmp q n) && b) (set.contains-insert nat_cmp_total numbers n q)
-    ∙ put_and_taken (eq_by_cmp nat_cmp q n) (set.contains numbers q) (λ e. ap (set.contains numbers) (eqb-true q n (sym (unsigned_tied q n) ∙ e)) ∙ none))
+    ∙ put_and_taken (eq_by_cmp nat_cmp q n) (set.contains numbers q)
+    (λ e. ap (set.contains numbers) (eqb-true q n (sym (unsigned_tied q n) ∙ e)) ∙ none))
 
 -- 2 is no number above it
 differs : (a : ℕ) → 2 < a → eq_by_cmp nat_cmp 2 a ≡ false
@@ -91,11 +93,14 @@ module _ (root boot : Object Levels) (objects : List Found) (c : ℕ) (is_thread
   reached_itself q here = refl
   reached_itself q (there p r reached linked) =
       let empty : set.contains (links_in (object_at rooted p)) q ≡ false =
-      ap (λ (n : ℕ). set.contains (links_in (object_at rooted n)) q) (reached_itself p reached) ∙ ap (λ (links : Numbers). set.contains links q) (thread_links boot.kind is_thread) ∙ set.contains-empty nat_cmp q in
+      ap (λ (n : ℕ). set.contains (links_in (object_at rooted n)) q) (reached_itself p reached)
+      ∙ ap (λ (links : Numbers). set.contains links q) (thread_links boot.kind is_thread)
+      ∙ set.contains-empty nat_cmp q in
       absurd (false_true _ empty linked)
 
   -- the thread was taken away, and with it the link to it
-  pub thread_gone : (new : State) → CutsOff (state_with (Some root ∷ Some boot ∷ objects) c) 1 2 new → new ≡ state_with (Some (unlinking 2 root) ∷ None ∷ objects) c
+  pub thread_gone : (new : State) → CutsOff (state_with (Some root ∷ Some boot ∷ objects) c) 1 2 new
+      → new ≡ state_with (Some (unlinking 2 root) ∷ None ∷ objects) c
   unfolding rooted
   thread_gone new cut = λ i. record { objects = λ q. at q i; next_object = cut.next_object i; next_category = cut.next_category i }
     where

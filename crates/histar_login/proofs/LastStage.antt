@@ -11,7 +11,8 @@ use Rattle.histar_syscall.proofs.Runs.{granted_more, made_run}
 use Rattle.histar_layout.specs.Labelling.{written_by}
 use Rattle.histar_login.specs.Start.{root_category, declared, own_read_category, container, state_with, of_users, of_directory, start_state}
 use Rattle.histar_login.specs.Boot.{boot_calls, boot_thread_number, IsBooted}
-use Rattle.histar_login.specs.Booting.{Part, and_then, nothing_yet, next_number, Boots, BootsOn, IsAnywhere, IsBefore, IsBeforeBoth, categories_part, users_part, directory_part, process_part}
+use Rattle.histar_login.specs.Booting.{Part, and_then, nothing_yet, next_number, Boots, BootsOn, IsAnywhere, IsBefore, IsBeforeBoth, categories_part}
+use Rattle.histar_login.specs.Booting.{users_part, directory_part, process_part}
 use Rattle.histar_login.proofs.Stages.{boots_same, length-numbered}
 use Rattle.histar_login.proofs.StartLemmas.{range-suc}
 use Rattle.histar_login.proofs.FirstAndLast.{two_not_in_row}
@@ -34,8 +35,17 @@ pub directory_is_next : (accounts : Accounts) → next_number (first_parts accou
 directory_is_next accounts = ap (λ (k : ℕ). 3 + k) (length-numbered accounts 1 accounts.users)
 
 -- where process 0 begins
-pub process_is_next : (accounts : Accounts) → IsBeforeBoth (6 + 2 * length accounts.users) (own_read_category (declared accounts)) (more_parts accounts)
-process_is_next accounts = (omega (arith, length-numbered accounts 1 accounts.users, length-append (of_users accounts accounts.users) (of_directory (length accounts.users) accounts)), omega arith)
+pub process_is_next : (accounts : Accounts)
+    → IsBeforeBoth (6 + 2 * length accounts.users) (own_read_category (declared accounts)) (more_parts accounts)
+process_is_next accounts = (
+  omega (
+    arith,
+    length-numbered accounts 1 accounts.users,
+    length-append (of_users accounts accounts.users)
+        (of_directory (length accounts.users) accounts),
+  ),
+  omega arith,
+)
 
 -- the parts of boot, one after another
 pub record HasParts (accounts : Accounts) (first directed processed last : KernelModel) : Type 0 where
@@ -51,9 +61,11 @@ pub record HasParts (accounts : Accounts) (first directed processed last : Kerne
 pub has_parts : (accounts : Accounts) (first k1 k2 k3 k4 : KernelModel) → state first ≡ empty_state
     → BootsOn first k1 IsAnywhere (categories_part (1 + declared accounts)) → BootsOn k1 k2 (IsBefore 3) (users_part accounts accounts.users)
     → BootsOn k2 k3 (IsBefore (3 + 2 * length accounts.users)) (directory_part (length accounts.users) accounts)
-    → ((n owners : ℕ) → BootsOn k3 k4 (IsBeforeBoth (6 + 2 * n) (own_read_category owners)) (process_part n owners)) → HasParts accounts first k2 k3 k4
+    → ((n owners : ℕ) → BootsOn k3 k4 (IsBeforeBoth (6 + 2 * n) (own_read_category owners)) (process_part n owners))
+    → HasParts accounts first k2 k3 k4
 has_parts accounts first k1 k2 k3 k4 empty categories objects directory process =
-    let b1 : Boots first k1 (and_then nothing_yet (categories_part (1 + declared accounts))) = categories first nothing_yet tt (boots_first first empty) in
+    let b1 : Boots first k1 (and_then nothing_yet (categories_part (1 + declared accounts))) =
+    categories first nothing_yet tt (boots_first first empty) in
     let b2 : Boots first k2 (first_parts accounts) = objects first _ refl b1 in
     let b3 : Boots first k3 (more_parts accounts) = directory first (first_parts accounts) (directory_is_next accounts) b2 in
     record {
@@ -65,7 +77,9 @@ has_parts accounts first k1 k2 k3 k4 empty categories objects directory process 
     }
 
 -- the numbers that the root container links at last
-root_numbers : (n : ℕ) → (range_with_len 3 (2 * n) ++ (3 + 2 * n) ∷ (4 + 2 * n) ∷ []) ++ (6 + 2 * n) ∷ [] ≡ range_with_len 3 (2 + 2 * n) ++ (6 + 2 * n) ∷ []
+root_numbers : (n : ℕ)
+    → (range_with_len 3 (2 * n) ++ (3 + 2 * n) ∷ (4 + 2 * n) ∷ []) ++ (6 + 2 * n) ∷ []
+    ≡ range_with_len 3 (2 + 2 * n) ++ (6 + 2 * n) ∷ []
 root_numbers n =
     let m : 3 + suc (2 * n) ≡ 4 + 2 * n = omega arith in
     let twice : suc (suc (2 * n)) ≡ 2 + 2 * n = omega arith in
@@ -98,15 +112,20 @@ module _ (accounts : Accounts) (first before after : KernelModel) (boots : Boots
     empty = empty;
     no_trace = no_trace;
     line = line;
-    made = granted_more boot_thread_number first before after (all_parts accounts).calls (calls.Unlink root_number boot_thread_number) boots.granted called;
+    made =
+        granted_more boot_thread_number first before after (all_parts accounts).calls
+        (calls.Unlink root_number boot_thread_number) boots.granted called;
   }
 
   -- and is in its start state
   pub started : state after ≡ start_state accounts
   unfolding last_part
   started =
-      boots_last first before after last_part last_boots called (two_not_in_row 3 (2 + 2 * length accounts.users) (6 + 2 * length accounts.users) (omega arith) (omega arith))
-      ∙ ap (state_with (container (written_by root_category) (range_with_len 3 (2 + 2 * length accounts.users) ++ (6 + 2 * length accounts.users) ∷ []) ∷ None ∷ (all_parts accounts).objects)) (omega arith)
+      boots_last first before after last_part last_boots called
+      (two_not_in_row 3 (2 + 2 * length accounts.users) (6 + 2 * length accounts.users) (omega arith) (omega arith))
+      ∙ ap (state_with (container (written_by root_category)
+      (range_with_len 3 (2 + 2 * length accounts.users) ++ (6 + 2 * length accounts.users) ∷ []) ∷ None
+      ∷ (all_parts accounts).objects)) (omega arith)
 
 -- no line was begun
 pub booted_line : (accounts : Accounts) (kernel : KernelModel) → IsBooted accounts kernel → kernel.line ≡ 0

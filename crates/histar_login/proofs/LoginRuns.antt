@@ -14,7 +14,8 @@ use Rattle.histar_calls.proofs.Exits.{Leaves}
 use Rattle.histar_calls.proofs.Running.{hands, part_fails, then_part}
 use Rattle.histar_process.specs.declared.caller.Caller.{Caller}
 use Rattle.histar_login.specs.declared.login.EntryLabels.{EntryLabels}
-use Rattle.histar_login.specs.Login.{AreEntryLabels, ask_password, clearance_if, entering, gate_of, label_if, login_as_program, password_of, reply_if, take_due}
+use Rattle.histar_login.specs.Login.{AreEntryLabels, ask_password, clearance_if, entering, gate_of, label_if, login_as_program, password_of, reply_if}
+use Rattle.histar_login.specs.Login.{take_due}
 
 -- a gate that is entered by the labels that were made is the user's
 pub enters : (t : ℕ) (old new : KernelModel) (result : Result Entry CallError) (owners : List ℕ) (i : ℕ) (own : Levels × Levels)
@@ -31,26 +32,33 @@ module _ (t i : ℕ) (password : List ℕ) (old new : KernelModel) where
   compared kept rest = rest (bytes_eq kept password)
 
   -- its segment isn't read
-  pub asks_none : (call_error : CallError) → RunsPart {A = List ℕ} (ask (Read root_number (password_of i))) old new t (Err call_error) → RunsPart (ask_password i password) old new t (Err call_error)
+  pub asks_none : (call_error : CallError)
+      → RunsPart {A = List ℕ} (ask (Read root_number (password_of i))) old new t (Err call_error)
+      → RunsPart (ask_password i password) old new t (Err call_error)
   asks_none call_error first = part_fails t (ask (Read root_number (password_of i))) old new compared call_error first
 
   -- it is
-  pub asks_password : (kept : List ℕ) (right : Bool) → RunsPart {A = List ℕ} (ask (Read root_number (password_of i))) old new t (Ok kept) → right ≡ bytes_eq kept password → RunsPart (ask_password i password) old new t (Ok right)
+  pub asks_password : (kept : List ℕ) (right : Bool)
+      → RunsPart {A = List ℕ} (ask (Read root_number (password_of i))) old new t (Ok kept)
+      → right ≡ bytes_eq kept password → RunsPart (ask_password i password) old new t (Ok right)
   asks_password kept right first is =
       subst (λ (b : Bool). RunsPart (ask_password i password) old new t (Ok b)) (sym is)
-      (then_part t (ask (Read root_number (password_of i))) old new compared new kept first (Ok (bytes_eq kept password)) (hands t new (bytes_eq kept password)))
+      (then_part t (ask (Read root_number (password_of i))) old new compared new kept first
+      (Ok (bytes_eq kept password)) (hands t new (bytes_eq kept password)))
 
 -- the segment that is read is that of the password
 pub reads : (t : ℕ) (old new : KernelModel) (result : Result (List ℕ) CallError) (d o i : ℕ) → d ≡ root_number → o ≡ password_of i
     → RunsPart {A = List ℕ} (ask (Read d o)) old new t result → RunsPart {A = List ℕ} (ask (Read root_number (password_of i))) old new t result
-reads t old new result d o i root segment runs = subst (λ (p : Part (List ℕ)). RunsPart {A = List ℕ} p old new t result) (λ j. ask (Read (root j) (segment j))) runs
+reads t old new result d o i root segment runs =
+    subst (λ (p : Part (List ℕ)). RunsPart {A = List ℕ} p old new t result) (λ j. ask (Read (root j) (segment j))) runs
 
 -- labels that are taken are those that are due
 module _ (t : ℕ) (old new : KernelModel) (result : Result (Unit {0}) CallError) (label due : Levels) (same : label ≡ due) where
   pub takes_label : RunsPart {A = Unit {0}} (ask (SetLabel label)) old new t result → RunsPart {A = Unit {0}} (ask (SetLabel due)) old new t result
   takes_label runs = subst (λ (p : Part (Unit {0})). RunsPart {A = Unit {0}} p old new t result) (λ j. ask (SetLabel (same j))) runs
 
-  pub takes_clearance : RunsPart {A = Unit {0}} (ask (SetClearance label)) old new t result → RunsPart {A = Unit {0}} (ask (SetClearance due)) old new t result
+  pub takes_clearance : RunsPart {A = Unit {0}} (ask (SetClearance label)) old new t result
+      → RunsPart {A = Unit {0}} (ask (SetClearance due)) old new t result
   takes_clearance runs = subst (λ (p : Part (Unit {0})). RunsPart {A = Unit {0}} p old new t result) (λ j. ask (SetClearance (same j))) runs
 
 -- what is due is taken, the label first
@@ -62,12 +70,15 @@ module _ (t : ℕ) (right : Bool) (caller : Caller) (owners : List ℕ) (own : L
   after_label done = ask (SetClearance (clearance_if right caller owners own.1))
 
   -- the label isn't taken
-  pub takes_none : (call_error : CallError) → RunsPart {A = Unit {0}} (ask (SetLabel due_label)) old new t (Err call_error) → RunsPart (take_due right caller owners own) old new t (Err call_error)
+  pub takes_none : (call_error : CallError)
+      → RunsPart {A = Unit {0}} (ask (SetLabel due_label)) old new t (Err call_error)
+      → RunsPart (take_due right caller owners own) old new t (Err call_error)
   takes_none call_error first = part_fails t (ask (SetLabel due_label)) old new after_label call_error first
 
   -- it is, and the clearance too, or not
   pub takes_due : (mid : KernelModel) → RunsPart {A = Unit {0}} (ask (SetLabel due_label)) old mid t (Ok tt) → (result : Result (Unit {0}) CallError)
-      → RunsPart {A = Unit {0}} (ask (SetClearance (clearance_if right caller owners own.1))) mid new t result → RunsPart (take_due right caller owners own) old new t result
+      → RunsPart {A = Unit {0}} (ask (SetClearance (clearance_if right caller owners own.1))) mid new t result
+      → RunsPart (take_due right caller owners own) old new t result
   takes_due mid first result second = then_part t (ask (SetLabel due_label)) old new after_label mid tt first result second
 
 -- what is left of a login, from one part to the next

@@ -7,7 +7,8 @@ use mathlib.Core.Bool.{false≢true}
 use Rattle.histar_label.specs.declared.levels.Level.{Level}
 use Rattle.histar_label.specs.declared.levels.Level.TheVariants.{Star, L0, L1, L2, L3}
 use Rattle.histar_label.specs.Level.{rank, raised, rank-at_most}
-use Rattle.histar_label.specs.Levels.{Levels, level_of, constant, with_level, level_of-constant, level_of-with_level, grades, IsBelow, is_made, has_star, is_below, is_below_raised}
+use Rattle.histar_label.specs.Levels.{Levels, level_of, constant, with_level, level_of-constant, level_of-with_level, grades, IsBelow, is_made}
+use Rattle.histar_label.specs.Levels.{has_star, is_below, is_below_raised}
 use Rattle.histar_label.proofs.Made.{is_made-constant, is_made-with_level}
 use Rattle.histar_label.proofs.Orders.{is_below-law, is_below_raised-law}
 use Rattle.histar_label.proofs.Stars.{has_star-none}
@@ -49,7 +50,8 @@ pub made_constant : (next : ℕ) (level : Level) → IsMadeLabel next level (con
 made_constant next level = record { made = is_made-constant next level; others = λ c none. level_of-constant level c }
 
 -- a level at one category more that was made
-pub made_with : (next : ℕ) (level : Level) (L : Levels) (c : ℕ) (l : Level) → 0 < c → c < next → IsMadeLabel next level L → IsMadeLabel next level (with_level L c l)
+pub made_with : (next : ℕ) (level : Level) (L : Levels) (c : ℕ) (l : Level) → 0 < c → c < next
+    → IsMadeLabel next level L → IsMadeLabel next level (with_level L c l)
 made_with next level L c l low high label = record {
   made = is_made-with_level next L c l low high label.made;
   others = λ q none. level_of-with_level L c l q ∙ ap (λ b. if b then l else level_of L q) (apart next c q low high none) ∙ label.others q none;
@@ -83,21 +85,29 @@ written_made next c low high = record {
 -- what the owner of a category alone reads, and that of another one writes
 pub secret_made : (next r w : ℕ) → 0 < r → r < next → 0 < w → w < next → IsMadeGuard next (secret_of r w)
 secret_made next r w r_low r_high w_low w_high = record {
-  label = made_with next L1 (with_level (constant L1) r L3) w L0 w_low w_high (made_with next L1 (constant L1) r L3 r_low r_high (made_constant next L1));
-  starless = has_star-none (secret_of r w) (starless_with (with_level (constant L1) r L3) w L0 (starless_with (constant L1) r L3 starless_constant three_other) zero_other);
+  label =
+      made_with next L1 (with_level (constant L1) r L3) w L0 w_low w_high
+      (made_with next L1 (constant L1) r L3 r_low r_high (made_constant next L1));
+  starless =
+      has_star-none (secret_of r w) (starless_with (with_level (constant L1) r L3) w L0
+      (starless_with (constant L1) r L3 starless_constant three_other) zero_other);
 }
 
 -- one level at two categories
-pub two_made : (next : ℕ) (level l : Level) (r w : ℕ) → 0 < r → r < next → 0 < w → w < next → IsMadeLabel next level (with_level (with_level (constant level) r l) w l)
+pub two_made : (next : ℕ) (level l : Level) (r w : ℕ) → 0 < r → r < next → 0 < w → w < next
+    → IsMadeLabel next level (with_level (with_level (constant level) r l) w l)
 two_made next level l r w r_low r_high w_low w_high =
-    made_with next level (with_level (constant level) r l) w l w_low w_high (made_with next level (constant level) r l r_low r_high (made_constant next level))
+    made_with next level (with_level (constant level) r l) w l w_low w_high
+    (made_with next level (constant level) r l r_low r_high (made_constant next level))
 
 -- one level at the categories of these users and groups
-pub both_made : (next : ℕ) (level l : Level) (L : Levels) (owners : List ℕ) → All (λ o. write_category o < next) owners → IsMadeLabel next level L → IsMadeLabel next level (with_levels L (at_both l owners))
+pub both_made : (next : ℕ) (level l : Level) (L : Levels) (owners : List ℕ) → All (λ o. write_category o < next) owners
+    → IsMadeLabel next level L → IsMadeLabel next level (with_levels L (at_both l owners))
 both_made next level l L [] all label = label
 both_made next level l L (o ∷ owners) all label =
     let here : write_category o < next = All-head (λ o. write_category o < next) o owners all in
-    both_made next level l (with_level (with_level L (read_category o) l) (write_category o) l) owners (All-tail (λ o. write_category o < next) o owners all)
+    both_made next level l (with_level (with_level L (read_category o) l) (write_category o) l) owners
+    (All-tail (λ o. write_category o < next) o owners all)
     (made_with next level _ (write_category o) l (omega arith) here (made_with next level L _ l (omega arith) (omega (arith, here)) label))
 
 -- what a test picks, where the first is the lowest and the highest
@@ -107,15 +117,19 @@ picked_below false l m under = under
 
 -- a label stays under a clearance where it owns one category more, and the clearance has 3 there
 below_with : (L C : Levels) (c : ℕ) → IsBelow (grades L) (grades C) → IsBelow (grades (with_level L c Star)) (grades (with_level C c L3))
-below_with L C c under q = rw (level_of-with_level L c Star q, level_of-with_level C c L3 q) (picked_below (q == c) (level_of L q) (level_of C q) (under q))
+below_with L C c under q =
+    rw (level_of-with_level L c Star q, level_of-with_level C c L3 q)
+    (picked_below (q == c) (level_of L q) (level_of C q) (under q))
 
 below_constant : IsBelow (grades (constant L1)) (grades (constant L2))
 below_constant q = rw (level_of-constant L1 q, level_of-constant L2 q) (omega arith)
 
-below_both : (L C : Levels) (owners : List ℕ) → IsBelow (grades L) (grades C) → IsBelow (grades (with_levels L (at_both Star owners))) (grades (with_levels C (at_both L3 owners)))
+below_both : (L C : Levels) (owners : List ℕ) → IsBelow (grades L) (grades C)
+    → IsBelow (grades (with_levels L (at_both Star owners))) (grades (with_levels C (at_both L3 owners)))
 below_both L C [] under = under
 below_both L C (o ∷ owners) under =
-    below_both (with_level (with_level L (read_category o) Star) (write_category o) Star) (with_level (with_level C (read_category o) L3) (write_category o) L3) owners
+    below_both (with_level (with_level L (read_category o) Star) (write_category o) Star)
+    (with_level (with_level C (read_category o) L3) (write_category o) L3) owners
     (below_with _ _ (write_category o) (below_with L C (read_category o) under))
 
 -- what owns two categories is under its clearance
@@ -144,25 +158,34 @@ cleared_over false l m d is other few = omega (arith, ap rank is, ap rank (other
 module _ (next : ℕ) (o : Object Levels) (owner : OwnsMade next o) where
   -- the boot thread is under each label that names what was made
   pub under_made : (L : Levels) → IsMadeLabel next L1 L → is_below o.label L ≡ true
-  under_made L label = (is_below-law o.label L).1 (λ q. owner_under (was_made next q) (level_of o.label q) (level_of L q) (owner.owns q) (label.others q))
+  under_made L label =
+      (is_below-law o.label L).1
+      (λ q. owner_under (was_made next q) (level_of o.label q) (level_of L q) (owner.owns q) (label.others q))
 
   -- it may see what has such a label
   pub sees_made : (L : Levels) → IsMadeLabel next L1 L → is_below_raised L o.label ≡ true
-  sees_made L label = (is_below_raised-law L o.label).1 (λ q. owner_over (was_made next q) (level_of o.label q) (level_of L q) (owner.owns q) (label.others q))
+  sees_made L label =
+      (is_below_raised-law L o.label).1
+      (λ q. owner_over (was_made next q) (level_of o.label q) (level_of L q) (owner.owns q) (label.others q))
 
   -- and is cleared for it
   pub cleared_made : (level : Level) (L : Levels) → rank level ≤ 3 → IsMadeLabel next level L → is_below L owner.clearance ≡ true
   cleared_made level L few label =
-      (is_below-law L owner.clearance).1 (λ q. cleared_over (was_made next q) (level_of owner.clearance q) (level_of L q) level (owner.cleared q) (label.others q) few)
+      (is_below-law L owner.clearance).1
+      (λ q. cleared_over (was_made next q) (level_of owner.clearance q) (level_of L q) level (owner.cleared q)
+      (label.others q) few)
 
   -- by whether a category is the new one, and whether it was made
-  owning_level : (q : ℕ) (l m : Level) → 0 < next → (if q == next then l else (if was_made next q then l else m)) ≡ (if was_made (next + 1) q then l else m)
-  owning_level q l m some = elim (q == next) as (λ b. (q == next) ≡ b → (if b then l else (if was_made next q then l else m)) ≡ (if was_made (next + 1) q then l else m)) [
-    | true ↦ λ same.
-        let is : q ≡ next = grind (arith, nat_tests) in
-        sym (ap (λ b. if b then l else m) (in_range (next + 1) q (omega (arith, is, some)) (omega (arith, is))))
-    | false ↦ λ other. ap (λ b. if b then l else m) (same_test other)
-  ] refl
+  owning_level : (q : ℕ) (l m : Level) → 0 < next
+      → (if q == next then l else (if was_made next q then l else m)) ≡ (if was_made (next + 1) q then l else m)
+  owning_level q l m some =
+      elim (q == next) as (λ b. (q == next) ≡ b
+      → (if b then l else (if was_made next q then l else m)) ≡ (if was_made (next + 1) q then l else m)) [
+        | true ↦ λ same.
+            let is : q ≡ next = grind (arith, nat_tests) in
+            sym (ap (λ b. if b then l else m) (in_range (next + 1) q (omega (arith, is, some)) (omega (arith, is))))
+        | false ↦ λ other. ap (λ b. if b then l else m) (same_test other)
+      ] refl
     where
       same_test : (q == next) ≡ false → was_made next q ≡ was_made (next + 1) q
       same_test other = ap (λ b. nat_lt 0 q && b) (grind (arith, nat_tests, other))
@@ -173,7 +196,9 @@ module _ (next : ℕ) (o : Object Levels) (owner : OwnsMade next o) where
     clearance = with_level owner.clearance next L3;
     is_thread = ap (kind_with_three_at next) owner.is_thread;
     owns = λ q. level_of-with_level o.label next Star q ∙ ap (λ l. if q == next then Star else l) (owner.owns q) ∙ owning_level q Star L1 some;
-    cleared = λ q. level_of-with_level owner.clearance next L3 q ∙ ap (λ l. if q == next then L3 else l) (owner.cleared q) ∙ owning_level q L3 L2 some;
+    cleared =
+        λ q. level_of-with_level owner.clearance next L3 q ∙ ap (λ l. if q == next then L3 else l) (owner.cleared q)
+        ∙ owning_level q L3 L2 some;
   }
 
 -- by whether a category is 1

@@ -43,7 +43,8 @@ module _ (first k0 : KernelModel) (p : Part) (b0 : Boots first k0 p) where
     pub process_begun_one : (n owners : ℕ) (new : KernelModel) → IsUnchanged k1 new → HasBegun first new p.calls (process_calls n owners)
     process_begun_one n owners new same = begun_at first k1 new p.calls (one_category p) (process_calls n owners) 1 b1 same refl (omega arith)
 
-    module _ (write : ℕ) (k2 : KernelModel) (c2 : Called k1 k2 boot_thread_number calls.MakeCategory None) (is_write : write ≡ k1.kept.next_category) where
+    module _ (write : ℕ) (k2 : KernelModel) (c2 : Called k1 k2 boot_thread_number calls.MakeCategory None)
+        (is_write : write ≡ k1.kept.next_category) where
       -- what stands after both
       p2 : Part
       p2 = one_category (one_category p)
@@ -68,7 +69,9 @@ module _ (first k0 : KernelModel) (p : Part) (b0 : Boots first k0 p) where
 
       secret : IsMadeGuard (next_made p2) (secret_of read write)
       unfolding p2
-      secret = secret_made (next_made p2) read write (omega (arith, read_last)) (omega (arith, read_last)) (omega (arith, write_last)) (omega (arith, write_last))
+      secret =
+          secret_made (next_made p2) read write (omega (arith, read_last)) (omega (arith, read_last))
+          (omega (arith, write_last)) (omega (arith, write_last))
 
       -- the raw calls so far
       calls2 : p2.calls ≡ p.calls ++ calls.MakeCategory ∷ calls.MakeCategory ∷ []
@@ -87,13 +90,16 @@ module _ (first k0 : KernelModel) (p : Part) (b0 : Boots first k0 p) where
       -- the rules allow the container
       pub outer_allowed : HasRoom 2 4 p → Allows k2 (outer_call write)
       unfolding p2
-      outer_allowed room = container_allowed first k2 p2 b2 root_number (root_there first k2 p2 b2) (omega (arith, room.room_for_objects)) (written_by write) guarded
+      outer_allowed room =
+          container_allowed first k2 p2 b2 root_number (root_there first k2 p2 b2)
+          (omega (arith, room.room_for_objects)) (written_by write) guarded
 
       -- boot stops before it
       pub process_begun_two : (n owners : ℕ) (new : KernelModel) → IsUnchanged k2 new → HasBegun first new p.calls (process_calls n owners)
       process_begun_two n owners new same = begun_at first k2 new p.calls p2 (process_calls n owners) 2 b2 same calls2 (omega arith)
 
-      module _ (outer : ℕ) (k3 : KernelModel) (c3 : Called k2 k3 boot_thread_number (outer_call write) None) (is_outer : outer ≡ k2.kept.next_object) where
+      module _ (outer : ℕ) (k3 : KernelModel) (c3 : Called k2 k3 boot_thread_number (outer_call write) None)
+          (is_outer : outer ≡ k2.kept.next_object) where
         -- the container of process 0
         outer_object : Object Levels
         outer_object = record { label = written_by write; kind = Container set.empty }
@@ -123,15 +129,20 @@ module _ (first k0 : KernelModel) (p : Part) (b0 : Boots first k0 p) where
         pub inner_allowed : HasRoom 2 4 p → Allows k3 (inner_call outer read write)
         unfolding p2 p3 outer_object
         inner_allowed room =
-            container_allowed first k3 p3 b3 outer (inside_there first k3 p3 b3 outer p.objects [] (written_by write) [] refl outer_at guarded.label) (omega (arith, room.room_for_objects, after3)) (secret_of read write) secret
+            container_allowed first k3 p3 b3 outer
+            (inside_there first k3 p3 b3 outer p.objects [] (written_by write) [] refl outer_at guarded.label)
+            (omega (arith, room.room_for_objects, after3)) (secret_of read write) secret
 
         -- boot stops before it
-        pub process_begun_three : (n owners : ℕ) → IsBeforeBoth (6 + 2 * n) (own_read_category owners) p → (new : KernelModel) → IsUnchanged k3 new → HasBegun first new p.calls (process_calls n owners)
+        pub process_begun_three : (n owners : ℕ) → IsBeforeBoth (6 + 2 * n) (own_read_category owners) p
+            → (new : KernelModel) → IsUnchanged k3 new → HasBegun first new p.calls (process_calls n owners)
         process_begun_three n owners at new same =
             begun_at first k3 new p.calls p3 (process_calls n owners) 3 b3 same
             (calls3 ∙ (λ j. p.calls ++ calls.MakeCategory ∷ calls.MakeCategory ∷ outer_call (write_is n owners at j) ∷ [])) (omega arith)
 
-        module _ (inner : ℕ) (k4 : KernelModel) (c4 : Called k3 k4 boot_thread_number (inner_call outer read write) None) (is_inner : inner ≡ k3.kept.next_object) where
+        module _ (inner : ℕ) (k4 : KernelModel)
+            (c4 : Called k3 k4 boot_thread_number (inner_call outer read write) None)
+            (is_inner : inner ≡ k3.kept.next_object) where
           -- the internal container
           inner_object : Object Levels
           inner_object = record { label = secret_of read write; kind = Container set.empty }
@@ -151,12 +162,22 @@ module _ (first k0 : KernelModel) (p : Part) (b0 : Boots first k0 p) where
 
           b4 : Boots first k4 p4
           unfolding outer_object inner_object p2 p3 p4
-          b4 = boots_within first k3 k4 p3 b3 (inner_call outer read write) inner_object outer p.objects [] (written_by write) [] refl outer_at c4 c4.state
+          b4 =
+              boots_within first k3 k4 p3 b3 (inner_call outer read write) inner_object outer p.objects []
+              (written_by write) [] refl outer_at c4 c4.state
 
           -- where it stands
           inner_at : inner ≡ 3 + length front5
           unfolding front5
-          inner_at = omega (arith, is_inner, next_number_is first k3 k3 p3 b3, after3, length-append p.objects (container (written_by write) (next_number p3 ∷ []) ∷ []))
+          inner_at =
+              omega (
+                arith,
+                is_inner,
+                next_number_is first k3 k3 p3 b3,
+                after3,
+                length-append p.objects
+                    (container (written_by write) (next_number p3 ∷ []) ∷ []),
+              )
 
           parts4 : p4.objects ≡ front5 ++ Some inner_object ∷ []
           unfolding p4 front5
@@ -177,19 +198,26 @@ module _ (first k0 : KernelModel) (p : Part) (b0 : Boots first k0 p) where
           pub birth_allowed : HasRoom 2 4 p → Allows k4 (thread_call inner read write)
           unfolding p2 p3 p4 inner_object
           birth_allowed room =
-              thread_allowed first k4 p4 b4 inner (inside_there first k4 p4 b4 inner front5 [] (secret_of read write) [] parts4 inner_at secret.label) (omega (arith, room.room_for_objects, after4)) (owner_of read write) (cleared_of read write)
-              (two_made (next_made p4) L1 Star read write (omega (arith, read_last)) (omega (arith, read_last)) (omega (arith, write_last)) (omega (arith, write_last)))
-              (two_made (next_made p4) L2 L3 read write (omega (arith, read_last)) (omega (arith, read_last)) (omega (arith, write_last)) (omega (arith, write_last)))
+              thread_allowed first k4 p4 b4 inner
+              (inside_there first k4 p4 b4 inner front5 [] (secret_of read write) [] parts4 inner_at secret.label)
+              (omega (arith, room.room_for_objects, after4)) (owner_of read write) (cleared_of read write)
+              (two_made (next_made p4) L1 Star read write (omega (arith, read_last)) (omega (arith, read_last))
+              (omega (arith, write_last)) (omega (arith, write_last)))
+              (two_made (next_made p4) L2 L3 read write (omega (arith, read_last)) (omega (arith, read_last))
+              (omega (arith, write_last)) (omega (arith, write_last)))
               (owner_below read write)
 
           -- boot stops before it
-          pub process_begun_four : (n owners : ℕ) → IsBeforeBoth (6 + 2 * n) (own_read_category owners) p → (new : KernelModel) → IsUnchanged k4 new → HasBegun first new p.calls (process_calls n owners)
+          pub process_begun_four : (n owners : ℕ) → IsBeforeBoth (6 + 2 * n) (own_read_category owners) p
+              → (new : KernelModel) → IsUnchanged k4 new → HasBegun first new p.calls (process_calls n owners)
           process_begun_four n owners at new same =
               begun_at first k4 new p.calls p4 (process_calls n owners) 4 b4 same
               (calls4
               ∙ (λ j. p.calls ++ calls.MakeCategory ∷ calls.MakeCategory ∷ outer_call (write_is n owners at j) ∷ inner_call (outer_is n owners at j) (read_is n owners at j) (write_is n owners at j) ∷ [])) (omega arith)
 
-          module _ (thread : ℕ) (k5 : KernelModel) (c5 : Called k4 k5 boot_thread_number (thread_call inner read write) None) (is_thread : thread ≡ k4.kept.next_object) where
+          module _ (thread : ℕ) (k5 : KernelModel)
+              (c5 : Called k4 k5 boot_thread_number (thread_call inner read write) None)
+              (is_thread : thread ≡ k4.kept.next_object) where
             -- its thread
             thread_object : Object Levels
             thread_object = record { label = owner_of read write; kind = Thread (cleared_of read write) }
@@ -205,20 +233,38 @@ module _ (first k0 : KernelModel) (p : Part) (b0 : Boots first k0 p) where
 
             b5 : Boots first k5 p5
             unfolding inner_object thread_object p2 p3 p4 p5
-            b5 = boots_within first k4 k5 p4 b4 (thread_call inner read write) thread_object inner front5 [] (secret_of read write) [] parts4 inner_at c5 c5.state
+            b5 =
+                boots_within first k4 k5 p4 b4 (thread_call inner read write) thread_object inner front5 []
+                (secret_of read write) [] parts4 inner_at c5 c5.state
 
-            parts5 : p5.objects ≡ p.objects ++ container (written_by write) (next_number p3 ∷ []) ∷ container (secret_of read write) (next_number p4 ∷ []) ∷ Some thread_object ∷ []
+            parts5 : p5.objects
+                ≡ p.objects
+                ++ container (written_by write) (next_number p3 ∷ [])
+                ∷ container (secret_of read write) (next_number p4 ∷ []) ∷ Some thread_object ∷ []
             unfolding p5 front5
-            parts5 = append_assoc p.objects (container (written_by write) (next_number p3 ∷ []) ∷ []) (container (secret_of read write) (next_number p4 ∷ []) ∷ Some thread_object ∷ [])
+            parts5 =
+                append_assoc p.objects (container (written_by write) (next_number p3 ∷ []) ∷ [])
+                (container (secret_of read write) (next_number p4 ∷ []) ∷ Some thread_object ∷ [])
 
-            calls5 : p5.calls ≡ p.calls ++ calls.MakeCategory ∷ calls.MakeCategory ∷ outer_call write ∷ inner_call outer read write ∷ thread_call inner read write ∷ []
+            calls5 : p5.calls
+                ≡ p.calls
+                ++ calls.MakeCategory ∷ calls.MakeCategory ∷ outer_call write ∷ inner_call outer read write
+                ∷ thread_call inner read write ∷ []
             unfolding p5
-            calls5 = calls_more p.calls (calls.MakeCategory ∷ calls.MakeCategory ∷ outer_call write ∷ inner_call outer read write ∷ []) p4.calls (thread_call inner read write) calls4
+            calls5 =
+                calls_more p.calls
+                (calls.MakeCategory ∷ calls.MakeCategory ∷ outer_call write ∷ inner_call outer read write ∷ [])
+                p4.calls (thread_call inner read write) calls4
 
             after5 : next_number p5 ≡ 3 + next_number p
             unfolding p5 front5
             after5 =
-                omega (arith, length-append p.objects (container (written_by write) (next_number p3 ∷ []) ∷ []), length-append front5 (container (secret_of read write) (next_number p4 ∷ []) ∷ Some thread_object ∷ []))
+                omega (
+                  arith,
+                  length-append p.objects (container (written_by write) (next_number p3 ∷ []) ∷ []),
+                  length-append front5
+                      (container (secret_of read write) (next_number p4 ∷ []) ∷ Some thread_object ∷ []),
+                )
 
             inner_is : (n owners : ℕ) → IsBeforeBoth (6 + 2 * n) (own_read_category owners) p → inner ≡ 7 + 2 * n
             inner_is n owners at = omega (arith, is_inner, next_number_is first k3 k3 p3 b3, after3, at.0)
@@ -231,18 +277,26 @@ module _ (first k0 : KernelModel) (p : Part) (b0 : Boots first k0 p) where
             unfolding p2 p3 p4 p5
             status_allowed room =
                 segment_allowed first k5 p5 b5 outer
-                (inside_there first k5 p5 b5 outer p.objects (container (secret_of read write) (next_number p4 ∷ []) ∷ Some thread_object ∷ []) (written_by write) (next_number p3 ∷ []) parts5 outer_at guarded.label)
+                (inside_there first k5 p5 b5 outer p.objects
+                (container (secret_of read write) (next_number p4 ∷ []) ∷ Some thread_object ∷ [])
+                (written_by write) (next_number p3 ∷ []) parts5 outer_at guarded.label)
                 (omega (arith, room.room_for_objects, after5)) (written_by write) (first_process_bytes inner thread) guarded (omega arith)
 
             -- boot stops before it
-            pub process_begun_five : (n owners : ℕ) → IsBeforeBoth (6 + 2 * n) (own_read_category owners) p → (new : KernelModel) → IsUnchanged k5 new → HasBegun first new p.calls (process_calls n owners)
+            pub process_begun_five : (n owners : ℕ) → IsBeforeBoth (6 + 2 * n) (own_read_category owners) p
+                → (new : KernelModel) → IsUnchanged k5 new → HasBegun first new p.calls (process_calls n owners)
             process_begun_five n owners at new same =
                 begun_at first k5 new p.calls p5 (process_calls n owners) 5 b5 same
                 (calls5
-                ∙ (λ j. p.calls ++ calls.MakeCategory ∷ calls.MakeCategory ∷ outer_call (write_is n owners at j) ∷ inner_call (outer_is n owners at j) (read_is n owners at j) (write_is n owners at j)
+                ∙
+                (λ j. p.calls
+                ++ calls.MakeCategory ∷ calls.MakeCategory ∷ outer_call (write_is n owners at j)
+                ∷ inner_call (outer_is n owners at j) (read_is n owners at j) (write_is n owners at j)
                 ∷ thread_call (inner_is n owners at j) (read_is n owners at j) (write_is n owners at j) ∷ [])) (omega arith)
 
-            module _ (status : ℕ) (k6 : KernelModel) (c6 : Called k5 k6 boot_thread_number (status_call outer write inner thread) None) (is_status : status ≡ k5.kept.next_object) (n owners : ℕ)
+            module _ (status : ℕ) (k6 : KernelModel)
+                (c6 : Called k5 k6 boot_thread_number (status_call outer write inner thread) None)
+                (is_status : status ≡ k5.kept.next_object) (n owners : ℕ)
                 (at : IsBeforeBoth (6 + 2 * n) (own_read_category owners) p) where
               -- its process segment
               process_object : Object Levels
@@ -253,13 +307,20 @@ module _ (first k0 : KernelModel) (p : Part) (b0 : Boots first k0 p) where
               p6 = record {
                 calls = p5.calls ++ status_call outer write inner thread ∷ [];
                 linked = p3.linked;
-                objects = p.objects ++ container (written_by write) (next_number p3 ∷ next_number p5 ∷ []) ∷ container (secret_of read write) (next_number p4 ∷ []) ∷ Some thread_object ∷ Some process_object ∷ [];
+                objects =
+                    p.objects
+                    ++ container (written_by write) (next_number p3 ∷ next_number p5 ∷ [])
+                    ∷ container (secret_of read write) (next_number p4 ∷ []) ∷ Some thread_object
+                    ∷ Some process_object ∷ [];
                 categories = p2.categories;
               }
 
               b6 : Boots first k6 p6
               unfolding thread_object process_object p2 p3 p4 p5 p6
-              b6 = boots_within first k5 k6 p5 b5 (status_call outer write inner thread) process_object outer p.objects (container (secret_of read write) (next_number p4 ∷ []) ∷ Some thread_object ∷ []) (written_by write) (next_number p3 ∷ []) parts5 outer_at c6 c6.state
+              b6 =
+                  boots_within first k5 k6 p5 b5 (status_call outer write inner thread) process_object outer p.objects
+                  (container (secret_of read write) (next_number p4 ∷ []) ∷ Some thread_object ∷ [])
+                  (written_by write) (next_number p3 ∷ []) parts5 outer_at c6 c6.state
 
               -- the categories and the numbers that the kernel answered
               r_is : read ≡ own_read_category owners
@@ -291,11 +352,16 @@ module _ (first k0 : KernelModel) (p : Part) (b0 : Boots first k0 p) where
               unfolding outer_object inner_object thread_object process_object p2 p3 p4 p5 p6
               process_boots =
                   boots_same first k6 p6 (and_then p (process_part n owners)) b6
-                  (calls_more p.calls (calls.MakeCategory ∷ calls.MakeCategory ∷ outer_call write ∷ inner_call outer read write ∷ thread_call inner read write ∷ []) p5.calls (status_call outer write inner thread) calls5
-                  ∙ (λ j. p.calls ++ calls.MakeCategory ∷ calls.MakeCategory ∷ outer_call (w_is j) ∷ inner_call (o_is j) (r_is j) (w_is j) ∷ thread_call (i_is j) (r_is j) (w_is j) ∷ status_call (o_is j) (w_is j) (i_is j) (t_is j) ∷ []))
+                  (calls_more p.calls (calls.MakeCategory ∷ calls.MakeCategory ∷ outer_call write ∷ inner_call outer read write
+                  ∷ thread_call inner read write ∷ []) p5.calls (status_call outer write inner thread) calls5
+                  ∙ (λ j. p.calls
+                  ++ calls.MakeCategory ∷ calls.MakeCategory ∷ outer_call (w_is j)
+                  ∷ inner_call (o_is j) (r_is j) (w_is j) ∷ thread_call (i_is j) (r_is j) (w_is j)
+                  ∷ status_call (o_is j) (w_is j) (i_is j) (t_is j) ∷ []))
                   (λ j. p.linked ++ at.0 j ∷ [])
                   (λ j. p.objects ++ container (written_by (w_is j)) (next3 j ∷ next5 j ∷ []) ∷ container (secret_of (r_is j) (w_is j)) (next4 j ∷ [])
-                  ∷ Some (record { label = owner_of (r_is j) (w_is j); kind = Thread (cleared_of (r_is j) (w_is j)) }) ∷ segment (written_by (w_is j)) (first_process_bytes (i_is j) (t_is j)) ∷ [])
+                  ∷ Some (record { label = owner_of (r_is j) (w_is j); kind = Thread (cleared_of (r_is j) (w_is j)) })
+                  ∷ segment (written_by (w_is j)) (first_process_bytes (i_is j) (t_is j)) ∷ [])
                   (omega arith)
 
               -- its process segment has its number too

@@ -10,7 +10,8 @@ use Rattle.histar_calls.specs.Laws.{RepliesToRefusals}
 use Rattle.histar_calls.specs.Programs.Program.{Answers}
 use Rattle.histar_calls.proofs.RepliesOfPrograms.{denial_of_call_has_reply}
 use Rattle.histar_process.specs.declared.caller.Caller.{Caller}
-use Rattle.histar_login.specs.Login.{place_of, password_of, entering, label_if, clearance_if, reply_if, login_as_program, login_at, LoginsReplyToRefusals}
+use Rattle.histar_login.specs.Login.{place_of, password_of, entering, label_if, clearance_if, reply_if, login_as_program, login_at}
+use Rattle.histar_login.specs.Login.{LoginsReplyToRefusals}
 
 -- behind the gate no refusal is left to tell
 replied : (right : Bool) → RepliesToRefusals (Answers (reply_if right))
@@ -23,7 +24,11 @@ as_program caller i owners password = (
   (λ own. (
     (λ entry. (
       (λ kept. (
-        (λ label. ((λ clearance. replied (bytes_eq kept password)), denial_of_call_has_reply (SetClearance (clearance_if (bytes_eq kept password) caller owners own.1)))),
+        (λ label. (
+          (λ clearance. replied (bytes_eq kept password)),
+          denial_of_call_has_reply
+              (SetClearance (clearance_if (bytes_eq kept password) caller owners own.1)),
+        )),
         denial_of_call_has_reply (SetLabel (label_if (bytes_eq kept password) caller owners own.0)),
       )),
       denial_of_call_has_reply (Read root_number (password_of i)),
@@ -33,7 +38,8 @@ as_program caller i owners password = (
   denial_of_call_has_reply OwnLabel,
 )
 
-at_place : (accounts : Accounts) (caller : Caller) (name : Name) (password : List ℕ) (place : Option ℕ) → RepliesToRefusals (login_at accounts caller name password place)
+at_place : (accounts : Accounts) (caller : Caller) (name : Name) (password : List ℕ) (place : Option ℕ)
+    → RepliesToRefusals (login_at accounts caller name password place)
 at_place accounts caller name password None = (refl, refl)
 at_place accounts caller name password (Some place) = as_program caller (place + 1) (owners_of accounts (place + 1) name) password
 

@@ -6,7 +6,9 @@ use Rattle.histar_rules.specs.declared.raw.RawCall.{RawCall}
 use Rattle.histar_syscall.specs.KernelModel.{KernelModel, state, IsUnchanged}
 use Rattle.histar_login.specs.Start.{numbered, declared}
 use Rattle.histar_login.specs.Boot.{boot_calls, category_calls, user_calls, directory_calls, process_calls, last_calls, last_call, HasBegunBoot}
-use Rattle.histar_login.specs.Booting.{and_then, nothing_yet, next_number, Boots, BootsOn, BeginsOn, BeginsUsers, BeginsDirectory, BeginsProcess, MakesUsers, MakesDirectory, MakesProcess, HasBegun, HasRoom, Allows, IsUnderWay, IsAnywhere, IsBeforeUser, IsBeforeDirectory, categories_part}
+use Rattle.histar_login.specs.Booting.{and_then, nothing_yet, next_number, Boots, BootsOn, BeginsOn, BeginsUsers, BeginsDirectory, BeginsProcess}
+use Rattle.histar_login.specs.Booting.{MakesUsers, MakesDirectory, MakesProcess, HasBegun, HasRoom, Allows, IsUnderWay, IsAnywhere, IsBeforeUser}
+use Rattle.histar_login.specs.Booting.{IsBeforeDirectory, categories_part}
 use Rattle.histar_login.proofs.AllowedCalls.{last_allowed}
 use Rattle.histar_login.proofs.Beginnings.{begun_at, begun_more, begun_after}
 use Rattle.histar_login.proofs.Parts.{boots_first}
@@ -20,9 +22,12 @@ four_behind : (a b c d e : List RawCall) → (((a ++ b) ++ c) ++ d) ++ e ≡ a +
 four_behind a b c d e = three_behind (a ++ b) c d e ∙ append_assoc a b (c ++ (d ++ e))
 
 -- a beginning of a part is one of boot
-begins_boot : (accounts : Accounts) (first new : KernelModel) (done part rest : List RawCall) → boot_calls accounts ≡ done ++ (part ++ rest) → HasBegun first new done part → HasBegunBoot accounts first new
+begins_boot : (accounts : Accounts) (first new : KernelModel) (done part rest : List RawCall)
+    → boot_calls accounts ≡ done ++ (part ++ rest) → HasBegun first new done part → HasBegunBoot accounts first new
 begins_boot accounts first new done part rest is begun =
-    let all : HasBegun first new [] (boot_calls accounts) = subst (HasBegun first new []) (sym is) (begun_after first new [] done (part ++ rest) (begun_more first new done part rest begun)) in
+    let all : HasBegun first new [] (boot_calls accounts) =
+    subst (HasBegun first new []) (sym is)
+    (begun_after first new [] done (part ++ rest) (begun_more first new done part rest begun)) in
     (all.made, all.few, all.granted)
 
 module _ (accounts : Accounts) (few : IsSmall accounts) (first : KernelModel) (empty : state first ≡ empty_state) where
@@ -38,15 +43,23 @@ module _ (accounts : Accounts) (few : IsSmall accounts) (first : KernelModel) (e
 
   -- there is room for the categories
   pub categories_way : (count : ℕ) → count ≡ 1 + declared accounts → IsUnderWay (HasRoom (2 * count) 0) first
-  categories_way count is =
-      (first, nothing_yet, record { room_for_categories = omega (arith, is, few.users, few.groups); room_for_objects = omega arith }, boots_first first empty)
+  categories_way count is = (
+    first,
+    nothing_yet,
+    record
+        { room_for_categories = omega (arith, is, few.users, few.groups); room_for_objects = omega arith },
+    boots_first first empty,
+  )
 
   -- boot stops in the middle of them
-  pub categories_stop : (new : KernelModel) (count : ℕ) → count ≡ 1 + declared accounts → BeginsOn first new IsAnywhere (categories_part count) → HasBegunBoot accounts first new
+  pub categories_stop : (new : KernelModel) (count : ℕ) → count ≡ 1 + declared accounts
+      → BeginsOn first new IsAnywhere (categories_part count) → HasBegunBoot accounts first new
   unfolding calls_of_users calls_of_directory calls_of_process
   categories_stop new count is begins =
-      let all : BeginsOn first new IsAnywhere (categories_part (1 + declared accounts)) = subst (λ (n : ℕ). BeginsOn first new IsAnywhere (categories_part n)) is begins in
-      begins_boot accounts first new [] (category_calls (1 + declared accounts)) (calls_of_users ++ (calls_of_directory ++ (calls_of_process ++ last_calls)))
+      let all : BeginsOn first new IsAnywhere (categories_part (1 + declared accounts)) =
+      subst (λ (n : ℕ). BeginsOn first new IsAnywhere (categories_part n)) is begins in
+      begins_boot accounts first new [] (category_calls (1 + declared accounts))
+      (calls_of_users ++ (calls_of_directory ++ (calls_of_process ++ last_calls)))
       (four_behind (category_calls (1 + declared accounts)) calls_of_users calls_of_directory calls_of_process last_calls)
       (all first nothing_yet tt (boots_first first empty))
 
@@ -63,7 +76,8 @@ module _ (accounts : Accounts) (few : IsSmall accounts) (first : KernelModel) (e
     pub users_stop : (new : KernelModel) → BeginsUsers k1 new accounts → HasBegunBoot accounts first new
     unfolding calls_of_users calls_of_directory calls_of_process
     users_stop new begins =
-        begins_boot accounts first new (category_calls (1 + declared accounts)) calls_of_users (calls_of_directory ++ (calls_of_process ++ last_calls))
+        begins_boot accounts first new (category_calls (1 + declared accounts)) calls_of_users
+        (calls_of_directory ++ (calls_of_process ++ last_calls))
         (four_behind (category_calls (1 + declared accounts)) calls_of_users calls_of_directory calls_of_process last_calls)
         (begins first _ refl b1)
 
@@ -77,7 +91,13 @@ module _ (accounts : Accounts) (few : IsSmall accounts) (first : KernelModel) (e
           let at : next_number (first_parts accounts) ≡ 3 + 2 * length accounts.users = directory_is_next accounts in (
             first,
             first_parts accounts,
-            record { comes = (at, omega arith); room = record { room_for_categories = omega (arith, few.users, few.groups); room_for_objects = omega (arith, at, few.users) } },
+            record {
+              comes = (at, omega arith);
+              room = record {
+                room_for_categories = omega (arith, few.users, few.groups);
+                room_for_objects = omega (arith, at, few.users);
+              };
+            },
             b2,
           )
 
@@ -85,7 +105,8 @@ module _ (accounts : Accounts) (few : IsSmall accounts) (first : KernelModel) (e
       pub directory_stop : (new : KernelModel) → BeginsDirectory k2 new accounts → HasBegunBoot accounts first new
       unfolding calls_of_users calls_of_directory calls_of_process
       directory_stop new begins =
-          begins_boot accounts first new (category_calls (1 + declared accounts) ++ calls_of_users) calls_of_directory (calls_of_process ++ last_calls)
+          begins_boot accounts first new (category_calls (1 + declared accounts) ++ calls_of_users) calls_of_directory
+          (calls_of_process ++ last_calls)
           (three_behind (category_calls (1 + declared accounts) ++ calls_of_users) calls_of_directory calls_of_process last_calls)
           (begins first (first_parts accounts) (directory_is_next accounts) b2)
 
@@ -96,14 +117,23 @@ module _ (accounts : Accounts) (few : IsSmall accounts) (first : KernelModel) (e
         -- there is room for process 0
         pub process_way : IsUnderWay (HasRoom 2 4) k3
         process_way =
-            let at = process_is_next accounts in
-            (first, more_parts accounts, record { room_for_categories = omega (arith, at.1, few.users, few.groups); room_for_objects = omega (arith, at.0, few.users) }, b3)
+            let at = process_is_next accounts in (
+              first,
+              more_parts accounts,
+              record {
+                room_for_categories = omega (arith, at.1, few.users, few.groups);
+                room_for_objects = omega (arith, at.0, few.users);
+              },
+              b3,
+            )
 
         -- boot stops in the middle of it
         pub process_stop : (new : KernelModel) → BeginsProcess k3 new → HasBegunBoot accounts first new
         unfolding calls_of_users calls_of_directory calls_of_process
         process_stop new begins =
-            begins_boot accounts first new ((category_calls (1 + declared accounts) ++ calls_of_users) ++ calls_of_directory) calls_of_process last_calls
+            begins_boot accounts first new
+            ((category_calls (1 + declared accounts) ++ calls_of_users) ++ calls_of_directory) calls_of_process
+            last_calls
             (append_assoc ((category_calls (1 + declared accounts) ++ calls_of_users) ++ calls_of_directory) calls_of_process last_calls)
             (begins (length accounts.users) (declared accounts) first (more_parts accounts) (process_is_next accounts) b3)
 
@@ -119,4 +149,5 @@ module _ (accounts : Accounts) (few : IsSmall accounts) (first : KernelModel) (e
           pub unlink_stop : (new : KernelModel) → IsUnchanged k4 new → HasBegunBoot accounts first new
           unlink_stop new same =
               begins_boot accounts first new (all_parts accounts).calls last_calls [] refl
-              (begun_at first k4 new (all_parts accounts).calls (all_parts accounts) last_calls 0 b4 same (sym (append-nil (all_parts accounts).calls)) (omega arith))
+              (begun_at first k4 new (all_parts accounts).calls (all_parts accounts) last_calls 0 b4 same
+              (sym (append-nil (all_parts accounts).calls)) (omega arith))

@@ -1,5 +1,6 @@
 -- What the raw calls of boot make of the state of a table: entries are changed, and objects are put behind.
-use Rattle.std.proofs.Common.{◌≡◌, ℕ, zero, suc, ◌+◌, ◌==◌, Bool, true, false, List, [], ◌∷◌, ◌++◌, length, get_or, None, Some, if◌then◌else◌, refl, sym, ap, ◌∙◌, arith}
+use Rattle.std.proofs.Common.{◌≡◌, ℕ, zero, suc, ◌+◌, ◌==◌, Bool, true, false, List, [], ◌∷◌, ◌++◌, length, get_or, None, Some, if◌then◌else◌, refl}
+use Rattle.std.proofs.Common.{sym, ap, ◌∙◌, arith}
 use Rattle.std.specs.Prelude.{option_map}
 use Rattle.std.proofs.lemmas.Bool.Decides.{nat_tests}
 use Rattle.std.proofs.lemmas.List.{length-append}
@@ -33,7 +34,8 @@ other : (b : Bool) (x y : Found) → b ≡ false → (if b then x else y) ≡ y
 other b x y h = ap (λ t. if t then x else y) h
 
 -- an object that is put at the end of a table stands behind it
-put_behind : (objects : List Found) (o : Object Levels) (k : ℕ) → (if k == length objects then Some o else get_or objects k None) ≡ get_or (objects ++ Some o ∷ []) k None
+put_behind : (objects : List Found) (o : Object Levels) (k : ℕ)
+    → (if k == length objects then Some o else get_or objects k None) ≡ get_or (objects ++ Some o ∷ []) k None
 put_behind [] o zero = refl
 put_behind [] o (suc k) = other (suc k == 0) (Some o) None (first_is_last k)
 put_behind (x ∷ objects) o zero = other (0 == suc (length objects)) (Some o) x (last_is_first (length objects))
@@ -45,8 +47,12 @@ one_more n = omega arith
 
 -- what is put under the next number stands behind
 put_is : (objects : List Found) (o : Object Levels) (q : ℕ) → put (object_at objects) (1 + length objects) o q ≡ object_at (objects ++ Some o ∷ []) q
-put_is objects o zero = ap (λ n. put (object_at objects) n o zero) (one_more (length objects)) ∙ other (0 == suc (length objects)) (Some o) None (last_is_first (length objects))
-put_is objects o (suc k) = ap (λ n. put (object_at objects) n o (suc k)) (one_more (length objects)) ∙ ap (λ t. if t then Some o else get_or objects k None) (both_later k (length objects)) ∙ put_behind objects o k
+put_is objects o zero =
+    ap (λ n. put (object_at objects) n o zero) (one_more (length objects))
+    ∙ other (0 == suc (length objects)) (Some o) None (last_is_first (length objects))
+put_is objects o (suc k) =
+    ap (λ n. put (object_at objects) n o (suc k)) (one_more (length objects))
+    ∙ ap (λ t. if t then Some o else get_or objects k None) (both_later k (length objects)) ∙ put_behind objects o k
 
 -- nothing is changed where nothing is
 changed_empty : (f : Object Levels → Object Levels) (b : Bool) → (if b then option_map f None else None) ≡ None
@@ -54,18 +60,24 @@ changed_empty f true = refl
 changed_empty f false = refl
 
 -- what is changed at a place is changed in the table
-changed_within : (f : Object Levels → Object Levels) (table : List Found) (k j : ℕ) → (if j == k then option_map f (get_or table j None) else get_or table j None) ≡ get_or (changed f k table) j None
+changed_within : (f : Object Levels → Object Levels) (table : List Found) (k j : ℕ)
+    → (if j == k then option_map f (get_or table j None) else get_or table j None) ≡ get_or (changed f k table) j None
 changed_within f [] k zero = changed_empty f (0 == k)
 changed_within f [] k (suc j) = changed_empty f (suc j == k)
 changed_within f (x ∷ table) zero zero = refl
 changed_within f (x ∷ table) zero (suc j) = other (suc j == 0) (option_map f (get_or table j None)) (get_or table j None) (first_is_last j)
 changed_within f (x ∷ table) (suc k) zero = other (0 == suc k) (option_map f x) x (last_is_first k)
-changed_within f (x ∷ table) (suc k) (suc j) = ap (λ t. if t then option_map f (get_or table j None) else get_or table j None) (both_later j k) ∙ changed_within f table k j
+changed_within f (x ∷ table) (suc k) (suc j) =
+    ap (λ t. if t then option_map f (get_or table j None) else get_or table j None) (both_later j k)
+    ∙ changed_within f table k j
 
 -- what is changed at a number is changed in the table
-changed_is : (f : Object Levels → Object Levels) (table : List Found) (k q : ℕ) → changed_at (object_at table) (suc k) f q ≡ object_at (changed f k table) q
+changed_is : (f : Object Levels → Object Levels) (table : List Found) (k q : ℕ)
+    → changed_at (object_at table) (suc k) f q ≡ object_at (changed f k table) q
 changed_is f table k zero = changed_empty f (0 == suc k)
-changed_is f table k (suc j) = ap (λ t. if t then option_map f (get_or table j None) else get_or table j None) (both_later j k) ∙ changed_within f table k j
+changed_is f table k (suc j) =
+    ap (λ t. if t then option_map f (get_or table j None) else get_or table j None) (both_later j k)
+    ∙ changed_within f table k j
 
 -- a change keeps the length
 length-changed : (f : Object Levels → Object Levels) (table : List Found) (k : ℕ) → length (changed f k table) ≡ length table
@@ -74,16 +86,25 @@ length-changed f (x ∷ table) zero = refl
 length-changed f (x ∷ table) (suc k) = ap suc (length-changed f table k)
 
 -- the entry behind the front is changed
-pub changed_behind : (f : Object Levels → Object Levels) (front : List Found) (x : Found) (back : List Found) → changed f (length front) (front ++ x ∷ back) ≡ front ++ option_map f x ∷ back
+pub changed_behind : (f : Object Levels → Object Levels) (front : List Found) (x : Found) (back : List Found)
+    → changed f (length front) (front ++ x ∷ back) ≡ front ++ option_map f x ∷ back
 changed_behind f [] x back = refl
 changed_behind f (y ∷ front) x back = ap (λ (l : List Found). y ∷ l) (changed_behind f front x back)
 
 -- a thread makes a category
-pub with_category_is : (table : List Found) (c k : ℕ) → with_category (state_with table c) (suc k) ≡ state_with (changed (with_star_at c) k table) (c + 1)
-with_category_is table c k = λ i. record { objects = λ q. changed_is (with_star_at c) table k q i; next_object = 1 + sym (length-changed (with_star_at c) table k) i; next_category = c + 1 }
+pub with_category_is : (table : List Found) (c k : ℕ)
+    → with_category (state_with table c) (suc k) ≡ state_with (changed (with_star_at c) k table) (c + 1)
+with_category_is table c k =
+    λ i. record {
+      objects = λ q. changed_is (with_star_at c) table k q i;
+      next_object = 1 + sym (length-changed (with_star_at c) table k) i;
+      next_category = c + 1;
+    }
 
 -- a container gets an object more
-pub added_is : (table : List Found) (c k : ℕ) (o : Object Levels) → with_object (state_with table c) (suc k) o ≡ state_with (changed (linking (1 + length table)) k table ++ Some o ∷ []) c
+pub added_is : (table : List Found) (c k : ℕ) (o : Object Levels)
+    → with_object (state_with table c) (suc k) o
+    ≡ state_with (changed (linking (1 + length table)) k table ++ Some o ∷ []) c
 added_is table c k o =
     let n = 1 + length table in
     let linked = changed (linking {L = Levels} n) k table in

@@ -12,7 +12,8 @@ use Rattle.histar_syscall.specs.KernelModel.{KernelModel, state}
 use Rattle.histar_syscall.specs.Runs.{Granted}
 use Rattle.histar_layout.specs.Categories.{read_category, write_category, owners_of}
 use Rattle.histar_layout.specs.Labelling.{written_by, secret_of, owner_of, cleared_of}
-use Rattle.histar_login.specs.Start.{numbered, root_category, declared, own_read_category, own_write_category, owners_label, owners_clearance, user_table, first_process_bytes}
+use Rattle.histar_login.specs.Start.{numbered, root_category, declared, own_read_category, own_write_category, owners_label, owners_clearance}
+use Rattle.histar_login.specs.Start.{user_table, first_process_bytes}
 
 -- the boot thread, which makes all raw calls of boot
 abbrev pub boot_thread_number : ℕ
@@ -107,4 +108,6 @@ pub record IsBooted (accounts : Accounts) (kernel : KernelModel) : Type 0 where
 
 -- a beginning of boot that is not all of it was made, and each of its raw calls was granted
 abbrev pub HasBegunBoot : Accounts → KernelModel → KernelModel → Type 0
-HasBegunBoot accounts old new = (made : ℕ) × (made < length (boot_calls accounts)) × Granted old new boot_thread_number (take made (boot_calls accounts))
+HasBegunBoot accounts old new =
+    (made : ℕ) × (made < length (boot_calls accounts))
+    × Granted old new boot_thread_number (take made (boot_calls accounts))

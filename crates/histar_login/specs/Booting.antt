@@ -1,5 +1,6 @@
 -- How far boot has come.
-use Rattle.std.specs.Prelude.{◌≡◌, ℕ, ◌+◌, ◌*◌, ◌<◌, ◌≤◌, Bool, ◌&&◌, nat_lt, if◌then◌else◌, List, [], ◌∷◌, ◌++◌, length, take, None, Some, Result, Ok, Err, ⊤}
+use Rattle.std.specs.Prelude.{◌≡◌, ℕ, ◌+◌, ◌*◌, ◌<◌, ◌≤◌, Bool, ◌&&◌, nat_lt, if◌then◌else◌, List, [], ◌∷◌, ◌++◌, length, take, None, Some, Result}
+use Rattle.std.specs.Prelude.{Ok, Err, ⊤}
 use Rattle.std.specs.List.{range_with_len}
 use Rattle.histar_flat.specs.declared.calls.User.{User}
 use Rattle.histar_flat.specs.Accounts.{Accounts}
@@ -18,7 +19,8 @@ use Rattle.histar_syscall.specs.Runs.{Granted}
 use Rattle.histar_layout.specs.Labelling.{written_by}
 use Rattle.histar_calls.specs.declared.roots.Home.{Home}
 use Rattle.histar_calls.specs.declared.roots.Place.{Place}
-use Rattle.histar_login.specs.Start.{numbered, root_category, declared, own_read_category, container, state_with, roots_of, of_user, of_users, of_directory, of_process}
+use Rattle.histar_login.specs.Start.{numbered, root_category, declared, own_read_category, container, state_with, roots_of, of_user, of_users}
+use Rattle.histar_login.specs.Start.{of_directory, of_process}
 use Rattle.histar_login.specs.Boot.{boot_thread_number, category_calls, user_calls, directory_calls, process_calls}
 
 -- A part of boot: its raw calls, the numbers that the root container links by them, the objects that they make, and how many
@@ -31,7 +33,13 @@ pub record Part : Type 0 where
 
 -- one part after another
 abbrev pub and_then : Part → Part → Part
-and_then p q = record { calls = p.calls ++ q.calls; linked = p.linked ++ q.linked; objects = p.objects ++ q.objects; categories = p.categories + q.categories }
+and_then p q =
+    record {
+      calls = p.calls ++ q.calls;
+      linked = p.linked ++ q.linked;
+      objects = p.objects ++ q.objects;
+      categories = p.categories + q.categories;
+    }
 
 -- boot has made nothing yet
 abbrev pub nothing_yet : Part
@@ -144,7 +152,13 @@ categories_part count = record { calls = category_calls count; linked = []; obje
 
 -- the password and the gate of user i
 abbrev pub user_part : Accounts → ℕ → User → Part
-user_part accounts i user = record { calls = user_calls accounts i user; linked = (1 + 2 * i) ∷ (2 + 2 * i) ∷ []; objects = of_user accounts i user; categories = 0 }
+user_part accounts i user =
+    record {
+      calls = user_calls accounts i user;
+      linked = (1 + 2 * i) ∷ (2 + 2 * i) ∷ [];
+      objects = of_user accounts i user;
+      categories = 0;
+    }
 
 -- boot has come to the user of this number
 abbrev pub IsBeforeUser : Accounts → ℕ → Part → Type 0
@@ -169,7 +183,13 @@ users_part accounts users = record {
 
 -- the user table and `/`
 abbrev pub directory_part : ℕ → Accounts → Part
-directory_part n accounts = record { calls = directory_calls n accounts; linked = (3 + 2 * n) ∷ (4 + 2 * n) ∷ []; objects = of_directory n accounts; categories = 0 }
+directory_part n accounts =
+    record {
+      calls = directory_calls n accounts;
+      linked = (3 + 2 * n) ∷ (4 + 2 * n) ∷ [];
+      objects = of_directory n accounts;
+      categories = 0;
+    }
 
 -- the passwords and the gates of all users were made
 abbrev pub MakesUsers : KernelModel → KernelModel → Accounts → Type 0

@@ -138,7 +138,10 @@ abbrev pub of_process : ℕ → ℕ → List Found
 of_process n owners =
     container (written_by (own_write_category owners)) ((7 + 2 * n) ∷ (9 + 2 * n) ∷ [])
     ∷ container (secret_of (own_read_category owners) (own_write_category owners)) ((8 + 2 * n) ∷ [])
-    ∷ Some (record { label = owner_of (own_read_category owners) (own_write_category owners); kind = Thread (cleared_of (own_read_category owners) (own_write_category owners)) })
+    ∷ Some (record {
+      label = owner_of (own_read_category owners) (own_write_category owners);
+      kind = Thread (cleared_of (own_read_category owners) (own_write_category owners));
+    })
     ∷ segment (written_by (own_write_category owners)) (first_process_bytes (7 + 2 * n) (8 + 2 * n))
     ∷ []
 

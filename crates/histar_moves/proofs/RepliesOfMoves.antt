@@ -27,12 +27,15 @@ use Rattle.histar_moves.specs.Rmtree.{rmtree_program}
 use Rattle.histar_moves.specs.Unlink.{unlink_program}
 
 -- the search for an entry replies to its refusals
-entry_replies : (roots : Roots) (path : Path) (rest : FoundEntry → Program) → ((entry : FoundEntry) → RepliesToRefusals (rest entry)) → RepliesToRefusals (find_entry roots path rest)
+entry_replies : (roots : Roots) (path : Path) (rest : FoundEntry → Program)
+    → ((entry : FoundEntry) → RepliesToRefusals (rest entry)) → RepliesToRefusals (find_entry roots path rest)
 unfolding find_entry
 entry_replies roots [] rest obeys = (refl, refl)
 entry_replies roots (name ∷ parent) rest obeys = walk_replies roots parent _ (λ directory. by directory (target_named directory name))
   where
-    by : (directory : Directory) (target : Option Target) → RepliesToRefusals (given (entry_at target) (λ found. rest (record { place = directory.place; entries = directory.entries; name = name; target = found })))
+    by : (directory : Directory) (target : Option Target)
+        → RepliesToRefusals (given (entry_at target) (λ found.
+        rest (record { place = directory.place; entries = directory.entries; name = name; target = found })))
     by directory None = (refl, refl)
     by directory (Some target) = obeys (record { place = directory.place; entries = directory.entries; name = name; target = target })
 
@@ -43,7 +46,10 @@ written_replies place entries = ask_replies (Write place.container place.listing
 -- and that which takes an entry away
 away_replies : (entry : FoundEntry) → RepliesToRefusals (take_away entry (λ _. Answers Done))
 unfolding take_away
-away_replies entry = ask_replies (Unlink entry.place.container (object_of entry.target)) (λ gone. write_entries entry.place (map.remove entry.entries entry.name) (λ _. Answers Done)) (λ gone. written_replies entry.place (map.remove entry.entries entry.name))
+away_replies entry =
+    ask_replies (Unlink entry.place.container (object_of entry.target))
+    (λ gone. write_entries entry.place (map.remove entry.entries entry.name) (λ _. Answers Done))
+    (λ gone. written_replies entry.place (map.remove entry.entries entry.name))
 
 unlink_program_replies : (roots : Roots) (path : Path) → RepliesToRefusals (unlink_program roots path)
 unfolding unlink_program
@@ -61,12 +67,17 @@ rename_program_replies : (roots : Roots) (path : Path) (name : Name) → Replies
 unfolding rename_program
 rename_program_replies roots path name = entry_replies roots path _ (λ entry. by entry (map.get entry.entries name))
   where
-    by : (entry : FoundEntry) (target : Option Target) → RepliesToRefusals (given (must_be_free target) (λ _. write_entries entry.place (map.insert (map.remove entry.entries entry.name) name entry.target) (λ _. Answers Done)))
+    by : (entry : FoundEntry) (target : Option Target)
+        → RepliesToRefusals (given (must_be_free target)
+        (λ _. write_entries entry.place (map.insert (map.remove entry.entries entry.name) name entry.target)
+        (λ _. Answers Done)))
     by entry None = written_replies entry.place (map.insert (map.remove entry.entries entry.name) name entry.target)
     by entry (Some target) = (refl, refl)
 
 -- and that which does so where a directory is empty
-empty_replies : (entry : FoundEntry) (empty : Bool) → RepliesToRefusals (given {A = Unit {0}} (if empty then Ok tt else Err ENOTEMPTY) (λ _. take_away entry (λ _. Answers Done)))
+empty_replies : (entry : FoundEntry) (empty : Bool)
+    → RepliesToRefusals
+    (given {A = Unit {0}} (if empty then Ok tt else Err ENOTEMPTY) (λ _. take_away entry (λ _. Answers Done)))
 empty_replies entry true = away_replies entry
 empty_replies entry false = (refl, refl)
 
@@ -74,9 +85,13 @@ rmdir_program_replies : (roots : Roots) (path : Path) → RepliesToRefusals (rmd
 unfolding rmdir_program
 rmdir_program_replies roots path = entry_replies roots path _ (λ entry. by entry entry.target)
   where
-    by : (entry : FoundEntry) (target : Target) → RepliesToRefusals (given (must_be_directory target) (λ place. read_directory place (λ directory. given (must_be_empty directory.entries) (λ _. take_away entry (λ _. Answers Done)))))
+    by : (entry : FoundEntry) (target : Target)
+        → RepliesToRefusals (given (must_be_directory target) (λ place. read_directory place
+        (λ directory. given (must_be_empty directory.entries) (λ _. take_away entry (λ _. Answers Done)))))
     by entry (targets.File file) = (refl, refl)
-    by entry (targets.Directory container listing) = read_replies (record { container = container; listing = listing }) _ (λ directory. empty_replies entry (map.len directory.entries == 0))
+    by entry (targets.Directory container listing) =
+        read_replies (record { container = container; listing = listing }) _
+        (λ directory. empty_replies entry (map.len directory.entries == 0))
 
 -- the programs of the calls reply to their refusals
 pub moves_reply_to_refusals : MovesReplyToRefusals

@@ -22,7 +22,8 @@ use Rattle.histar_moves.specs.declared.entry.FoundEntry.{FoundEntry}
 use Rattle.histar_moves.specs.Parts.{must_be_empty, take_away}
 
 -- an entry of a directory that can be listed leads somewhere
-pub leads_somewhere : (entries : Entries) (name : Name) (target : Target) → IsListable entries → map.get entries name ≡ Some target → LeadsSomewhere target
+pub leads_somewhere : (entries : Entries) (name : Name) (target : Target) → IsListable entries
+    → map.get entries name ≡ Some target → LeadsSomewhere target
 leads_somewhere entries name target listable at = target_leads target (entry_found entries name target listable at).1
 
 -- the entry of a directory that was read
@@ -34,8 +35,11 @@ abbrev pub within : Name → Directory → Part FoundEntry
 within name directory rest = given (entry_at (target_named directory name)) (λ target. rest (entry_of directory name target))
 
 -- entries are written that are those which are due
-pub writes_due : (t : ℕ) (old new : KernelModel) (place : Place) (entries due : Entries) → entries ≡ due → (result : Result (Unit {0}) CallError) → RunsPart (write_entries place entries) old new t result → RunsPart (write_entries place due) old new t result
-writes_due t old new place entries due is result runs = subst (λ (dir : Entries). RunsPart {A = Unit {0}} (write_entries place dir) old new t result) is runs
+pub writes_due : (t : ℕ) (old new : KernelModel) (place : Place) (entries due : Entries) → entries ≡ due
+    → (result : Result (Unit {0}) CallError) → RunsPart (write_entries place entries) old new t result
+    → RunsPart (write_entries place due) old new t result
+writes_due t old new place entries due is result runs =
+    subst (λ (dir : Entries). RunsPart {A = Unit {0}} (write_entries place dir) old new t result) is runs
 
 module _ (t : ℕ) (old new : KernelModel) (entry : FoundEntry) where
   -- what comes after the object is taken out
@@ -43,20 +47,26 @@ module _ (t : ℕ) (old new : KernelModel) (entry : FoundEntry) where
   gone _ rest = write_entries entry.place (map.remove entry.entries entry.name) rest
 
   -- the kernel was asked for the object to which the entry leads
-  pub unlinks : (object : ℕ) → object ≡ object_of entry.target → (result : Result (Unit {0}) CallError) → RunsPart (ask (Unlink entry.place.container object)) old new t result
+  pub unlinks : (object : ℕ) → object ≡ object_of entry.target → (result : Result (Unit {0}) CallError)
+      → RunsPart (ask (Unlink entry.place.container object)) old new t result
       → RunsPart (ask (Unlink entry.place.container (object_of entry.target))) old new t result
   unlinks object is result runs = subst (λ (o : ℕ). RunsPart {A = Unit {0}} (ask (Unlink entry.place.container o)) old new t result) is runs
 
   -- the object was not taken out
-  pub unlink_fails : (call_error : CallError) → RunsPart (ask (Unlink entry.place.container (object_of entry.target))) old new t (Err call_error) → RunsPart (take_away entry) old new t (Err call_error)
+  pub unlink_fails : (call_error : CallError)
+      → RunsPart (ask (Unlink entry.place.container (object_of entry.target))) old new t (Err call_error)
+      → RunsPart (take_away entry) old new t (Err call_error)
   unfolding take_away
   unlink_fails call_error first = part_fails t (ask (Unlink entry.place.container (object_of entry.target))) old new gone call_error first
 
   -- it was, and the directory is written
-  pub takes_away : (mid : KernelModel) → RunsPart (ask (Unlink entry.place.container (object_of entry.target))) old mid t (Ok tt) → (result : Result (Unit {0}) CallError)
+  pub takes_away : (mid : KernelModel)
+      → RunsPart (ask (Unlink entry.place.container (object_of entry.target))) old mid t (Ok tt)
+      → (result : Result (Unit {0}) CallError)
       → RunsPart (write_entries entry.place (map.remove entry.entries entry.name)) mid new t result → RunsPart (take_away entry) old new t result
   unfolding take_away
-  takes_away mid first result second = then_part t (ask (Unlink entry.place.container (object_of entry.target))) old new gone mid tt first result second
+  takes_away mid first result second =
+      then_part t (ask (Unlink entry.place.container (object_of entry.target))) old new gone mid tt first result second
 
 -- what comes after the directory that is to be taken away was read
 abbrev pub if_empty : FoundEntry → Directory → Program

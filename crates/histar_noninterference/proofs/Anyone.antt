@@ -83,7 +83,8 @@ module _ (m : ℕ) (w : ProcName) (accounts : Accounts) (f g : Flat) (r : SameOu
       above [] u = refl
       above (n ∷ d) u = (or_parts (is_dir_of (m ∷ w) (get f.files d)) (lies_in_job (m ∷ w) f.files d) u).1
 
-      beside : (q : Path) → lies_in_job (m ∷ w) f.files q ≡ false → is_below_root q ≡ true → (is_dir_of (m ∷ w) (get f.files (parent q)) || lies_in_job (m ∷ w) f.files (parent q)) ≡ false
+      beside : (q : Path) → lies_in_job (m ∷ w) f.files q ≡ false → is_below_root q ≡ true
+          → (is_dir_of (m ∷ w) (get f.files (parent q)) || lies_in_job (m ∷ w) f.files (parent q)) ≡ false
       beside [] u below = absurd (true≢false (sym below))
       beside (n ∷ d) u below = u
 
@@ -96,7 +97,11 @@ module _ (m : ℕ) (w : ProcName) (accounts : Accounts) (f g : Flat) (r : SameOu
   changes_below a h n d (Stores new) may calm = record { files = insert_below (m ∷ w) a.files n d _; processes = refl }
   changes_below a h n d Removes may calm = record { files = cut_below (m ∷ w) a.files n d; processes = refl }
   changes_below a h n d (Renames k) may calm =
-      record { files = rename_below (m ∷ w) a.files n k d (another_name a n k d may.1 may.2) (nothing_below a h.tree (k ∷ d) may.2); processes = refl }
+      record {
+        files = rename_below (m ∷ w) a.files n k d (another_name a n k d may.1 may.2)
+            (nothing_below a h.tree (k ∷ d) may.2);
+        processes = refl;
+      }
   changes_below a h n d _ may calm = absurd (true≢false (sym calm))
 
   -- a calm call with narrow needs: its path lies in the job, or it is refused alike
@@ -106,11 +111,15 @@ module _ (m : ℕ) (w : ProcName) (accounts : Accounts) (f g : Flat) (r : SameOu
     where
       by : (q : Path) → path_of call ≡ q → (lies_in_job (m ∷ w) f.files (path_of call) ≡ true) ⊎ (lies_in_job (m ∷ w) f.files (path_of call) ≡ false)
           → SameOutside (m ∷ w) (flat_by accounts f me (Some p) call) (flat_by accounts g me (Some p) call)
-      by q at (inr u) = both m w accounts f g r hf hg me p call (refused_alike_narrow accounts f g me p call (looks_alike (path_of call) u) narrow) (λ v h. u)
+      by q at (inr u) =
+          both m w accounts f g r hf hg me p call
+          (refused_alike_narrow accounts f g me p call (looks_alike (path_of call) u) narrow) (λ v h. u)
       by [] at (inl h) = absurd (true≢false (sym h ∙ ap (lies_in_job (m ∷ w) f.files) at))
       by (n ∷ d) at (inl h) =
           let inside = ap (lies_in_job (m ∷ w) f.files) (sym at) ∙ h in
-          let below : (a : Flat) → IsStarted (m ∷ w) a → refused accounts a me p call ≡ None → ChangesFilesBelow d a (changed accounts a me p call) = λ a s v.
+          let below : (a : Flat) → IsStarted (m ∷ w) a → refused accounts a me p call ≡ None
+          → ChangesFilesBelow d a (changed accounts a me p call) =
+          λ a s v.
           subst (λ q. ChangesFilesBelow d a (apply accounts a me p q (rule call).effect)) (sym at)
           (changes_below a s n d (rule call).effect (subst (λ q. Warrant accounts a me p q (rule call).effect) at (warranted accounts a me p call v))
           (ap (λ q. is_calm q (rule call).effect) (sym at) ∙ calm)) in
@@ -118,7 +127,8 @@ module _ (m : ℕ) (w : ProcName) (accounts : Accounts) (f g : Flat) (r : SameOu
           (λ v. aside (m ∷ w) f g r (changed accounts f me p call) d inside (below f hf v)) in
           let turned = outside_turned (m ∷ w) (flat_by accounts f me (Some p) call) g one in
           outside_turned (m ∷ w) (flat_by accounts g me (Some p) call) (flat_by accounts f me (Some p) call)
-          (or_stays (λ x. SameOutside (m ∷ w) x (flat_by accounts f me (Some p) call)) g (changed accounts g me p call) (refused accounts g me p call) turned
+          (or_stays (λ x. SameOutside (m ∷ w) x (flat_by accounts f me (Some p) call)) g (changed accounts g me p call)
+          (refused accounts g me p call) turned
           (λ v. aside (m ∷ w) g (flat_by accounts f me (Some p) call) turned (changed accounts g me p call) d
           (sym (lie_alike (m ∷ w) f.files g.files r.files (n ∷ d)) ∙ inside) (below g hg v)))
 
@@ -138,7 +148,9 @@ module _ (m : ℕ) (w : ProcName) (accounts : Accounts) (f g : Flat) (r : SameOu
   anyone (Wrap q) c = absurd (true≢false c)
   anyone (Status q) c = still (m ∷ w) f g (refused accounts f me p (Status q)) (refused accounts g me p (Status q)) r
   anyone (Kill q) c = elim (cases_Bool (is_child me q)) [
-    | inl h ↦ both m w accounts f g r hf hg me p (Kill q) (ap (λ x. x orelse unless (is_child me q) EACCES) (child_found q h)) (λ v t. absurd (true≢false (sym t)))
+    | inl h ↦
+        both m w accounts f g r hf hg me p (Kill q) (ap (λ x. x orelse unless (is_child me q) EACCES) (child_found q h))
+        (λ v t. absurd (true≢false (sym t)))
     | inr h ↦ both_refused (m ∷ w) f g (changed accounts f me p (Kill q)) (changed accounts g me p (Kill q)) (refused accounts f me p (Kill q))
         (refused accounts g me p (Kill q)) r
         (stops_later (not_found f p q) (unless (is_child me q) EACCES) (failed (is_child me q) EACCES h))

@@ -14,7 +14,8 @@ use Rattle.histar_flat.specs.Accounts.{Accounts}
 use Rattle.histar_flat.specs.Texts.{reply_text}
 use Rattle.histar_flat.specs.Words.{Path, ProcName}
 use Rattle.histar_flat.proofs.FileLemmas.{same_itself}
-use Rattle.histar_noninterference.specs.Comparison.{differs, first_line, first_path, first_that, is_left_out, is_outsider, lies_in_job, outsiders, text_at}
+use Rattle.histar_noninterference.specs.Comparison.{differs, first_line, first_path, first_that, is_left_out, is_outsider, lies_in_job, outsiders}
+use Rattle.histar_noninterference.specs.Comparison.{text_at}
 use Rattle.histar_noninterference.specs.Isolation.{is_quiet, is_rmdir_or_wrap}
 use Rattle.histar_noninterference.proofs.Relation.{IsStarted, SameOutside}
 use Rattle.histar_noninterference.proofs.TestLemmas.{is_same}

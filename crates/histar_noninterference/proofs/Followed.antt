@@ -15,7 +15,8 @@ use Rattle.histar_flat.specs.Classes.Class.{Readable, Scratch}
 use Rattle.histar_flat.specs.Files.{empty, get, insert}
 use Rattle.histar_flat.specs.CallRules.{rule}
 use Rattle.histar_flat.specs.Effects.Effect.{Wraps}
-use Rattle.histar_flat.specs.FlatCalls.{answer, changed, flat_after, flat_by, flat_or, inner_chain, next_child, refused, reply_by, reply_or, reply_to, running}
+use Rattle.histar_flat.specs.FlatCalls.{answer, changed, flat_after, flat_by, flat_or, inner_chain, next_child, refused, reply_by, reply_or, reply_to}
+use Rattle.histar_flat.specs.FlatCalls.{running}
 use Rattle.histar_flat.proofs.CommonNeeds.{no_child, no_room}
 use Rattle.histar_flat.specs.FlatState.{Flat, IsTree, Node, class_of, into, is_dir, is_given, is_some_and, writes}
 use Rattle.histar_flat.specs.FlatState.Content.{Dir, File}

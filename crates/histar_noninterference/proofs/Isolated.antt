@@ -12,7 +12,8 @@ use Rattle.histar_flat.specs.declared.replies.Reply.TheVariants.{Child}
 use Rattle.histar_flat.specs.Classes.{Process, knows}
 use Rattle.histar_flat.specs.Classes.Class.{Scratch}
 use Rattle.histar_flat.specs.Files.{get, insert}
-use Rattle.histar_flat.specs.FlatCalls.{changed, flat_after, flat_by, flat_or, inner_chain, next_child, refused, reply_by, reply_or, reply_to, running}
+use Rattle.histar_flat.specs.FlatCalls.{changed, flat_after, flat_by, flat_or, inner_chain, next_child, refused, reply_by, reply_or, reply_to}
+use Rattle.histar_flat.specs.FlatCalls.{running}
 use Rattle.histar_flat.proofs.CommonNeeds.{no_child}
 use Rattle.histar_flat.specs.FlatState.{Flat, IsTree, Node, is_dir, is_given}
 use Rattle.histar_flat.specs.FlatState.Content.{Dir}

@@ -55,6 +55,7 @@ module _ (m : ℕ) (w : ProcName) (accounts : Accounts) (f g : Flat) (r : SameOu
     life = λ wide name found. ap life_reply (r.processes name (found_outside name found));
   }
     where
-      beside : (q : Path) → is_below_root q ≡ true → walk accounts f p q ≡ None → (is_dir_of (m ∷ w) (get f.files (parent q)) || lies_in_job (m ∷ w) f.files (parent q)) ≡ false
+      beside : (q : Path) → is_below_root q ≡ true → walk accounts f p q ≡ None
+          → (is_dir_of (m ∷ w) (get f.files (parent q)) || lies_in_job (m ∷ w) f.files (parent q)) ≡ false
       beside [] below walked = absurd (true≢false (sym below))
       beside (n ∷ d) below walked = outside (n ∷ d) walked

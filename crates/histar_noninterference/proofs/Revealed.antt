@@ -30,7 +30,8 @@ use Rattle.histar_flat.proofs.Warrants.{warranted}
 module _ (m : ℕ) (w : ProcName) (accounts : Accounts) (f g : Flat) (r : SameOutside (m ∷ w) f g) (hf : IsStarted (m ∷ w) f)
     (hg : IsStarted (m ∷ w) g) (me : ProcName) (p : Process) (o : knows p (m ∷ w) ≡ false) where
   -- what an outsider writes doesn't lie in the job
-  writes_outside : (q : Path) (effect : Effect) → Warrant accounts f me p q effect → writes_bytes effect ≡ true → lies_in_job (m ∷ w) f.files q ≡ false
+  writes_outside : (q : Path) (effect : Effect) → Warrant accounts f me p q effect → writes_bytes effect ≡ true
+      → lies_in_job (m ∷ w) f.files q ≡ false
   writes_outside q (Stores new) may h = outside m w accounts f g r hf p o q may.1
   writes_outside q _ may h = absurd (true≢false (sym h))
 

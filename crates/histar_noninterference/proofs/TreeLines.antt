@@ -1,5 +1,6 @@
 -- The first difference of the lines of two trees is the first path at which the trees differ.
-use Rattle.std.specs.Prelude.{Bool, List, None, Option, Some, [], codes, cond, false, map, nat_eq, not, refl, true, ℕ, ◌&&◌, ◌++◌, ◌||◌, ◌∷◌, ◌≡◌, ◌≢◌}
+use Rattle.std.specs.Prelude.{Bool, List, None, Option, Some, [], codes, cond, false, map, nat_eq, not, refl, true, ℕ, ◌&&◌, ◌++◌, ◌||◌, ◌∷◌, ◌≡◌}
+use Rattle.std.specs.Prelude.{◌≢◌}
 use Rattle.std.proofs.Common.{ap, sym, ◌∙◌}
 use Rattle.std.proofs.lemmas.Bool.{and_parts}
 use Rattle.std.specs.FinMap.{find, is_sorted}
@@ -22,7 +23,8 @@ use Rattle.histar_noninterference.specs.Comparison.{first_that, node_text, text_
 use Rattle.histar_noninterference.specs.Following.{directory_of}
 use Rattle.histar_noninterference.specs.Trees.{FindsFirstPath, PathText, difference_from, first_difference, first_kept, is_below_either, tree_lines}
 use Rattle.histar_noninterference.proofs.Followed.{finds_left_out}
-use Rattle.histar_noninterference.proofs.Unions.{IsBelow, Nodes, Rises, below_other, below_tied, below_union, entries_of_both, find_below, find_here, find_past, holds, paths_of, turned_greater, union, union_from}
+use Rattle.histar_noninterference.proofs.Unions.{IsBelow, Nodes, Rises, below_other, below_tied, below_union, entries_of_both, find_below, find_here}
+use Rattle.histar_noninterference.proofs.Unions.{find_past, holds, paths_of, turned_greater, union, union_from}
 
 abbrev lines_of : Nodes → List PathText
 lines_of es = map (λ e. (e.0, node_text e.0 e.1)) es

@@ -1,7 +1,9 @@
 -- Verdicts of worked sessions, computed.
 use Rattle.std.specs.Prelude.{[], codes, refl, ◌∷◌, ◌≡◌}
 use Rattle.std.specs.Fmt.{digits}
-use Rattle.histar_flat.proofs.WorkedRuns.{calls_around_a_job, calls_of_a_job_with_a_job_in_it, calls_of_a_members_job, calls_of_an_inner_job, calls_on_output, calls_that_end_in_a_rmdir, calls_with_a_further_wrap, calls_with_a_rmdir, calls_with_an_inner_rmdir}
+use Rattle.histar_flat.proofs.WorkedRuns.{calls_around_a_job, calls_of_a_job_with_a_job_in_it, calls_of_a_members_job, calls_of_an_inner_job}
+use Rattle.histar_flat.proofs.WorkedRuns.{calls_on_output, calls_that_end_in_a_rmdir, calls_with_a_further_wrap, calls_with_a_rmdir}
+use Rattle.histar_flat.proofs.WorkedRuns.{calls_with_an_inner_rmdir}
 use Rattle.histar_flat.proofs.WorkedScripts.{three_users, with_a_team}
 use Rattle.histar_noninterference.specs.Comparison.{verdict}
 use Rattle.histar_noninterference.specs.declared.verdict.Verdict.TheVariants.{Line, NoJob, Same, Tree}

@@ -1,7 +1,8 @@
 //! Two trees compared line by line.
 ghost use Rattle.std.specs.Prelude.{◌≡◌};
 ghost use Rattle.histar_noninterference.specs.Following.{lies_below as is_below_directory};
-ghost use Rattle.histar_noninterference.specs.Trees.{first_difference as first_path_that_differs, first_kept as first_path_kept, is_below_either as is_left_out};
+ghost use Rattle.histar_noninterference.specs.Trees.{first_difference as first_path_that_differs, first_kept as first_path_kept};
+ghost use Rattle.histar_noninterference.specs.Trees.{is_below_either as is_left_out};
 
 use histar_base::Bytes;
 use histar_flat::Path;

@@ -20,7 +20,9 @@ module _ {L : Type 0} (objects : Objects L) (n : ℕ) where
   -- to put the changed object is to change the object that is there
   pub put_changed : (f : Object L → Object L) (o : Object L) → Some o ≡ objects n → put objects n (f o) ≡ changed_at objects n f
   put_changed f o here i q = (elim (eqb_tells q n) as (λ _. put objects n (f o) q ≡ changed_at objects n f q) [
-    | inl h ↦ ap (λ b. if b then Some (f o) else objects q) h.0 ∙ ap (option_map f) (here ∙ ap objects (sym h.1)) ∙ sym (ap (λ b. if b then option_map f (objects q) else objects q) h.0)
+    | inl h ↦
+        ap (λ b. if b then Some (f o) else objects q) h.0 ∙ ap (option_map f) (here ∙ ap objects (sym h.1))
+        ∙ sym (ap (λ b. if b then option_map f (objects q) else objects q) h.0)
     | inr h ↦ ap (λ b. if b then Some (f o) else objects q) h.0 ∙ sym (ap (λ b. if b then option_map f (objects q) else objects q) h.0)
   ]) i
 

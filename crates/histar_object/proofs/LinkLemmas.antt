@@ -33,14 +33,18 @@ neither true x = refl
 neither false x = refl
 
 -- a number more in the list is a number more in the set
-pub inserted : (old new : List ℕ) (n : ℕ) → ((q : ℕ) → is_listed new q ≡ cond (is_at (nat_cmp n) q) true (is_listed old q)) → set.from_list {R = nat_cmp} new ≡ set.insert (set.from_list old) n
+pub inserted : (old new : List ℕ) (n : ℕ)
+    → ((q : ℕ) → is_listed new q ≡ cond (is_at (nat_cmp n) q) true (is_listed old q))
+    → set.from_list {R = nat_cmp} new ≡ set.insert (set.from_list old) n
 inserted old new n updates = set.same_set nat_cmp_total nat_cmp-IsAntisymmetric _ _ (λ q.
     contains_listed new q ∙ updates q ∙ either (is_at (nat_cmp n) q) (is_listed old q)
     ∙ (λ i. tied_back n q i || sym (contains_listed old q) i)
     ∙ sym (set.contains-insert nat_cmp_total (set.from_list old) n q))
 
 -- a number less in the list is a number less in the set
-pub removed : (old new : List ℕ) (n : ℕ) → ((q : ℕ) → is_listed new q ≡ cond (is_at (nat_cmp n) q) false (is_listed old q)) → set.from_list {R = nat_cmp} new ≡ set.remove (set.from_list old) n
+pub removed : (old new : List ℕ) (n : ℕ)
+    → ((q : ℕ) → is_listed new q ≡ cond (is_at (nat_cmp n) q) false (is_listed old q))
+    → set.from_list {R = nat_cmp} new ≡ set.remove (set.from_list old) n
 removed old new n updates = set.same_set nat_cmp_total nat_cmp-IsAntisymmetric _ _ (λ q.
     contains_listed new q ∙ updates q ∙ neither (is_at (nat_cmp n) q) (is_listed old q)
     ∙ (λ i. not (tied_back n q i) && sym (contains_listed old q) i)
@@ -54,7 +58,8 @@ lists_keys ks rise = record {
 }
 
 -- a list that took all keys of a set
-pub appended : (ks all left old new : List ℕ) (links : Numbers) → set.from_list ks ≡ links → all ≡ ks → IsStrictlySortedBy nat_cmp ks → left ≡ [] → new ++ left ≡ old ++ all → AppendsAll links old new
+pub appended : (ks all left old new : List ℕ) (links : Numbers) → set.from_list ks ≡ links → all ≡ ks
+    → IsStrictlySortedBy nat_cmp ks → left ≡ [] → new ++ left ≡ old ++ all → AppendsAll links old new
 appended ks all left old new links is all_is rise done e = record {
   added = ks;
   is = sym (append-nil new) ∙ ap (λ (l : List ℕ). new ++ l) (sym done) ∙ e ∙ ap (λ (l : List ℕ). old ++ l) all_is;

@@ -1,6 +1,7 @@
 -- The slots of a list in places and of a map behind it: what is looked up in both, and that no number is there twice.
 use Prim.Native.Nat as Nat
-use Rattle.std.proofs.Common.{◌≡◌, ◌≢◌, ℕ, suc, ◌+◌, ◌<◌, ◌≤◌, Bool, true, false, cond, List, [], ◌∷◌, ◌++◌, length, Option, None, Some, inl, inr, refl, sym, ap, subst, ◌∙◌, arith}
+use Rattle.std.proofs.Common.{◌≡◌, ◌≢◌, ℕ, suc, ◌+◌, ◌<◌, ◌≤◌, Bool, true, false, cond, List, [], ◌∷◌, ◌++◌, length, Option, None, Some, inl, inr}
+use Rattle.std.proofs.Common.{refl, sym, ap, subst, ◌∙◌, arith}
 use Rattle.std.specs.Prelude.{nat_eq, slice_get, slice_set, IsSome}
 use Rattle.std.specs.Cmp.{nat_eq_equiv}
 use Rattle.std.specs.List.{IsDistinct, AllByRecursion}
@@ -43,7 +44,9 @@ unlike n q less = ne_eqb q n (λ e. omega (arith, e, less))
 behind : (n q : ℕ) (xs : List (Option ℕ)) (fs : List (ℕ × ℕ)) → q < n → slot_at (numbered n xs ++ fs) q ≡ slot_at fs q
 behind n q [] fs less = refl
 behind n q (None ∷ xs) fs less = behind (suc n) q xs fs (omega (arith, less))
-behind n q (Some k ∷ xs) fs less = ap (λ b. cond b (Some k) (slot_at (numbered (suc n) xs ++ fs) q)) (unlike n q less) ∙ behind (suc n) q xs fs (omega (arith, less))
+behind n q (Some k ∷ xs) fs less =
+    ap (λ b. cond b (Some k) (slot_at (numbered (suc n) xs ++ fs) q)) (unlike n q less)
+    ∙ behind (suc n) q xs fs (omega (arith, less))
 
 -- a number's place in the list is found first, and then the map
 ahead : (n j q : ℕ) (xs : List (Option ℕ)) (fs : List (ℕ × ℕ)) → q ≡ n + j → slot_at (numbered n xs ++ fs) q ≡ or_else (in_place xs j) (slot_at fs q)
@@ -168,7 +171,9 @@ module _ (xs : List (Option ℕ)) (fs : List (ℕ × ℕ)) where
 
   module _ (n : ℕ) where
     -- a number that is found in neither gets a slot at the end of the list
-    pub found_pushed : (k : ℕ) → length xs ≡ n → (q : ℕ) → slot_at (numbered 0 (xs ++ Some k ∷ []) ++ fs) q ≡ cond (nat_eq n q) (Some k) (slot_at (numbered 0 xs ++ fs) q)
+    pub found_pushed : (k : ℕ) → length xs ≡ n → (q : ℕ)
+        → slot_at (numbered 0 (xs ++ Some k ∷ []) ++ fs) q
+        ≡ cond (nat_eq n q) (Some k) (slot_at (numbered 0 xs ++ fs) q)
     found_pushed k at q =
         found_in_either q (xs ++ Some k ∷ []) fs ∙ ap (λ a. or_else a (slot_at fs q)) (pushed q xs (Some k))
         ∙ first_changes (nat_eq (length xs) q) k (in_place xs q) (slot_at fs q)
@@ -183,7 +188,8 @@ module _ (xs : List (Option ℕ)) (fs : List (ℕ × ℕ)) where
         ∙ ap (cond (nat_eq n q) w) (sym (found_in_either q xs fs))
 
     -- the place of a number that is not in the map is emptied
-    pub found_emptied : slot_at fs n ≡ None → (q : ℕ) → slot_at (numbered 0 (slice_set xs n None) ++ fs) q ≡ cond (nat_eq n q) None (slot_at (numbered 0 xs ++ fs) q)
+    pub found_emptied : slot_at fs n ≡ None → (q : ℕ)
+        → slot_at (numbered 0 (slice_set xs n None) ++ fs) q ≡ cond (nat_eq n q) None (slot_at (numbered 0 xs ++ fs) q)
     found_emptied none q =
         found_in_either q (slice_set xs n None) fs ∙ ap (λ a. or_else a (slot_at fs q)) (emptied q n xs)
         ∙ first_leaves (nat_eq n q) (in_place xs q) (slot_at fs q) (of_equal (λ m. slot_at fs m ≡ None) n q none)

@@ -1,5 +1,6 @@
 -- What is found in a table whose objects stand in slots, and how it changes with one number.
-use Rattle.std.proofs.Common.{◌≡◌, ◌≢◌, ℕ, true, false, cond, List, [], ◌∷◌, Option, None, Some, IsSome, ◌↔◌, inl, inr, if◌then◌else◌, refl, sym, ap, subst, ◌∙◌, arith}
+use Rattle.std.proofs.Common.{◌≡◌, ◌≢◌, ℕ, true, false, cond, List, [], ◌∷◌, Option, None, Some, IsSome, ◌↔◌, inl, inr, if◌then◌else◌, refl, sym, ap}
+use Rattle.std.proofs.Common.{subst, ◌∙◌, arith}
 use Rattle.std.specs.Prelude.{◌==◌, nat_eq, is_some}
 use Rattle.std.proofs.lemmas.List.Sums.{sum_by-set}
 use mathlib.Core.Bool.{false≢true}
@@ -64,7 +65,9 @@ module _ {X : Type 0} (at : ℕ → Option X) where
   found (Some k) = at k
 
   -- one step of a search: the object before the others has the number, or the search goes on
-  found_step : (e : ℕ × ℕ) (o : Option X) (others : List (ℕ × X)) (q : ℕ) (later : Option ℕ) → at e.1 ≡ o → IsSome o → object_at others q ≡ found later → object_at (place e.0 o others) q ≡ found (cond (nat_eq q e.0) (Some e.1) later)
+  found_step : (e : ℕ × ℕ) (o : Option X) (others : List (ℕ × X)) (q : ℕ) (later : Option ℕ) → at e.1 ≡ o → IsSome o
+      → object_at others q ≡ found later
+      → object_at (place e.0 o others) q ≡ found (cond (nat_eq q e.0) (Some e.1) later)
   found_step e None others q later is some rest = absurd (false≢true some)
   found_step e (Some o) others q later is some rest =
       ap (λ b. cond b (Some o) (object_at others q)) (unsigned_tied q e.0)
@@ -81,7 +84,8 @@ module _ {X : Type 0} (at : ℕ → Option X) where
   ]
 
   -- the object of a number is that of its slot
-  found_by_slot : (slots : List (ℕ × ℕ)) → IsDistinct nat_eq (keys_of slots) → Stand at slots → (q : ℕ) → object_at (placed at slots) q ≡ found (slot_at slots q)
+  found_by_slot : (slots : List (ℕ × ℕ)) → IsDistinct nat_eq (keys_of slots) → Stand at slots → (q : ℕ)
+      → object_at (placed at slots) q ≡ found (slot_at slots q)
   unfolding IsDistinct
   found_by_slot [] once stands q = refl
   found_by_slot (e ∷ slots) once stands q =
@@ -109,7 +113,8 @@ module _ {X : Type 0} (at : ℕ → Option X) where
   pub no_slot : (slots : List (ℕ × ℕ)) → IsPlaced at slots → (q : ℕ) → object_at (placed at slots) q ≡ None → slot_at slots q ≡ None
   no_slot slots is q none = slot_revealed (slot_at slots q) (is.stands q) (sym (lookup-placed slots is q) ∙ none)
 
-module _ {X : Type 0} (at new_at : ℕ → Option X) (es fs : List (ℕ × ℕ)) (was : IsPlaced at es) (kept : new_at ≡ at) (same : (q : ℕ) → slot_at fs q ≡ slot_at es q) where
+module _ {X : Type 0} (at new_at : ℕ → Option X) (es fs : List (ℕ × ℕ)) (was : IsPlaced at es) (kept : new_at ≡ at)
+    (same : (q : ℕ) → slot_at fs q ≡ slot_at es q) where
   -- slots are kept in another order, and their objects stay
   pub IsPlaced-reordered : IsDistinct nat_eq (keys_of fs) → IsPlaced new_at fs
   IsPlaced-reordered once = record {
@@ -120,8 +125,11 @@ module _ {X : Type 0} (at new_at : ℕ → Option X) (es fs : List (ℕ × ℕ))
   }
 
   -- then each number has the object that it had
-  pub objects-reordered : IsDistinct nat_eq (keys_of fs) → ◌≡◌ {A = ℕ → Option X} (λ q. object_at (placed new_at fs) q) (λ q. object_at (placed at es) q)
-  objects-reordered once i q = (lookup-placed new_at fs (IsPlaced-reordered once) q ∙ (λ j. found (kept j) (same q j)) ∙ sym (lookup-placed at es was q)) i
+  pub objects-reordered : IsDistinct nat_eq (keys_of fs)
+      → ◌≡◌ {A = ℕ → Option X} (λ q. object_at (placed new_at fs) q) (λ q. object_at (placed at es) q)
+  objects-reordered once i q =
+      (lookup-placed new_at fs (IsPlaced-reordered once) q ∙ (λ j. found (kept j) (same q j))
+      ∙ sym (lookup-placed at es was q)) i
 
 -- One number changes: n, whose slot is s where it has or had one. It has the slot w then, and s has the object x.
 module _ {X : Type 0} (at new_at : ℕ → Option X) (es fs : List (ℕ × ℕ)) (n s : ℕ) (w : Option ℕ) (x : Option X) where
@@ -154,14 +162,18 @@ module _ {X : Type 0} (at new_at : ℕ → Option X) (es fs : List (ℕ × ℕ))
     found_after : (q : ℕ) → found new_at (slot_at fs q) ≡ (if q == n then x else found at (slot_at es q))
     found_after q = elim (eqb_tells q n) [
       | inl same ↦ ap (found new_at) (at_own q same.1) ∙ one.revealed ∙ sym (ap (λ b. if b then x else found at (slot_at es q)) same.0)
-      | inr other ↦ ap (found new_at) (at_other q other.1) ∙ found_same (slot_at es q) (λ k. one.apart q k other.1) ∙ sym (ap (λ b. if b then x else found at (slot_at es q)) other.0)
+      | inr other ↦
+          ap (found new_at) (at_other q other.1) ∙ found_same (slot_at es q) (λ k. one.apart q k other.1)
+          ∙ sym (ap (λ b. if b then x else found at (slot_at es q)) other.0)
     ]
 
     -- each number's slot has an object
     stands_after : (q k : ℕ) → slot_at fs q ≡ Some k → IsSome (new_at k)
     stands_after q k is = elim (eqb_tells q n) [
       | inl same ↦ (let here = one.only k (sym (at_own q same.1) ∙ is) in subst IsSome (sym one.changed ∙ ap new_at (sym here.0)) here.1)
-      | inr other ↦ (let before = sym (at_other q other.1) ∙ is in subst IsSome (sym (one.others k (one.apart q k other.1 before))) (was.stands q k before))
+      | inr other ↦
+          (let before = sym (at_other q other.1)
+          ∙ is in subst IsSome (sym (one.others k (one.apart q k other.1 before))) (was.stands q k before))
     ]
 
     -- no two numbers have one slot
@@ -190,8 +202,12 @@ module _ {X : Type 0} (at new_at : ℕ → Option X) (es fs : List (ℕ × ℕ))
     IsPlaced-changed once = record { once = once; stands = stands_after; apart = apart_after; named = named_after }
 
     -- the objects by number, with the object x at n
-    pub objects-changed : IsDistinct nat_eq (keys_of fs) → ◌≡◌ {A = ℕ → Option X} (λ q. object_at (placed new_at fs) q) (λ q. if q == n then x else object_at (placed at es) q)
-    objects-changed once i q = (lookup-placed new_at fs (IsPlaced-changed once) q ∙ found_after q ∙ ap (λ o. if q == n then x else o) (sym (lookup-placed at es was q))) i
+    pub objects-changed : IsDistinct nat_eq (keys_of fs)
+        → ◌≡◌ {A = ℕ → Option X} (λ q. object_at (placed new_at fs) q)
+        (λ q. if q == n then x else object_at (placed at es) q)
+    objects-changed once i q =
+        (lookup-placed new_at fs (IsPlaced-changed once) q ∙ found_after q
+        ∙ ap (λ o. if q == n then x else o) (sym (lookup-placed at es was q))) i
 
 module _ {X : Type 0} (at new_at : ℕ → Option X) (es : List (ℕ × ℕ)) (was : IsPlaced at es) (n s : ℕ) where
   -- the slot of one number is the slot of no other
@@ -223,7 +239,8 @@ module _ {X : Type 0} (at new_at : ℕ → Option X) (es : List (ℕ × ℕ)) (w
   }
 
   -- an object is added in a slot that has none
-  pub added : (fs : List (ℕ × ℕ)) (o : X) → slot_at es n ≡ None → HasSlot es fs n (Some s) → at s ≡ None → new_at s ≡ Some o → KeepsOthers at new_at s → ChangesOne at new_at es fs n s (Some s) (Some o)
+  pub added : (fs : List (ℕ × ℕ)) (o : X) → slot_at es n ≡ None → HasSlot es fs n (Some s) → at s ≡ None
+      → new_at s ≡ Some o → KeepsOthers at new_at s → ChangesOne at new_at es fs n s (Some s) (Some o)
   added fs o none updated vacant changed others = record {
     updated = updated;
     changed = changed;
@@ -236,7 +253,8 @@ module _ {X : Type 0} (at new_at : ℕ → Option X) (es : List (ℕ × ℕ)) (w
   }
 
   -- an object is taken out of its slot
-  pub removed : (fs : List (ℕ × ℕ)) → slot_at es n ≡ Some s → HasSlot es fs n None → new_at s ≡ None → KeepsOthers at new_at s → ChangesOne at new_at es fs n s None None
+  pub removed : (fs : List (ℕ × ℕ)) → slot_at es n ≡ Some s → HasSlot es fs n None → new_at s ≡ None
+      → KeepsOthers at new_at s → ChangesOne at new_at es fs n s None None
   removed fs here updated changed others = record {
     updated = updated;
     changed = changed;
@@ -254,9 +272,12 @@ module _ {X : Type 0} (at : ℕ → Option X) (slots : List (ℕ × ℕ)) (is : 
   slot_none q = (none_at at slots is q, no_slot at slots is q)
 
   -- where there is no object, nothing is taken out
-  pub none_without : (n : ℕ) → slot_at slots n ≡ None → (q : ℕ) → object_at (placed at slots) q ≡ (if q == n then None else object_at (placed at slots) q)
+  pub none_without : (n : ℕ) → slot_at slots n ≡ None → (q : ℕ)
+      → object_at (placed at slots) q ≡ (if q == n then None else object_at (placed at slots) q)
   none_without n none q = elim (eqb_tells q n) [
-    | inl same ↦ ap (λ m. object_at (placed at slots) m) same.1 ∙ none_at at slots is n none ∙ sym (ap (λ b. if b then None else object_at (placed at slots) q) same.0)
+    | inl same ↦
+        ap (λ m. object_at (placed at slots) m) same.1 ∙ none_at at slots is n none
+        ∙ sym (ap (λ b. if b then None else object_at (placed at slots) q) same.0)
     | inr other ↦ sym (ap (λ b. if b then None else object_at (placed at slots) q) other.0)
   ]
 

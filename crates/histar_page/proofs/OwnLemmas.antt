@@ -1,5 +1,6 @@
 -- Lines that belong to a number, taken from the front of others.
-use Rattle.std.proofs.Common.{◌≡◌, ℕ, ◌+◌, List, [], ◌∷◌, ◌++◌, length, map, take, drop, refl, sym, ap, ◌∙◌, Bool, true, false, cond, zero, suc, zero-add, ap₂, arith}
+use Rattle.std.proofs.Common.{◌≡◌, ℕ, ◌+◌, List, [], ◌∷◌, ◌++◌, length, map, take, drop, refl, sym, ap, ◌∙◌, Bool, true, false, cond, zero, suc}
+use Rattle.std.proofs.Common.{zero-add, ap₂, arith}
 use Rattle.std.specs.Prelude.{codes, if◌then◌else◌}
 use Rattle.std.specs.List.{list_all, prefix_len, take_while}
 use Rattle.std.proofs.lemmas.Bool.{and_parts}
@@ -33,7 +34,8 @@ rest_whole f lines later k behind =
 
 -- what was taken from the front, and what is behind it, are the whole
 pub boot_whole : {A B : Type 0} (f : A → B) (lines own later : List A)
-    → take (0 + length own) (map f lines) ≡ take 0 (map f lines) ++ map f own → later ≡ drop (length own) lines → map f own ++ map f later ≡ map f lines
+    → take (0 + length own) (map f lines) ≡ take 0 (map f lines) ++ map f own → later ≡ drop (length own) lines
+    → map f own ++ map f later ≡ map f lines
 boot_whole f lines own later taken behind =
     let front : take (length own) (map f lines) ≡ map f own = ap (λ k. take k (map f lines)) (sym (zero-add (length own))) ∙ taken in
     ap (λ l. l ++ map f later) (sym front) ∙ sym (rest_whole f lines later (length own) behind)
@@ -47,7 +49,10 @@ past_is number (line ∷ lines) = by (is_own number line) (past_is number lines)
   where
     by : (b : Bool) → past_own number lines ≡ drop (prefix_len (is_own number) lines) lines
         → (if b then past_own number lines else line ∷ lines) ≡ drop (cond b (1 + prefix_len (is_own number) lines) 0) (line ∷ lines)
-    by true e = e ∙ ap (λ n. drop n (line ∷ lines)) (let e : suc (prefix_len (is_own number) lines) ≡ 1 + prefix_len (is_own number) lines = omega arith in e)
+    by true e =
+        e
+        ∙ ap (λ n. drop n (line ∷ lines)) (let e : suc (prefix_len (is_own number) lines)
+        ≡ 1 + prefix_len (is_own number) lines = omega arith in e)
     by false e = refl
 
 -- what is behind those that were taken is what is behind all of the number, also element by element
@@ -63,12 +68,14 @@ pub behind_texts : {A : Type 0} (f : A → List ℕ) (lines later : List A) (k :
 behind_texts f lines later k behind = ap (map f) behind ∙ sym (drop-map f k lines)
 
 -- one number more takes its own of what the others left
-left_more : (numbers : List (List ℕ)) (number : List ℕ) (lines : List (List ℕ)) → left_over (numbers ++ number ∷ []) lines ≡ past_own number (left_over numbers lines)
+left_more : (numbers : List (List ℕ)) (number : List ℕ) (lines : List (List ℕ))
+    → left_over (numbers ++ number ∷ []) lines ≡ past_own number (left_over numbers lines)
 left_more [] number lines = refl
 left_more (n ∷ numbers) number lines = left_more numbers number (past_own n lines)
 
 -- so does one reply more
-pub left_step : (done lines : List (List ℕ)) (line : List ℕ) {all before later : List (List ℕ)} {word : List ℕ} → all ≡ done ++ line ∷ [] → word ≡ (split_word line).0
+pub left_step : (done lines : List (List ℕ)) (line : List ℕ) {all before later : List (List ℕ)} {word : List ℕ}
+    → all ≡ done ++ line ∷ [] → word ≡ (split_word line).0
     → later ≡ past_own word before → before ≡ left_over (reply_numbers done) lines → later ≡ left_over (reply_numbers all) lines
 left_step done lines line more is past h =
     past ∙ (λ i. past_own (is i) (h i)) ∙ sym (left_more (reply_numbers done) (split_word line).0 lines)
@@ -77,7 +84,11 @@ left_step done lines line more is past h =
 -- where lines of a number are passed over, nothing is left of them, wherever one begins
 past_some : (number : List ℕ) (own rest : List (List ℕ)) (k : ℕ) → list_all (is_own number) own ≡ true
     → (j : ℕ) × (past_own number (drop k (own ++ rest)) ≡ drop j rest)
-past_some number [] rest k h = (k + prefix_len (is_own number) (drop k rest), past_is number (drop k rest) ∙ drop-drop (prefix_len (is_own number) (drop k rest)) k rest)
+past_some number [] rest k h = (
+  k + prefix_len (is_own number) (drop k rest),
+  past_is number (drop k rest)
+      ∙ drop-drop (prefix_len (is_own number) (drop k rest)) k rest,
+)
 past_some number (line ∷ own) rest zero h =
     let parts = and_parts (is_own number line) (list_all (is_own number) own) h in
     let more = past_some number own rest 0 parts.1 in

@@ -12,7 +12,9 @@ use Rattle.histar_page.specs.declared.kind.Kind.{Kind}
 use Rattle.histar_page.specs.declared.kind.Kind.TheVariants.{Reply, Refusal, RawCall, DeniedCall}
 use Rattle.histar_page.specs.Items.{Item}
 use Rattle.histar_page.specs.Lines.{after_word, is_denied, is_explanation, is_own, is_raw_call, is_refused, is_reply, mark_number}
-use Rattle.histar_page.specs.Session.{AddsSession, AreOwn, IsSession, answer_items, boot_items, call_items, is_answer_kind, is_number_kind, is_other_kind, is_raw_kind, is_why_kind, of_kinds, other_call_items, other_item, other_why_items, raw_item, raw_kind, reply_kind, why_item}
+use Rattle.histar_page.specs.Session.{AddsSession, AreOwn, IsSession, answer_items, boot_items, call_items, is_answer_kind, is_number_kind}
+use Rattle.histar_page.specs.Session.{is_other_kind, is_raw_kind, is_why_kind, of_kinds, other_call_items, other_item, other_why_items, raw_item}
+use Rattle.histar_page.specs.Session.{raw_kind, reply_kind, why_item}
 use Rattle.histar_page.specs.Order.{session_numbers}
 use Rattle.histar_page.proofs.OwnLemmas.{boot_alone}
 
@@ -31,12 +33,14 @@ of-append : (test : Kind → Bool) (xs ys : List Item) → of_kinds test (xs ++ 
 of-append test xs ys = filter-append (λ (item : Item). test item.0) xs ys
 
 -- no item is of these kinds
-of_none : (test : Kind → Bool) (f : List ℕ → Item) → ((line : List ℕ) → test (f line).0 ≡ false) → (lines : List (List ℕ)) → of_kinds test (map f lines) ≡ []
+of_none : (test : Kind → Bool) (f : List ℕ → Item) → ((line : List ℕ) → test (f line).0 ≡ false)
+    → (lines : List (List ℕ)) → of_kinds test (map f lines) ≡ []
 of_none test f fails [] = refl
 of_none test f fails (line ∷ lines) = rw (fails line) (of_none test f fails lines)
 
 -- each item is of these kinds
-of_all : (test : Kind → Bool) (f : List ℕ → Item) → ((line : List ℕ) → test (f line).0 ≡ true) → (lines : List (List ℕ)) → of_kinds test (map f lines) ≡ map f lines
+of_all : (test : Kind → Bool) (f : List ℕ → Item) → ((line : List ℕ) → test (f line).0 ≡ true) → (lines : List (List ℕ))
+    → of_kinds test (map f lines) ≡ map f lines
 of_all test f passes [] = refl
 of_all test f passes (line ∷ lines) = rw (passes line) (ap (λ l. f line ∷ l) (of_all test f passes lines))
 
@@ -47,13 +51,17 @@ raw_none test denied made lines = of_none test raw_item (by_raw (λ k. test k �
 -- ---- what is behind a call
 
 -- what is behind a call has none of these kinds but those of raw calls
-behind_raw : (raw_calls explanations : List (List ℕ)) → of_kinds is_raw_kind (map raw_item raw_calls ++ map why_item explanations) ≡ map raw_item raw_calls
+behind_raw : (raw_calls explanations : List (List ℕ))
+    → of_kinds is_raw_kind (map raw_item raw_calls ++ map why_item explanations) ≡ map raw_item raw_calls
 behind_raw raw_calls explanations =
     of-append is_raw_kind (map raw_item raw_calls) (map why_item explanations)
-    ∙ ap₂ (λ (a b : List Item). a ++ b) (of_all is_raw_kind raw_item (by_raw (λ k. is_raw_kind k ≡ true) refl refl) raw_calls) (of_none is_raw_kind why_item (λ line. refl) explanations)
+    ∙ ap₂ (λ (a b : List Item). a ++ b)
+    (of_all is_raw_kind raw_item (by_raw (λ k. is_raw_kind k ≡ true) refl refl) raw_calls)
+    (of_none is_raw_kind why_item (λ line. refl) explanations)
     ∙ append-nil (map raw_item raw_calls)
 
-behind_why : (raw_calls explanations : List (List ℕ)) → of_kinds is_why_kind (map raw_item raw_calls ++ map why_item explanations) ≡ map why_item explanations
+behind_why : (raw_calls explanations : List (List ℕ))
+    → of_kinds is_why_kind (map raw_item raw_calls ++ map why_item explanations) ≡ map why_item explanations
 behind_why raw_calls explanations =
     of-append is_why_kind (map raw_item raw_calls) (map why_item explanations)
     ∙ ap₂ (λ (a b : List Item). a ++ b) (raw_none is_why_kind refl refl raw_calls) (of_all is_why_kind why_item (λ line. refl) explanations)
@@ -192,7 +200,16 @@ joined test xs ys a b x y = of-append test xs ys ∙ ap₂ (λ (a b : List Item)
 
 -- nothing was added
 pub adds_none : (script : List (List ℕ)) (old : List Item) → AddsSession script [] [] [] [] old old
-adds_none script old = record { added = []; is_added = sym (append-nil old); answers = refl; raw = refl; why = refl; own = λ number. tt; others = refl }
+adds_none script old =
+    record {
+      added = [];
+      is_added = sym (append-nil old);
+      answers = refl;
+      raw = refl;
+      why = refl;
+      own = λ number. tt;
+      others = refl;
+    }
 
 -- a call was added
 pub adds_call : {script done raw why numbers : List (List ℕ)} {old mid new : List Item} (line : List ℕ) (raw_calls explanations : List (List ℕ))
@@ -204,7 +221,9 @@ adds_call {script} {done} {raw} {why} {numbers} {old} line raw_calls explanation
     record {
       added = h.added ++ call;
       is_added = e ∙ ap (λ l. l ++ call) h.is_added ∙ append_assoc old h.added call;
-      answers = joined is_answer_kind h.added call _ _ h.answers (call_answers script line raw_calls explanations) ∙ sym (flat_map-append (answer_items script) done (line ∷ []));
+      answers =
+          joined is_answer_kind h.added call _ _ h.answers (call_answers script line raw_calls explanations)
+          ∙ sym (flat_map-append (answer_items script) done (line ∷ []));
       raw = joined is_raw_kind h.added call _ _ h.raw (call_raw script line raw_calls explanations) ∙ sym (map-append raw_item raw raw_calls);
       why = joined is_why_kind h.added call _ _ h.why (call_why script line raw_calls explanations) ∙ sym (map-append why_item why explanations);
       own = λ number. own-append number h.added call (h.own number) (own_call script line raw_calls explanations own_calls own_explanations);
@@ -225,7 +244,8 @@ adds_calls {script} {done} {raw} {why} {numbers} {old} raw_calls h e =
       why = joined is_why_kind h.added others _ _ h.why (other_none raw_calls) ∙ append-nil _;
       own = λ number. own-append number h.added others (h.own number) (own_other_calls raw_calls);
       others =
-          joined is_other_kind h.added others _ _ h.others (calls_numbers raw_calls) ∙ sym (map-append other_item numbers (map mark_number raw_calls));
+          joined is_other_kind h.added others _ _ h.others (calls_numbers raw_calls)
+          ∙ sym (map-append other_item numbers (map mark_number raw_calls));
     }
 
 -- explanations of no reply were added
@@ -242,7 +262,8 @@ adds_whys {script} {done} {raw} {why} {numbers} {old} explanations h e =
       why = joined is_why_kind h.added others _ _ h.why (why_all explanations) ∙ sym (map-append why_item why explanations);
       own = λ number. own-append number h.added others (h.own number) (own_other_why explanations);
       others =
-          joined is_other_kind h.added others _ _ h.others (whys_numbers explanations) ∙ sym (map-append other_item numbers (map mark_number explanations));
+          joined is_other_kind h.added others _ _ h.others (whys_numbers explanations)
+          ∙ sym (map-append other_item numbers (map mark_number explanations));
     }
 
 -- what was added behind the raw calls of boot
@@ -255,7 +276,10 @@ adds_boot {script} {done} {raw} {why} {numbers} {old} boot e is_boot h =
       added = items ++ h.added;
       is_added = h.is_added ∙ ap (λ l. l ++ h.added) e ∙ append_assoc old items h.added;
       answers = joined is_answer_kind items h.added _ _ (raw_none is_answer_kind refl refl boot) h.answers;
-      raw = joined is_raw_kind items h.added _ _ (of_all is_raw_kind raw_item (by_raw (λ k. is_raw_kind k ≡ true) refl refl) boot) h.raw ∙ sym (map-append raw_item boot raw);
+      raw =
+          joined is_raw_kind items h.added _ _
+          (of_all is_raw_kind raw_item (by_raw (λ k. is_raw_kind k ≡ true) refl refl) boot) h.raw
+          ∙ sym (map-append raw_item boot raw);
       why = joined is_why_kind items h.added _ _ (raw_none is_why_kind refl refl boot) h.why;
       own = λ number. own-append number items h.added
           (never, subst_nil (codes "0") boot is_boot) h.own;

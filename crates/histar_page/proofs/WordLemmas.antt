@@ -32,4 +32,6 @@ pub after_shorter : (text : List ℕ) → 0 < length text → length (after_word
 unfolding split_at_first
 after_shorter [] h = absurd (omega arith)
 after_shorter (b ∷ []) h = elim (eqb_tells b 32) [ inl e ↦ rw e.1 (omega arith) | inr e ↦ rw e.0 (omega arith) ]
-after_shorter (b ∷ c ∷ cs) h = elim (eqb_tells b 32) [ inl e ↦ rw e.1 (omega arith) | inr e ↦ rw e.0 (omega (arith, after_shorter (c ∷ cs) (omega arith))) ]
+after_shorter (b ∷ c ∷ cs) h =
+    elim (eqb_tells b 32)
+    [ inl e ↦ rw e.1 (omega arith) | inr e ↦ rw e.0 (omega (arith, after_shorter (c ∷ cs) (omega arith))) ]

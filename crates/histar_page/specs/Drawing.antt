@@ -1,11 +1,13 @@
 -- The drawing on a page: which process may read and write which file at the end, and the jobs.
-use Rattle.std.specs.Prelude.{ℕ, ◌+◌, Bool, true, false, ◌&&◌, List, [], ◌∷◌, ◌++◌, ◌==◌, codes, decimal, filter, length, nat_le, Option, None, Some, unwrap_or, if◌then◌else◌}
+use Rattle.std.specs.Prelude.{ℕ, ◌+◌, Bool, true, false, ◌&&◌, List, [], ◌∷◌, ◌++◌, ◌==◌, codes, decimal, filter, length, nat_le, Option, None, Some}
+use Rattle.std.specs.Prelude.{unwrap_or, if◌then◌else◌}
 use Rattle.std.specs.List.{flat_map, list_all, list_any}
 use Rattle.std.specs.Str.{bytes_eq}
 use Rattle.histar_flat.specs.Words.{split_at_first}
 use Rattle.histar_script.specs.Lines.{split_word}
 use Rattle.histar_page.specs.declared.kind.Kind.{Kind}
-use Rattle.histar_page.specs.declared.kind.Kind.TheVariants.{DrawnHeight, ProcessBand, FileBand, ReadEdge, WriteEdge, BothEdge, EdgeEnd, EdgeProcess, EdgeFile, ProcessNode, FileNode, NodeName}
+use Rattle.histar_page.specs.declared.kind.Kind.TheVariants.{DrawnHeight, ProcessBand, FileBand, ReadEdge, WriteEdge, BothEdge, EdgeEnd, EdgeProcess}
+use Rattle.histar_page.specs.declared.kind.Kind.TheVariants.{EdgeFile, ProcessNode, FileNode, NodeName}
 use Rattle.histar_page.specs.declared.places.TheConstants.{MOST_DRAWN_FILES, MOST_DRAWN_PROCESSES}
 use Rattle.histar_page.specs.Items.{Item}
 use Rattle.histar_page.specs.Lines.{after_word, is_reply, words_of}

@@ -19,22 +19,41 @@ use Rattle.histar_process.specs.Parts.{write_status}
 -- ---- a raw call with what it should have
 
 module _ (t : ℕ) (old new : KernelModel) where
-  pub container_so : (container : ℕ) (label due : Levels) → label ≡ due → (result : Result ℕ CallError) → RunsPart (ask (MakeContainer container label)) old new t result → RunsPart (ask (MakeContainer container due)) old new t result
-  container_so container label due is result runs = subst (λ (l : Levels). RunsPart {A = ℕ} (ask (MakeContainer container l)) old new t result) is runs
+  pub container_so : (container : ℕ) (label due : Levels) → label ≡ due → (result : Result ℕ CallError)
+      → RunsPart (ask (MakeContainer container label)) old new t result
+      → RunsPart (ask (MakeContainer container due)) old new t result
+  container_so container label due is result runs =
+      subst (λ (l : Levels). RunsPart {A = ℕ} (ask (MakeContainer container l)) old new t result) is runs
 
-  pub guarded_so : (container : ℕ) (secret due : List ℕ) (write : ℕ) → secret ≡ due → (result : Result ℕ CallError) → RunsPart (ask (MakeContainer container (guarded_by secret (write ∷ [])))) old new t result → RunsPart (ask (MakeContainer container (guarded_by due (write ∷ [])))) old new t result
-  guarded_so container secret due write is = container_so container (guarded_by secret (write ∷ [])) (guarded_by due (write ∷ [])) (ap (λ (cs : List ℕ). guarded_by cs (write ∷ [])) is)
+  pub guarded_so : (container : ℕ) (secret due : List ℕ) (write : ℕ) → secret ≡ due → (result : Result ℕ CallError)
+      → RunsPart (ask (MakeContainer container (guarded_by secret (write ∷ [])))) old new t result
+      → RunsPart (ask (MakeContainer container (guarded_by due (write ∷ [])))) old new t result
+  guarded_so container secret due write is =
+      container_so container (guarded_by secret (write ∷ [])) (guarded_by due (write ∷ []))
+      (ap (λ (cs : List ℕ). guarded_by cs (write ∷ [])) is)
 
-  pub thread_so : (internal : ℕ) (label label_due clearance clearance_due : Levels) → label ≡ label_due → clearance ≡ clearance_due → (result : Result ℕ CallError) → RunsPart (ask (MakeThread internal label clearance)) old new t result → RunsPart (ask (MakeThread internal label_due clearance_due)) old new t result
+  pub thread_so : (internal : ℕ) (label label_due clearance clearance_due : Levels) → label ≡ label_due
+      → clearance ≡ clearance_due → (result : Result ℕ CallError)
+      → RunsPart (ask (MakeThread internal label clearance)) old new t result
+      → RunsPart (ask (MakeThread internal label_due clearance_due)) old new t result
   thread_so internal label label_due clearance clearance_due p q result runs =
-      subst (λ (l : Levels). RunsPart {A = ℕ} (ask (MakeThread internal l clearance_due)) old new t result) p (subst (λ (l : Levels). RunsPart {A = ℕ} (ask (MakeThread internal label l)) old new t result) q runs)
+      subst (λ (l : Levels). RunsPart {A = ℕ} (ask (MakeThread internal l clearance_due)) old new t result) p
+      (subst (λ (l : Levels). RunsPart {A = ℕ} (ask (MakeThread internal label l)) old new t result) q runs)
 
-  pub segment_so : (container : ℕ) (label label_due : Levels) (bytes bytes_due : List ℕ) → label ≡ label_due → bytes ≡ bytes_due → (result : Result ℕ CallError) → RunsPart (ask (MakeSegment container label bytes)) old new t result → RunsPart (ask (MakeSegment container label_due bytes_due)) old new t result
+  pub segment_so : (container : ℕ) (label label_due : Levels) (bytes bytes_due : List ℕ) → label ≡ label_due
+      → bytes ≡ bytes_due → (result : Result ℕ CallError)
+      → RunsPart (ask (MakeSegment container label bytes)) old new t result
+      → RunsPart (ask (MakeSegment container label_due bytes_due)) old new t result
   segment_so container label label_due bytes bytes_due p q result runs =
-      subst (λ (l : Levels). RunsPart {A = ℕ} (ask (MakeSegment container l bytes_due)) old new t result) p (subst (λ (bs : List ℕ). RunsPart {A = ℕ} (ask (MakeSegment container label bs)) old new t result) q runs)
+      subst (λ (l : Levels). RunsPart {A = ℕ} (ask (MakeSegment container l bytes_due)) old new t result) p
+      (subst (λ (bs : List ℕ). RunsPart {A = ℕ} (ask (MakeSegment container label bs)) old new t result) q runs)
 
-  pub written_so : (home : Home) (bytes due : List ℕ) → bytes ≡ due → (result : Result (Unit {0}) CallError) → RunsPart (ask (Write home.container home.segment 0 bytes)) old new t result → RunsPart (ask (Write home.container home.segment 0 due)) old new t result
-  written_so home bytes due is result runs = subst (λ (bs : List ℕ). RunsPart {A = Unit {0}} (ask (Write home.container home.segment 0 bs)) old new t result) is runs
+  pub written_so : (home : Home) (bytes due : List ℕ) → bytes ≡ due → (result : Result (Unit {0}) CallError)
+      → RunsPart (ask (Write home.container home.segment 0 bytes)) old new t result
+      → RunsPart (ask (Write home.container home.segment 0 due)) old new t result
+  written_so home bytes due is result runs =
+      subst (λ (bs : List ℕ). RunsPart {A = Unit {0}} (ask (Write home.container home.segment 0 bs)) old new t result)
+      is runs
 
 -- ---- the two categories
 
@@ -47,19 +66,25 @@ abbrev after_both : ℕ → ℕ → Part (ℕ × ℕ)
 after_both a b rest = rest (a, b)
 
 module _ (t : ℕ) (old new : KernelModel) where
-  pub no_read : (call_error : CallError) → RunsPart (ask MakeCategory) old new t (Err call_error) → RunsPart make_categories old new t (Err call_error)
+  pub no_read : (call_error : CallError) → RunsPart (ask MakeCategory) old new t (Err call_error)
+      → RunsPart make_categories old new t (Err call_error)
   unfolding make_categories
   no_read call_error first = part_fails t (ask MakeCategory) old new after_read call_error first
 
   module _ (mid : KernelModel) (read : ℕ) (first : RunsPart (ask MakeCategory) old mid t (Ok read)) where
-    pub no_write : (call_error : CallError) → RunsPart (ask MakeCategory) mid new t (Err call_error) → RunsPart make_categories old new t (Err call_error)
+    pub no_write : (call_error : CallError) → RunsPart (ask MakeCategory) mid new t (Err call_error)
+        → RunsPart make_categories old new t (Err call_error)
     unfolding make_categories
-    no_write call_error second = then_part t (ask MakeCategory) old new after_read mid read first (Err call_error) (part_fails t (ask MakeCategory) mid new (after_both read) call_error second)
+    no_write call_error second =
+        then_part t (ask MakeCategory) old new after_read mid read first (Err call_error)
+        (part_fails t (ask MakeCategory) mid new (after_both read) call_error second)
 
     pub categories : (write : ℕ) → RunsPart (ask MakeCategory) mid new t (Ok write) → RunsPart make_categories old new t (Ok (read, write))
     unfolding make_categories
     categories write second =
-        then_part t (ask MakeCategory) old new after_read mid read first (Ok (read, write)) (then_part t (ask MakeCategory) mid new (after_both read) new write second (Ok (read, write)) (hands t new (read, write)))
+        then_part t (ask MakeCategory) old new after_read mid read first (Ok (read, write))
+        (then_part t (ask MakeCategory) mid new (after_both read) new write second (Ok (read, write))
+        (hands t new (read, write)))
 
 -- ---- the two containers
 
@@ -74,19 +99,30 @@ module _ (t : ℕ) (old new : KernelModel) (parent : ℕ) (jobs : List ℕ) (rea
   abbrev after_container : ℕ → Part (ℕ × ℕ)
   after_container container rest = ask (inner container) (λ internal. rest (container, internal))
 
-  pub no_container : (call_error : CallError) → RunsPart (ask (MakeContainer parent (guarded_by jobs (write ∷ [])))) old new t (Err call_error) → RunsPart (make_containers parent jobs read write) old new t (Err call_error)
+  pub no_container : (call_error : CallError)
+      → RunsPart (ask (MakeContainer parent (guarded_by jobs (write ∷ [])))) old new t (Err call_error)
+      → RunsPart (make_containers parent jobs read write) old new t (Err call_error)
   unfolding make_containers
   no_container call_error first = part_fails t (ask outer) old new after_container call_error first
 
-  module _ (mid : KernelModel) (container : ℕ) (first : RunsPart (ask (MakeContainer parent (guarded_by jobs (write ∷ [])))) old mid t (Ok container)) where
-    pub no_internal : (call_error : CallError) → RunsPart (ask (MakeContainer container (guarded_by (read ∷ jobs) (write ∷ [])))) mid new t (Err call_error) → RunsPart (make_containers parent jobs read write) old new t (Err call_error)
+  module _ (mid : KernelModel) (container : ℕ)
+      (first : RunsPart (ask (MakeContainer parent (guarded_by jobs (write ∷ [])))) old mid t (Ok container)) where
+    pub no_internal : (call_error : CallError)
+        → RunsPart (ask (MakeContainer container (guarded_by (read ∷ jobs) (write ∷ [])))) mid new t (Err call_error)
+        → RunsPart (make_containers parent jobs read write) old new t (Err call_error)
     unfolding make_containers
-    no_internal call_error second = then_part t (ask outer) old new after_container mid container first (Err call_error) (part_fails t (ask (inner container)) mid new (after_both container) call_error second)
+    no_internal call_error second =
+        then_part t (ask outer) old new after_container mid container first (Err call_error)
+        (part_fails t (ask (inner container)) mid new (after_both container) call_error second)
 
-    pub containers : (internal : ℕ) → RunsPart (ask (MakeContainer container (guarded_by (read ∷ jobs) (write ∷ [])))) mid new t (Ok internal) → RunsPart (make_containers parent jobs read write) old new t (Ok (container, internal))
+    pub containers : (internal : ℕ)
+        → RunsPart (ask (MakeContainer container (guarded_by (read ∷ jobs) (write ∷ [])))) mid new t (Ok internal)
+        → RunsPart (make_containers parent jobs read write) old new t (Ok (container, internal))
     unfolding make_containers
     containers internal second =
-        then_part t (ask outer) old new after_container mid container first (Ok (container, internal)) (then_part t (ask (inner container)) mid new (after_both container) new internal second (Ok (container, internal)) (hands t new (container, internal)))
+        then_part t (ask outer) old new after_container mid container first (Ok (container, internal))
+        (then_part t (ask (inner container)) mid new (after_both container) new internal second
+        (Ok (container, internal)) (hands t new (container, internal)))
 
 -- ---- the whole birth
 
@@ -104,36 +140,66 @@ module _ (t : ℕ) (parent : Home) (status : ProcessStatus) (kin : Kin) (old new
   abbrev pub to_containers : ℕ × ℕ → Part (Unit {0})
   to_containers own rest = make_containers parent.container kin.jobs own.0 own.1 (λ made. to_thread own made rest)
 
-  pub without_categories : (call_error : CallError) → RunsPart make_categories old new t (Err call_error) → RunsPart (birth parent status kin) old new t (Err call_error)
+  pub without_categories : (call_error : CallError) → RunsPart make_categories old new t (Err call_error)
+      → RunsPart (birth parent status kin) old new t (Err call_error)
   unfolding birth make_categories make_containers
   without_categories call_error first = part_fails t make_categories old new to_containers call_error first
 
   module _ (mid : KernelModel) (read write : ℕ) where
-    pub with_categories : RunsPart make_categories old mid t (Ok (read, write)) → (result : Result (Unit {0}) CallError) → RunsPart (to_containers (read, write)) mid new t result → RunsPart (birth parent status kin) old new t result
+    pub with_categories : RunsPart make_categories old mid t (Ok (read, write)) → (result : Result (Unit {0}) CallError)
+        → RunsPart (to_containers (read, write)) mid new t result → RunsPart (birth parent status kin) old new t result
     unfolding birth make_categories make_containers
     with_categories first result second = then_part t make_categories old new to_containers mid (read, write) first result second
 
-    pub without_containers : (call_error : CallError) → RunsPart (make_containers parent.container kin.jobs read write) mid new t (Err call_error) → RunsPart (to_containers (read, write)) mid new t (Err call_error)
-    without_containers call_error first = part_fails t (make_containers parent.container kin.jobs read write) mid new (to_thread (read, write)) call_error first
+    pub without_containers : (call_error : CallError)
+        → RunsPart (make_containers parent.container kin.jobs read write) mid new t (Err call_error)
+        → RunsPart (to_containers (read, write)) mid new t (Err call_error)
+    without_containers call_error first =
+        part_fails t (make_containers parent.container kin.jobs read write) mid new (to_thread (read, write)) call_error
+        first
 
-    pub without_thread : (container internal : ℕ) (call_error : CallError) → RunsPart (make_thread internal kin.owned kin.jobs read write) mid new t (Err call_error) → RunsPart (to_thread (read, write) (container, internal)) mid new t (Err call_error)
-    without_thread container internal call_error first = part_fails t (make_thread internal kin.owned kin.jobs read write) mid new (to_segment (read, write) (container, internal)) call_error first
+    pub without_thread : (container internal : ℕ) (call_error : CallError)
+        → RunsPart (make_thread internal kin.owned kin.jobs read write) mid new t (Err call_error)
+        → RunsPart (to_thread (read, write) (container, internal)) mid new t (Err call_error)
+    without_thread container internal call_error first =
+        part_fails t (make_thread internal kin.owned kin.jobs read write) mid new
+        (to_segment (read, write) (container, internal)) call_error first
 
-    pub without_segment : (container internal child : ℕ) (call_error : CallError) → RunsPart (make_segment container kin.jobs write internal child) mid new t (Err call_error) → RunsPart (to_segment (read, write) (container, internal) child) mid new t (Err call_error)
-    without_segment container internal child call_error first = part_fails t (make_segment container kin.jobs write internal child) mid new (to_write container) call_error first
+    pub without_segment : (container internal child : ℕ) (call_error : CallError)
+        → RunsPart (make_segment container kin.jobs write internal child) mid new t (Err call_error)
+        → RunsPart (to_segment (read, write) (container, internal) child) mid new t (Err call_error)
+    without_segment container internal child call_error first =
+        part_fails t (make_segment container kin.jobs write internal child) mid new (to_write container) call_error
+        first
 
   module _ (mid end : KernelModel) (read write container internal : ℕ) where
-    pub with_containers : RunsPart (make_containers parent.container kin.jobs read write) mid end t (Ok (container, internal)) → (result : Result (Unit {0}) CallError) → RunsPart (to_thread (read, write) (container, internal)) end new t result → RunsPart (to_containers (read, write)) mid new t result
-    with_containers first result second = then_part t (make_containers parent.container kin.jobs read write) mid new (to_thread (read, write)) end (container, internal) first result second
+    pub with_containers : RunsPart (make_containers parent.container kin.jobs read write) mid end t
+        (Ok (container, internal)) → (result : Result (Unit {0}) CallError)
+        → RunsPart (to_thread (read, write) (container, internal)) end new t result
+        → RunsPart (to_containers (read, write)) mid new t result
+    with_containers first result second =
+        then_part t (make_containers parent.container kin.jobs read write) mid new (to_thread (read, write)) end
+        (container, internal) first result second
 
-    pub with_thread : (child : ℕ) → RunsPart (make_thread internal kin.owned kin.jobs read write) mid end t (Ok child) → (result : Result (Unit {0}) CallError) → RunsPart (to_segment (read, write) (container, internal) child) end new t result
+    pub with_thread : (child : ℕ) → RunsPart (make_thread internal kin.owned kin.jobs read write) mid end t (Ok child)
+        → (result : Result (Unit {0}) CallError)
+        → RunsPart (to_segment (read, write) (container, internal) child) end new t result
         → RunsPart (to_thread (read, write) (container, internal)) mid new t result
-    with_thread child first result second = then_part t (make_thread internal kin.owned kin.jobs read write) mid new (to_segment (read, write) (container, internal)) end child first result second
+    with_thread child first result second =
+        then_part t (make_thread internal kin.owned kin.jobs read write) mid new
+        (to_segment (read, write) (container, internal)) end child first result second
 
-    pub with_segment : (child segment : ℕ) → RunsPart (make_segment container kin.jobs write internal child) mid end t (Ok segment) → (result : Result (Unit {0}) CallError) → RunsPart (to_write container segment) end new t result
+    pub with_segment : (child segment : ℕ)
+        → RunsPart (make_segment container kin.jobs write internal child) mid end t (Ok segment)
+        → (result : Result (Unit {0}) CallError) → RunsPart (to_write container segment) end new t result
         → RunsPart (to_segment (read, write) (container, internal) child) mid new t result
-    with_segment child segment first result second = then_part t (make_segment container kin.jobs write internal child) mid new (to_write container) end segment first result second
+    with_segment child segment first result second =
+        then_part t (make_segment container kin.jobs write internal child) mid new (to_write container) end segment
+        first result second
 
   -- the last step, by its raw call
-  pub all_written : (mid : KernelModel) (container segment : ℕ) (result : Result (Unit {0}) CallError) → RunsPart (ask (Write parent.container parent.segment 0 (status_bytes (with_child_listed container segment status)))) mid new t result → RunsPart (to_write container segment) mid new t result
+  pub all_written : (mid : KernelModel) (container segment : ℕ) (result : Result (Unit {0}) CallError)
+      → RunsPart
+      (ask (Write parent.container parent.segment 0 (status_bytes (with_child_listed container segment status))))
+      mid new t result → RunsPart (to_write container segment) mid new t result
   all_written mid container segment result runs = runs

@@ -23,13 +23,16 @@ use Rattle.histar_process.proofs.Births.{no_read, without_categories}
 use Rattle.histar_process.proofs.Segments.{child_looked}
 
 -- a child that is looked for in what is told
-pub found_is : (bytes : List ℕ) (status : ProcessStatus) (number : ℕ) (found : Option Child) → status_in bytes ≡ Some status → Ok found ≡ look_for (status_in bytes) number → found ≡ child_at status.children number
+pub found_is : (bytes : List ℕ) (status : ProcessStatus) (number : ℕ) (found : Option Child)
+    → status_in bytes ≡ Some status → Ok found ≡ look_for (status_in bytes) number
+    → found ≡ child_at status.children number
 found_is bytes status number found revealed is =
     let looked = child_looked (status_in bytes) number found is in
     looked.2 ∙ ap (λ (s : ProcessStatus). child_at s.children number) (same_Some looked.0 status (sym looked.1 ∙ revealed))
 
 -- what is told is no fault
-pub no_fault : (bytes : List ℕ) (status : ProcessStatus) (number : ℕ) (fault : NotAStatus) → status_in bytes ≡ Some status → Err fault ≡ look_for (status_in bytes) number → ⊥
+pub no_fault : (bytes : List ℕ) (status : ProcessStatus) (number : ℕ) (fault : NotAStatus)
+    → status_in bytes ≡ Some status → Err fault ≡ look_for (status_in bytes) number → ⊥
 no_fault bytes status number fault revealed is = differ (is ∙ ap (λ o. look_for o number) revealed)
   where
     differ : Err fault ≡ Ok (child_at status.children number) → ⊥
@@ -37,20 +40,28 @@ no_fault bytes status number fault revealed is = differ (is ∙ ap (λ o. look_f
 
 module _ (t : ℕ) (old new : KernelModel) where
   -- the kernel was asked for the object that is due
-  pub unlinked_so : (container container_due object object_due : ℕ) → container ≡ container_due → object ≡ object_due → (result : Result (Unit {0}) CallError) → RunsPart (ask (Unlink container object)) old new t result → RunsPart (ask (Unlink container_due object_due)) old new t result
+  pub unlinked_so : (container container_due object object_due : ℕ) → container ≡ container_due → object ≡ object_due
+      → (result : Result (Unit {0}) CallError) → RunsPart (ask (Unlink container object)) old new t result
+      → RunsPart (ask (Unlink container_due object_due)) old new t result
   unlinked_so container container_due object object_due p q result runs =
-      subst (λ (c : ℕ). RunsPart {A = Unit {0}} (ask (Unlink c object_due)) old new t result) p (subst (λ (o : ℕ). RunsPart {A = Unit {0}} (ask (Unlink container o)) old new t result) q runs)
+      subst (λ (c : ℕ). RunsPart {A = Unit {0}} (ask (Unlink c object_due)) old new t result) p
+      (subst (λ (o : ℕ). RunsPart {A = Unit {0}} (ask (Unlink container o)) old new t result) q runs)
 
   -- a birth by what the thread's own label tells
-  pub born_so : (parent : Home) (status : ProcessStatus) (kin due : Kin) → kin ≡ due → (result : Result (Unit {0}) CallError) → RunsPart (birth parent status kin) old new t result → RunsPart (birth parent status due) old new t result
+  pub born_so : (parent : Home) (status : ProcessStatus) (kin due : Kin) → kin ≡ due
+      → (result : Result (Unit {0}) CallError) → RunsPart (birth parent status kin) old new t result
+      → RunsPart (birth parent status due) old new t result
   born_so parent status kin due is result runs = subst (λ (k : Kin). RunsPart {A = Unit {0}} (birth parent status k) old new t result) is runs
 
 -- memory ran out before a birth
-pub before_birth : (t : ℕ) (parent : Home) (status : ProcessStatus) (kin : Kin) (k : KernelModel) → RunsPart (birth parent status kin) k k t (Err Stopped)
+pub before_birth : (t : ℕ) (parent : Home) (status : ProcessStatus) (kin : Kin) (k : KernelModel)
+    → RunsPart (birth parent status kin) k k t (Err Stopped)
 before_birth t parent status kin k = without_categories t parent status kin k k Stopped (no_read t k k Stopped (before_ask t MakeCategory k))
 
 -- what the child gets is what the label tells
-pub kin_is : (own : Levels) (accounts : Accounts) (user : ℕ) (in_job : Bool) (owned jobs : List ℕ) → IsUserOf own (length accounts.users) user → in_job ≡ not (is_empty (jobs_in own)) → owned ≡ owned_by accounts user (not in_job) → jobs ≡ jobs_in own
+pub kin_is : (own : Levels) (accounts : Accounts) (user : ℕ) (in_job : Bool) (owned jobs : List ℕ)
+    → IsUserOf own (length accounts.users) user → in_job ≡ not (is_empty (jobs_in own))
+    → owned ≡ owned_by accounts user (not in_job) → jobs ≡ jobs_in own
     → record { owned = owned; jobs = jobs } ≡ kin_of accounts own
 kin_is own accounts user in_job owned jobs is in_job_is owned_is jobs_are = λ i. record {
   owned = (owned_is ∙ (λ j. owned_by accounts (sym (user_is own (length accounts.users) user is) j) (free j))) i;

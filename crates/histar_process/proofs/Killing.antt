@@ -39,23 +39,33 @@ module _ (t : ℕ) (home : Home) (status : ProcessStatus) (n : ℕ) (old new : K
   no_child errno is = part_fails t (given there) old old after_child (Refused errno) (decided_not t old there errno is)
 
   module _ (child : Child) (is : Ok child ≡ there) where
-    with_child : (result : Result (Unit {0}) CallError) → RunsPart (after_child child) old new t result → RunsPart (kill_known home status n) old new t result
+    with_child : (result : Result (Unit {0}) CallError) → RunsPart (after_child child) old new t result
+        → RunsPart (kill_known home status n) old new t result
     unfolding read_head
     with_child result second = then_part t (given there) old new after_child old child (decided t old there child is) result second
 
     -- its segment isn't read
-    pub not_read : (call_error : CallError) → RunsPart (read_head (home_of child)) old new t (Err call_error) → RunsPart (kill_known home status n) old new t (Err call_error)
+    pub not_read : (call_error : CallError) → RunsPart (read_head (home_of child)) old new t (Err call_error)
+        → RunsPart (kill_known home status n) old new t (Err call_error)
     not_read call_error second = with_child (Err call_error) (part_fails t (read_head (home_of child)) old new (after_head child) call_error second)
 
     module _ (mid : KernelModel) (head : StatusHead) (second : RunsPart (read_head (home_of child)) old mid t (Ok head)) where
-      with_head : (result : Result (Unit {0}) CallError) → RunsPart (after_head child head) mid new t result → RunsPart (kill_known home status n) old new t result
+      with_head : (result : Result (Unit {0}) CallError) → RunsPart (after_head child head) mid new t result
+          → RunsPart (kill_known home status n) old new t result
       with_head result third = with_child result (then_part t (read_head (home_of child)) old new (after_head child) mid head second result third)
 
       -- its container isn't taken out
-      pub not_unlinked : (call_error : CallError) → RunsPart (ask (Unlink home.container child.container)) mid new t (Err call_error) → RunsPart (kill_known home status n) old new t (Err call_error)
-      not_unlinked call_error third = with_head (Err call_error) (part_fails t (ask (Unlink home.container child.container)) mid new after_unlink call_error third)
+      pub not_unlinked : (call_error : CallError)
+          → RunsPart (ask (Unlink home.container child.container)) mid new t (Err call_error)
+          → RunsPart (kill_known home status n) old new t (Err call_error)
+      not_unlinked call_error third =
+          with_head (Err call_error)
+          (part_fails t (ask (Unlink home.container child.container)) mid new after_unlink call_error third)
 
       -- it is, and the segment is written without it, or not
-      pub unlinked : (late : KernelModel) → RunsPart (ask (Unlink home.container child.container)) mid late t (Ok tt) → (result : Result (Unit {0}) CallError)
+      pub unlinked : (late : KernelModel) → RunsPart (ask (Unlink home.container child.container)) mid late t (Ok tt)
+          → (result : Result (Unit {0}) CallError)
           → RunsPart (write_status home (without_child n status)) late new t result → RunsPart (kill_known home status n) old new t result
-      unlinked late third result fourth = with_head result (then_part t (ask (Unlink home.container child.container)) mid new after_unlink late tt third result fourth)
+      unlinked late third result fourth =
+          with_head result (then_part t (ask (Unlink home.container child.container)) mid new after_unlink late tt third result
+          fourth)

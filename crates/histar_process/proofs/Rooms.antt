@@ -29,36 +29,50 @@ after_depth home done rest = read_status home (λ status. if_room status rest)
 
 module _ (t : ℕ) (name : ProcName) (home : Home) (old : KernelModel) where
   -- the name has no room
-  pub depth_fails : (errno : Errno) → Err errno ≡ must_have_room (nat_lt (length name) most_numbers) → RunsPart (room_for_child name home) old old t (Err (Refused errno))
+  pub depth_fails : (errno : Errno) → Err errno ≡ must_have_room (nat_lt (length name) most_numbers)
+      → RunsPart (room_for_child name home) old old t (Err (Refused errno))
   depth_fails errno is =
-      part_fails t (given (must_have_room (nat_lt (length name) most_numbers))) old old (after_depth home) (Refused errno) (decided_not t old (must_have_room (nat_lt (length name) most_numbers)) errno is)
+      part_fails t (given (must_have_room (nat_lt (length name) most_numbers))) old old (after_depth home)
+      (Refused errno) (decided_not t old (must_have_room (nat_lt (length name) most_numbers)) errno is)
 
   module _ (new : KernelModel) (deep : Ok tt ≡ must_have_room (nat_lt (length name) most_numbers)) where
     -- it has
-    here : (result : Result ProcessStatus CallError) → RunsPart (after_depth home tt) old new t result → RunsPart (room_for_child name home) old new t result
+    here : (result : Result ProcessStatus CallError) → RunsPart (after_depth home tt) old new t result
+        → RunsPart (room_for_child name home) old new t result
     here result runs =
-        then_part t (given (must_have_room (nat_lt (length name) most_numbers))) old new (after_depth home) old tt (decided t old (must_have_room (nat_lt (length name) most_numbers)) tt deep) result runs
+        then_part t (given (must_have_room (nat_lt (length name) most_numbers))) old new (after_depth home) old tt
+        (decided t old (must_have_room (nat_lt (length name) most_numbers)) tt deep) result runs
 
     -- the segment was not read
-    pub reading_fails : (call_error : CallError) → RunsPart (read_status home) old new t (Err call_error) → RunsPart (room_for_child name home) old new t (Err call_error)
+    pub reading_fails : (call_error : CallError) → RunsPart (read_status home) old new t (Err call_error)
+        → RunsPart (room_for_child name home) old new t (Err call_error)
     reading_fails call_error first = here (Err call_error) (part_fails t (read_status home) old new if_room call_error first)
 
     module _ (status : ProcessStatus) (first : RunsPart (read_status home) old new t (Ok status)) where
-      read : (result : Result ProcessStatus CallError) → RunsPart (if_room status) new new t result → RunsPart (room_for_child name home) old new t result
+      read : (result : Result ProcessStatus CallError) → RunsPart (if_room status) new new t result
+          → RunsPart (room_for_child name home) old new t result
       read result runs = here result (then_part t (read_status home) old new if_room new status first result runs)
 
       -- too many children were born
-      pub room_fails : (errno : Errno) → Err errno ≡ must_have_room (nat_lt status.born most_children) → RunsPart (room_for_child name home) old new t (Err (Refused errno))
+      pub room_fails : (errno : Errno) → Err errno ≡ must_have_room (nat_lt status.born most_children)
+          → RunsPart (room_for_child name home) old new t (Err (Refused errno))
       room_fails errno is =
-          read (Err (Refused errno)) (part_fails t (given (must_have_room (nat_lt status.born most_children))) new new (λ (done : Unit {0}) (rest : ProcessStatus → _). rest status) (Refused errno) (decided_not t new (must_have_room (nat_lt status.born most_children)) errno is))
+          read (Err (Refused errno)) (part_fails t (given (must_have_room (nat_lt status.born most_children))) new new
+          (λ (done : Unit {0}) (rest : ProcessStatus → _). rest status) (Refused errno)
+          (decided_not t new (must_have_room (nat_lt status.born most_children)) errno is))
 
       -- one more may be
       pub room_is_there : Ok tt ≡ must_have_room (nat_lt status.born most_children) → RunsPart (room_for_child name home) old new t (Ok status)
       room_is_there is =
-          read (Ok status) (then_part t (given (must_have_room (nat_lt status.born most_children))) new new (λ (done : Unit {0}) (rest : ProcessStatus → _). rest status) new tt (decided t new (must_have_room (nat_lt status.born most_children)) tt is) (Ok status) (hands t new status))
+          read (Ok status) (then_part t (given (must_have_room (nat_lt status.born most_children))) new new
+          (λ (done : Unit {0}) (rest : ProcessStatus → _). rest status) new tt
+          (decided t new (must_have_room (nat_lt status.born most_children)) tt is) (Ok status)
+          (hands t new status))
 
   -- an error that came by `?`
-  pub room_fails_so : (new : KernelModel) (call_error : CallError) (result : Result Segment CallError) → IsErrAnd result (λ e. e ≡ call_error) → RunsPart (room_for_child name home) old new t (Err call_error) → RunsRoom name home old new t result
+  pub room_fails_so : (new : KernelModel) (call_error : CallError) (result : Result Segment CallError)
+      → IsErrAnd result (λ e. e ≡ call_error) → RunsPart (room_for_child name home) old new t (Err call_error)
+      → RunsRoom name home old new t result
   room_fails_so new call_error result gave fails =
       let error = err_from_is_err_and result gave in
       subst (RunsRoom name home old new t) (sym (error.1 ∙ ap Err error.2)) fails

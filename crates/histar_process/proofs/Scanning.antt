@@ -19,14 +19,16 @@ module _ (test : Exception → Bool) where
 -- ---- names of users
 
 -- a user's name
-pub name_at : (users : List User) (number : ℕ) (d : User) → 0 < number → number ≤ length users → (get_or users (number - 1) d).name ≡ user_name users number
+pub name_at : (users : List User) (number : ℕ) (d : User) → 0 < number → number ≤ length users
+    → (get_or users (number - 1) d).name ≡ user_name users number
 name_at users zero d some most = absurd (omega arith)
 name_at [] (suc i) d some most = absurd (omega arith)
 name_at (first ∷ users) (suc zero) d some most = refl
 name_at (first ∷ users) (suc (suc i)) d some most =
     let less : suc (suc i) - 1 ≡ suc i = omega arith in
     let same : i ≡ suc i - 1 = omega arith in
-    ap (λ (n : ℕ). (get_or (first ∷ users) n d).name) less ∙ ap (λ (n : ℕ). (get_or users n d).name) same ∙ name_at users (suc i) d (omega arith) (omega arith)
+    ap (λ (n : ℕ). (get_or (first ∷ users) n d).name) less ∙ ap (λ (n : ℕ). (get_or users n d).name) same
+    ∙ name_at users (suc i) d (omega arith) (omega arith)
 
 -- nobody's is that of number 0
 pub name_none : (users : List User) → user_name users 0 ≡ nobody

@@ -1,5 +1,6 @@
 -- How the code that reads process segments, and finds processes by them, runs its parts.
-use Rattle.std.proofs.Common.{◌≡◌, ℕ, ◌≤◌, List, [], ◌∷◌, length, get_or, take, drop, ◌-◌, Option, None, Some, Result, Ok, Err, refl, sym, ap, ◌∙◌, subst, arith}
+use Rattle.std.proofs.Common.{◌≡◌, ℕ, ◌≤◌, List, [], ◌∷◌, length, get_or, take, drop, ◌-◌, Option, None, Some, Result, Ok, Err, refl, sym, ap, ◌∙◌}
+use Rattle.std.proofs.Common.{subst, arith}
 use Rattle.std.specs.Prelude.{option_map}
 use Rattle.std.specs.Result.{IsErrAnd}
 use Rattle.std.proofs.lemmas.Option.{same_Some}
@@ -31,7 +32,8 @@ nothing_revealed None e = refl
 nothing_revealed (Some status) e = absurd cc
 
 -- a head is that of what is told
-head_revealed : (o : Option ProcessStatus) (head : StatusHead) → Some head ≡ option_map head_of o → (status : ProcessStatus) × (o ≡ Some status) × (head ≡ head_of status)
+head_revealed : (o : Option ProcessStatus) (head : StatusHead) → Some head ≡ option_map head_of o
+    → (status : ProcessStatus) × (o ≡ Some status) × (head ≡ head_of status)
 head_revealed None head e = absurd cc
 head_revealed (Some status) head e = (status, refl, same_Some head (head_of status) e)
 
@@ -41,7 +43,8 @@ nothing_looked None number fault e = refl
 nothing_looked (Some status) number fault e = absurd cc
 
 -- a child is looked for in what is told
-pub child_looked : (o : Option ProcessStatus) (number : ℕ) (found : Option Child) → Ok found ≡ look_for o number → (status : ProcessStatus) × (o ≡ Some status) × (found ≡ child_at status.children number)
+pub child_looked : (o : Option ProcessStatus) (number : ℕ) (found : Option Child) → Ok found ≡ look_for o number
+    → (status : ProcessStatus) × (o ≡ Some status) × (found ≡ child_at status.children number)
 child_looked None number found e = absurd cc
 child_looked (Some status) number found e = (status, refl, ap of_ok e)
   where
@@ -57,19 +60,31 @@ after_bytes bytes rest = if_there rest (status_in bytes)
 
 module _ (t : ℕ) (old new : KernelModel) (home : Home) where
   -- it was not read
-  pub read_fails : (call_error : CallError) → RunsPart (ask (Read home.container home.segment)) old new t (Err call_error) → RunsPart (read_status home) old new t (Err call_error)
+  pub read_fails : (call_error : CallError)
+      → RunsPart (ask (Read home.container home.segment)) old new t (Err call_error)
+      → RunsPart (read_status home) old new t (Err call_error)
   unfolding read_status
   read_fails call_error first = part_fails t (ask (Read home.container home.segment)) old new after_bytes call_error first
 
   -- its head was not
-  pub head_fails : (call_error : CallError) → RunsPart (ask (Read home.container home.segment)) old new t (Err call_error) → RunsPart (read_head home) old new t (Err call_error)
+  pub head_fails : (call_error : CallError)
+      → RunsPart (ask (Read home.container home.segment)) old new t (Err call_error)
+      → RunsPart (read_head home) old new t (Err call_error)
   unfolding read_head
-  head_fails call_error first = part_fails t (read_status home) old new (λ (status : ProcessStatus) (rest : StatusHead → Program). rest (head_of status)) call_error (read_fails call_error first)
+  head_fails call_error first =
+      part_fails t (read_status home) old new
+      (λ (status : ProcessStatus) (rest : StatusHead → Program). rest (head_of status)) call_error
+      (read_fails call_error first)
 
   -- no child was looked up
-  pub look_fails : (call_error : CallError) (number : ℕ) → RunsPart (ask (Read home.container home.segment)) old new t (Err call_error) → RunsPart (look_up home number) old new t (Err call_error)
+  pub look_fails : (call_error : CallError) (number : ℕ)
+      → RunsPart (ask (Read home.container home.segment)) old new t (Err call_error)
+      → RunsPart (look_up home number) old new t (Err call_error)
   unfolding look_up
-  look_fails call_error number first = part_fails t (read_status home) old new (λ (status : ProcessStatus) (rest : Option Child → Program). rest (child_at status.children number)) call_error (read_fails call_error first)
+  look_fails call_error number first =
+      part_fails t (read_status home) old new
+      (λ (status : ProcessStatus) (rest : Option Child → Program). rest (child_at status.children number))
+      call_error (read_fails call_error first)
 
   module _ (bytes : List ℕ) (first : RunsPart (ask (Read home.container home.segment)) old new t (Ok bytes)) where
     -- its bytes tell nothing
@@ -77,14 +92,18 @@ module _ (t : ℕ) (old new : KernelModel) (home : Home) where
     unfolding read_status RunsPart
     reads_none none =
         then_part t (ask (Read home.container home.segment)) old new after_bytes new bytes first (Err Stopped)
-        (subst (λ (o : Option ProcessStatus). RunsPart {A = ProcessStatus} (λ rest. if_there rest o) new new t (Err Stopped)) (sym none) (λ rest. same_kernel new))
+        (subst (λ (o : Option ProcessStatus).
+        RunsPart {A = ProcessStatus} (λ rest. if_there rest o) new new t (Err Stopped)) (sym none)
+        (λ rest. same_kernel new))
 
     -- its bytes tell this
     reads : (status : ProcessStatus) → status_in bytes ≡ Some status → RunsPart (read_status home) old new t (Ok status)
     unfolding read_status
     reads status is =
         then_part t (ask (Read home.container home.segment)) old new after_bytes new bytes first (Ok status)
-        (subst (λ (o : Option ProcessStatus). RunsPart {A = ProcessStatus} (λ rest. if_there rest o) new new t (Ok status)) (sym is) (hands t new status))
+        (subst (λ (o : Option ProcessStatus).
+        RunsPart {A = ProcessStatus} (λ rest. if_there rest o) new new t (Ok status)) (sym is)
+        (hands t new status))
 
     -- no head is told
     pub segment_none : None ≡ option_map head_of (status_in bytes) → RunsPart (read_status home) old new t (Err Stopped)
@@ -92,10 +111,14 @@ module _ (t : ℕ) (old new : KernelModel) (home : Home) where
 
     pub head_none : None ≡ option_map head_of (status_in bytes) → RunsPart (read_head home) old new t (Err Stopped)
     unfolding read_head
-    head_none none = part_fails t (read_status home) old new (λ (status : ProcessStatus) (rest : StatusHead → Program). rest (head_of status)) Stopped (segment_none none)
+    head_none none =
+        part_fails t (read_status home) old new
+        (λ (status : ProcessStatus) (rest : StatusHead → Program). rest (head_of status)) Stopped
+        (segment_none none)
 
     -- this head is told
-    pub segment_read : (head : StatusHead) → Some head ≡ option_map head_of (status_in bytes) → RunsReading home old new t (Ok (record { head = head; bytes = bytes }))
+    pub segment_read : (head : StatusHead) → Some head ≡ option_map head_of (status_in bytes)
+        → RunsReading home old new t (Ok (record { head = head; bytes = bytes }))
     segment_read head is =
         let status_is = head_revealed (status_in bytes) head is in
         (status_is.0, record { status_is = status_is.1; head = status_is.2 }, reads status_is.0 status_is.1)
@@ -105,24 +128,35 @@ module _ (t : ℕ) (old new : KernelModel) (home : Home) where
     head_read head is =
         let status_is = head_revealed (status_in bytes) head is in
         subst (λ (h : StatusHead). RunsPart (read_head home) old new t (Ok h)) (sym status_is.2)
-        (then_part t (read_status home) old new (λ (status : ProcessStatus) (rest : StatusHead → Program). rest (head_of status)) new status_is.0 (reads status_is.0 status_is.1) (Ok (head_of status_is.0)) (hands t new (head_of status_is.0)))
+        (then_part t (read_status home) old new
+        (λ (status : ProcessStatus) (rest : StatusHead → Program). rest (head_of status)) new status_is.0
+        (reads status_is.0 status_is.1) (Ok (head_of status_is.0)) (hands t new (head_of status_is.0)))
 
     -- no child is looked for
-    pub look_none : (number : ℕ) (fault : NotAStatus) → Err fault ≡ look_for (status_in bytes) number → RunsPart (look_up home number) old new t (Err Stopped)
+    pub look_none : (number : ℕ) (fault : NotAStatus) → Err fault ≡ look_for (status_in bytes) number
+        → RunsPart (look_up home number) old new t (Err Stopped)
     unfolding look_up
     look_none number fault is =
-        part_fails t (read_status home) old new (λ (status : ProcessStatus) (rest : Option Child → Program). rest (child_at status.children number)) Stopped (reads_none (nothing_looked (status_in bytes) number fault is))
+        part_fails t (read_status home) old new
+        (λ (status : ProcessStatus) (rest : Option Child → Program). rest (child_at status.children number)) Stopped
+        (reads_none (nothing_looked (status_in bytes) number fault is))
 
     -- this child is looked for
-    pub looks : (number : ℕ) (found : Option Child) → Ok found ≡ look_for (status_in bytes) number → RunsPart (look_up home number) old new t (Ok found)
+    pub looks : (number : ℕ) (found : Option Child) → Ok found ≡ look_for (status_in bytes) number
+        → RunsPart (look_up home number) old new t (Ok found)
     unfolding look_up
     looks number found is =
         let status_is = child_looked (status_in bytes) number found is in
         subst (λ (o : Option Child). RunsPart (look_up home number) old new t (Ok o)) (sym status_is.2)
-        (then_part t (read_status home) old new (λ (status : ProcessStatus) (rest : Option Child → Program). rest (child_at status.children number)) new status_is.0 (reads status_is.0 status_is.1) (Ok (child_at status_is.0.children number)) (hands t new (child_at status_is.0.children number)))
+        (then_part t (read_status home) old new
+        (λ (status : ProcessStatus) (rest : Option Child → Program). rest (child_at status.children number)) new
+        status_is.0 (reads status_is.0 status_is.1) (Ok (child_at status_is.0.children number))
+        (hands t new (child_at status_is.0.children number)))
 
 -- an error that came by `?` from a process segment
-pub reading_fails : (t : ℕ) (home : Home) (old new : KernelModel) (call_error : CallError) (result : Result Segment CallError) → IsErrAnd result (λ e. e ≡ call_error) → RunsPart (read_status home) old new t (Err call_error) → RunsReading home old new t result
+pub reading_fails : (t : ℕ) (home : Home) (old new : KernelModel) (call_error : CallError)
+    (result : Result Segment CallError) → IsErrAnd result (λ e. e ≡ call_error)
+    → RunsPart (read_status home) old new t (Err call_error) → RunsReading home old new t result
 reading_fails t home old new call_error result gave fails =
     let error = err_from_is_err_and result gave in
     subst (RunsReading home old new t) (sym (error.1 ∙ ap Err error.2)) fails
@@ -165,7 +199,8 @@ then_there found rest = given (must_be_there found) (λ child. rest (home_of chi
 
 module _ (t : ℕ) (old new : KernelModel) (number : ℕ) (home : Home) where
   -- the number was not looked up
-  pub into_fails : (call_error : CallError) → RunsPart (look_up home number) old new t (Err call_error) → RunsPart (into number home) old new t (Err call_error)
+  pub into_fails : (call_error : CallError) → RunsPart (look_up home number) old new t (Err call_error)
+      → RunsPart (into number home) old new t (Err call_error)
   into_fails call_error first = part_fails t (look_up home number) old new then_there call_error first
 
   module _ (found : Option Child) (first : RunsPart (look_up home number) old new t (Ok found)) where
@@ -173,13 +208,17 @@ module _ (t : ℕ) (old new : KernelModel) (number : ℕ) (home : Home) where
     pub into_child : (child : Child) → Ok child ≡ must_be_there found → RunsPart (into number home) old new t (Ok (home_of child))
     into_child child is =
         then_part t (look_up home number) old new then_there new found first (Ok (home_of child))
-        (subst (λ (r : Result Child Errno). RunsPart {A = Home} (λ rest. given r (λ child. rest (home_of child))) new new t (Ok (home_of child))) is (hands t new (home_of child)))
+        (subst (λ (r : Result Child Errno).
+        RunsPart {A = Home} (λ rest. given r (λ child. rest (home_of child))) new new t (Ok (home_of child)))
+        is (hands t new (home_of child)))
 
     -- none has
     pub into_none : (errno : Errno) → Err errno ≡ must_be_there found → RunsPart (into number home) old new t (Err (Refused errno))
     into_none errno is =
         then_part t (look_up home number) old new then_there new found first (Err (Refused errno))
-        (subst (λ (r : Result Child Errno). RunsPart {A = Home} (λ rest. given r (λ child. rest (home_of child))) new new t (Err (Refused errno))) is (refuses_at_once t Home new errno))
+        (subst (λ (r : Result Child Errno).
+        RunsPart {A = Home} (λ rest. given r (λ child. rest (home_of child))) new new t (Err (Refused errno)))
+        is (refuses_at_once t Home new errno))
 
 module _ (t : ℕ) (first : Home) (old new : KernelModel) (numbers : List ℕ) where
   -- process 0 is found there
@@ -188,14 +227,19 @@ module _ (t : ℕ) (first : Home) (old new : KernelModel) (numbers : List ℕ) w
   finds_first none = subst (λ (n : List ℕ). RunsPart (find_home first n) old old t (Ok first)) (sym none) (hands t old first)
 
   module _ (number : ℕ) (above : ProcName) (split : numbers ≡ number ∷ above) where
-    here : (result : Result Home CallError) → RunsPart (λ rest. find_home first above (λ home. into number home rest)) old new t result → RunsPart (find_home first numbers) old new t result
+    here : (result : Result Home CallError)
+        → RunsPart (λ rest. find_home first above (λ home. into number home rest)) old new t result
+        → RunsPart (find_home first numbers) old new t result
     unfolding find_home look_up
     here result runs = subst (λ (n : List ℕ). RunsPart (find_home first n) old new t result) (sym split) runs
 
     -- the process above was not found
-    pub find_fails : (call_error : CallError) → RunsPart (find_home first above) old new t (Err call_error) → RunsPart (find_home first numbers) old new t (Err call_error)
+    pub find_fails : (call_error : CallError) → RunsPart (find_home first above) old new t (Err call_error)
+        → RunsPart (find_home first numbers) old new t (Err call_error)
     find_fails call_error before = here (Err call_error) (part_fails t (find_home first above) old new (into number) call_error before)
 
     -- it was found, and the number is looked up in its segment
-    pub finds_on : (mid : KernelModel) (home : Home) → RunsPart (find_home first above) old mid t (Ok home) → (result : Result Home CallError) → RunsPart (into number home) mid new t result → RunsPart (find_home first numbers) old new t result
+    pub finds_on : (mid : KernelModel) (home : Home) → RunsPart (find_home first above) old mid t (Ok home)
+        → (result : Result Home CallError) → RunsPart (into number home) mid new t result
+        → RunsPart (find_home first numbers) old new t result
     finds_on mid home before result then = here result (then_part t (find_home first above) old new (into number) mid home before result then)

@@ -1,5 +1,6 @@
 -- Explaining the calls of a session one by one.
-use Rattle.std.proofs.Common.{◌≡◌, ℕ, ◌-◌, ◌<◌, List, [], ◌∷◌, ◌++◌, length, Option, Some, None, Result, Ok, Err, refl, sym, ap, subst, ◌∙◌, append-nil, append_assoc, arith}
+use Rattle.std.proofs.Common.{◌≡◌, ℕ, ◌-◌, ◌<◌, List, [], ◌∷◌, ◌++◌, length, Option, Some, None, Result, Ok, Err, refl, sym, ap, subst, ◌∙◌}
+use Rattle.std.proofs.Common.{append-nil, append_assoc, arith}
 use Rattle.std.specs.Prelude.{IfOk, MatchOption}
 use Rattle.std.specs.List.{slice_get}
 use Rattle.std.specs.Global.{Vec}
@@ -24,20 +25,29 @@ ExplainsEntry : KernelModel → List ℕ → Option TraceEntry → Type 0
 ExplainsEntry k lines found = MatchOption found (lines ≡ []) (λ (e : TraceEntry). ExplainsCall (state k) e.line e.thread e.call e.denied lines)
 
 -- the last entry of a trace
-pub at_last : (k : KernelModel) (lines : List ℕ) (S : List TraceEntry) (found : Option TraceEntry) → S ≡ k.trace → found ≡ slice_get S (length S - 1) → MatchOption found (lines ≡ []) (λ (e : TraceEntry). ExplainsCall (state k) e.line e.thread e.call e.denied lines) → ExplainsLast k lines
+pub at_last : (k : KernelModel) (lines : List ℕ) (S : List TraceEntry) (found : Option TraceEntry) → S ≡ k.trace
+    → found ≡ slice_get S (length S - 1)
+    → MatchOption found (lines ≡ []) (λ (e : TraceEntry). ExplainsCall (state k) e.line e.thread e.call e.denied lines)
+    → ExplainsLast k lines
 at_last k lines S found same is explained =
-    subst (λ (x : Option TraceEntry). MatchOption x (lines ≡ []) (λ (e : TraceEntry). ExplainsCall (state k) e.line e.thread e.call e.denied lines)) (is ∙ ap (λ (T : List TraceEntry). slice_get T (length T - 1)) same) explained
+    subst (λ (x : Option TraceEntry).
+    MatchOption x (lines ≡ []) (λ (e : TraceEntry). ExplainsCall (state k) e.line e.thread e.call e.denied lines))
+    (is ∙ ap (λ (T : List TraceEntry). slice_get T (length T - 1)) same) explained
 
 -- a granted call
-pub last_granted : (k : KernelModel) (lines : List ℕ) (S : List TraceEntry) (e : TraceEntry) → S ≡ k.trace → Some e ≡ slice_get S (length S - 1) → e.denied ≡ None → lines ≡ [] → ExplainsLast k lines
+pub last_granted : (k : KernelModel) (lines : List ℕ) (S : List TraceEntry) (e : TraceEntry) → S ≡ k.trace
+    → Some e ≡ slice_get S (length S - 1) → e.denied ≡ None → lines ≡ [] → ExplainsLast k lines
 last_granted k lines S e same is granted none =
     at_last k lines S (Some e) same is (subst (λ (d : Option Denied). ExplainsCall (state k) e.line e.thread e.call d lines) (sym granted) none)
 
 -- a denied call
 module _ (k : KernelModel) (S : List TraceEntry) (e : TraceEntry) (d : Denied) (x : Explanation) where
-  pub last_denied : (lines : List ℕ) → S ≡ k.trace → Some e ≡ slice_get S (length S - 1) → e.denied ≡ Some d → ExplainsDenial (state k) e.thread e.call d x → lines ≡ explanation_text raw_words e.line e.thread x → ExplainsLast k lines
+  pub last_denied : (lines : List ℕ) → S ≡ k.trace → Some e ≡ slice_get S (length S - 1) → e.denied ≡ Some d
+      → ExplainsDenial (state k) e.thread e.call d x → lines ≡ explanation_text raw_words e.line e.thread x
+      → ExplainsLast k lines
   last_denied lines same is denied explained text =
-      at_last k lines S (Some e) same is (subst (λ (o : Option Denied). ExplainsCall (state k) e.line e.thread e.call o lines) (sym denied) (x, explained, text))
+      at_last k lines S (Some e) same is (subst (λ (o : Option Denied). ExplainsCall (state k) e.line e.thread e.call o lines) (sym denied)
+      (x, explained, text))
 
 -- the last of a list with one more
 last_is : (xs : List TraceEntry) (e : TraceEntry) → slice_get (xs ++ e ∷ []) (length (xs ++ e ∷ []) - 1) ≡ Some e
@@ -47,27 +57,50 @@ last_is xs e =
     ap (slice_get (xs ++ e ∷ [])) at ∙ slice_get-get_or (xs ++ e ∷ []) (length xs) e lt ∙ ap Some (get_or-append_seam xs e [] e)
 
 -- an explanation at the state after a denied call is one at the state before it
-before_it : (before after : State) (line thread : ℕ) (call : RawCall) (denied : Option Denied) (lines : List ℕ) → Leaves denied before thread call after → ExplainsCall after line thread call denied lines → ExplainsCall before line thread call denied lines
+before_it : (before after : State) (line thread : ℕ) (call : RawCall) (denied : Option Denied) (lines : List ℕ)
+    → Leaves denied before thread call after → ExplainsCall after line thread call denied lines
+    → ExplainsCall before line thread call denied lines
 before_it before after line thread call None lines leaves none = none
-before_it before after line thread call (Some d) lines leaves explained = (explained.0, subst (λ (s : State). ExplainsDenial s thread call d explained.0) leaves explained.1, explained.2)
+before_it before after line thread call (Some d) lines leaves explained =
+    (explained.0, subst (λ (s : State). ExplainsDenial s thread call d explained.0) leaves explained.1, explained.2)
 
 -- one call that was made and is the last of the trace
-pub one_explained : (old new : KernelModel) (asked : RawLine) (lines : List ℕ) → IsMadeOnLine old asked new → ExplainsLast new lines → ExplainsOne (state old) (state new) asked lines
+pub one_explained : (old new : KernelModel) (asked : RawLine) (lines : List ℕ) → IsMadeOnLine old asked new
+    → ExplainsLast new lines → ExplainsOne (state old) (state new) asked lines
 one_explained old new asked lines made explained =
     let e : TraceEntry = record { line = asked.line; thread = asked.thread; call = asked.call; denied = made.0 } in
-    let found : slice_get new.trace (length new.trace - 1) ≡ Some e = ap (λ (T : List TraceEntry). slice_get T (length T - 1)) made.1.trace ∙ last_is old.trace e in
+    let found : slice_get new.trace (length new.trace - 1) ≡ Some e =
+    ap (λ (T : List TraceEntry). slice_get T (length T - 1)) made.1.trace ∙ last_is old.trace e in
     let here : ExplainsCall (state new) asked.line asked.thread asked.call made.0 lines =
-    subst (λ (x : Option TraceEntry). MatchOption x (lines ≡ []) (λ (e : TraceEntry). ExplainsCall (state new) e.line e.thread e.call e.denied lines)) found explained in
-    record { denied = made.0; outcome = made.1.outcome; leaves = made.1.state; explains = before_it (state old) (state new) asked.line asked.thread asked.call made.0 lines made.1.state here }
+    subst (λ (x : Option TraceEntry). MatchOption x (lines ≡ [])
+    (λ (e : TraceEntry). ExplainsCall (state new) e.line e.thread e.call e.denied lines)) found explained in
+    record {
+      denied = made.0;
+      outcome = made.1.outcome;
+      leaves = made.1.state;
+      explains = before_it (state old) (state new) asked.line asked.thread asked.call made.0 lines made.1.state
+          here;
+    }
 
-pub one_if_ok : {E : Type 0} (result : Result (Vec ℕ) E) (old new : KernelModel) (asked : RawLine) → IsMadeOnLine old asked new → IfOk result (λ (lines : Vec ℕ). ExplainsLast new lines.items) → IfOk result (λ (lines : Vec ℕ). ExplainsOne (state old) (state new) asked lines.items)
+pub one_if_ok : {E : Type 0} (result : Result (Vec ℕ) E) (old new : KernelModel) (asked : RawLine)
+    → IsMadeOnLine old asked new → IfOk result (λ (lines : Vec ℕ). ExplainsLast new lines.items)
+    → IfOk result (λ (lines : Vec ℕ). ExplainsOne (state old) (state new) asked lines.items)
 one_if_ok (Ok lines) old new asked made explained = one_explained old new asked lines.items made explained
 one_if_ok (Err e) old new asked made explained = explained
 
 -- one more call
-pub explains_more : (first mid last : State) (calls : List RawLine) (asked : RawLine) (text lines : List ℕ) → ExplainsCalls first calls text mid → ExplainsOne mid last asked lines → ExplainsCalls first (calls ++ asked ∷ []) (text ++ lines) last
-explains_more first mid last [] asked text lines done one =
-    (last, lines, [], subst (λ (s : State). ExplainsOne s last asked lines) done.1 one, ap (λ (l : List ℕ). l ++ lines) done.0 ∙ sym (append-nil lines), (refl, refl))
+pub explains_more : (first mid last : State) (calls : List RawLine) (asked : RawLine) (text lines : List ℕ)
+    → ExplainsCalls first calls text mid → ExplainsOne mid last asked lines
+    → ExplainsCalls first (calls ++ asked ∷ []) (text ++ lines) last
+explains_more first mid last [] asked text lines done one = (
+  last,
+  lines,
+  [],
+  subst (λ (s : State). ExplainsOne s last asked lines) done.1 one,
+  ap
+      (λ (l : List ℕ). l ++ lines) done.0 ∙ sym (append-nil lines),
+  (refl, refl),
+)
 explains_more first mid last (b ∷ calls) asked text lines done one = (
   done.0,
   done.1,

@@ -16,11 +16,14 @@ use Rattle.histar_raw_session.proofs.SessionRuns.{NeedsShort, begun_text}
 use Rattle.histar_raw_explain.specs.Explained.{ExplainsCalls, ExplainsAnswered, BeginsExplaining, ExplainsSession, BeginsExplained, RunsExplained}
 
 -- a call whose line was written has begun its answer
-pub whole_begins : (before after : State) (old new : Option (List ℕ)) (asked : RawLine) → AnswersCall before after old new asked → BeginsAnswer before after old new asked
+pub whole_begins : (before after : State) (old new : Option (List ℕ)) (asked : RawLine)
+    → AnswersCall before after old new asked → BeginsAnswer before after old new asked
 whole_begins before after old new asked one = inr (one.line, one.prints, whole_front old new one.line one.written)
 
 -- the answers and then the explanations
-pub all_written : (before after : State) (old mid new : Option (List ℕ)) (calls : List RawLine) (text : List ℕ) → AnswersCalls before after old mid calls → ExplainsCalls before calls text after → Appends mid new text → ExplainsAnswered before after old new calls
+pub all_written : (before after : State) (old mid new : Option (List ℕ)) (calls : List RawLine) (text : List ℕ)
+    → AnswersCalls before after old mid calls → ExplainsCalls before calls text after → Appends mid new text
+    → ExplainsAnswered before after old new calls
 all_written before after old mid new calls text done explains written = record {
   answers = done.text;
   explanations = text;
@@ -30,7 +33,9 @@ all_written before after old mid new calls text done explains written = record {
 }
 
 -- the answers and then a beginning of the explanations
-pub front_written : (before after : State) (old mid new : Option (List ℕ)) (calls : List RawLine) (text : List ℕ) → AnswersCalls before after old mid calls → ExplainsCalls before calls text after → AppendsFront mid new text → BeginsExplaining before old new calls
+pub front_written : (before after : State) (old mid new : Option (List ℕ)) (calls : List RawLine) (text : List ℕ)
+    → AnswersCalls before after old mid calls → ExplainsCalls before calls text after → AppendsFront mid new text
+    → BeginsExplaining before old new calls
 front_written before after old mid new calls text done explains begun = inr (record {
   last = after;
   answers = done.text;
@@ -41,11 +46,16 @@ front_written before after old mid new calls text done explains begun = inr (rec
 })
 
 -- a text whose calls were answered and explained as far as the result says
-pub explained_text : (text : List ℕ) (old new : Option (List ℕ)) (calls : List RawLine) (first last : State) (result : Result (Unit {0}) Fault) → IsSession text calls → first ≡ empty_state → OnOk result (ExplainsAnswered first last old new calls) → OnErr result (BeginsExplaining first old new calls) → IfErr result IsOutputFault → RunsExplained text old new result
+pub explained_text : (text : List ℕ) (old new : Option (List ℕ)) (calls : List RawLine) (first last : State)
+    (result : Result (Unit {0}) Fault) → IsSession text calls → first ≡ empty_state
+    → OnOk result (ExplainsAnswered first last old new calls) → OnErr result (BeginsExplaining first old new calls)
+    → IfErr result IsOutputFault → RunsExplained text old new result
 explained_text text old new calls first last (Ok done) is starts explained begun faults =
     record { calls = calls; is = is; last = last; explained = subst (λ (s : State). ExplainsAnswered s last old new calls) starts explained }
 explained_text text old new calls first last (Err f) is starts explained begun faults =
-    begun_text ExplainsSession BeginsExplained text old new f faults (record { calls = calls; is = is; begun = subst (λ (s : State). BeginsExplaining s old new calls) starts begun })
+    begun_text ExplainsSession BeginsExplained text old new f faults
+    (record
+    { calls = calls; is = is; begun = subst (λ (s : State). BeginsExplaining s old new calls) starts begun })
 
 -- a session is not too long
 pub short_explained : NeedsShort ExplainsSession

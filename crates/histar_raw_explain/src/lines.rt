@@ -1,7 +1,9 @@
 //! The lines of an explanation.
 ghost use Rattle.std.specs.Prelude.{◌≡◌, ◌++◌, IfOk, OnOk};
 ghost use Rattle.std.specs.List.{flat_map};
-ghost use Rattle.histar_raw_explain.specs.Texts.{opening_text, unmade_line, place_text, but_text, spared_text, elsewhere_text, every_text, difference_line, elsewhere_line, reason_lines, obstacle_lines, explanation_lines, explanation_text};
+ghost use Rattle.histar_raw_explain.specs.Texts.{opening_text, unmade_line, place_text, but_text, spared_text, elsewhere_text};
+ghost use Rattle.histar_raw_explain.specs.Texts.{every_text, difference_line, elsewhere_line, reason_lines, obstacle_lines};
+ghost use Rattle.histar_raw_explain.specs.Texts.{explanation_lines, explanation_text};
 
 use crate::act_texts::{push_act, push_obstacle};
 use crate::party_texts::push_excess;

@@ -1,5 +1,6 @@
 -- Answering the calls of a session one by one.
-use Rattle.std.proofs.Common.{◌≡◌, ℕ, ◌+◌, ◌<◌, List, [], ◌∷◌, ◌++◌, length, take, drop, get_or, Option, Some, None, Result, Ok, Err, refl, sym, ap, ap₂, subst, ◌∙◌, inl, inr, append-nil, append_assoc, take-append-drop}
+use Rattle.std.proofs.Common.{◌≡◌, ℕ, ◌+◌, ◌<◌, List, [], ◌∷◌, ◌++◌, length, take, drop, get_or, Option, Some, None, Result, Ok, Err, refl, sym, ap}
+use Rattle.std.proofs.Common.{ap₂, subst, ◌∙◌, inl, inr, append-nil, append_assoc, take-append-drop}
 use Rattle.std.specs.Prelude.{IfOk, OnOk}
 use Rattle.std.proofs.lemmas.List.{drop_more}
 use Rattle.std.proofs.KnownBytes.{Appends-nil, Appends-kept, Appends-trans}
@@ -17,20 +18,30 @@ use Rattle.histar_raw_session.specs.Answers.{line_text, PrintsCall, PrintsCalls,
 -- ---- one call
 
 -- what the kernel answers is the outcome, and its line tells it
-pub granted : {X E : Type 0} (first : State) (old new : KernelModel) (asked : RawLine) (revealed : Answer) (items : X → List ℕ) (result : Result X E) → state old ≡ first → Called old new asked.thread asked.call None → raw_answer (state old) asked.thread asked.call ≡ Some revealed → IfOk result (λ line. items line ≡ line_text asked.line (Ok revealed))
+pub granted : {X E : Type 0} (first : State) (old new : KernelModel) (asked : RawLine) (revealed : Answer)
+    (items : X → List ℕ) (result : Result X E) → state old ≡ first → Called old new asked.thread asked.call None
+    → raw_answer (state old) asked.thread asked.call ≡ Some revealed
+    → IfOk result (λ line. items line ≡ line_text asked.line (Ok revealed))
     → IfOk result (λ line. PrintsCall first (state new) asked (items line))
 granted first old new asked revealed items (Ok line) same called right text =
-    subst (λ (s : State). PrintsCall s (state new) asked (items line)) same (record { outcome = Ok revealed; has = (called.outcome, right, called.state); prints = text })
+    subst (λ (s : State). PrintsCall s (state new) asked (items line)) same
+    (record { outcome = Ok revealed; has = (called.outcome, right, called.state); prints = text })
 granted first old new asked revealed items (Err e) same called right text = tt
 
 -- and so with what it denies
-pub denied : {X E : Type 0} (first : State) (old new : KernelModel) (asked : RawLine) (d : Denied) (items : X → List ℕ) (result : Result X E) → state old ≡ first → Called old new asked.thread asked.call (Some d) → IfOk result (λ line. items line ≡ line_text asked.line (Err d)) → IfOk result (λ line. PrintsCall first (state new) asked (items line))
+pub denied : {X E : Type 0} (first : State) (old new : KernelModel) (asked : RawLine) (d : Denied) (items : X → List ℕ)
+    (result : Result X E) → state old ≡ first → Called old new asked.thread asked.call (Some d)
+    → IfOk result (λ line. items line ≡ line_text asked.line (Err d))
+    → IfOk result (λ line. PrintsCall first (state new) asked (items line))
 denied first old new asked d items (Ok line) same called text =
-    subst (λ (s : State). PrintsCall s (state new) asked (items line)) same (record { outcome = Err d; has = (called.outcome, called.state); prints = text })
+    subst (λ (s : State). PrintsCall s (state new) asked (items line)) same
+    (record { outcome = Err d; has = (called.outcome, called.state); prints = text })
 denied first old new asked d items (Err e) same called text = tt
 
 -- the call was made on its line
-pub made_on_line : {X E : Type 0} (old begun new : KernelModel) (asked : RawLine) (d : Option Denied) (result : Result X E) → begun ≡ record old { line = asked.line } → Called begun new asked.thread asked.call d → OnOk result (IsMadeOnLine old asked new)
+pub made_on_line : {X E : Type 0} (old begun new : KernelModel) (asked : RawLine) (d : Option Denied)
+    (result : Result X E) → begun ≡ record old { line = asked.line } → Called begun new asked.thread asked.call d
+    → OnOk result (IsMadeOnLine old asked new)
 made_on_line old begun new asked d (Ok x) same called = (d, subst (λ (k : KernelModel). Called k new asked.thread asked.call d) same called)
 made_on_line old begun new asked d (Err e) same called = tt
 
@@ -48,9 +59,18 @@ front_after a b c text next whole begun = (
 )
 
 -- one more call
-prints_more : (first mid last : State) (calls : List RawLine) (asked : RawLine) (text line : List ℕ) → PrintsCalls first calls text mid → PrintsCall mid last asked line → PrintsCalls first (calls ++ asked ∷ []) (text ++ line) last
-prints_more first mid last [] asked text line done one =
-    (last, line, [], subst (λ (s : State). PrintsCall s last asked line) done.1 one, ap (λ (l : List ℕ). l ++ line) done.0 ∙ sym (append-nil line), (refl, refl))
+prints_more : (first mid last : State) (calls : List RawLine) (asked : RawLine) (text line : List ℕ)
+    → PrintsCalls first calls text mid → PrintsCall mid last asked line
+    → PrintsCalls first (calls ++ asked ∷ []) (text ++ line) last
+prints_more first mid last [] asked text line done one = (
+  last,
+  line,
+  [],
+  subst (λ (s : State). PrintsCall s last asked line) done.1 one,
+  ap (λ (l : List ℕ). l ++ line)
+      done.0 ∙ sym (append-nil line),
+  (refl, refl),
+)
 prints_more first mid last (b ∷ calls) asked text line done one = (
   done.0,
   done.1,
@@ -65,7 +85,9 @@ pub answers_none : (s : State) (a : Option (List ℕ)) → AnswersCalls s s a a 
 answers_none s a = record { text = []; prints = (refl, refl); written = Appends-nil a }
 
 -- one more call is answered
-pub answers_more : (first mid last : State) (a b c : Option (List ℕ)) (calls : List RawLine) (asked : RawLine) → AnswersCalls first mid a b calls → AnswersCall mid last b c asked → AnswersCalls first last a c (calls ++ asked ∷ [])
+pub answers_more : (first mid last : State) (a b c : Option (List ℕ)) (calls : List RawLine) (asked : RawLine)
+    → AnswersCalls first mid a b calls → AnswersCall mid last b c asked
+    → AnswersCalls first last a c (calls ++ asked ∷ [])
 answers_more first mid last a b c calls asked done one = record {
   text = done.text ++ one.line;
   prints = prints_more first mid last calls asked done.text one.line done.prints one.prints;
@@ -73,7 +95,9 @@ answers_more first mid last a b c calls asked done one = record {
 }
 
 -- a beginning of the next line makes a beginning of all
-pub begins_more : (first mid last : State) (a b c : Option (List ℕ)) (calls front rest : List RawLine) (asked : RawLine) → calls ≡ front ++ asked ∷ rest → AnswersCalls first mid a b front → BeginsAnswer mid last b c asked → BeginsAnswers first a c calls
+pub begins_more : (first mid last : State) (a b c : Option (List ℕ)) (calls front rest : List RawLine) (asked : RawLine)
+    → calls ≡ front ++ asked ∷ rest → AnswersCalls first mid a b front → BeginsAnswer mid last b c asked
+    → BeginsAnswers first a c calls
 begins_more first mid last a b c calls front rest asked parts done (inl keeps) = record {
   first = front;
   rest = asked ∷ rest;
@@ -94,7 +118,11 @@ begins_more first mid last a b c calls front rest asked parts done (inr begun) =
 }
 
 -- a list is what comes before a place, what stands there, and what comes after it
-pub parts_at : (calls front : List RawLine) (asked : RawLine) → front ≡ take (length front) calls → (length front < length calls) × (asked ≡ get_or calls (length front) asked) → calls ≡ front ++ asked ∷ drop (length front + 1) calls
+pub parts_at : (calls front : List RawLine) (asked : RawLine) → front ≡ take (length front) calls
+    → (length front < length calls) × (asked ≡ get_or calls (length front) asked)
+    → calls ≡ front ++ asked ∷ drop (length front + 1) calls
 parts_at calls front asked begins here =
     let lt : length front < length calls = here.0 in
-    sym (take-append-drop (length front) calls) ∙ ap₂ (λ (l m : List RawLine). l ++ m) (sym begins) (drop_more calls (length front) asked lt ∙ ap (λ (x : RawLine). x ∷ drop (length front + 1) calls) (sym here.1))
+    sym (take-append-drop (length front) calls)
+    ∙ ap₂ (λ (l m : List RawLine). l ++ m) (sym begins) (drop_more calls (length front) asked lt
+    ∙ ap (λ (x : RawLine). x ∷ drop (length front + 1) calls) (sym here.1))

@@ -14,27 +14,43 @@ pub record IsReadSoFar (text rest : List ℕ) (count : ℕ) (calls : List RawLin
   pub counted : count ≡ length before
 
 -- one comment more says no call
-comment_more : (n : ℕ) (before : List (List ℕ)) (line : List ℕ) (calls : List RawLine) → SayCalls n before calls → is_comment line ≡ true → SayCalls n (before ++ line ∷ []) calls
+comment_more : (n : ℕ) (before : List (List ℕ)) (line : List ℕ) (calls : List RawLine) → SayCalls n before calls
+    → is_comment line ≡ true → SayCalls n (before ++ line ∷ []) calls
 comment_more n [] line calls says comment = inl (comment, says)
 comment_more n (first ∷ before) line calls (inl says) comment = inl (says.0, comment_more (n + 1) before line calls says.1 comment)
-comment_more n (first ∷ before) line calls (inr says) comment = inr (says.0, says.1, says.2, says.3, comment_more (n + 1) before line says.1 says.4 comment)
+comment_more n (first ∷ before) line calls (inr says) comment =
+    inr (says.0, says.1, says.2, says.3, comment_more (n + 1) before line says.1 says.4 comment)
 
 -- one line more says one call more
-call_more : (n k : ℕ) (before : List (List ℕ)) (line : List ℕ) (calls : List RawLine) (asked : RawLine) → SayCalls n before calls → k ≡ n + length before + 1 → SaysCall k line asked → SayCalls n (before ++ line ∷ []) (calls ++ asked ∷ [])
+call_more : (n k : ℕ) (before : List (List ℕ)) (line : List ℕ) (calls : List RawLine) (asked : RawLine)
+    → SayCalls n before calls → k ≡ n + length before + 1 → SaysCall k line asked
+    → SayCalls n (before ++ line ∷ []) (calls ++ asked ∷ [])
 call_more n k [] line calls asked says place one =
     let here : k ≡ n + 1 = omega (arith, place) in
     inr (asked, [], ap (λ (l : List RawLine). l ++ asked ∷ []) says, subst (λ (j : ℕ). SaysCall j line asked) here one, refl)
 call_more n k (first ∷ before) line calls asked (inl says) place one =
     inl (says.0, call_more (n + 1) k before line calls asked says.1 (omega (arith, place)) one)
 call_more n k (first ∷ before) line calls asked (inr says) place one =
-    inr (says.0, says.1 ++ asked ∷ [], ap (λ (l : List RawLine). l ++ asked ∷ []) says.2, says.3, call_more (n + 1) k before line says.1 asked says.4 (omega (arith, place)) one)
+    inr (
+      says.0,
+      says.1
+          ++ asked
+          ∷ [],
+      ap (λ (l : List RawLine). l ++ asked ∷ []) says.2,
+      says.3,
+      call_more (n + 1) k before line says.1
+          asked says.4 (omega (arith, place)) one,
+    )
 
 -- the lines of the text, once one more was read
-line_more : (text : List ℕ) (before : List (List ℕ)) (line : List ℕ) (lines rest : List (List ℕ)) → lines_of text ≡ before ++ lines → lines ≡ line ∷ rest → lines_of text ≡ (before ++ line ∷ []) ++ rest
+line_more : (text : List ℕ) (before : List (List ℕ)) (line : List ℕ) (lines rest : List (List ℕ))
+    → lines_of text ≡ before ++ lines → lines ≡ line ∷ rest → lines_of text ≡ (before ++ line ∷ []) ++ rest
 line_more text before line lines rest parts is = parts ∙ ap (λ (l : List (List ℕ)). before ++ l) is ∙ sym (append_assoc before (line ∷ []) rest)
 
 -- a comment was read
-pub read_comment : (text rest after line : List ℕ) (count : ℕ) (calls : List RawLine) → IsReadSoFar text rest count calls → lines_of rest ≡ line ∷ lines_of after → is_comment line ≡ true → IsReadSoFar text after (count + 1) calls
+pub read_comment : (text rest after line : List ℕ) (count : ℕ) (calls : List RawLine)
+    → IsReadSoFar text rest count calls → lines_of rest ≡ line ∷ lines_of after → is_comment line ≡ true
+    → IsReadSoFar text after (count + 1) calls
 read_comment text rest after line count calls so is comment = record {
   before = so.before ++ line ∷ [];
   parts = line_more text so.before line (lines_of rest) (lines_of after) so.parts is;
@@ -47,7 +63,9 @@ read_comment text rest after line count calls so is comment = record {
     length-push (l ∷ lines) line = let rest = length-push lines line in omega (arith, rest)
 
 -- a call was read
-pub read_one : (text rest after line : List ℕ) (count : ℕ) (calls : List RawLine) (asked : RawLine) → IsReadSoFar text rest count calls → lines_of rest ≡ line ∷ lines_of after → SaysCall (count + 1) line asked → IsReadSoFar text after (count + 1) (calls ++ asked ∷ [])
+pub read_one : (text rest after line : List ℕ) (count : ℕ) (calls : List RawLine) (asked : RawLine)
+    → IsReadSoFar text rest count calls → lines_of rest ≡ line ∷ lines_of after → SaysCall (count + 1) line asked
+    → IsReadSoFar text after (count + 1) (calls ++ asked ∷ [])
 read_one text rest after line count calls asked so is one = record {
   before = so.before ++ line ∷ [];
   parts = line_more text so.before line (lines_of rest) (lines_of after) so.parts is;
@@ -60,7 +78,9 @@ read_one text rest after line count calls asked so is one = record {
     length-push (l ∷ lines) line = let rest = length-push lines line in omega (arith, rest)
 
 -- a bad line after those that were read is the first one
-pub first_bad : (text rest after line : List ℕ) (count : ℕ) (calls : List RawLine) (f : Fault) → IsReadSoFar text rest count calls → lines_of rest ≡ line ∷ lines_of after → IsBadLineOf (λ n. (n ≡ count + 1) × IsBadLine line) f → IsBadLineOf (IsFirstBadLine text) f
+pub first_bad : (text rest after line : List ℕ) (count : ℕ) (calls : List RawLine) (f : Fault)
+    → IsReadSoFar text rest count calls → lines_of rest ≡ line ∷ lines_of after
+    → IsBadLineOf (λ n. (n ≡ count + 1) × IsBadLine line) f → IsBadLineOf (IsFirstBadLine text) f
 first_bad text rest after line count calls (BadScript n) so is bad = record {
   before = so.before;
   line = line;
@@ -81,7 +101,8 @@ pub nothing_read : (text : List ℕ) → IsReadSoFar text text 0 []
 nothing_read text = record { before = []; parts = refl; says = refl; counted = refl }
 
 -- where nothing is left all lines were read
-pub all_read : (text : List ℕ) (count : ℕ) (calls : List RawLine) (rest : List ℕ) → length rest ≡ 0 → IsReadSoFar text rest count calls → SayCalls 0 (lines_of text) calls
+pub all_read : (text : List ℕ) (count : ℕ) (calls : List RawLine) (rest : List ℕ) → length rest ≡ 0
+    → IsReadSoFar text rest count calls → SayCalls 0 (lines_of text) calls
 unfolding lines_of
 all_read text count calls [] none so = subst (λ (lines : List (List ℕ)). SayCalls 0 lines calls) (sym (so.parts ∙ append-nil so.before)) so.says
 all_read text count calls (b ∷ rest) none so = absurd (omega (arith, none))

@@ -1,5 +1,6 @@
 -- What a run of a session says, put together from what its parts say.
-use Rattle.std.proofs.Common.{◌≡◌, ℕ, ◌<◌, true, false, ltb, List, ◌++◌, length, Option, Some, None, Result, Ok, Err, refl, sym, ap, subst, ◌∙◌, arith, rules, tests, append-nil, inl, inr}
+use Rattle.std.proofs.Common.{◌≡◌, ℕ, ◌<◌, true, false, ltb, List, ◌++◌, length, Option, Some, None, Result, Ok, Err, refl, sym, ap, subst, ◌∙◌}
+use Rattle.std.proofs.Common.{arith, rules, tests, append-nil, inl, inr}
 use Rattle.std.specs.Prelude.{IfSome, IfErr, OnOk, OnErr}
 use Rattle.std.specs.Io.KnownBytes.{Keeps}
 use Rattle.std.proofs.lemmas.Bool.{cases_lt, false≢true}
@@ -35,7 +36,8 @@ module _ (Whole Begun : WritesOf) where
   faulty_text text w WriteFailed is = absurd is.1
 
   -- a text of which a beginning of what is due was written
-  pub begun_text : (text : List ℕ) (old new : Option (List ℕ)) (f : Fault) → IsOutputFault f → Begun text old new → RunsText Whole Begun text old new (Err f)
+  pub begun_text : (text : List ℕ) (old new : Option (List ℕ)) (f : Fault) → IsOutputFault f → Begun text old new
+      → RunsText Whole Begun text old new (Err f)
   begun_text text old new (BadScript n) out begun = absurd out
   begun_text text old new TooLong out begun = absurd out
   begun_text text old new OutOfMemory out begun = inr begun
@@ -43,11 +45,14 @@ module _ (Whole Begun : WritesOf) where
   begun_text text old new WriteFailed out begun = begun
 
 -- a text whose calls were answered as far as the result says
-pub answered_text : (text : List ℕ) (old new : Option (List ℕ)) (calls : List RawLine) (first last : State) (result : Done) → IsSession text calls → first ≡ empty_state → OnOk result (AnswersCalls first last old new calls) → OnErr result (BeginsAnswers first old new calls) → IfErr result IsOutputFault → RunsSession text old new result
+pub answered_text : (text : List ℕ) (old new : Option (List ℕ)) (calls : List RawLine) (first last : State)
+    (result : Done) → IsSession text calls → first ≡ empty_state → OnOk result (AnswersCalls first last old new calls)
+    → OnErr result (BeginsAnswers first old new calls) → IfErr result IsOutputFault → RunsSession text old new result
 answered_text text old new calls first last (Ok done) is starts answered begun faults =
     record { calls = calls; is = is; last = last; answered = subst (λ (s : State). AnswersCalls s last old new calls) starts answered }
 answered_text text old new calls first last (Err f) is starts answered begun faults =
-    begun_text AnswersSession BeginsSession text old new f faults (record { calls = calls; is = is; begun = subst (λ (s : State). BeginsAnswers s old new calls) starts begun })
+    begun_text AnswersSession BeginsSession text old new f faults
+    (record { calls = calls; is = is; begun = subst (λ (s : State). BeginsAnswers s old new calls) starts begun })
 
 -- ---- an input that is taken
 
@@ -68,16 +73,24 @@ long_is text lt = let e : ltb most_script_bytes (length text) ≡ true = search 
 
 module _ (Whole Begun : WritesOf) where
   -- an error of the input stops the reading
-  pub stops_reading : (e : InputError) (left rest w : Option (List ℕ)) → TakesSome left rest → RunsInput (RunsText Whole Begun) left rest w w (Err (input_fault e))
+  pub stops_reading : (e : InputError) (left rest w : Option (List ℕ)) → TakesSome left rest
+      → RunsInput (RunsText Whole Begun) left rest w w (Err (input_fault e))
   stops_reading input.OutOfMemory left rest w takes = inl (record { takes = takes; keeps = Keeps-refl w })
   stops_reading input.ReadFailed left rest w takes = record { takes = takes; keeps = Keeps-refl w }
 
   -- what was taken is run
-  pub runs_taken : (left rest old new : Option (List ℕ)) (taken text : List ℕ) (result : Done) → TakesAll left rest taken → text ≡ taken → RunsText Whole Begun text old new result → is_read_failed result ≡ false → RunsInput (RunsText Whole Begun) left rest old new result
+  pub runs_taken : (left rest old new : Option (List ℕ)) (taken text : List ℕ) (result : Done)
+      → TakesAll left rest taken → text ≡ taken → RunsText Whole Begun text old new result
+      → is_read_failed result ≡ false → RunsInput (RunsText Whole Begun) left rest old new result
   runs_taken left rest old new taken text result takes same runs no_read_failed =
-      at_result result (record { taken = taken; takes = takes; runs = subst (λ (t : List ℕ). RunsText Whole Begun t old new result) same runs }) no_read_failed
+      at_result result (record {
+        taken = taken;
+        takes = takes;
+        runs = subst (λ (t : List ℕ). RunsText Whole Begun t old new result) same runs;
+      }) no_read_failed
     where
-      at_result : (r : Done) → RunsTaken (RunsText Whole Begun) left rest old new r → is_read_failed r ≡ false → RunsInput (RunsText Whole Begun) left rest old new r
+      at_result : (r : Done) → RunsTaken (RunsText Whole Begun) left rest old new r → is_read_failed r ≡ false
+          → RunsInput (RunsText Whole Begun) left rest old new r
       at_result (Ok done) h none = h
       at_result (Err (BadScript n)) h none = h
       at_result (Err TooLong) h none = h
@@ -87,7 +100,9 @@ module _ (Whole Begun : WritesOf) where
 
   module _ (whole : NeedsShort Whole) (begun : NeedsShort Begun) where
     -- texts that are both too long are run alike
-    both_long : (input taken : List ℕ) (old new : Option (List ℕ)) (result : Done) → is_too_long input ≡ true → is_too_long taken ≡ true → RunsText Whole Begun taken old new result → RunsText Whole Begun input old new result
+    both_long : (input taken : List ℕ) (old new : Option (List ℕ)) (result : Done) → is_too_long input ≡ true
+        → is_too_long taken ≡ true → RunsText Whole Begun taken old new result
+        → RunsText Whole Begun input old new result
     both_long input taken old new (Ok done) long too_long runs = absurd (false≢true (sym (whole.short taken old new runs) ∙ too_long))
     both_long input taken old new (Err (BadScript n)) long too_long runs = absurd (false≢true (sym runs.0.0 ∙ too_long))
     both_long input taken old new (Err TooLong) long too_long runs = (long, runs.1)
@@ -97,28 +112,39 @@ module _ (Whole Begun : WritesOf) where
     both_long input taken old new (Err WriteFailed) long too_long runs = absurd (false≢true (sym (begun.short taken old new runs) ∙ too_long))
 
     -- what was run is the session of the whole input
-    same_run : (input : List ℕ) (rest old new : Option (List ℕ)) (taken : List ℕ) (result : Done) → TakesAll (Some input) rest taken → RunsText Whole Begun taken old new result → RunsText Whole Begun input old new result
+    same_run : (input : List ℕ) (rest old new : Option (List ℕ)) (taken : List ℕ) (result : Done)
+        → TakesAll (Some input) rest taken → RunsText Whole Begun taken old new result
+        → RunsText Whole Begun input old new result
     same_run input None old new taken result takes runs = absurd takes.consumed
     same_run input (Some rest) old new taken result takes runs =
         elim (cases_lt (length taken) most_taken) [
           | inl lt ↦
               let all : input ≡ taken = takes.consumed ∙ ap (λ (l : List ℕ). taken ++ l) (takes.ended lt) ∙ append-nil taken in
               subst (λ (text : List ℕ). RunsText Whole Begun text old new result) (sym all) runs
-          | inr le ↦ both_long input taken old new result (long_is input (omega (arith, ap length takes.consumed, length-append taken rest))) (long_is taken (omega arith)) runs
+          | inr le ↦
+              both_long input taken old new result
+              (long_is input (omega (arith, ap length takes.consumed, length-append taken rest)))
+              (long_is taken (omega arith)) runs
         ]
 
     -- a known input that was taken was run
-    taken_known : (left rest old new : Option (List ℕ)) (result : Done) → RunsTaken (RunsText Whole Begun) left rest old new result → IfSome left (λ input. RunsText Whole Begun input old new result)
+    taken_known : (left rest old new : Option (List ℕ)) (result : Done)
+        → RunsTaken (RunsText Whole Begun) left rest old new result
+        → IfSome left (λ input. RunsText Whole Begun input old new result)
     taken_known None rest old new result h = tt
     taken_known (Some input) rest old new result h = same_run input rest old new h.taken result h.takes h.runs
 
     -- a known input of which some was taken was run as far as that
-    stopped_known : (left rest old new : Option (List ℕ)) (result : Done) → ((input : List ℕ) → Keeps old new → RunsText Whole Begun input old new result) → StopsReading left rest old new → IfSome left (λ input. RunsText Whole Begun input old new result)
+    stopped_known : (left rest old new : Option (List ℕ)) (result : Done)
+        → ((input : List ℕ) → Keeps old new → RunsText Whole Begun input old new result)
+        → StopsReading left rest old new → IfSome left (λ input. RunsText Whole Begun input old new result)
     stopped_known None rest old new result runs h = tt
     stopped_known (Some input) rest old new result runs h = runs input h.keeps
 
     -- a known input was run
-    pub input_known : (left rest old new : Option (List ℕ)) (result : Done) → RunsInput (RunsText Whole Begun) left rest old new result → IfSome left (λ input. RunsText Whole Begun input old new result)
+    pub input_known : (left rest old new : Option (List ℕ)) (result : Done)
+        → RunsInput (RunsText Whole Begun) left rest old new result
+        → IfSome left (λ input. RunsText Whole Begun input old new result)
     input_known left rest old new (Ok done) h = taken_known left rest old new (Ok done) h
     input_known left rest old new (Err (BadScript n)) h = taken_known left rest old new (Err (BadScript n)) h
     input_known left rest old new (Err TooLong) h = taken_known left rest old new (Err TooLong) h

@@ -1,7 +1,8 @@
 //! Reading a whole raw session.
 ghost use Rattle.std.specs.Prelude.{◌≡◌, ◌≤◌, false, length, IfOk, IfErr};
 ghost use Rattle.histar_script.specs.Lines.{lines_of, most_script_bytes};
-ghost use Rattle.histar_raw_session.specs.Session.{is_comment as comment, SaysCall, IsBadLine, SayCalls, IsFirstBadLine, IsSession, IsBadLineOf, IsFaultOf};
+ghost use Rattle.histar_raw_session.specs.Session.{is_comment as comment, SaysCall, IsBadLine, SayCalls, IsFirstBadLine};
+ghost use Rattle.histar_raw_session.specs.Session.{IsSession, IsBadLineOf, IsFaultOf};
 
 use histar_object::ObjId;
 use histar_rawtext::read_raw;

@@ -5,7 +5,8 @@ use Rattle.std.proofs.lemmas.Fmt.{decimal_injective}
 use Rattle.std.proofs.lemmas.List.{append_assoc, append-nil}
 use Rattle.histar_flat.proofs.SplitLemmas.{lacks}
 use Rattle.histar_rules.specs.declared.raw.RawCall.{RawCall}
-use Rattle.histar_rules.specs.declared.raw.RawCall.TheVariants.{MakeCategory, OwnLabel, SetLabel, SetClearance, MakeSegment, MakeContainer, MakeThread, MakeGate, Enter, Read, Write, Unlink, LabelOf}
+use Rattle.histar_rules.specs.declared.raw.RawCall.TheVariants.{MakeCategory, OwnLabel, SetLabel, SetClearance, MakeSegment, MakeContainer}
+use Rattle.histar_rules.specs.declared.raw.RawCall.TheVariants.{MakeThread, MakeGate, Enter, Read, Write, Unlink, LabelOf}
 use Rattle.histar_rawtext.specs.RawText.{label_text, bytes_text, gate_entry_text, call_name, call_words, call_text, thread_call_text}
 use Rattle.histar_rawtext.specs.RawTextLaws.{IsWritable, TextsDetermineCalls}
 use Rattle.histar_rawtext.proofs.Parting.{same_parts, spaced, AreWords, same_words, same_fronts}
@@ -22,7 +23,8 @@ words_of (MakeSegment container label bytes) = decimal container ∷ label_text 
 words_of (MakeContainer container label) = decimal container ∷ label_text label ∷ []
 words_of (MakeThread container label clearance) = decimal container ∷ label_text label ∷ label_text clearance ∷ []
 words_of (MakeGate container label clearance entry) = decimal container ∷ label_text label ∷ label_text clearance ∷ gate_entry_text entry ∷ []
-words_of (Enter container gate wanted clearance shown) = decimal container ∷ decimal gate ∷ label_text wanted ∷ label_text clearance ∷ label_text shown ∷ []
+words_of (Enter container gate wanted clearance shown) =
+    decimal container ∷ decimal gate ∷ label_text wanted ∷ label_text clearance ∷ label_text shown ∷ []
 words_of (Read container segment) = decimal container ∷ decimal segment ∷ []
 words_of (Write container segment keep bytes) = decimal container ∷ decimal segment ∷ decimal keep ∷ bytes_text bytes ∷ []
 words_of (Unlink container object) = decimal container ∷ decimal object ∷ []
@@ -54,8 +56,10 @@ words_spelled (SetClearance clearance) = one_word (label_text clearance)
 words_spelled (MakeSegment container label bytes) = three_words (decimal container) (label_text label) (bytes_text bytes)
 words_spelled (MakeContainer container label) = two_words (decimal container) (label_text label)
 words_spelled (MakeThread container label clearance) = three_words (decimal container) (label_text label) (label_text clearance)
-words_spelled (MakeGate container label clearance entry) = four_words (decimal container) (label_text label) (label_text clearance) (gate_entry_text entry)
-words_spelled (Enter container gate wanted clearance shown) = five_words (decimal container) (decimal gate) (label_text wanted) (label_text clearance) (label_text shown)
+words_spelled (MakeGate container label clearance entry) =
+    four_words (decimal container) (label_text label) (label_text clearance) (gate_entry_text entry)
+words_spelled (Enter container gate wanted clearance shown) =
+    five_words (decimal container) (decimal gate) (label_text wanted) (label_text clearance) (label_text shown)
 words_spelled (Read container segment) = two_words (decimal container) (decimal segment)
 words_spelled (Write container segment keep bytes) = four_words (decimal container) (decimal segment) (decimal keep) (bytes_text bytes)
 words_spelled (Unlink container object) = two_words (decimal container) (decimal object)
@@ -69,11 +73,27 @@ are_words (SetLabel label) p = (lacks-label label p, tt)
 are_words (SetClearance clearance) p = (lacks-label clearance p, tt)
 are_words (MakeSegment container label bytes) p = (lacks-decimal 32 container space_is_no_digit p.0, (lacks-label label p.1, (lacks-bytes bytes, tt)))
 are_words (MakeContainer container label) p = (lacks-decimal 32 container space_is_no_digit p.0, (lacks-label label p.1, tt))
-are_words (MakeThread container label clearance) p = (lacks-decimal 32 container space_is_no_digit p.0, (lacks-label label p.1, (lacks-label clearance p.2, tt)))
-are_words (MakeGate container label clearance entry) p = (lacks-decimal 32 container space_is_no_digit p.0, (lacks-label label p.1, (lacks-label clearance p.2, (lacks-entry entry p.3, tt))))
-are_words (Enter container gate wanted clearance shown) p = (lacks-decimal 32 container space_is_no_digit p.0, (lacks-decimal 32 gate space_is_no_digit p.1, (lacks-label wanted p.2, (lacks-label clearance p.3, (lacks-label shown p.4, tt)))))
+are_words (MakeThread container label clearance) p =
+    (lacks-decimal 32 container space_is_no_digit p.0, (lacks-label label p.1, (lacks-label clearance p.2, tt)))
+are_words (MakeGate container label clearance entry) p = (
+  lacks-decimal 32 container space_is_no_digit p.0,
+  (lacks-label label p.1, (lacks-label clearance p.2, (lacks-entry entry p.3, tt))),
+)
+are_words (Enter container gate wanted clearance shown) p = (
+  lacks-decimal 32 container space_is_no_digit p.0,
+  (
+    lacks-decimal 32 gate space_is_no_digit p.1,
+    (lacks-label wanted p.2, (lacks-label clearance p.3, (lacks-label shown p.4, tt))),
+  ),
+)
 are_words (Read container segment) p = (lacks-decimal 32 container space_is_no_digit p.0, (lacks-decimal 32 segment space_is_no_digit p.1, tt))
-are_words (Write container segment keep bytes) p = (lacks-decimal 32 container space_is_no_digit p.0, (lacks-decimal 32 segment space_is_no_digit p.1, (lacks-decimal 32 keep space_is_no_digit p.2, (lacks-bytes bytes, tt))))
+are_words (Write container segment keep bytes) p = (
+  lacks-decimal 32 container space_is_no_digit p.0,
+  (
+    lacks-decimal 32 segment space_is_no_digit p.1,
+    (lacks-decimal 32 keep space_is_no_digit p.2, (lacks-bytes bytes, tt)),
+  ),
+)
 are_words (Unlink container object) p = (lacks-decimal 32 container space_is_no_digit p.0, (lacks-decimal 32 object space_is_no_digit p.1, tt))
 are_words (LabelOf container object) p = (lacks-decimal 32 container space_is_no_digit p.0, (lacks-decimal 32 object space_is_no_digit p.1, tt))
 
@@ -205,7 +225,12 @@ call_spelled t a = append_assoc (decimal t) (32 ∷ []) (call_text a) ∙ ap (λ
 pub texts_determine_calls : TextsDetermineCalls
 texts_determine_calls t u a b small_t small_u p q e =
     let whole = sym (call_spelled t a) ∙ e ∙ call_spelled u b in
-    let parts = same_parts 32 (decimal t) (decimal u) (spaced (call_name a ∷ words_of a)) (spaced (call_name b ∷ words_of b)) (lacks-decimal 32 t space_is_no_digit small_t) (lacks-decimal 32 u space_is_no_digit small_u) refl refl whole in
-    let words = same_words (call_name a ∷ words_of a) (call_name b ∷ words_of b) (name_is_word a, are_words a p) (name_is_word b, are_words b q) parts.1 in
+    let parts =
+    same_parts 32 (decimal t) (decimal u) (spaced (call_name a ∷ words_of a)) (spaced (call_name b ∷ words_of b))
+    (lacks-decimal 32 t space_is_no_digit small_t) (lacks-decimal 32 u space_is_no_digit small_u) refl refl
+    whole in
+    let words =
+    same_words (call_name a ∷ words_of a) (call_name b ∷ words_of b) (name_is_word a, are_words a p)
+    (name_is_word b, are_words b q) parts.1 in
     let fronts = same_fronts words in
     (decimal_injective t u small_t small_u parts.0, same_call a b p q fronts.0 fronts.1)

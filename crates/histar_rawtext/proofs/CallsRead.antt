@@ -3,11 +3,13 @@ use Rattle.std.proofs.Common.{◌≡◌, ℕ, [], ◌∷◌, Some, refl, ap, ◌
 use Rattle.std.specs.Fmt.{decimal}
 use Rattle.histar_flat.proofs.SplitLemmas.{lacks}
 use Rattle.histar_rules.specs.declared.raw.RawCall.{RawCall}
-use Rattle.histar_rules.specs.declared.raw.RawCall.TheVariants.{MakeCategory, OwnLabel, SetLabel, SetClearance, MakeSegment, MakeContainer, MakeThread, MakeGate, Enter, Read, Write, Unlink, LabelOf}
+use Rattle.histar_rules.specs.declared.raw.RawCall.TheVariants.{MakeCategory, OwnLabel, SetLabel, SetClearance, MakeSegment, MakeContainer}
+use Rattle.histar_rules.specs.declared.raw.RawCall.TheVariants.{MakeThread, MakeGate, Enter, Read, Write, Unlink, LabelOf}
 use Rattle.histar_rawtext.specs.RawText.{label_text, bytes_text, gate_entry_text, call_name, thread_call_text}
 use Rattle.histar_rawtext.specs.RawTextLaws.{IsNumber, IsWritable}
 use Rattle.histar_rawtext.specs.Readable.{IsReadable}
-use Rattle.histar_rawtext.specs.Reading.{make_segment_in, make_container_in, make_thread_in, make_gate_in, enter_in, write_in, pair_in, own_label_in, call_named, thread_call_in}
+use Rattle.histar_rawtext.specs.Reading.{make_segment_in, make_container_in, make_thread_in, make_gate_in, enter_in, write_in, pair_in, own_label_in}
+use Rattle.histar_rawtext.specs.Reading.{call_named, thread_call_in}
 use Rattle.histar_rawtext.proofs.Parting.{AreWords}
 use Rattle.histar_rawtext.proofs.WordTexts.{lacks-decimal, space_is_no_digit}
 use Rattle.histar_rawtext.proofs.CallTexts.{words_of, call_spelled, are_words, name_is_word}
@@ -25,7 +27,8 @@ writable (MakeSegment container label bytes) p = (p.0, writable_label label p.1)
 writable (MakeContainer container label) p = (p.0, writable_label label p.1)
 writable (MakeThread container label clearance) p = (p.0, writable_label label p.1, writable_label clearance p.2)
 writable (MakeGate container label clearance entry) p = (p.0, writable_label label p.1, writable_label clearance p.2, writable_entry entry p.3)
-writable (Enter container gate wanted clearance shown) p = (p.0, p.1, writable_label wanted p.2, writable_label clearance p.3, writable_label shown p.4)
+writable (Enter container gate wanted clearance shown) p =
+    (p.0, p.1, writable_label wanted p.2, writable_label clearance p.3, writable_label shown p.4)
 writable (Read container segment) p = p
 writable (Write container segment keep bytes) p = (p.0, p.1, omega (arith, p.2))
 writable (Unlink container object) p = p

@@ -13,10 +13,14 @@ use Rattle.histar_label.specs.Levels.{Levels, constant, with_level, is_made}
 use Rattle.histar_label.proofs.Made.{is_made-law, is_made-constant, is_made-with_level}
 use Rattle.histar_object.specs.declared.objects.Entry.TheVariants.{Login, Mark}
 use Rattle.histar_rules.specs.declared.raw.RawCall.{RawCall}
-use Rattle.histar_rules.specs.declared.raw.RawCall.TheVariants.{MakeCategory, OwnLabel, SetLabel, SetClearance, MakeSegment, MakeContainer, MakeThread, MakeGate, Enter, Read, Write, Unlink, LabelOf}
+use Rattle.histar_rules.specs.declared.raw.RawCall.TheVariants.{MakeCategory, OwnLabel, SetLabel, SetClearance, MakeSegment, MakeContainer}
+use Rattle.histar_rules.specs.declared.raw.RawCall.TheVariants.{MakeThread, MakeGate, Enter, Read, Write, Unlink, LabelOf}
 use Rattle.histar_rawtext.specs.RawTextLaws.{IsNumber}
 use Rattle.histar_rawtext.specs.Readable.{IsReadable, IsReadableLabel, IsReadableEntry, AreBytes}
-use Rattle.histar_rawtext.specs.Reading.{◌>>=◌, between, number_in, category_in, short_number_in, user_in, level_in, exception_in, with_exception, label_of_texts, label_in, decoded, bytes_in, entry_named, entry_in, next_word, make_segment_in, make_container_in, make_thread_in, make_gate_in, enter_in, write_in, pair_in, own_label_in, call_named, thread_call_in}
+use Rattle.histar_rawtext.specs.Reading.{◌>>=◌, between, number_in, category_in, short_number_in, user_in, level_in, exception_in, with_exception}
+use Rattle.histar_rawtext.specs.Reading.{label_of_texts, label_in, decoded, bytes_in, entry_named, entry_in, next_word, make_segment_in}
+use Rattle.histar_rawtext.specs.Reading.{make_container_in, make_thread_in, make_gate_in, enter_in, write_in, pair_in, own_label_in, call_named}
+use Rattle.histar_rawtext.specs.Reading.{thread_call_in}
 use Rattle.histar_rawtext.proofs.Numbers.{number_is}
 
 -- what is there has a property
@@ -56,7 +60,8 @@ number_right word = record { all = λ n e. (number_is word n e).1 }
 between_right : (least most n : ℕ) → Has (λ m. (least ≤ m) × (m ≤ most)) (between least most n)
 between_right least most n = record { all = λ m. by m (leb least n) (leb n most) refl refl }
   where
-    by : (m : ℕ) (a b : Bool) → leb least n ≡ a → leb n most ≡ b → (if a then (if b then Some n else None) else None) ≡ Some m → (least ≤ m) × (m ≤ most)
+    by : (m : ℕ) (a b : Bool) → leb least n ≡ a → leb n most ≡ b
+        → (if a then (if b then Some n else None) else None) ≡ Some m → (least ≤ m) × (m ≤ most)
     by m true true low high is = subst (λ k. (least ≤ k) × (k ≤ most)) (same_Some n m is) (leb-true least n low, leb-true n most high)
     by m true false low high is = absurd cc
     by m false b low high is = absurd cc
@@ -131,7 +136,8 @@ make_segment_right : (words : Option (List ℕ)) → Has IsReadable (make_segmen
 unfolding make_segment_in
 make_segment_right words =
     after_any (next_word words) _ (λ a. after_any (next_word a.1) _ (λ b. after_any (next_word b.1) _ (λ c.
-    after (number_in a.0) _ (number_right a.0) (λ container p0. after (label_in b.0) _ (label_right b.0) (λ label p1. after (bytes_in c.0) _ (bytes_right c.0) (λ bytes p2.
+    after (number_in a.0) _ (number_right a.0)
+    (λ container p0. after (label_in b.0) _ (label_right b.0) (λ label p1. after (bytes_in c.0) _ (bytes_right c.0) (λ bytes p2.
     value (MakeSegment container label bytes) (p0, p1, p2)))))))
 
 make_container_right : (words : Option (List ℕ)) → Has IsReadable (make_container_in words)
@@ -145,28 +151,37 @@ make_thread_right : (words : Option (List ℕ)) → Has IsReadable (make_thread_
 unfolding make_thread_in
 make_thread_right words =
     after_any (next_word words) _ (λ a. after_any (next_word a.1) _ (λ b. after_any (next_word b.1) _ (λ c.
-    after (number_in a.0) _ (number_right a.0) (λ container p0. after (label_in b.0) _ (label_right b.0) (λ label p1. after (label_in c.0) _ (label_right c.0) (λ clearance p2.
+    after (number_in a.0) _ (number_right a.0)
+    (λ container p0. after (label_in b.0) _ (label_right b.0) (λ label p1. after (label_in c.0) _ (label_right c.0) (λ clearance p2.
     value (MakeThread container label clearance) (p0, p1, p2)))))))
 
 make_gate_right : (words : Option (List ℕ)) → Has IsReadable (make_gate_in words)
 unfolding make_gate_in
 make_gate_right words =
     after_any (next_word words) _ (λ a. after_any (next_word a.1) _ (λ b. after_any (next_word b.1) _ (λ c. after_any (next_word c.1) _ (λ d.
-    after (number_in a.0) _ (number_right a.0) (λ container p0. after (label_in b.0) _ (label_right b.0) (λ label p1. after (label_in c.0) _ (label_right c.0) (λ clearance p2. after (entry_in d.0) _ (entry_right d.0) (λ entry p3.
+    after (number_in a.0) _ (number_right a.0)
+    (λ container p0. after (label_in b.0) _ (label_right b.0)
+    (λ label p1. after (label_in c.0) _ (label_right c.0) (λ clearance p2. after (entry_in d.0) _ (entry_right d.0) (λ entry p3.
     value (MakeGate container label clearance entry) (p0, p1, p2, p3)))))))))
 
 enter_right : (words : Option (List ℕ)) → Has IsReadable (enter_in words)
 unfolding enter_in
 enter_right words =
-    after_any (next_word words) _ (λ a. after_any (next_word a.1) _ (λ b. after_any (next_word b.1) _ (λ c. after_any (next_word c.1) _ (λ d. after_any (next_word d.1) _ (λ f.
-    after (number_in a.0) _ (number_right a.0) (λ container p0. after (number_in b.0) _ (number_right b.0) (λ gate p1. after (label_in c.0) _ (label_right c.0) (λ wanted p2. after (label_in d.0) _ (label_right d.0) (λ clearance p3. after (label_in f.0) _ (label_right f.0) (λ shown p4.
+    after_any (next_word words) _
+    (λ a. after_any (next_word a.1) _ (λ b. after_any (next_word b.1) _ (λ c. after_any (next_word c.1) _ (λ d. after_any (next_word d.1) _ (λ f.
+    after (number_in a.0) _ (number_right a.0)
+    (λ container p0. after (number_in b.0) _ (number_right b.0)
+    (λ gate p1. after (label_in c.0) _ (label_right c.0)
+    (λ wanted p2. after (label_in d.0) _ (label_right d.0) (λ clearance p3. after (label_in f.0) _ (label_right f.0) (λ shown p4.
     value (Enter container gate wanted clearance shown) (p0, p1, p2, p3, p4)))))))))))
 
 write_right : (words : Option (List ℕ)) → Has IsReadable (write_in words)
 unfolding write_in
 write_right words =
     after_any (next_word words) _ (λ a. after_any (next_word a.1) _ (λ b. after_any (next_word b.1) _ (λ c. after_any (next_word c.1) _ (λ d.
-    after (number_in a.0) _ (number_right a.0) (λ container p0. after (number_in b.0) _ (number_right b.0) (λ segment p1. after (short_number_in c.0) _ (short_right c.0) (λ keep p2. after (bytes_in d.0) _ (bytes_right d.0) (λ bytes p3.
+    after (number_in a.0) _ (number_right a.0)
+    (λ container p0. after (number_in b.0) _ (number_right b.0)
+    (λ segment p1. after (short_number_in c.0) _ (short_right c.0) (λ keep p2. after (bytes_in d.0) _ (bytes_right d.0) (λ bytes p3.
     value (Write container segment keep bytes) (p0, p1, omega (arith, p2.1), p3)))))))))
 
 pair_right : (words : Option (List ℕ)) → Has (λ (pair : ℕ × ℕ). IsNumber pair.0 × IsNumber pair.1) (pair_in words)
@@ -183,7 +198,9 @@ own_label_right words = after_any (next_word words) _ (λ a. label_right a.0)
 -- a call that is read can be
 call_right : (name : List ℕ) (words : Option (List ℕ)) → Has IsReadable (call_named name words)
 call_right name words =
-    let pair : (make : ℕ → ℕ → RawCall) → ((m n : ℕ) → IsNumber m × IsNumber n → IsReadable (make m n)) → Has IsReadable (pair_in words >>= λ pair. Some (make pair.0 pair.1)) = λ make right.
+    let pair : (make : ℕ → ℕ → RawCall) → ((m n : ℕ) → IsNumber m × IsNumber n → IsReadable (make m n))
+    → Has IsReadable (pair_in words >>= λ pair. Some (make pair.0 pair.1)) =
+    λ make right.
     after (pair_in words) _ (pair_right words) (λ p both. value (make p.0 p.1) (right p.0 p.1 both)) in
     either _ _ _ (value MakeCategory tt)
     (either _ _ _ (value OwnLabel tt)

@@ -63,30 +63,42 @@ abbrev after_category : Level → List (ℕ × Level) → Level → List ℕ
 after_category l es d = 58 ∷ (level_text l ++ 44 ∷ (flat_map exception_text es ++ ending d))
 
 -- the first exception's category, and what follows
-first_exception : (e : ℕ × Level) (es : List (ℕ × Level)) (d : Level) → flat_map exception_text (e ∷ es) ++ ending d ≡ decimal e.0 ++ after_category e.1 es d
+first_exception : (e : ℕ × Level) (es : List (ℕ × Level)) (d : Level)
+    → flat_map exception_text (e ∷ es) ++ ending d ≡ decimal e.0 ++ after_category e.1 es d
 first_exception e es d = simp append_assoc
 
 -- no default is an exception
 default_only : (f : ℕ × Level) (fs : List (ℕ × Level)) (d c : Level) → IsNumber f.0 → ending d ≡ flat_map exception_text (f ∷ fs) ++ ending c → ⊥
 default_only f fs d c small e =
     let whole : ending d ++ [] ≡ decimal f.0 ++ after_category f.1 fs c = simp append-nil (e ∙ first_exception f fs c) in
-    let parts = same_parts 58 (ending d) (decimal f.0) [] (after_category f.1 fs c) (lacks-level_colon d) (lacks-decimal 58 f.0 colon_is_no_digit small) tt refl whole in
+    let parts =
+    same_parts 58 (ending d) (decimal f.0) [] (after_category f.1 fs c) (lacks-level_colon d)
+    (lacks-decimal 58 f.0 colon_is_no_digit small) tt refl whole in
     let none : [] ≡ after_category f.1 fs c = parts.1 in
     cc
 
 -- the exceptions and the default of a label are told by its text
-same_exceptions : (es fs : List (ℕ × Level)) (d c : Level) → AllByRecursion (λ (e : ℕ × Level). IsNumber e.0) es → AllByRecursion (λ (e : ℕ × Level). IsNumber e.0) fs → flat_map exception_text es ++ ending d ≡ flat_map exception_text fs ++ ending c → (es ≡ fs) × (d ≡ c)
+same_exceptions : (es fs : List (ℕ × Level)) (d c : Level) → AllByRecursion (λ (e : ℕ × Level). IsNumber e.0) es
+    → AllByRecursion (λ (e : ℕ × Level). IsNumber e.0) fs
+    → flat_map exception_text es ++ ending d ≡ flat_map exception_text fs ++ ending c → (es ≡ fs) × (d ≡ c)
 same_exceptions [] [] d c p q e = (refl, same_level d c (125 ∷ []) (125 ∷ []) e)
 same_exceptions [] (f ∷ fs) d c p q e = absurd (default_only f fs d c q.0 e)
 same_exceptions (e ∷ es) [] d c p q e' = absurd (default_only e es c d p.0 (sym e'))
 same_exceptions (e ∷ es) (f ∷ fs) d c p q e' =
     let whole = sym (first_exception e es d) ∙ e' ∙ first_exception f fs c in
-    let parts = same_parts 58 (decimal e.0) (decimal f.0) (after_category e.1 es d) (after_category f.1 fs c) (lacks-decimal 58 e.0 colon_is_no_digit p.0) (lacks-decimal 58 f.0 colon_is_no_digit q.0) refl refl whole in
+    let parts =
+    same_parts 58 (decimal e.0) (decimal f.0) (after_category e.1 es d) (after_category f.1 fs c)
+    (lacks-decimal 58 e.0 colon_is_no_digit p.0) (lacks-decimal 58 f.0 colon_is_no_digit q.0) refl refl whole in
     let category = decimal_injective e.0 f.0 p.0 q.0 parts.0 in
     let rest = parts.1 in
-    let levels : level_text e.1 ++ 44 ∷ (flat_map exception_text es ++ ending d) ≡ level_text f.1 ++ 44 ∷ (flat_map exception_text fs ++ ending c) = cc in
+    let levels : level_text e.1 ++ 44 ∷ (flat_map exception_text es ++ ending d)
+    ≡ level_text f.1 ++ 44 ∷ (flat_map exception_text fs ++ ending c) =
+    cc in
     let level = same_level e.1 f.1 (44 ∷ (flat_map exception_text es ++ ending d)) (44 ∷ (flat_map exception_text fs ++ ending c)) levels in
-    let after = (same_parts 44 (level_text e.1) (level_text f.1) (44 ∷ (flat_map exception_text es ++ ending d)) (44 ∷ (flat_map exception_text fs ++ ending c)) (lacks-level_comma e.1) (lacks-level_comma f.1) refl refl levels).1 in
+    let after =
+    (same_parts 44 (level_text e.1) (level_text f.1) (44 ∷ (flat_map exception_text es ++ ending d))
+    (44 ∷ (flat_map exception_text fs ++ ending c)) (lacks-level_comma e.1) (lacks-level_comma f.1) refl refl
+    levels).1 in
     let tails : flat_map exception_text es ++ ending d ≡ flat_map exception_text fs ++ ending c = cc in
     let others = same_exceptions es fs d c p.1 q.1 tails in
     (λ i. (category i, level i) ∷ others.0 i, others.1)
@@ -97,7 +109,9 @@ same_label L M p q e =
     let left : label_text L ≡ 123 ∷ (flat_map exception_text (exceptions_of L) ++ ending (default_of L)) = simp append_assoc in
     let right : label_text M ≡ 123 ∷ (flat_map exception_text (exceptions_of M) ++ ending (default_of M)) = simp append_assoc in
     let whole = sym left ∙ e ∙ right in
-    let tails : flat_map exception_text (exceptions_of L) ++ ending (default_of L) ≡ flat_map exception_text (exceptions_of M) ++ ending (default_of M) = cc in
+    let tails : flat_map exception_text (exceptions_of L) ++ ending (default_of L)
+    ≡ flat_map exception_text (exceptions_of M) ++ ending (default_of M) =
+    cc in
     let parts = same_exceptions (exceptions_of L) (exceptions_of M) (default_of L) (default_of M) p q tails in
     same_lists L M parts.1 parts.0
 
@@ -114,5 +128,7 @@ lacks-exceptions (e ∷ es) p =
 pub lacks-label : (L : Levels) → IsWritableLabel L → lacks 32 (label_text L) ≡ true
 lacks-label L p =
     let exceptions = lacks-append 32 (123 ∷ []) (flat_map exception_text (exceptions_of L)) refl (lacks-exceptions (exceptions_of L) p) in
-    let default = lacks-append 32 (123 ∷ flat_map exception_text (exceptions_of L)) (level_text (default_of L)) exceptions (lacks-level_space (default_of L)) in
+    let default =
+    lacks-append 32 (123 ∷ flat_map exception_text (exceptions_of L)) (level_text (default_of L)) exceptions
+    (lacks-level_space (default_of L)) in
     lacks-append 32 (123 ∷ flat_map exception_text (exceptions_of L) ++ level_text (default_of L)) (125 ∷ []) default refl

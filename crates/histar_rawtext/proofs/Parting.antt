@@ -20,7 +20,8 @@ head_apart : (b s : ℕ) (text : List ℕ) → lacks s (b ∷ text) ≡ true →
 head_apart b s text h = apart b s (and_parts (not (eqb b s)) (lacks s text) h).0
 
 -- what stands before the first s is told by the text, and so is what stands from there on
-pub same_parts : (s : ℕ) (v w rest others : List ℕ) → lacks s v ≡ true → lacks s w ≡ true → BeginsWith s rest → BeginsWith s others → v ++ rest ≡ w ++ others → (v ≡ w) × (rest ≡ others)
+pub same_parts : (s : ℕ) (v w rest others : List ℕ) → lacks s v ≡ true → lacks s w ≡ true → BeginsWith s rest
+    → BeginsWith s others → v ++ rest ≡ w ++ others → (v ≡ w) × (rest ≡ others)
 same_parts s [] [] rest others lv lw br bo e = (refl, e)
 same_parts s [] (c ∷ w) [] others lv lw br bo e = absurd cc
 same_parts s [] (c ∷ w) (b ∷ rest) others lv lw br bo e = let same : c ≡ s = cc in absurd (head_apart c s w lw same)

@@ -1,5 +1,6 @@
 -- Labels, bytes and what a gate gives are read from their texts.
-use Rattle.std.proofs.Common.{◌≡◌, ℕ, ◌+◌, ◌*◌, ◌/◌, ◌%◌, ◌<◌, ◌≤◌, ◌^◌, true, nat_lt, ◌&&◌, List, [], ◌∷◌, ◌++◌, map, length, codes, Some, Ok, refl, ap, ◌∙◌, arith}
+use Rattle.std.proofs.Common.{◌≡◌, ℕ, ◌+◌, ◌*◌, ◌/◌, ◌%◌, ◌<◌, ◌≤◌, ◌^◌, true, nat_lt, ◌&&◌, List, [], ◌∷◌, ◌++◌, map, length, codes, Some, Ok, refl}
+use Rattle.std.proofs.Common.{ap, ◌∙◌, arith}
 use Rattle.std.specs.Prelude.{◌==◌}
 use Rattle.std.specs.List.{flat_map, slice_split, AllByRecursion, list_all}
 use Rattle.std.specs.Fmt.{decimal}
@@ -75,7 +76,13 @@ category_again c low small = rw (number_again c small, le-leb 1 c low, le-leb c 
 -- an exception is read from its text
 exception_again : (e : ℕ × Level) → IsRight e → exception_in (part e) ≡ Some e
 unfolding exception_in
-exception_again e p = rw (split_before 58 (decimal e.0) (level_text e.1) (lacks-decimal 58 e.0 colon_is_no_digit p.1), category_again e.0 p.0 p.1, level_again e.1) refl
+exception_again e p =
+    rw (
+      split_before 58 (decimal e.0) (level_text e.1) (lacks-decimal 58 e.0 colon_is_no_digit p.1),
+      category_again e.0
+          p.0 p.1,
+      level_again e.1,
+    ) refl
 
 -- a comma is no digit
 comma_is_no_digit : IsNoDigit 44
@@ -94,11 +101,14 @@ ending_lacks L2 = refl
 ending_lacks L3 = refl
 
 -- the parts of a label between commas
-parts_again : (es : List (ℕ × Level)) (d : Level) → AllByRecursion IsRight es → slice_split (λ c. c == 44) (flat_map exception_text es ++ ending d) ≡ map part es ++ ending d ∷ []
+parts_again : (es : List (ℕ × Level)) (d : Level) → AllByRecursion IsRight es
+    → slice_split (λ c. c == 44) (flat_map exception_text es ++ ending d) ≡ map part es ++ ending d ∷ []
 parts_again [] d p = part_alone (ending d) (ending_lacks d)
 parts_again (e ∷ es) d p =
     let front : flat_map exception_text (e ∷ es) ++ ending d ≡ part e ++ 44 ∷ (flat_map exception_text es ++ ending d) = simp append_assoc in
-    ap (slice_split (λ c. c == 44)) front ∙ part_before (part e) (flat_map exception_text es ++ ending d) (part_lacks e p.0) ∙ ap (λ texts. part e ∷ texts) (parts_again es d p.1)
+    ap (slice_split (λ c. c == 44)) front
+    ∙ part_before (part e) (flat_map exception_text es ++ ending d) (part_lacks e p.0)
+    ∙ ap (λ texts. part e ∷ texts) (parts_again es d p.1)
 
 -- the default is read from the last part
 default_again : (d : Level) → level_in (ending d) ≡ Some d
@@ -109,7 +119,8 @@ default_again L2 = refl
 default_again L3 = refl
 
 -- the exceptions are added to the default
-exceptions_again : (es : List (ℕ × Level)) (d : Level) → AllByRecursion IsRight es → with_exceptions (map part es) (Some (constant d)) ≡ Some (from_exceptions d es)
+exceptions_again : (es : List (ℕ × Level)) (d : Level) → AllByRecursion IsRight es
+    → with_exceptions (map part es) (Some (constant d)) ≡ Some (from_exceptions d es)
 exceptions_again [] d p = refl
 exceptions_again (e ∷ es) d p =
     ap (with_exceptions (part e ∷ [])) (exceptions_again es d p.1) ∙ one_added (part e) (from_exceptions d es) e.0 e.1 (exception_again e p.0)

@@ -10,7 +10,8 @@ use Rattle.histar_object.specs.declared.objects.Entry.TheVariants.{Login, Mark}
 use Rattle.histar_rules.specs.declared.raw.Denied.{Denied}
 use Rattle.histar_rules.specs.declared.raw.Denied.TheVariants.{Observe, Modify, Range, Gate, NoEntry, NoThread, BadKind, TooBig}
 use Rattle.histar_rules.specs.declared.raw.RawCall.{RawCall}
-use Rattle.histar_rules.specs.declared.raw.RawCall.TheVariants.{MakeCategory, OwnLabel, SetLabel, SetClearance, MakeSegment, MakeContainer, MakeThread, MakeGate, Enter, Read, Write, Unlink, LabelOf}
+use Rattle.histar_rules.specs.declared.raw.RawCall.TheVariants.{MakeCategory, OwnLabel, SetLabel, SetClearance, MakeSegment, MakeContainer}
+use Rattle.histar_rules.specs.declared.raw.RawCall.TheVariants.{MakeThread, MakeGate, Enter, Read, Write, Unlink, LabelOf}
 use Rattle.histar_syscall.specs.declared.answers.Answer.{Answer}
 use Rattle.histar_syscall.specs.declared.answers.Answer.TheVariants as answers
 use Rattle.histar_syscall.specs.declared.trace.TraceEntry.{TraceEntry}
@@ -90,7 +91,8 @@ call_words (MakeSegment container label bytes) = number_word container ++ label_
 call_words (MakeContainer container label) = number_word container ++ label_word label
 call_words (MakeThread container label clearance) = number_word container ++ label_word label ++ label_word clearance
 call_words (MakeGate container label clearance entry) = number_word container ++ label_word label ++ label_word clearance ++ entry_word entry
-call_words (Enter container gate wanted clearance shown) = number_word container ++ number_word gate ++ label_word wanted ++ label_word clearance ++ label_word shown
+call_words (Enter container gate wanted clearance shown) =
+    number_word container ++ number_word gate ++ label_word wanted ++ label_word clearance ++ label_word shown
 call_words (Read container segment) = number_word container ++ number_word segment
 call_words (Write container segment keep bytes) = number_word container ++ number_word segment ++ number_word keep ++ bytes_word bytes
 call_words (Unlink container object) = number_word container ++ number_word object
@@ -122,7 +124,9 @@ outcome_text (Some denied) = denied_text denied
 
 -- the line of an entry of the trace: where the call was made, the call of the thread, and what became of it
 abbrev pub trace_line : TraceEntry → List ℕ
-trace_line entry = codes "@" ++ decimal entry.line ++ codes " " ++ thread_call_text entry.thread entry.call ++ codes " = " ++ outcome_text entry.denied ++ codes "\n"
+trace_line entry =
+    codes "@" ++ decimal entry.line ++ codes " " ++ thread_call_text entry.thread entry.call ++ codes " = "
+    ++ outcome_text entry.denied ++ codes "\n"
 
 -- the trace: the lines of its entries
 abbrev pub trace_text : List TraceEntry → List ℕ

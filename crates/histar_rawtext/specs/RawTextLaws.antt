@@ -5,7 +5,8 @@ use Rattle.histar_label.specs.Levels.{Levels, exceptions_of}
 use Rattle.histar_object.specs.declared.objects.Entry.{Entry}
 use Rattle.histar_object.specs.declared.objects.Entry.TheVariants.{Login, Mark}
 use Rattle.histar_rules.specs.declared.raw.RawCall.{RawCall}
-use Rattle.histar_rules.specs.declared.raw.RawCall.TheVariants.{MakeCategory, OwnLabel, SetLabel, SetClearance, MakeSegment, MakeContainer, MakeThread, MakeGate, Enter, Read, Write, Unlink, LabelOf}
+use Rattle.histar_rules.specs.declared.raw.RawCall.TheVariants.{MakeCategory, OwnLabel, SetLabel, SetClearance, MakeSegment, MakeContainer}
+use Rattle.histar_rules.specs.declared.raw.RawCall.TheVariants.{MakeThread, MakeGate, Enter, Read, Write, Unlink, LabelOf}
 use Rattle.histar_rawtext.specs.RawText.{thread_call_text}
 
 -- a number of 64 bits
@@ -31,7 +32,8 @@ IsWritable (MakeSegment container label bytes) = IsNumber container × IsWritabl
 IsWritable (MakeContainer container label) = IsNumber container × IsWritableLabel label
 IsWritable (MakeThread container label clearance) = IsNumber container × IsWritableLabel label × IsWritableLabel clearance
 IsWritable (MakeGate container label clearance entry) = IsNumber container × IsWritableLabel label × IsWritableLabel clearance × IsWritableEntry entry
-IsWritable (Enter container gate wanted clearance shown) = IsNumber container × IsNumber gate × IsWritableLabel wanted × IsWritableLabel clearance × IsWritableLabel shown
+IsWritable (Enter container gate wanted clearance shown) =
+    IsNumber container × IsNumber gate × IsWritableLabel wanted × IsWritableLabel clearance × IsWritableLabel shown
 IsWritable (Read container segment) = IsNumber container × IsNumber segment
 IsWritable (Write container segment keep bytes) = IsNumber container × IsNumber segment × IsNumber keep
 IsWritable (Unlink container object) = IsNumber container × IsNumber object
@@ -39,4 +41,6 @@ IsWritable (LabelOf container object) = IsNumber container × IsNumber object
 
 -- two raw calls of threads that have one text are the same call of the same thread
 abbrev pub TextsDetermineCalls : Type 0
-TextsDetermineCalls = (t u : ℕ) (a b : RawCall) → IsNumber t → IsNumber u → IsWritable a → IsWritable b → thread_call_text t a ≡ thread_call_text u b → (t ≡ u) × (a ≡ b)
+TextsDetermineCalls =
+    (t u : ℕ) (a b : RawCall) → IsNumber t → IsNumber u → IsWritable a → IsWritable b
+    → thread_call_text t a ≡ thread_call_text u b → (t ≡ u) × (a ≡ b)

@@ -5,7 +5,8 @@ use Rattle.histar_label.specs.Levels.{Levels, NamesOnlyMade}
 use Rattle.histar_object.specs.declared.objects.Entry.{Entry}
 use Rattle.histar_object.specs.declared.objects.Entry.TheVariants.{Login, Mark}
 use Rattle.histar_rules.specs.declared.raw.RawCall.{RawCall}
-use Rattle.histar_rules.specs.declared.raw.RawCall.TheVariants.{MakeCategory, OwnLabel, SetLabel, SetClearance, MakeSegment, MakeContainer, MakeThread, MakeGate, Enter, Read, Write, Unlink, LabelOf}
+use Rattle.histar_rules.specs.declared.raw.RawCall.TheVariants.{MakeCategory, OwnLabel, SetLabel, SetClearance, MakeSegment, MakeContainer}
+use Rattle.histar_rules.specs.declared.raw.RawCall.TheVariants.{MakeThread, MakeGate, Enter, Read, Write, Unlink, LabelOf}
 use Rattle.histar_rawtext.specs.RawText.{thread_call_text}
 use Rattle.histar_rawtext.specs.RawTextLaws.{IsNumber}
 
@@ -32,7 +33,8 @@ IsReadable (MakeSegment container label bytes) = IsNumber container × IsReadabl
 IsReadable (MakeContainer container label) = IsNumber container × IsReadableLabel label
 IsReadable (MakeThread container label clearance) = IsNumber container × IsReadableLabel label × IsReadableLabel clearance
 IsReadable (MakeGate container label clearance entry) = IsNumber container × IsReadableLabel label × IsReadableLabel clearance × IsReadableEntry entry
-IsReadable (Enter container gate wanted clearance shown) = IsNumber container × IsNumber gate × IsReadableLabel wanted × IsReadableLabel clearance × IsReadableLabel shown
+IsReadable (Enter container gate wanted clearance shown) =
+    IsNumber container × IsNumber gate × IsReadableLabel wanted × IsReadableLabel clearance × IsReadableLabel shown
 IsReadable (Read container segment) = IsNumber container × IsNumber segment
 IsReadable (Write container segment keep bytes) = IsNumber container × IsNumber segment × (keep < 2 ^ 32) × AreBytes bytes
 IsReadable (Unlink container object) = IsNumber container × IsNumber object

@@ -3,7 +3,9 @@ ghost use Rattle.std.specs.Prelude.{◌≡◌, IfOk};
 ghost use Rattle.std.specs.Option.{option_copied};
 ghost use Rattle.histar_rawtext.specs.Outcome.{Gives};
 ghost use Rattle.histar_rawtext.specs.Readable.{IsReadAs};
-ghost use Rattle.histar_rawtext.specs.Reading.{make_segment_in, make_container_in, make_thread_in, make_gate_in, enter_in, write_in, pair_in, own_label_in, pair_named, making_named, call_named, thread_call_in};
+ghost use Rattle.histar_rawtext.specs.Reading.{make_segment_in, make_container_in, make_thread_in, make_gate_in, enter_in};
+ghost use Rattle.histar_rawtext.specs.Reading.{write_in, pair_in, own_label_in, pair_named, making_named, call_named};
+ghost use Rattle.histar_rawtext.specs.Reading.{thread_call_in};
 
 use crate::raw_calls::write_call;
 use crate::read_labels::read_handed;

@@ -17,7 +17,8 @@ use Rattle.histar_readout.specs.declared.process.ProcessNode.{ProcessNode}
 use Rattle.histar_readout.specs.declared.process.ProcessError.{ProcessError}
 use Rattle.histar_readout.specs.declared.process.ProcessError.TheVariants.{NoProcess, OutOfMemory}
 use Rattle.histar_readout.specs.Process.{node_in}
-use Rattle.histar_readout.specs.Processes.{Found, child_of, children_of, all_of, processes_at, levels_at, AreProcessesOf, HasNoProcesses, Adds, AddsProcesses}
+use Rattle.histar_readout.specs.Processes.{Found, child_of, children_of, all_of, processes_at, levels_at, AreProcessesOf, HasNoProcesses, Adds}
+use Rattle.histar_readout.specs.Processes.{AddsProcesses}
 
 -- processes before others, if there are others
 abbrev before : List ProcessNode → Option (List ProcessNode) → Option (List ProcessNode)
@@ -67,7 +68,9 @@ module _ (accounts : Accounts) (s : State) (me : ProcName) (segment born : ℕ) 
   }
 
   -- the next birth comes before the later ones
-  next_birth : (births : ℕ) → births < born → later births (born - births) ≡ cons_option (child_of s segment (births + 1)) (later (births + 1) (born - (births + 1)))
+  next_birth : (births : ℕ) → births < born
+      → later births (born - births)
+      ≡ cons_option (child_of s segment (births + 1)) (later (births + 1) (born - (births + 1)))
   next_birth births fits =
       let more : born - births ≡ suc (born - (births + 1)) = omega (arith, fits) in
       ap (later births) more
@@ -77,28 +80,42 @@ module _ (accounts : Accounts) (s : State) (me : ProcName) (segment born : ℕ) 
     pub adds_nothing : child_of s segment (births + 1) ≡ None → AddsBirths (births + 1) old mid
     adds_nothing none = record {
       added = so_far.added;
-      parts = so_far.parts ∙ ap (λ (cs : List Child). before so_far.added (all_of below me cs)) (next_birth births fits ∙ ap (λ (c : Option Child). cons_option c (later (births + 1) (born - (births + 1)))) none);
+      parts =
+          so_far.parts
+          ∙ ap (λ (cs : List Child). before so_far.added (all_of below me cs))
+          (next_birth births fits
+          ∙ ap (λ (c : Option Child). cons_option c (later (births + 1) (born - (births + 1)))) none);
       grown = so_far.grown;
     }
 
     module _ (child : Child) (listed : child_of s segment (births + 1) ≡ Some child) where
       left_from : left births ≡ (below (child.number ∷ me) (home_of child) >>= λ first. left (births + 1) >>= λ rest. Some (first ++ rest))
-      left_from = ap (all_of below me) (next_birth births fits ∙ ap (λ (c : Option Child). cons_option c (later (births + 1) (born - (births + 1)))) listed)
+      left_from =
+          ap (all_of below me) (next_birth births fits
+          ∙ ap (λ (c : Option Child). cons_option c (later (births + 1) (born - (births + 1)))) listed)
 
       -- its processes are added
-      adds_more : (first : List ProcessNode) → below (child.number ∷ me) (home_of child) ≡ Some first → new ≡ mid ++ first → AddsBirths (births + 1) old new
+      adds_more : (first : List ProcessNode) → below (child.number ∷ me) (home_of child) ≡ Some first
+          → new ≡ mid ++ first → AddsBirths (births + 1) old new
       adds_more first there more = record {
         added = so_far.added ++ first;
         parts =
             so_far.parts
-            ∙ ap (before so_far.added) (left_from ∙ ap (λ (o : Option (List ProcessNode)). o >>= λ first. left (births + 1) >>= λ rest. Some (first ++ rest)) there ∙ before_rest first (left (births + 1)))
+            ∙ ap (before so_far.added) (left_from
+            ∙ ap (λ (o : Option (List ProcessNode)).
+            o >>= λ first. left (births + 1) >>= λ rest. Some (first ++ rest)) there
+            ∙ before_rest first (left (births + 1)))
             ∙ before_both so_far.added first (left (births + 1));
         grown = more ∙ ap (λ (l : List ProcessNode). l ++ first) so_far.grown ∙ append_assoc old so_far.added first;
       }
 
       -- and where there are none, the children have none
       adds_no_more : below (child.number ∷ me) (home_of child) ≡ None → all_of below me (children_of s segment born) ≡ None
-      adds_no_more none = so_far.parts ∙ ap (before so_far.added) (left_from ∙ ap (λ (o : Option (List ProcessNode)). o >>= λ first. left (births + 1) >>= λ rest. Some (first ++ rest)) none)
+      adds_no_more none =
+          so_far.parts
+          ∙ ap (before so_far.added) (left_from
+          ∙ ap (λ (o : Option (List ProcessNode)).
+          o >>= λ first. left (births + 1) >>= λ rest. Some (first ++ rest)) none)
 
   -- after the last birth all were added
   pub adds_all : (births : ℕ) (old new : List ProcessNode) → births ≡ born → AddsBirths births old new → AddsChildren old new (Ok tt)
@@ -108,48 +125,74 @@ module _ (accounts : Accounts) (s : State) (me : ProcName) (segment born : ℕ) 
       (so_far.added, so_far.parts ∙ ap (before so_far.added) none ∙ ap Some (append-nil so_far.added), so_far.grown)
 
 -- a process, and then those of its children, are its processes
-module _ (accounts : Accounts) (s : State) (me : ProcName) (home : Home) (node : ProcessNode) (read : node_in accounts s me home ≡ Some node) (old mid new : List ProcessNode) (pushed : mid ≡ old ++ node ∷ []) where
-  -- they are found so
-  begins : processes_at (levels_at me) accounts s me home ≡ (all_of (processes_at (most_numbers - length me) accounts s) me (children_of s home.segment node.born) >>= λ rest. Some (node ∷ rest))
-  begins = ap (λ (x : Option ProcessNode). x >>= λ first. all_of (processes_at (most_numbers - length me) accounts s) me (children_of s home.segment first.born) >>= λ rest. Some (first ∷ rest)) read
+module _ (accounts : Accounts) (s : State) (me : ProcName) (home : Home) (node : ProcessNode)
+    (read : node_in accounts s me home ≡ Some node) (old mid new : List ProcessNode) (pushed : mid ≡ old ++ node ∷ [])
+  where
+    -- they are found so
+    begins : processes_at (levels_at me) accounts s me home
+        ≡ (all_of (processes_at (most_numbers - length me) accounts s) me (children_of s home.segment node.born) >>= λ
+        rest. Some (node ∷ rest))
+    begins =
+        ap (λ (x : Option ProcessNode). x >>= λ first. all_of (processes_at (most_numbers - length me) accounts s) me
+        (children_of s home.segment first.born) >>= λ rest. Some (first ∷ rest)) read
 
-  pub after_node : (result : Result (Unit {0}) ProcessError) → AddsChildren accounts s me home.segment node.born mid new result → AddsProcesses accounts s me home old new result
-  after_node (Ok done) added =
-      (node ∷ added.0, begins ∙ ap (λ (x : Option (List ProcessNode)). x >>= λ rest. Some (node ∷ rest)) added.1, added.2 ∙ ap (λ (l : List ProcessNode). l ++ added.0) pushed ∙ append_assoc old (node ∷ []) added.0)
-  after_node (Err NoProcess) none = begins ∙ ap (λ (x : Option (List ProcessNode)). x >>= λ rest. Some (node ∷ rest)) none
-  after_node (Err OutOfMemory) none = tt
+    pub after_node : (result : Result (Unit {0}) ProcessError)
+        → AddsChildren accounts s me home.segment node.born mid new result
+        → AddsProcesses accounts s me home old new result
+    after_node (Ok done) added = (
+      node ∷ added.0,
+      begins
+          ∙ ap (λ (x : Option (List ProcessNode)). x >>= λ rest. Some (node ∷ rest)) added.1,
+      added.2
+          ∙ ap (λ (l : List ProcessNode). l ++ added.0) pushed ∙ append_assoc old (node ∷ []) added.0,
+    )
+    after_node (Err NoProcess) none = begins ∙ ap (λ (x : Option (List ProcessNode)). x >>= λ rest. Some (node ∷ rest)) none
+    after_node (Err OutOfMemory) none = tt
 
-module _ (accounts : Accounts) (s : State) (me : ProcName) (segment born births : ℕ) (old mid new : List ProcessNode) (fits : births < born) (so_far : AddsBirths accounts s me segment born births old mid) (child : Child) (listed : child_of s segment (births + 1) ≡ Some child) where
+module _ (accounts : Accounts) (s : State) (me : ProcName) (segment born births : ℕ) (old mid new : List ProcessNode)
+    (fits : births < born) (so_far : AddsBirths accounts s me segment born births old mid) (child : Child)
+    (listed : child_of s segment (births + 1) ≡ Some child) where
   -- at the last level a child has no processes
   pub no_level_more : length me ≡ most_numbers → AddsChildren accounts s me segment born old mid (Err NoProcess)
   no_level_more last =
       let no_level : most_numbers - length me ≡ 0 = omega (arith, last) in
-      adds_no_more accounts s me segment born births old mid mid fits so_far child listed (ap (λ (n : ℕ). processes_at n accounts s (child.number ∷ me) (home_of child)) no_level)
+      adds_no_more accounts s me segment born births old mid mid fits so_far child listed
+      (ap (λ (n : ℕ). processes_at n accounts s (child.number ∷ me) (home_of child)) no_level)
 
-  module _ (fewer : length me ≤ most_numbers) (inner : length me ≢ most_numbers) (name : ProcName) (home : Home) (named : name ≡ child.number ∷ me) (found : home ≡ home_of child) where
+  module _ (fewer : length me ≤ most_numbers) (inner : length me ≢ most_numbers) (name : ProcName) (home : Home)
+      (named : name ≡ child.number ∷ me) (found : home ≡ home_of child) where
     -- a child of a process that may have children stands a level below it
-    at_child : processes_at (levels_at name) accounts s name home ≡ processes_at (most_numbers - length me) accounts s (child.number ∷ me) (home_of child)
+    at_child : processes_at (levels_at name) accounts s name home
+        ≡ processes_at (most_numbers - length me) accounts s (child.number ∷ me) (home_of child)
     at_child =
         let level : levels_at (child.number ∷ me) ≡ most_numbers - length me = omega (arith, fewer, inner) in
-        (λ i. processes_at (levels_at (named i)) accounts s (named i) (found i)) ∙ ap (λ (n : ℕ). processes_at n accounts s (child.number ∷ me) (home_of child)) level
+        (λ i. processes_at (levels_at (named i)) accounts s (named i) (found i))
+        ∙ ap (λ (n : ℕ). processes_at n accounts s (child.number ∷ me) (home_of child)) level
 
     -- the processes of the next child are added
     pub child_more : AddsProcesses accounts s name home mid new (Ok tt) → AddsBirths accounts s me segment born (births + 1) old new
     child_more one = adds_more accounts s me segment born births old mid new fits so_far child listed one.0 (sym at_child ∙ one.1) one.2
 
-    failed : (error : ProcessError) → AddsProcesses accounts s name home mid new (Err error) → AddsChildren accounts s me segment born old new (Err error)
+    failed : (error : ProcessError) → AddsProcesses accounts s name home mid new (Err error)
+        → AddsChildren accounts s me segment born old new (Err error)
     failed NoProcess none = adds_no_more accounts s me segment born births old mid new fits so_far child listed (sym at_child ∙ none)
     failed OutOfMemory none = tt
 
     -- and where it has none, the addition fails so
-    pub fails_below : (error : ProcessError) (result : Result (Unit {0}) ProcessError) → IsErrAnd result (λ e. e ≡ error) → AddsProcesses accounts s name home mid new (Err error) → AddsChildren accounts s me segment born old new result
+    pub fails_below : (error : ProcessError) (result : Result (Unit {0}) ProcessError)
+        → IsErrAnd result (λ e. e ≡ error) → AddsProcesses accounts s name home mid new (Err error)
+        → AddsChildren accounts s me segment born old new result
     fails_below error result gave none =
         let given = err_from_is_err_and result gave in
         subst (AddsChildren accounts s me segment born old new) (sym (given.1 ∙ ap Err given.2)) (failed error none)
 
-module _ (accounts : Accounts) (s : State) (roots : Roots) (name : ProcName) (zero : name ≡ []) (old new : List ProcessNode) (result : Result (Unit {0}) ProcessError) (added : AddsProcesses accounts s name roots.home old new result) where
+module _ (accounts : Accounts) (s : State) (roots : Roots) (name : ProcName) (zero : name ≡ [])
+    (old new : List ProcessNode) (result : Result (Unit {0}) ProcessError)
+    (added : AddsProcesses accounts s name roots.home old new result) where
   at_zero : (r : Result (Unit {0}) ProcessError) → result ≡ r → AddsProcesses accounts s [] roots.home old new r
-  at_zero r is = subst (AddsProcesses accounts s [] roots.home old new) is (subst (λ (me : ProcName). AddsProcesses accounts s me roots.home old new result) zero added)
+  at_zero r is =
+      subst (AddsProcesses accounts s [] roots.home old new) is
+      (subst (λ (me : ProcName). AddsProcesses accounts s me roots.home old new result) zero added)
 
   -- the processes from process 0 on are those of the state
   pub processes_added : (done : Unit {0}) → result ≡ Ok done → old ≡ [] → AreProcessesOf accounts s roots new

@@ -1,5 +1,6 @@
 -- A walk from `/` on through a tree meets what stands there, by rising paths.
-use Rattle.std.specs.Prelude.{◌≡◌, ◌≢◌, ℕ, zero, suc, ◌+◌, ◌<◌, Bool, true, false, ◌||◌, cond, T, List, [], ◌∷◌, ◌++◌, length, Option, Some, None, is_some, refl}
+use Rattle.std.specs.Prelude.{◌≡◌, ◌≢◌, ℕ, zero, suc, ◌+◌, ◌<◌, Bool, true, false, ◌||◌, cond, T, List, [], ◌∷◌, ◌++◌, length, Option, Some, None}
+use Rattle.std.specs.Prelude.{is_some, refl}
 use Rattle.std.specs.List.{flat_map}
 use Rattle.std.proofs.Common.{◌⊎◌, arith, ap, inl, inr, sym, ◌∙◌, subst}
 use Rattle.std.proofs.lemmas.Bool.{true≢false, cases_Bool}
@@ -30,7 +31,9 @@ module _ {K X : Type 0} (R : K → K → Ordering) where
   find_second q [] ys none = refl
   find_second q (e ∷ xs) ys none = by (eq_by_cmp R q e.0) none (find_second q xs ys)
     where
-      by : (b : Bool) → cond b (Some e.1) (find R q xs) ≡ None → (find R q xs ≡ None → find R q (xs ++ ys) ≡ find R q ys) → cond b (Some e.1) (find R q (xs ++ ys)) ≡ find R q ys
+      by : (b : Bool) → cond b (Some e.1) (find R q xs) ≡ None
+          → (find R q xs ≡ None → find R q (xs ++ ys) ≡ find R q ys)
+          → cond b (Some e.1) (find R q (xs ++ ys)) ≡ find R q ys
       by true is rest = absurd (none-some e.1 (sym is))
       by false is rest = rest is
 
@@ -59,14 +62,17 @@ module _ {K X : Type 0} {R : K → K → Ordering} (total : IsTotalOrder R) (exa
   below_found k [] s h = tt
   below_found k (e ∷ es) s h =
       both (is_lt (R k e.0)) _ (subst (λ o. T (is_lt o)) (sym (h e.0 e.1 (find_first total exact e.0 e.1 es))) tt)
-      (below_found k es (second (below_all R e.0 es) _ s) (λ q x is. h q x (find_later total exact e.0 e.1 es q x (first (below_all R e.0 es) _ s) is)))
+      (below_found k es (second (below_all R e.0 es) _ s)
+      (λ q x is. h q x (find_later total exact e.0 e.1 es q x (first (below_all R e.0 es) _ s) is)))
 
   -- two lists rise together where each rises, and each key that is found in the one is below all of the other
-  sorted_both : (xs ys : List (K × X)) → T (is_sorted R xs) → T (is_sorted R ys) → ((q : K) (x : X) → find R q xs ≡ Some x → T (below_all R q ys)) → T (is_sorted R (xs ++ ys))
+  sorted_both : (xs ys : List (K × X)) → T (is_sorted R xs) → T (is_sorted R ys)
+      → ((q : K) (x : X) → find R q xs ≡ Some x → T (below_all R q ys)) → T (is_sorted R (xs ++ ys))
   sorted_both [] ys g h low = h
   sorted_both (e ∷ xs) ys g h low =
       both (below_all R e.0 (xs ++ ys)) _ (below_both R e.0 xs ys (first (below_all R e.0 xs) _ g) (low e.0 e.1 (find_first total exact e.0 e.1 xs)))
-      (sorted_both xs ys (second (below_all R e.0 xs) _ g) h (λ q x is. low q x (find_later total exact e.0 e.1 xs q x (first (below_all R e.0 xs) _ g) is)))
+      (sorted_both xs ys (second (below_all R e.0 xs) _ g) h
+      (λ q x is. low q x (find_later total exact e.0 e.1 xs q x (first (below_all R e.0 xs) _ g) is)))
 
 -- ---- paths below a path
 
@@ -136,15 +142,20 @@ turned ys [] p = refl
 turned ys (x ∷ s) p = turned (x ∷ ys) s p
 
 -- what lies under two entries of a directory is ordered first as the entries' names
-entries_decide : (q s t : Path) (n m : Name) → path_cmp (s ++ (n ∷ q)) (t ++ (m ∷ q)) ≡ ordering_then (by_bytes n m) (slice_cmp by_bytes (from_root s) (from_root t))
-entries_decide q s t n m = (λ i. slice_cmp by_bytes (turned [] s (n ∷ q) i) (turned [] t (m ∷ q) i)) ∙ ends_decide by_bytes nat_list_cmp_total q (n ∷ from_root s) (m ∷ from_root t)
+entries_decide : (q s t : Path) (n m : Name)
+    → path_cmp (s ++ (n ∷ q)) (t ++ (m ∷ q))
+    ≡ ordering_then (by_bytes n m) (slice_cmp by_bytes (from_root s) (from_root t))
+entries_decide q s t n m =
+    (λ i. slice_cmp by_bytes (turned [] s (n ∷ q) i) (turned [] t (m ∷ q) i))
+    ∙ ends_decide by_bytes nat_list_cmp_total q (n ∷ from_root s) (m ∷ from_root t)
 
 -- what lies under an entry is below what lies under a later one
 entries_apart : (q r u : Path) (n m : Name) → by_bytes n m ≡ Less → under_path (n ∷ q) r ≡ true → under_path (m ∷ q) u ≡ true → path_cmp r u ≡ Less
 entries_apart q r u n m low g h =
     let a = ending (n ∷ q) r g in
     let b = ending (m ∷ q) u h in
-    (λ i. path_cmp (a.1 i) (b.1 i)) ∙ entries_decide q a.0 b.0 n m ∙ ap (λ o. ordering_then o (slice_cmp by_bytes (from_root a.0) (from_root b.0))) low
+    (λ i. path_cmp (a.1 i) (b.1 i)) ∙ entries_decide q a.0 b.0 n m
+    ∙ ap (λ o. ordering_then o (slice_cmp by_bytes (from_root a.0) (from_root b.0))) low
 
 -- where two comparisons tie, the first does
 first_ties : (o p : Ordering) → ordering_then o p ≡ Equal → o ≡ Equal
@@ -171,14 +182,16 @@ not_other q r n m g other = elim (cases_Bool (under_path (m ∷ q) r)) [
 directory_first : (q r : Path) (n : Name) → under_path (n ∷ q) r ≡ true → path_cmp q r ≡ Less
 directory_first q r n h =
     let end = ending (n ∷ q) r h in
-    ap (path_cmp q) end.1 ∙ ap (slice_cmp by_bytes (from_root q)) (turned [] end.0 (n ∷ q)) ∙ ends_decide by_bytes nat_list_cmp_total q [] (n ∷ from_root end.0)
+    ap (path_cmp q) end.1 ∙ ap (slice_cmp by_bytes (from_root q)) (turned [] end.0 (n ∷ q))
+    ∙ ends_decide by_bytes nat_list_cmp_total q [] (n ∷ from_root end.0)
 
 -- ---- the entries of a directory
 
 module _ (d : Path) where
   -- an entry before others: it is one of the directory, or not
   one_node : (q : Path) (there : Node) (es : List (Path × Node))
-      → ((n : Name) × (q ≡ n ∷ d) × (nodes_in d ((q, there) ∷ es) ≡ (n, there) ∷ nodes_in d es)) ⊎ (((n : Name) → n ∷ d ≢ q) × (nodes_in d ((q, there) ∷ es) ≡ nodes_in d es))
+      → ((n : Name) × (q ≡ n ∷ d) × (nodes_in d ((q, there) ∷ es) ≡ (n, there) ∷ nodes_in d es))
+      ⊎ (((n : Name) → n ∷ d ≢ q) × (nodes_in d ((q, there) ∷ es) ≡ nodes_in d es))
   one_node [] there es = inr ((λ n e. cc), refl)
   one_node (m ∷ above) there es = elim (same_path_found d above) [
     | inl t ↦ inl (m, ap (λ (l : Path). m ∷ l) (sym t.1), simp t.0)
@@ -190,7 +203,8 @@ module _ (d : Path) where
   find_nodes n [] = refl
   find_nodes n (e ∷ es) = elim (one_node e.0 e.1 es) [
     | inl h ↦ ap (find by_bytes n) h.2
-        ∙ (λ i. cond (is_eq (sym (names_decide d n h.0) i)) (Some e.1) (find_nodes n es i)) ∙ ap (λ (q : Path). find path_cmp (n ∷ d) ((q, e.1) ∷ es)) (sym h.1)
+        ∙ (λ i. cond (is_eq (sym (names_decide d n h.0) i)) (Some e.1) (find_nodes n es i))
+        ∙ ap (λ (q : Path). find path_cmp (n ∷ d) ((q, e.1) ∷ es)) (sym h.1)
     | inr h ↦ ap (find by_bytes n) h.1 ∙ find_nodes n es ∙ sym (find_behind path_cmp_total path_cmp_exact (n ∷ d) e.0 e.1 es (h.0 n))
   ]
 
@@ -200,7 +214,8 @@ module _ (d : Path) where
   sorted_nodes (e ∷ es) s = elim (one_node e.0 e.1 es) [
     | inl h ↦
         let rest = sorted_nodes es (second (below_all path_cmp e.0 es) _ s) in
-        let low : T (below_all path_cmp (h.0 ∷ d) es) = subst (λ (q : Path). T (below_all path_cmp q es)) h.1 (first (below_all path_cmp e.0 es) _ s) in
+        let low : T (below_all path_cmp (h.0 ∷ d) es) =
+        subst (λ (q : Path). T (below_all path_cmp q es)) h.1 (first (below_all path_cmp e.0 es) _ s) in
         subst (λ (l : List (Name × Node)). T (is_sorted by_bytes l)) (sym h.2)
         (both (below_all by_bytes h.0 (nodes_in d es)) _
         (below_found nat_list_cmp_total antisymmetric h.0 (nodes_in d es) rest
@@ -235,16 +250,22 @@ module _ (f : Flat) where
   with_first : (q : Path) (node : Node) (l : List (Path × Node)) → get f.files q ≡ Some node → MeetsInner f q l → Meets f q ((q, node) ∷ l)
   with_first q node l is inner = record {
     sorted = both (below_all path_cmp q l) _ (below_found path_cmp_total path_cmp_exact q l inner.sorted (λ r x here. elim (place q r) [
-      | Here h ↦ absurd (none-some x (sym (inner.no_more r (λ n. ap (under_path (n ∷ q)) (sym h) ∙ above_is_not_under same same_path_found q n)) ∙ here))
+      | Here h ↦
+          absurd (none-some x (sym (inner.no_more r
+          (λ n. ap (under_path (n ∷ q)) (sym h) ∙ above_is_not_under same same_path_found q n)) ∙ here))
       | Inner n h ↦ directory_first q r n h
       | Elsewhere h ↦ absurd (none-some x (sym (inner.no_more r (λ n. not_inner n q r h)) ∙ here))
     ])) inner.sorted;
     found = λ r. elim (place q r) [
       | Here h ↦ subst (λ (u : Path). find path_cmp u ((q, node) ∷ l) ≡ cond (under_path q u) (get f.files u) None) h
           (find_first path_cmp_total path_cmp_exact q node l ∙ sym (ap (λ b. cond b (get f.files q) None) (under_itself same same_path_found q) ∙ is))
-      | Inner n h ↦ find_behind path_cmp_total path_cmp_exact r q node l (λ e. true≢false (sym h ∙ ap (under_path (n ∷ q)) e ∙ above_is_not_under same same_path_found q n))
+      | Inner n h ↦
+          find_behind path_cmp_total path_cmp_exact r q node l
+          (λ e. true≢false (sym h ∙ ap (under_path (n ∷ q)) e ∙ above_is_not_under same same_path_found q n))
           ∙ inner.found n r h ∙ sym (ap (λ b. cond b (get f.files r) None) (under_outer n q r h))
-      | Elsewhere h ↦ find_behind path_cmp_total path_cmp_exact r q node l (λ e. true≢false (sym (ap (under_path q) e ∙ under_itself same same_path_found q) ∙ h))
+      | Elsewhere h ↦
+          find_behind path_cmp_total path_cmp_exact r q node l
+          (λ e. true≢false (sym (ap (under_path q) e ∙ under_itself same same_path_found q) ∙ h))
           ∙ inner.no_more r (λ n. not_inner n q r h) ∙ sym (ap (λ b. cond b (get f.files r) None) h)
     ];
   }
@@ -263,14 +284,17 @@ module _ (f : Flat) (q : Path) (walk : Name × Node → List (Path × Node)) whe
   each_later c cs low each n x is = each n x (find_later nat_list_cmp_total antisymmetric c.0 c.1 cs n x low is)
 
   -- what lies under an entry is below the walks of later entries
-  below_walks : (n : Name) (r : Path) → under_path (n ∷ q) r ≡ true → (cs : List (Name × Node)) → T (is_sorted by_bytes cs) → T (below_all by_bytes n cs) → Each cs → T (below_all path_cmp r (flat_map walk cs))
+  below_walks : (n : Name) (r : Path) → under_path (n ∷ q) r ≡ true → (cs : List (Name × Node))
+      → T (is_sorted by_bytes cs) → T (below_all by_bytes n cs) → Each cs → T (below_all path_cmp r (flat_map walk cs))
   below_walks n r h [] s low each = tt
   below_walks n r h (c ∷ cs) s low each =
       let m = each_first c cs each in
       let apart = less (by_bytes n c.0) (first (is_lt (by_bytes n c.0)) _ low) in
       below_both path_cmp r (walk c) (flat_map walk cs)
-      (below_found path_cmp_total path_cmp_exact r (walk c) m.sorted (λ u x is. entries_apart q r u n c.0 apart h (found_under f (c.0 ∷ q) (walk c) m u x is)))
-      (below_walks n r h cs (second (below_all by_bytes c.0 cs) _ s) (second (is_lt (by_bytes n c.0)) _ low) (each_later c cs (first (below_all by_bytes c.0 cs) _ s) each))
+      (below_found path_cmp_total path_cmp_exact r (walk c) m.sorted
+      (λ u x is. entries_apart q r u n c.0 apart h (found_under f (c.0 ∷ q) (walk c) m u x is)))
+      (below_walks n r h cs (second (below_all by_bytes c.0 cs) _ s) (second (is_lt (by_bytes n c.0)) _ low)
+      (each_later c cs (first (below_all by_bytes c.0 cs) _ s) each))
 
   -- the walks of rising entries rise
   sorted_walks : (cs : List (Name × Node)) → T (is_sorted by_bytes cs) → Each cs → T (is_sorted path_cmp (flat_map walk cs))
@@ -298,16 +322,21 @@ module _ (f : Flat) (q : Path) (walk : Name × Node → List (Path × Node)) whe
       elim (same_name_found n c.0) [
         | inl e ↦
             let under : under_path (c.0 ∷ q) r ≡ true = ap (λ (k : Name). under_path (k ∷ q) r) (sym e.1) ∙ h in
-            let none : find by_bytes n cs ≡ None = ap (λ (k : Name). find by_bytes k cs) e.1 ∙ find_below nat_list_cmp_total antisymmetric c.0 cs low in
-            let one : find by_bytes n (c ∷ cs) ≡ Some c.1 = ap (λ (k : Name). find by_bytes k (c ∷ cs)) e.1 ∙ find_first nat_list_cmp_total antisymmetric c.0 c.1 cs in
+            let none : find by_bytes n cs ≡ None =
+            ap (λ (k : Name). find by_bytes k cs) e.1 ∙ find_below nat_list_cmp_total antisymmetric c.0 cs low in
+            let one : find by_bytes n (c ∷ cs) ≡ Some c.1 =
+            ap (λ (k : Name). find by_bytes k (c ∷ cs)) e.1 ∙ find_first nat_list_cmp_total antisymmetric c.0 c.1 cs in
             find_front path_cmp r (walk c) (flat_map walk cs) (rest ∙ ap (λ (o : Option Node). cond (is_some o) (get f.files r) None) none)
             ∙ m.found r ∙ ap (λ b. cond b (get f.files r) None) under ∙ sym (ap (λ (o : Option Node). cond (is_some o) (get f.files r) None) one)
         | inr e ↦ find_second path_cmp r (walk c) (flat_map walk cs) (missed c.0 r (walk c) m (not_other q r n c.0 h e.1))
-            ∙ rest ∙ sym (ap (λ (o : Option Node). cond (is_some o) (get f.files r) None) (find_behind nat_list_cmp_total antisymmetric n c.0 c.1 cs e.1))
+            ∙ rest
+            ∙ sym (ap (λ (o : Option Node). cond (is_some o) (get f.files r) None)
+            (find_behind nat_list_cmp_total antisymmetric n c.0 c.1 cs e.1))
       ]
 
   -- and no more
-  walks_miss : (r : Path) → ((n : Name) → under_path (n ∷ q) r ≡ false) → (cs : List (Name × Node)) → T (is_sorted by_bytes cs) → Each cs → find path_cmp r (flat_map walk cs) ≡ None
+  walks_miss : (r : Path) → ((n : Name) → under_path (n ∷ q) r ≡ false) → (cs : List (Name × Node))
+      → T (is_sorted by_bytes cs) → Each cs → find path_cmp r (flat_map walk cs) ≡ None
   walks_miss r out [] s each = refl
   walks_miss r out (c ∷ cs) s each =
       find_second path_cmp r (walk c) (flat_map walk cs) (missed c.0 r (walk c) (each_first c cs each) (out c.0))
@@ -331,7 +360,8 @@ module _ (f : Flat) (tree : IsTree f) where
       by (Some x) e = absurd (true≢false (sym (tree.below n q (ap (λ (o : Option Node). is_some_and o (λ n. true)) e)) ∙ file))
 
   -- the walks of the entries meet what stands under them; a file has none
-  entries_walked : (q : Path) (node : Node) (walk : Name × Node → List (Path × Node)) → get f.files q ≡ Some node → Each f q walk (nodes_in q f.files.entries)
+  entries_walked : (q : Path) (node : Node) (walk : Name × Node → List (Path × Node)) → get f.files q ≡ Some node
+      → Each f q walk (nodes_in q f.files.entries)
       → (b : Bool) → is_dir node ≡ b → MeetsInner f q (cond b (flat_map walk (nodes_in q f.files.entries)) [])
   entries_walked q node walk is each true dir =
       let rise = sorted_nodes q f.files.entries f.files.sorted in
@@ -346,7 +376,8 @@ module _ (f : Flat) (tree : IsTree f) where
       record { sorted = tt; found = λ n r h. sym (nothing_in q at n r h); no_more = λ r out. refl }
 
   -- a walk through enough levels meets what stands under a path
-  walk_meets : (most : ℕ) → AreShallow most f → (levels : ℕ) (q : Path) (node : Node) → get f.files q ≡ Some node → most < length q + levels → Meets f q (walked levels f.files.entries q node)
+  walk_meets : (most : ℕ) → AreShallow most f → (levels : ℕ) (q : Path) (node : Node) → get f.files q ≡ Some node
+      → most < length q + levels → Meets f q (walked levels f.files.entries q node)
   walk_meets most shallow zero q node is deep =
       let short = shallow q (ap (λ (o : Option Node). is_some_and o (λ n. true)) is) in
       absurd (omega arith)

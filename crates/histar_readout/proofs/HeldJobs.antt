@@ -77,7 +77,8 @@ module _ (category : Categories) (different : AreDifferent category) (known : Li
   fails : (c : ℕ) (l : Level) → is_star l ≡ false → test (c, l) ≡ false
   fails c l none = ap (λ b. b && not (is_member nat_eq (map category known) c)) none
 
-  module _ (no_job : (job : ProcName) → among known (OfJob job) ≡ false) (apart : (job : ProcName) → has chain job ≡ true → has held job ≡ false) where
+  module _ (no_job : (job : ProcName) → among known (OfJob job) ≡ false)
+      (apart : (job : ProcName) → has chain job ≡ true → has held job ≡ false) where
     not_known : (c : ℕ) → is_in (numbers held) c ≡ true → is_in (map category known) c ≡ false
     not_known c e =
         let name = named_in category (map OfJob held) c e in
@@ -92,21 +93,27 @@ module _ (category : Categories) (different : AreDifferent category) (known : Li
     not_tainted c e =
         let name = named_in category (map OfJob held) c e in
         let job = job_among held name.0 name.2 in
-        ap (is_in (numbers chain)) (name.1 ∙ ap category job.1) ∙ is_in_names category different (map OfJob chain) (OfJob job.0) ∙ among_jobs chain job.0
+        ap (is_in (numbers chain)) (name.1 ∙ ap category job.1)
+        ∙ is_in_names category different (map OfJob chain) (OfJob job.0) ∙ among_jobs chain job.0
         ∙ not_in_chain job.0 job.2 (has chain job.0) refl
 
     alike : (c : ℕ) → is_in (owned_beside (map category known) own) c ≡ is_in (numbers held) c
     alike c =
-        in_passed test own (λ d. fails d (default_of own) (ap is_star (default_owning (map category (known ++ map OfJob held)) (numbers chain)) ∙ no_star)) c
+        in_passed test own (λ d. fails d (default_of own)
+        (ap is_star (default_owning (map category (known ++ map OfJob held)) (numbers chain)) ∙ no_star)) c
         ∙ (λ i. is_star (level c i) && not (equal_to_one (map category known) c i))
         ∙ held_alone (is_in (map category known) c) (is_in (numbers held) c) (is_in (numbers chain) c) (not_known c) (not_tainted c)
 
     -- what such a label owns beside what is known are the held jobs, where these stand in order
-    pub beside_is : AreInOrder category held → owned_beside (map category known) (owner_label (map category (known ++ map OfJob held)) (map category (map OfJob chain))) ≡ job_numbers category held
+    pub beside_is : AreInOrder category held
+        → owned_beside (map category known)
+        (owner_label (map category (known ++ map OfJob held)) (map category (map OfJob chain)))
+        ≡ job_numbers category held
     beside_is in_order = one_rising 0 0 (owned_beside (map category known) own) (job_numbers category held) (passed_rise test own) in_order (λ c.
         alike c ∙ ap (λ (cs : List ℕ). is_in cs c) (map-map category OfJob held))
 
-module _ (accounts : Accounts) (s : State) (f : Flat) (l : ObjectsMatch accounts s f) (me : ProcName) (p : Process) (here : f.processes me ≡ Some p) (runs : p.exited ≡ None) where
+module _ (accounts : Accounts) (s : State) (f : Flat) (l : ObjectsMatch accounts s f) (me : ProcName) (p : Process)
+    (here : f.processes me ≡ Some p) (runs : p.exited ≡ None) where
   abbrev thread : Levels
   thread = rights_label l.category (thread_rights accounts me p)
 
@@ -118,10 +125,12 @@ module _ (accounts : Accounts) (s : State) (f : Flat) (l : ObjectsMatch accounts
 
   held_is : held_by accounts (caller_is accounts s f l me) thread ≡ job_numbers l.category p.held
   held_is =
-      ap (λ (kin : List ℕ). owned_beside (l.category (ReadsProcess me) ∷ l.category (WritesProcess me) ∷ kin) thread) (own_kin_is accounts s f l me p named)
+      ap (λ (kin : List ℕ). owned_beside (l.category (ReadsProcess me) ∷ l.category (WritesProcess me) ∷ kin) thread)
+      (own_kin_is accounts s f l me p named)
       ∙ beside_is l.category l.different (ReadsProcess me ∷ WritesProcess me ∷ as_user) p.held p.chain
       (λ job. none_as_user accounts me p job (user_number accounts p.user)) ((l.processes me p here).apart runs) ((l.processes me p here).held runs)
 
   -- It is shown as it is in the flat state.
-  pub running_is : running_by accounts (caller_is accounts s f l me) (rights_label l.category (thread_rights accounts me p)) ≡ Running p.user (job_numbers l.category p.held)
+  pub running_is : running_by accounts (caller_is accounts s f l me)
+      (rights_label l.category (thread_rights accounts me p)) ≡ Running p.user (job_numbers l.category p.held)
   running_is = λ i. Running ((ap (user_name accounts.users) (own_user_is accounts s f l me p) ∙ named) i) (held_is i)

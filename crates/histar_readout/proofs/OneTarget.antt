@@ -15,6 +15,7 @@ pub paths_lead_to_one_target : PathsLeadToOneTarget
 paths_lead_to_one_target s roots [] a b x y = x ∙ sym y
 paths_lead_to_one_target s roots (name ∷ d) a b x y =
     let above = paths_lead_to_one_target s roots d (Directory x.0 x.1) (Directory y.0 y.1) x.3 y.3 in
-    let listed : IsDirectory (bytes_in (s.objects x.1)) y.2 = subst (λ (g : ℕ). IsDirectory (bytes_in (s.objects g)) y.2) (sym (ap listing_in above)) y.4 in
+    let listed : IsDirectory (bytes_in (s.objects x.1)) y.2 =
+    subst (λ (g : ℕ). IsDirectory (bytes_in (s.objects g)) y.2) (sym (ap listing_in above)) y.4 in
     let same = same_directory (bytes_in (s.objects x.1)) x.2 y.2 x.4 listed in
     same_Some a b (sym x.5 ∙ ap (λ (dir : Entries). map.get dir name) same ∙ y.5)

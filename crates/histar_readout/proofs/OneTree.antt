@@ -22,7 +22,8 @@ abbrev IsOne : Listed → Type 0
 IsOne is_tree = (q : Path) (target : Target) (a b : List TreeNode) → is_tree q target a → is_tree q target b → a ≡ b
 
 -- then entries are one list of trees at most
-one_list : (is_tree : Listed) → IsOne is_tree → (d : Path) (entries : List (Name × Target)) (a b : List TreeNode) → AreListed is_tree d entries a → AreListed is_tree d entries b → a ≡ b
+one_list : (is_tree : Listed) → IsOne is_tree → (d : Path) (entries : List (Name × Target)) (a b : List TreeNode)
+    → AreListed is_tree d entries a → AreListed is_tree d entries b → a ≡ b
 one_list is_tree one d [] a b g h = g ∙ sym h
 one_list is_tree one d (e ∷ entries) a b g h =
     let first = one (e.0 ∷ d) e.1 g.0 h.0 g.2 h.2 in
@@ -30,7 +31,8 @@ one_list is_tree one d (e ∷ entries) a b g h =
     g.4 ∙ (λ i. first i ++ rest i) ∙ sym h.4
 
 -- and one list of trees at most is below a path
-one_below : (is_tree : Listed) → IsOne is_tree → (s : State) (q : Path) (target : Target) (a b : List TreeNode) → IsBelow is_tree s q target a → IsBelow is_tree s q target b → a ≡ b
+one_below : (is_tree : Listed) → IsOne is_tree → (s : State) (q : Path) (target : Target) (a b : List TreeNode)
+    → IsBelow is_tree s q target a → IsBelow is_tree s q target b → a ≡ b
 one_below is_tree one s q (File file) a b g h = g ∙ sym h
 one_below is_tree one s q (Directory container listing) a b g h =
     let same = same_directory (bytes_in (s.objects listing)) h.0 g.0 h.1 g.1 in
@@ -41,7 +43,8 @@ same_node : (a b : TreeNode) → a.path ≡ b.path → a.class ≡ b.class → a
 same_node a b path class target = λ i. record { path = path i; class = class i; target = target i }
 
 -- one node at most stands at a path
-one_node : (accounts : Accounts) (s : State) (q : Path) (target : Target) (a b : TreeNode) → IsNodeAt accounts s q target a → IsNodeAt accounts s q target b → a ≡ b
+one_node : (accounts : Accounts) (s : State) (q : Path) (target : Target) (a b : TreeNode)
+    → IsNodeAt accounts s q target a → IsNodeAt accounts s q target b → a ≡ b
 one_node accounts s q target a b g h =
     let label = same_Some g.label h.label (sym g.label_is ∙ h.label_is) in
     same_node a b (g.path_is ∙ sym h.path_is)

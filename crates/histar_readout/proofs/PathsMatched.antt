@@ -58,11 +58,15 @@ module _ (accounts : Accounts) (s : State) where
     nothing_led [] at target led = none-some _ (sym at ∙ (root_is_dir accounts s f l).1)
     nothing_led (n ∷ d) at target led =
         let above = directory_back accounts s f l d led.0 led.1 (led_directory d led.0 led.1 led.3) in
-        let same = same_directory (bytes_in (s.objects led.1)) (directory_of f.files l.naming.number d) led.2 (holds_directory accounts s f l d led.1 above.0 above.2) led.4 in
-        none-some target (sym (ap (target_at (n ∷ d)) at) ∙ sym (get_directory f.files l.naming.number d n) ∙ ap (λ (dir : Entries). map.get dir n) same ∙ led.5)
+        let same =
+        same_directory (bytes_in (s.objects led.1)) (directory_of f.files l.naming.number d) led.2
+        (holds_directory accounts s f l d led.1 above.0 above.2) led.4 in
+        none-some target (sym (ap (target_at (n ∷ d)) at) ∙ sym (get_directory f.files l.naming.number d n)
+        ∙ ap (λ (dir : Entries). map.get dir n) same ∙ led.5)
 
     -- and what stands there is where a path leads
-    node_led : (q : Path) (node : Node) → get f.files q ≡ Some node → (target : Target) → target_for l.naming.number (q, node) ≡ Some target → LeadsTo s roots q target
+    node_led : (q : Path) (node : Node) → get f.files q ≡ Some node → (target : Target)
+        → target_for l.naming.number (q, node) ≡ Some target → LeadsTo s roots q target
     node_led [] node at target leads =
         let root = root_is_dir accounts s f l in
         same_Some target _ (sym leads ∙ ap (target_at []) (sym at ∙ root.1) ∙ slash_leads accounts s f l root.0)
@@ -70,7 +74,9 @@ module _ (accounts : Accounts) (s : State) where
         let dir = parent_is_dir accounts s f l n d node at in
         let parent = node_there (get f.files d) dir in
         let to = some_unless_none (target_for l.naming.number (d, parent.0)) (entry_leads accounts s f l d parent.0 parent.1) in
-        let numbers = led_to_directory (l.naming.number (address_of d)) (l.naming.number (Listing ∷ address_of d)) to.0 (sym (leads_to l.naming.number d (get f.files d) dir) ∙ ap (target_at d) parent.1 ∙ to.1) in (
+        let numbers =
+        led_to_directory (l.naming.number (address_of d)) (l.naming.number (Listing ∷ address_of d)) to.0
+        (sym (leads_to l.naming.number d (get f.files d) dir) ∙ ap (target_at d) parent.1 ∙ to.1) in (
           numbers.0,
           numbers.1,
           directory_of f.files l.naming.number d,
@@ -81,13 +87,21 @@ module _ (accounts : Accounts) (s : State) where
 
     module _ (q : Path) (class : Class) where
       -- it is of the same kind, and has the same bytes
-      same_kind : (content : Content) (target : Target) → target_for l.naming.number (q, record { class = class; content = content }) ≡ Some target → is_directory target ≡ is_dir (record { class = class; content = content })
-      same_kind Dir target leads = ap is_directory (sym (led_to_directory (l.naming.number (address_of q)) (l.naming.number (Listing ∷ address_of q)) target leads).2)
+      same_kind : (content : Content) (target : Target)
+          → target_for l.naming.number (q, record { class = class; content = content }) ≡ Some target
+          → is_directory target ≡ is_dir (record { class = class; content = content })
+      same_kind Dir target leads =
+          ap is_directory (sym (led_to_directory (l.naming.number (address_of q)) (l.naming.number (Listing ∷ address_of q)) target
+          leads).2)
       same_kind (File bytes) target leads = ap is_directory (sym (led_to_file (l.naming.number (address_of q)) target leads).1)
 
-      same_bytes : (content : Content) → get f.files q ≡ Some (record { class = class; content = content }) → (target : Target) → target_for l.naming.number (q, record { class = class; content = content }) ≡ Some target
+      same_bytes : (content : Content) → get f.files q ≡ Some (record { class = class; content = content })
+          → (target : Target)
+          → target_for l.naming.number (q, record { class = class; content = content }) ≡ Some target
           → file_bytes_at s target ≡ bytes_of (Some (record { class = class; content = content }))
-      same_bytes Dir at target leads = ap (file_bytes_at s) (sym (led_to_directory (l.naming.number (address_of q)) (l.naming.number (Listing ∷ address_of q)) target leads).2)
+      same_bytes Dir at target leads =
+          ap (file_bytes_at s) (sym (led_to_directory (l.naming.number (address_of q)) (l.naming.number (Listing ∷ address_of q)) target
+          leads).2)
       same_bytes (File bytes) at target leads =
           let to = led_to_file (l.naming.number (address_of q)) target leads in
           ap (file_bytes_at s) (sym to.1) ∙ bytes_held accounts s f l q class bytes at to.0 to.2

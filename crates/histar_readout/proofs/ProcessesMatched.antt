@@ -74,14 +74,19 @@ module _ (accounts : Accounts) (s : State) (f : Flat) (l : ObjectsMatch accounts
       -- where it runs, its thread is there
       own_label : thread_label (s.objects (caller_is accounts s f l me).thread) ≡ Some (rights_label l.category (thread_rights accounts me p))
       own_label =
-          ap thread_label (thread_found accounts s f l me p here runs (caller_is accounts s f l me).thread (is_or_zero _ (numbered_runner accounts s f l me p here runs)))
+          ap thread_label (thread_found accounts s f l me p here runs (caller_is accounts s f l me).thread
+          (is_or_zero _ (numbered_runner accounts s f l me p here runs)))
 
       caller_here : caller_in s (found me) ≡ Some (caller_is accounts s f l me)
-      caller_here = ap (λ (x : Option ProcessStatus). x >>= λ status. caller_by s (found me) status) (status_is accounts s f l me p here) ∙ runs_here accounts s f l me p here runs
+      caller_here =
+          ap (λ (x : Option ProcessStatus). x >>= λ status. caller_by s (found me) status)
+          (status_is accounts s f l me p here) ∙ runs_here accounts s f l me p here runs
 
       runs_as : running_at accounts s (found me) ≡ Some (flat_life l.category p None)
       runs_as =
-          ap (λ (x : Option Caller). x >>= λ caller. thread_label (s.objects caller.thread) >>= λ own. Some (running_by accounts caller own)) caller_here
+          ap (λ (x : Option Caller).
+          x >>= λ caller. thread_label (s.objects caller.thread) >>= λ own. Some (running_by accounts caller own))
+          caller_here
           ∙ ap (λ (x : Option Levels). x >>= λ own. Some (running_by accounts (caller_is accounts s f l me) own)) own_label
           ∙ ap Some (running_is accounts s f l me p here runs)
 
@@ -95,10 +100,15 @@ module _ (accounts : Accounts) (s : State) (f : Flat) (l : ObjectsMatch accounts
     -- It is shown so.
     node_is : node_in accounts s me (found me) ≡ Some node
     node_is =
-        ap (λ (x : Option ProcessStatus). x >>= λ status. container_label (s.objects (found me).container) >>= λ outer. life_in accounts s (found me) status.exited >>= λ life. Some (shown_as (jobs_in outer) life status.born)) (status_is accounts s f l me p here)
-        ∙ ap (λ (x : Option Levels). x >>= λ outer. life_in accounts s (found me) p.exited >>= λ life. Some (shown_as (jobs_in outer) life p.born)) home_label
+        ap (λ (x : Option ProcessStatus).
+        x >>= λ status. container_label (s.objects (found me).container) >>= λ outer. life_in accounts s
+        (found me) status.exited >>= λ life. Some (shown_as (jobs_in outer) life status.born))
+        (status_is accounts s f l me p here)
+        ∙ ap (λ (x : Option Levels). x >>= λ outer. life_in accounts s (found me) p.exited >>= λ life. Some
+        (shown_as (jobs_in outer) life p.born)) home_label
         ∙ ap (λ (x : Option Life). x >>= λ life. Some (shown_as (jobs_in (guard_label l.category (process_guard me p))) life p.born)) life_is
-        ∙ ap (λ (chain : List ℕ). Some (shown_as chain (flat_life l.category p p.exited) p.born)) (chain_is l.category l.different me p (l.processes me p here).chain)
+        ∙ ap (λ (chain : List ℕ). Some (shown_as chain (flat_life l.category p p.exited) p.born))
+        (chain_is l.category l.different me p (l.processes me p here).chain)
 
     module _ (levels : ℕ) where
       -- what is shown of a child and below it
@@ -116,13 +126,16 @@ module _ (accounts : Accounts) (s : State) (f : Flat) (l : ObjectsMatch accounts
         lines : map process_line processes ≡ flat_map below ns
 
       -- a child is listed where it is there
-      child_listed : (n : ℕ) (o : Option Process) → f.processes (n ∷ me) ≡ o → child_of s (found me).segment n ≡ option_map (λ (q : Process). listed_by l.naming.number me n) o
+      child_listed : (n : ℕ) (o : Option Process) → f.processes (n ∷ me) ≡ o
+          → child_of s (found me).segment n ≡ option_map (λ (q : Process). listed_by l.naming.number me n) o
       child_listed n o is =
           ap (λ (x : Option ProcessStatus). x >>= λ status. child_at status.children n) (status_is accounts s f l me p here)
           ∙ child_is accounts s f l n me p here
           ∙ ap (option_map (λ (q : Process). listed_by l.naming.number me n)) is
 
-      one_more : ((n : ℕ) (q : Process) → f.processes (n ∷ me) ≡ Some q → HasProcessesAt levels (n ∷ me)) → (n : ℕ) (ns : List ℕ) (o : Option Process) → f.processes (n ∷ me) ≡ o → HaveProcesses ns → HaveProcesses (n ∷ ns)
+      one_more : ((n : ℕ) (q : Process) → f.processes (n ∷ me) ≡ Some q → HasProcessesAt levels (n ∷ me))
+          → (n : ℕ) (ns : List ℕ) (o : Option Process) → f.processes (n ∷ me) ≡ o → HaveProcesses ns
+          → HaveProcesses (n ∷ ns)
       one_more each n ns None is rest = record {
         processes = rest.processes;
         are = ap (λ (c : Option Listed). all_of (processes_at levels accounts s) me (cons_option c (listed ns))) (child_listed n None is) ∙ rest.are;
@@ -134,7 +147,9 @@ module _ (accounts : Accounts) (s : State) (f : Flat) (l : ObjectsMatch accounts
             processes = one.processes ++ rest.processes;
             are =
                 ap (λ (c : Option Listed). all_of (processes_at levels accounts s) me (cons_option c (listed ns))) (child_listed n (Some q) is)
-                ∙ ap (λ (x : Option (List ProcessNode)). x >>= λ first. all_of (processes_at levels accounts s) me (listed ns) >>= λ rest. Some (first ++ rest)) one.are
+                ∙ ap (λ (x : Option (List ProcessNode)).
+                x >>= λ first. all_of (processes_at levels accounts s) me (listed ns) >>= λ rest. Some
+                (first ++ rest)) one.are
                 ∙ ap (λ (x : Option (List ProcessNode)). x >>= λ rest. Some (one.processes ++ rest)) rest.are;
             lines = map-append process_line one.processes rest.processes ∙ (λ i. one.lines i ++ rest.lines i);
           }
@@ -149,17 +164,21 @@ module _ (accounts : Accounts) (s : State) (f : Flat) (l : ObjectsMatch accounts
       with_its_children rest = record {
         processes = node ∷ rest.processes;
         are =
-            ap (λ (x : Option ProcessNode). x >>= λ first. all_of (processes_at levels accounts s) me (children_of s (found me).segment first.born) >>= λ more. Some (first ∷ more)) node_is
+            ap (λ (x : Option ProcessNode). x >>= λ first. all_of (processes_at levels accounts s) me
+            (children_of s (found me).segment first.born) >>= λ more. Some (first ∷ more)) node_is
             ∙ ap (λ (x : Option (List ProcessNode)). x >>= λ more. Some (node ∷ more)) rest.are;
         lines = (λ i. process_line node ∷ rest.lines i) ∙ sym (ap (with_children l.category below me) here);
       }
 
   -- a process that is there has processes, down to enough levels
-  processes_there : AreNamed f → (levels : ℕ) (me : ProcName) (p : Process) → f.processes me ≡ Some p → most_numbers < length me + levels → HasProcessesAt levels me
+  processes_there : AreNamed f → (levels : ℕ) (me : ProcName) (p : Process) → f.processes me ≡ Some p
+      → most_numbers < length me + levels → HasProcessesAt levels me
   processes_there named zero me p here deep =
       let short = named me (ap is_some here) in
       absurd (omega arith)
-  processes_there named (suc levels) me p here deep = with_its_children me p here levels (of_children me p here levels (λ n q is. processes_there named levels (n ∷ me) q is (omega arith)) (range_with_len 1 p.born))
+  processes_there named (suc levels) me p here deep =
+      with_its_children me p here levels (of_children me p here levels (λ n q is. processes_there named levels (n ∷ me) q is (omega arith))
+      (range_with_len 1 p.born))
 
   -- process 0 is found where boot left it
   first_found : found [] ≡ (roots_of (length accounts.users)).home
@@ -173,6 +192,8 @@ flat_states_have_their_processes accounts s f represents named =
     let there = processes_there accounts s f represents.matched named (levels_at []) [] first.0 first.1 (omega arith) in
     record {
       processes = there.processes;
-      are_processes = subst (λ (home : Where). processes_at (levels_at []) accounts s [] home ≡ Some there.processes) (first_found accounts s f represents.matched) there.are;
+      are_processes =
+          subst (λ (home : Where). processes_at (levels_at []) accounts s [] home ≡ Some there.processes)
+          (first_found accounts s f represents.matched) there.are;
       lines = there.lines;
     }

@@ -38,7 +38,8 @@ module _ (s : State) (roots : Roots) where
 
   module _ (name : Name) (d : Path) (container listing : ℕ) (above : LeadsTo s roots d (Directory container listing)) where
     -- what leads on from a directory is listed in its own segment
-    listed_there : (target : Target) → LeadsTo s roots (name ∷ d) target → (dir : Entries) × IsDirectory (bytes_in (s.objects listing)) dir × (map.get dir name ≡ Some target)
+    listed_there : (target : Target) → LeadsTo s roots (name ∷ d) target
+        → (dir : Entries) × IsDirectory (bytes_in (s.objects listing)) dir × (map.get dir name ≡ Some target)
     listed_there target leads =
         let same = paths_lead_to_one_target s roots d (Directory leads.0 leads.1) (Directory container listing) leads.3 above in
         (leads.2, subst (λ (g : ℕ). IsDirectory (bytes_in (s.objects g)) leads.2) (ap listing_in same) leads.4, leads.5)
@@ -70,9 +71,12 @@ module _ (s : State) (roots : Roots) where
       -- a path below a file leads nowhere
       pub nowhere_below_file : (file : ℕ) → target ≡ File file → Resolves s roots q None
       unfolding Resolves
-      nowhere_below_file file is = whole None (λ other leads. let same = paths_lead_to_one_target s roots above target (Directory leads.0 leads.1) led leads.3 in cc)
+      nowhere_below_file file is =
+          whole None (λ other leads.
+          let same = paths_lead_to_one_target s roots above target (Directory leads.0 leads.1) led leads.3 in cc)
 
-      module _ (container listing : ℕ) (is : target ≡ Directory container listing) (bytes : List ℕ) (read : bytes ≡ bytes_in (s.objects listing)) where
+      module _ (container listing : ℕ) (is : target ≡ Directory container listing) (bytes : List ℕ)
+          (read : bytes ≡ bytes_in (s.objects listing)) where
         led_here : LeadsTo s roots above (Directory container listing)
         unfolding Resolves
         led_here = subst (LeadsTo s roots above) is led
@@ -80,9 +84,12 @@ module _ (s : State) (roots : Roots) where
         -- nor does one below a segment that holds no directory lead anywhere
         pub nowhere_unlisted : (fault : NotADirectory) → IsLookedUp bytes name (Err fault) → Resolves s roots q None
         unfolding Resolves
-        nowhere_unlisted fault none = whole None (none_unlisted name above container listing led_here (subst (λ (b : List ℕ). IsLookedUp b name (Err fault)) read none))
+        nowhere_unlisted fault none =
+            whole None (none_unlisted name above container listing led_here
+            (subst (λ (b : List ℕ). IsLookedUp b name (Err fault)) read none))
 
-        found_below : (found : Option Target) (dir : Entries) → IsDirectory (bytes_in (s.objects listing)) dir → map.get dir name ≡ found → Resolves s roots (name ∷ above) found
+        found_below : (found : Option Target) (dir : Entries) → IsDirectory (bytes_in (s.objects listing)) dir
+            → map.get dir name ≡ found → Resolves s roots (name ∷ above) found
         unfolding Resolves
         found_below None dir listed none = none_listed name above container listing led_here dir listed none
         found_below (Some there) dir listed entry = (container, listing, dir, led_here, listed, entry)

@@ -1,5 +1,6 @@
 -- A state that represents a flat state has the tree of that.
-use Rattle.std.specs.Prelude.{◌≡◌, ℕ, zero, suc, ◌+◌, ◌<◌, Bool, true, false, cond, T, List, [], ◌∷◌, ◌++◌, length, map, Option, Some, None, option_map, option_and_then, refl}
+use Rattle.std.specs.Prelude.{◌≡◌, ℕ, zero, suc, ◌+◌, ◌<◌, Bool, true, false, cond, T, List, [], ◌∷◌, ◌++◌, length, map, Option, Some, None}
+use Rattle.std.specs.Prelude.{option_map, option_and_then, refl}
 use Rattle.std.specs.List.{filter_map, cons_option, flat_map}
 use Rattle.std.proofs.Common.{arith, ap, inl, inr, sym, ◌∙◌, subst}
 use Rattle.std.proofs.lemmas.Bool.{true≢false}
@@ -48,7 +49,8 @@ use Rattle.histar_readout.specs.Laws.{AreShallow, FlatStatesHaveTheirTrees}
 use Rattle.histar_readout.proofs.FlatTree.{walks_meet_all}
 
 -- what leads to a directory has its two numbers
-pub led_to_directory : (x y : Option ℕ) (target : Target) → both_numbers x y ≡ Some target → (c : ℕ) × (g : ℕ) × (targets.Directory c g ≡ target) × (x ≡ Some c) × (y ≡ Some g)
+pub led_to_directory : (x y : Option ℕ) (target : Target) → both_numbers x y ≡ Some target
+    → (c : ℕ) × (g : ℕ) × (targets.Directory c g ≡ target) × (x ≡ Some c) × (y ≡ Some g)
 led_to_directory None y target e = absurd (none-some target e)
 led_to_directory (Some c) None target e = absurd (none-some target e)
 led_to_directory (Some c) (Some g) target e = (c, g, same_Some (targets.Directory c g) target e, refl, refl)
@@ -65,11 +67,18 @@ there_is (Some there) e = (there, refl)
 
 module _ (accounts : Accounts) (s : State) (f : Flat) (l : ObjectsMatch accounts s f) where
   -- `/` leads where boot left it
-  pub slash_leads : (class : Class) → target_for l.naming.number ([], record { class = class; content = Dir }) ≡ Some (targets.Directory (slash_number (length accounts.users)) (slash_listing_number (length accounts.users)))
-  slash_leads class i = both_numbers (l.as_booted (Slash ∷ []) (slash_number (length accounts.users)) refl i) (l.as_booted (Listing ∷ Slash ∷ []) (slash_listing_number (length accounts.users)) refl i)
+  pub slash_leads : (class : Class)
+      → target_for l.naming.number ([], record { class = class; content = Dir })
+      ≡ Some
+      (targets.Directory (slash_number (length accounts.users)) (slash_listing_number (length accounts.users)))
+  slash_leads class i =
+      both_numbers (l.as_booted (Slash ∷ []) (slash_number (length accounts.users)) refl i)
+      (l.as_booted (Listing ∷ Slash ∷ []) (slash_listing_number (length accounts.users)) refl i)
 
   -- the segment of a file holds its bytes
-  pub bytes_held : (q : Path) (class : Class) (bytes : List ℕ) → get f.files q ≡ Some (record { class = class; content = File bytes }) → (o : ℕ) → l.naming.number (address_of q) ≡ Some o → bytes_in (s.objects o) ≡ bytes
+  pub bytes_held : (q : Path) (class : Class) (bytes : List ℕ)
+      → get f.files q ≡ Some (record { class = class; content = File bytes }) → (o : ℕ)
+      → l.naming.number (address_of q) ≡ Some o → bytes_in (s.objects o) ≡ bytes
   bytes_held q class bytes at o numbered =
       let g = guard_at accounts s f l q (record { class = class; content = File bytes }) at in
       ap bytes_in (file_found accounts s f l q class bytes at g.0 g.1 o numbered)
@@ -91,7 +100,9 @@ module _ (accounts : Accounts) (s : State) (f : Flat) (l : ObjectsMatch accounts
   node_of q class target = record { path = q; class = numbered_class l.category class; target = target }
 
   -- it stands there, by the label of its object
-  agrees_at : (q : Path) (there : Node) → get f.files q ≡ Some there → (target : Target) → l.naming.number (address_of q) ≡ Some (object_of target) → IsNodeAt accounts s q target (node_of q there.class target)
+  agrees_at : (q : Path) (there : Node) → get f.files q ≡ Some there → (target : Target)
+      → l.naming.number (address_of q) ≡ Some (object_of target)
+      → IsNodeAt accounts s q target (node_of q there.class target)
   agrees_at q there at target numbered =
       let g = guard_at accounts s f l q there at in
       record {
@@ -124,15 +135,23 @@ module _ (accounts : Accounts) (s : State) (f : Flat) (l : ObjectsMatch accounts
     -- an entry before others
     abbrev HasTreesBy : Name → Path → Node → List (Path × Node) → Bool → Type 0
     HasTreesBy n above there es b =
-        HasTrees (cons_option (cond b (option_map (λ target. (n, target)) (target_for l.naming.number (n ∷ above, there))) None) (listed es)) (cons_option (cond b (Some (n, there)) None) (nodes_in q es))
+        HasTrees (cons_option
+        (cond b (option_map (λ target. (n, target)) (target_for l.naming.number (n ∷ above, there))) None)
+        (listed es)) (cons_option (cond b (Some (n, there)) None) (nodes_in q es))
 
     -- one entry of the directory
-    one_more : (n : Name) (there : Node) (es : List (Path × Node)) → LeadsToTree levels (n ∷ q) there → HasTrees (listed es) (nodes_in q es) → HasTreesBy n q there es true
+    one_more : (n : Name) (there : Node) (es : List (Path × Node)) → LeadsToTree levels (n ∷ q) there
+        → HasTrees (listed es) (nodes_in q es) → HasTreesBy n q there es true
     one_more n there es to rest =
-        subst (λ (o : Option Target). HasTrees (cons_option (option_map (λ target. (n, target)) o) (listed es)) ((n, there) ∷ nodes_in q es)) (sym to.leads) (record {
+        subst (λ (o : Option Target).
+        HasTrees (cons_option (option_map (λ target. (n, target)) o) (listed es)) ((n, there) ∷ nodes_in q es))
+        (sym to.leads)
+        (record {
           trees = to.there.tree ++ rest.trees;
           are_listed = (to.there.tree, rest.trees, to.there.is_tree, rest.are_listed, refl);
-          same = map-append (tree_entry s) to.there.tree rest.trees ∙ (λ i. to.there.same i ++ rest.same i) ∙ sym (map-append (flat_entry l.category) (walk (n, there)) (flat_map walk (nodes_in q es)));
+          same =
+              map-append (tree_entry s) to.there.tree rest.trees ∙ (λ i. to.there.same i ++ rest.same i)
+              ∙ sym (map-append (flat_entry l.category) (walk (n, there)) (flat_map walk (nodes_in q es)));
         })
 
     -- the trees of the entries, one after another
@@ -141,12 +160,14 @@ module _ (accounts : Accounts) (s : State) (f : Flat) (l : ObjectsMatch accounts
     trees_listed (e ∷ es) h lead = step e.0 e.1 lead (trees_listed es (second (below_all path_cmp e.0 es) _ h)
         (λ n there is. lead n there (find_later path_cmp_total path_cmp_exact e.0 e.1 es (n ∷ q) there (first (below_all path_cmp e.0 es) _ h) is)))
       where
-        step : (r : Path) (there : Node) → AllLead ((r, there) ∷ es) → HasTrees (listed es) (nodes_in q es) → HasTrees (listed ((r, there) ∷ es)) (nodes_in q ((r, there) ∷ es))
+        step : (r : Path) (there : Node) → AllLead ((r, there) ∷ es) → HasTrees (listed es) (nodes_in q es)
+            → HasTrees (listed ((r, there) ∷ es)) (nodes_in q ((r, there) ∷ es))
         step [] there lead rest = rest
         step (n ∷ above) there lead rest = elim (same_path_found q above) [
           | inl t ↦
               let found : find path_cmp (n ∷ q) ((n ∷ above, there) ∷ es) ≡ Some there =
-              subst (λ (a : Path). find path_cmp (n ∷ q) ((n ∷ a, there) ∷ es) ≡ Some there) t.1 (find_first path_cmp_total path_cmp_exact (n ∷ q) there es) in
+              subst (λ (a : Path). find path_cmp (n ∷ q) ((n ∷ a, there) ∷ es) ≡ Some there) t.1
+              (find_first path_cmp_total path_cmp_exact (n ∷ q) there es) in
               subst (λ b. HasTreesBy n above there es b) (sym t.0)
               (subst (λ (a : Path). HasTreesBy n a there es true) t.1 (one_more n there es (lead n there found) rest))
           | inr t ↦ subst (λ b. HasTreesBy n above there es b) (sym t.0) rest
@@ -154,7 +175,8 @@ module _ (accounts : Accounts) (s : State) (f : Flat) (l : ObjectsMatch accounts
 
     module _ (class : Class) where
       -- the tree of a file
-      tree_of_file : (bytes : List ℕ) → get f.files q ≡ Some (record { class = class; content = File bytes }) → (o : ℕ) → l.naming.number (address_of q) ≡ Some o
+      tree_of_file : (bytes : List ℕ) → get f.files q ≡ Some (record { class = class; content = File bytes }) → (o : ℕ)
+          → l.naming.number (address_of q) ≡ Some o
           → HasTreeAt (suc levels) q (record { class = class; content = File bytes }) (targets.File o)
       tree_of_file bytes at o numbered =
           let there : Node = record { class = class; content = File bytes } in
@@ -166,7 +188,8 @@ module _ (accounts : Accounts) (s : State) (f : Flat) (l : ObjectsMatch accounts
           }
 
       -- the tree of a directory, where each entry leads to one
-      tree_of_directory : get f.files q ≡ Some (record { class = class; content = Dir }) → (c g : ℕ) → l.naming.number (address_of q) ≡ Some c → l.naming.number (Listing ∷ address_of q) ≡ Some g
+      tree_of_directory : get f.files q ≡ Some (record { class = class; content = Dir }) → (c g : ℕ)
+          → l.naming.number (address_of q) ≡ Some c → l.naming.number (Listing ∷ address_of q) ≡ Some g
           → AllLead f.files.entries → HasTreeAt (suc levels) q (record { class = class; content = Dir }) (targets.Directory c g)
       tree_of_directory at c g numbered listing lead =
           let dir = directory_of f.files l.naming.number q in
@@ -189,7 +212,9 @@ module _ (accounts : Accounts) (s : State) (f : Flat) (l : ObjectsMatch accounts
           }
 
       -- the tree of what stands at a path
-      tree_of : (content : Content) → get f.files q ≡ Some (record { class = class; content = content }) → (target : Target) → target_for l.naming.number (q, record { class = class; content = content }) ≡ Some target
+      tree_of : (content : Content) → get f.files q ≡ Some (record { class = class; content = content })
+          → (target : Target)
+          → target_for l.naming.number (q, record { class = class; content = content }) ≡ Some target
           → AllLead f.files.entries → HasTreeAt (suc levels) q (record { class = class; content = content }) target
       tree_of Dir at target leads lead =
           let to = led_to_directory (l.naming.number (address_of q)) (l.naming.number (Listing ∷ address_of q)) target leads in
@@ -199,7 +224,8 @@ module _ (accounts : Accounts) (s : State) (f : Flat) (l : ObjectsMatch accounts
           subst (HasTreeAt (suc levels) q (record { class = class; content = File bytes })) to.1 (tree_of_file bytes at to.0 to.2)
 
   -- what stands at a path leads to a tree, down to enough levels
-  leads_to_tree : AreShallow f → (levels : ℕ) (q : Path) (node : Node) → get f.files q ≡ Some node → most_names < length q + levels → LeadsToTree levels q node
+  leads_to_tree : AreShallow f → (levels : ℕ) (q : Path) (node : Node) → get f.files q ≡ Some node
+      → most_names < length q + levels → LeadsToTree levels q node
   leads_to_tree shallow zero q node at deep =
       let short = shallow q (ap (λ (o : Option Node). is_some_and o (λ n. true)) at) in
       absurd (omega arith)
@@ -236,7 +262,8 @@ tree_shown s [] = refl
 tree_shown s (node ∷ tree) = ap (λ (lines : List TreeLine). line_at s node ∷ lines) (tree_shown s tree)
 
 -- so where the same stands the same is shown
-same_lines : (s : State) (category : Categories) (tree : List TreeNode) (es : List (Path × Node)) → map (tree_entry s) tree ≡ map (flat_entry category) es → lines_at s tree ≡ map flat_line es
+same_lines : (s : State) (category : Categories) (tree : List TreeNode) (es : List (Path × Node))
+    → map (tree_entry s) tree ≡ map (flat_entry category) es → lines_at s tree ≡ map flat_line es
 same_lines s category tree es same = tree_shown s tree ∙ ap (map shown_line) same ∙ flat_shown category es
 
 -- a state that represents a flat state has the tree of that
@@ -248,7 +275,10 @@ flat_states_have_their_trees accounts s f represents shallow =
     let slash : Node = record { class = root.0; content = Dir } in
     let to = leads_to_tree accounts s f l shallow (suc most_names) [] slash root.1 (omega arith) in
     let all_same = to.there.same ∙ ap (map (flat_entry l.category)) (walks_meet_all f (are_tree accounts s f l) most_names shallow slash root.1) in
-    let same = same_Some to.target (targets.Directory (slash_number (length accounts.users)) (slash_listing_number (length accounts.users))) (sym to.leads ∙ slash_leads accounts s f l root.0) in
+    let same =
+    same_Some to.target
+    (targets.Directory (slash_number (length accounts.users)) (slash_listing_number (length accounts.users)))
+    (sym to.leads ∙ slash_leads accounts s f l root.0) in
     record {
       tree = to.there.tree;
       is_tree = subst (λ (target : Target). IsTreeAt (suc most_names) accounts s [] target to.there.tree) same to.there.is_tree;

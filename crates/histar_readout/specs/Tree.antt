@@ -38,7 +38,8 @@ AreListed is_tree d (e ∷ entries) trees =
 -- below a file is nothing, and below a directory is what its directory segment lists
 abbrev pub IsBelow : Listed → State → Path → Target → List TreeNode → Type 0
 IsBelow is_tree s q (File file) trees = trees ≡ []
-IsBelow is_tree s q (Directory container listing) trees = (dir : Entries) × IsDirectory (bytes_in (s.objects listing)) dir × AreListed is_tree q (map.entries dir) trees
+IsBelow is_tree s q (Directory container listing) trees =
+    (dir : Entries) × IsDirectory (bytes_in (s.objects listing)) dir × AreListed is_tree q (map.entries dir) trees
 
 -- The tree at a path, down to so many levels: what stands there, and then what stands below it.
 abbrev pub IsTreeAt : ℕ → Accounts → State → Listed
@@ -81,4 +82,6 @@ AddsTree accounts s q target = Adds (IsTreeAt (levels_at q) accounts s q target)
 
 -- what stands below a directory was added
 abbrev pub AddsBelow : Accounts → State → Path → ℕ → List TreeNode → List TreeNode → Result (Unit {0}) TreeError → Type 0
-AddsBelow accounts s d listing = Adds (λ trees. (dir : Entries) × IsDirectory (bytes_in (s.objects listing)) dir × AreListed (IsTreeAt (most_names - length d) accounts s) d (map.entries dir) trees)
+AddsBelow accounts s d listing =
+    Adds (λ trees. (dir : Entries) × IsDirectory (bytes_in (s.objects listing)) dir
+    × AreListed (IsTreeAt (most_names - length d) accounts s) d (map.entries dir) trees)

@@ -25,7 +25,8 @@ use Rattle.histar_refinement.specs.Addresses.{Step, same_step, address_of, home_
 use Rattle.histar_refinement.specs.Addresses.Step.{Slash, Listing, Named, Inside, Runner}
 use Rattle.histar_refinement.specs.Directories.{directory_of}
 use Rattle.histar_refinement.specs.Agrees.{kind_bare, bare}
-use Rattle.histar_refinement.specs.Expected.{bare_container, content_kind, guarded_object, node_object, listing_object, home_object, thread_object, expected}
+use Rattle.histar_refinement.specs.Expected.{bare_container, content_kind, guarded_object, node_object, listing_object, home_object, thread_object}
+use Rattle.histar_refinement.specs.Expected.{expected}
 use Rattle.histar_login.specs.Start.{segment}
 use Rattle.histar_refinement.specs.Represents.{ObjectsMatch}
 use Rattle.histar_refinement.proofs.Steps.{step_tests_equality}
@@ -34,7 +35,8 @@ use Rattle.histar_refinement.proofs.Roots.{asked_home, asked_runner, asked_path,
 use Rattle.histar_refinement.proofs.ListedFiles.{numbered_path, nothing_in}
 
 -- a container but for its links is one with some links
-container_kind : (label : Levels) (k : Kind Levels) (m : Levels) → ◌≡◌ {A = Found} (Some (record { label = label; kind = kind_bare k })) (bare_container m)
+container_kind : (label : Levels) (k : Kind Levels) (m : Levels)
+    → ◌≡◌ {A = Found} (Some (record { label = label; kind = kind_bare k })) (bare_container m)
     → (links : Links) × (◌≡◌ {A = Found} (Some (record { label = label; kind = k })) (Some (record { label = m; kind = Container links })))
 container_kind label (Segment bytes) m e = absurd (true≢false (sym (ap is_container e)))
 container_kind label (Container links) m e =
@@ -43,7 +45,8 @@ container_kind label (Container links) m e =
 container_kind label (Thread clearance) m e = absurd (true≢false (sym (ap is_container e)))
 container_kind label (Gate clearance entry) m e = absurd (true≢false (sym (ap is_container e)))
 
-pub bare_container_is : (found : Found) (m : Levels) → bare found ≡ bare_container m → (links : Links) × (found ≡ Some (record { label = m; kind = Container links }))
+pub bare_container_is : (found : Found) (m : Levels) → bare found ≡ bare_container m
+    → (links : Links) × (found ≡ Some (record { label = m; kind = Container links }))
 bare_container_is None m e = absurd (none-some (record { label = m; kind = Container set.empty }) e)
 bare_container_is (Some x) m e = container_kind x.label x.kind m e
 
@@ -61,12 +64,21 @@ module _ (accounts : Accounts) (s : State) (f : Flat) (l : ObjectsMatch accounts
   asked = expected accounts l.category f l.naming.number
 
   -- the thread of a process that runs
-  pub thread_found : (me : ProcName) (p : Process) → f.processes me ≡ Some p → p.exited ≡ None → (t : ℕ) → l.naming.number (Runner ∷ Inside ∷ home_address me) ≡ Some t
-      → s.objects t ≡ Some (thread_of (rights_label l.category (thread_rights accounts me p)) (rights_clearance l.category (thread_rights accounts me p)))
-  thread_found me p here running t at_thread = bare_is (s.objects t) (thread_of (rights_label l.category (thread_rights accounts me p)) (rights_clearance l.category (thread_rights accounts me p))) refl
+  pub thread_found : (me : ProcName) (p : Process) → f.processes me ≡ Some p → p.exited ≡ None → (t : ℕ)
+      → l.naming.number (Runner ∷ Inside ∷ home_address me) ≡ Some t
+      → s.objects t
+      ≡ Some (thread_of (rights_label l.category (thread_rights accounts me p))
+      (rights_clearance l.category (thread_rights accounts me p)))
+  thread_found me p here running t at_thread =
+      bare_is (s.objects t) (thread_of (rights_label l.category (thread_rights accounts me p))
+      (rights_clearance l.category (thread_rights accounts me p))) refl
       (at_number same_step step_tests_equality s l.naming asked l.agrees (Runner ∷ Inside ∷ home_address me) t at_thread
       ∙ asked_runner accounts l.category f l.naming.number me ∙ ap (thread_object accounts l.category me) here
-      ∙ (λ i. elim (running i) as (λ _. Found) [ None ↦ Some (thread_of (rights_label l.category (thread_rights accounts me p)) (rights_clearance l.category (thread_rights accounts me p))) | Some n ↦ None ]))
+      ∙ (λ i. elim (running i) as (λ _. Found) [
+        | None ↦ Some (thread_of (rights_label l.category (thread_rights accounts me p))
+            (rights_clearance l.category (thread_rights accounts me p)))
+        | Some n ↦ None
+      ]))
 
   -- the container of a process
   pub home_found : (me : ProcName) (p : Process) → f.processes me ≡ Some p → (C : ℕ) → l.naming.number (home_address me) ≡ Some C
@@ -80,45 +92,66 @@ module _ (accounts : Accounts) (s : State) (f : Flat) (l : ObjectsMatch accounts
   guard_at q there at = some_unless_none (class_guard accounts there.class) (l.guarded q there at)
 
   -- what stands at a path, but for its links
-  pub path_agrees : (q : Path) (there : Node) → get f.files q ≡ Some there → (g : Guard) → class_guard accounts there.class ≡ Some g → (o : ℕ) → l.naming.number (address_of q) ≡ Some o
+  pub path_agrees : (q : Path) (there : Node) → get f.files q ≡ Some there → (g : Guard)
+      → class_guard accounts there.class ≡ Some g → (o : ℕ) → l.naming.number (address_of q) ≡ Some o
       → bare (s.objects o) ≡ Some (record { label = guard_label l.category g; kind = content_kind there.content })
   path_agrees q there at g is o at_object =
       at_number same_step step_tests_equality s l.naming asked l.agrees (address_of q) o at_object
-      ∙ asked_path accounts l.category f l.naming.number q ∙ ap (node_object accounts l.category) at ∙ ap (guarded_object accounts l.category (content_kind there.content)) is
+      ∙ asked_path accounts l.category f l.naming.number q ∙ ap (node_object accounts l.category) at
+      ∙ ap (guarded_object accounts l.category (content_kind there.content)) is
 
   -- a file
-  pub file_found : (q : Path) (class : Class) (bytes : List ℕ) → get f.files q ≡ Some (record { class = class; content = File bytes }) → (g : Guard) → class_guard accounts class ≡ Some g → (o : ℕ) → l.naming.number (address_of q) ≡ Some o
+  pub file_found : (q : Path) (class : Class) (bytes : List ℕ)
+      → get f.files q ≡ Some (record { class = class; content = File bytes }) → (g : Guard)
+      → class_guard accounts class ≡ Some g → (o : ℕ) → l.naming.number (address_of q) ≡ Some o
       → s.objects o ≡ segment (guard_label l.category g) bytes
-  file_found q class bytes at g is o at_object = bare_is (s.objects o) (record { label = guard_label l.category g; kind = Segment bytes }) refl (path_agrees q (record { class = class; content = File bytes }) at g is o at_object)
+  file_found q class bytes at g is o at_object =
+      bare_is (s.objects o) (record { label = guard_label l.category g; kind = Segment bytes }) refl
+      (path_agrees q (record { class = class; content = File bytes }) at g is o at_object)
 
-  module _ (d : Path) (class : Class) (at : get f.files d ≡ Some (record { class = class; content = Dir })) (g : Guard) (is : class_guard accounts class ≡ Some g) where
+  module _ (d : Path) (class : Class) (at : get f.files d ≡ Some (record { class = class; content = Dir })) (g : Guard)
+      (is : class_guard accounts class ≡ Some g) where
     -- a directory's container, with what it links
-    pub container_found : (D : ℕ) → l.naming.number (address_of d) ≡ Some D → (links : Links) × (s.objects D ≡ Some (record { label = guard_label l.category g; kind = Container links }))
-    container_found D at_directory = bare_container_is (s.objects D) (guard_label l.category g) (path_agrees d (record { class = class; content = Dir }) at g is D at_directory)
+    pub container_found : (D : ℕ) → l.naming.number (address_of d) ≡ Some D
+        → (links : Links) × (s.objects D ≡ Some (record { label = guard_label l.category g; kind = Container links }))
+    container_found D at_directory =
+        bare_container_is (s.objects D) (guard_label l.category g)
+        (path_agrees d (record { class = class; content = Dir }) at g is D at_directory)
 
     -- its directory segment
-    pub listing_found : (N : ℕ) → l.naming.number (Listing ∷ address_of d) ≡ Some N → s.objects N ≡ segment (guard_label l.category g) (spelling (directory_of f.files l.naming.number d))
-    listing_found N at_listing = bare_is (s.objects N) (record { label = guard_label l.category g; kind = Segment (spelling (directory_of f.files l.naming.number d)) }) refl
+    pub listing_found : (N : ℕ) → l.naming.number (Listing ∷ address_of d) ≡ Some N
+        → s.objects N ≡ segment (guard_label l.category g) (spelling (directory_of f.files l.naming.number d))
+    listing_found N at_listing =
+        bare_is (s.objects N) (record {
+          label = guard_label l.category g;
+          kind = Segment (spelling (directory_of f.files l.naming.number d));
+        }) refl
         (at_number same_step step_tests_equality s l.naming asked l.agrees (Listing ∷ address_of d) N at_listing
-        ∙ asked_listing accounts l.category f l.naming.number d ∙ ap (listing_object accounts l.category (spelling (directory_of f.files l.naming.number d))) at
+        ∙ asked_listing accounts l.category f l.naming.number d
+        ∙ ap (listing_object accounts l.category (spelling (directory_of f.files l.naming.number d))) at
         ∙ ap (guarded_object accounts l.category (Segment (spelling (directory_of f.files l.naming.number d)))) is)
 
   -- what stands one step below an address is linked there
-  pub step_linked : (x : Step) (a : Address Step) (above below : ℕ) → l.naming.number a ≡ Some above → l.naming.number (x ∷ a) ≡ Some below → set.contains (links_in (s.objects above)) below ≡ true
+  pub step_linked : (x : Step) (a : Address Step) (above below : ℕ) → l.naming.number a ≡ Some above
+      → l.naming.number (x ∷ a) ≡ Some below → set.contains (links_in (s.objects above)) below ≡ true
   step_linked x a above below at_above at_below =
       l.agrees.tree.links above below a (l.agrees.tree.addressed a above at_above)
       ∙ ap (is_one_below same_step a) (l.agrees.tree.addressed (x ∷ a) below at_below)
       ∙ same_itself same_step step_tests_equality a
 
   -- what has a directory segment is a directory
-  pub listed_is_dir : (d : Path) → is_some (l.naming.number (Listing ∷ address_of d)) ≡ true → (class : Class) × (get f.files d ≡ Some (record { class = class; content = Dir }))
+  pub listed_is_dir : (d : Path) → is_some (l.naming.number (Listing ∷ address_of d)) ≡ true
+      → (class : Class) × (get f.files d ≡ Some (record { class = class; content = Dir }))
   listed_is_dir d numbered = by (get f.files d) refl
     where
       there : is_present (listing_object accounts l.category (spelling (directory_of f.files l.naming.number d)) (get f.files d)) ≡ true
       there = sym (l.agrees.named (Listing ∷ address_of d) ∙ ap is_present (asked_listing accounts l.category f l.naming.number d)) ∙ numbered
 
       by : (o : Option Node) → get f.files d ≡ o → (class : Class) × (get f.files d ≡ Some (record { class = class; content = Dir }))
-      by None is = absurd (true≢false (sym there ∙ ap (λ (x : Option Node). is_present (listing_object accounts l.category (spelling (directory_of f.files l.naming.number d)) x)) is))
+      by None is =
+          absurd (true≢false (sym there
+          ∙ ap (λ (x : Option Node). is_present (listing_object accounts l.category
+          (spelling (directory_of f.files l.naming.number d)) x)) is))
       by (Some x) is = of x.content refl
         where
           of : (c : Content) → x.content ≡ c → (class : Class) × (get f.files d ≡ Some (record { class = class; content = Dir }))
@@ -139,7 +172,8 @@ module _ (accounts : Accounts) (s : State) (f : Flat) (l : ObjectsMatch accounts
           let c = some_of (l.naming.number (address_of (n ∷ d))) (numbered_path accounts s f l (n ∷ d) there at) in
           let q = some_of (l.naming.number (address_of d)) (numbered_path accounts s f l d x above) in
           let found = file_found d x.class old (above ∙ ap (λ (c : Content). Some (record { class = x.class; content = c })) same) g.0 g.1 q.0 q.1 in
-          true≢false (sym (step_linked (Named n) (address_of d) q.0 c.0 q.1 c.1) ∙ ap (λ (o : Found). set.contains (links_in o) c.0) found ∙ sym (none_linked c.0))
+          true≢false (sym (step_linked (Named n) (address_of d) q.0 c.0 q.1 c.1)
+          ∙ ap (λ (o : Found). set.contains (links_in o) c.0) found ∙ sym (none_linked c.0))
 
       by : (o : Option Node) → get f.files d ≡ o → is_dir_at f d ≡ true
       by None is = absurd (none-some there (sym (nothing_in accounts s f l n d is) ∙ at))

@@ -7,9 +7,12 @@ use Rattle.histar_refinement.specs.Categories.{CategoryName, same_category, amon
 use Rattle.histar_refinement.proofs.CategoryTests.{among-append, same_itself, same_revealed}
 
 -- each of these names is among those
-pub covers : (names others : List CategoryName) → ((c : CategoryName) → among others c ≡ true → among names c ≡ true) → list_all (among names) others ≡ true
+pub covers : (names others : List CategoryName) → ((c : CategoryName) → among others c ≡ true → among names c ≡ true)
+    → list_all (among names) others ≡ true
 covers names [] each = refl
-covers names (x ∷ others) each = and_from _ _ (each x (or_left (same_category x x) (among others x) (same_itself x))) (covers names others (λ c e. each c (or_right (same_category c x) (among others c) e)))
+covers names (x ∷ others) each =
+    and_from _ _ (each x (or_left (same_category x x) (among others x) (same_itself x)))
+    (covers names others (λ c e. each c (or_right (same_category c x) (among others c) e)))
 
 -- what is among some names is among more
 pub in_first : (xs ys : List CategoryName) (c : CategoryName) → among xs c ≡ true → among (xs ++ ys) c ≡ true
@@ -25,14 +28,19 @@ pub later : (d : CategoryName) (names : List CategoryName) (c : CategoryName) �
 later d names c e = or_right (same_category c d) (among names c) e
 
 -- a name among others, by its place
-pub each_head : (P : CategoryName → Type 0) (d : CategoryName) (names : List CategoryName) → P d → ((c : CategoryName) → among names c ≡ true → P c) → (c : CategoryName) → among (d ∷ names) c ≡ true → P c
+pub each_head : (P : CategoryName → Type 0) (d : CategoryName) (names : List CategoryName) → P d
+    → ((c : CategoryName) → among names c ≡ true → P c) → (c : CategoryName) → among (d ∷ names) c ≡ true → P c
 each_head P d names first others c e = elim (or_cases (same_category c d) (among names c) e) [
   | inl k ↦ subst P (sym (same_revealed c d k)) first
   | inr k ↦ others c k
 ]
 
-pub each_append : (P : CategoryName → Type 0) (xs ys : List CategoryName) → ((c : CategoryName) → among xs c ≡ true → P c) → ((c : CategoryName) → among ys c ≡ true → P c) → (c : CategoryName) → among (xs ++ ys) c ≡ true → P c
-each_append P xs ys first second c e = elim (or_cases (among xs c) (among ys c) (sym (among-append xs ys c) ∙ e)) [ inl k ↦ first c k | inr k ↦ second c k ]
+pub each_append : (P : CategoryName → Type 0) (xs ys : List CategoryName)
+    → ((c : CategoryName) → among xs c ≡ true → P c) → ((c : CategoryName) → among ys c ≡ true → P c)
+    → (c : CategoryName) → among (xs ++ ys) c ≡ true → P c
+each_append P xs ys first second c e =
+    elim (or_cases (among xs c) (among ys c) (sym (among-append xs ys c) ∙ e))
+    [ inl k ↦ first c k | inr k ↦ second c k ]
 
 pub each_none : (P : CategoryName → Type 0) (c : CategoryName) → among [] c ≡ true → P c
 each_none P c e = absurd (true≢false (sym e))

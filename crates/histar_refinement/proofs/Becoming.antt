@@ -1,5 +1,6 @@
 -- A thread takes another label and another clearance: its process is another user's, or holds other jobs.
-use Rattle.std.proofs.Common.{◌≡◌, ◌≢◌, ℕ, ◌≤◌, ◌⊎◌, inl, inr, Bool, true, false, ◌&&◌, ◌||◌, cond, if◌then◌else◌, List, [], ◌∷◌, Option, None, Some, arith, refl, sym, ap, ◌∙◌, subst}
+use Rattle.std.proofs.Common.{◌≡◌, ◌≢◌, ℕ, ◌≤◌, ◌⊎◌, inl, inr, Bool, true, false, ◌&&◌, ◌||◌, cond, if◌then◌else◌, List, [], ◌∷◌, Option, None, Some}
+use Rattle.std.proofs.Common.{arith, refl, sym, ap, ◌∙◌, subst}
 use Rattle.std.specs.Prelude.{is_some, option_map}
 use Rattle.std.proofs.lemmas.Bool.Decides.{eqb_tells}
 use Rattle.std.proofs.lemmas.Option.{none-some, same_Some}
@@ -22,7 +23,8 @@ use Rattle.histar_flat.specs.Accounts.{Accounts, has, user_number}
 use Rattle.histar_flat.specs.Classes.{Process, nobody, knows}
 use Rattle.histar_flat.specs.FlatState.{Flat, with_process, was_given, is_given}
 use Rattle.histar_refinement.specs.Categories.{CategoryName, IsKnown, IsServed, IsUsed}
-use Rattle.histar_refinement.specs.Categories.CategoryName.{OfBoot, ReadsUser, WritesUser, ReadsGroup, WritesGroup, ReadsProcess, WritesProcess, OfJob}
+use Rattle.histar_refinement.specs.Categories.CategoryName.{OfBoot, ReadsUser, WritesUser, ReadsGroup, WritesGroup, ReadsProcess, WritesProcess}
+use Rattle.histar_refinement.specs.Categories.CategoryName.{OfJob}
 use Rattle.histar_refinement.specs.Guards.{guard_label, rights_label, rights_clearance}
 use Rattle.histar_refinement.specs.Labels.{process_guard, thread_rights}
 use Rattle.histar_refinement.specs.Addresses.{Step, same_step, home_address}
@@ -60,9 +62,14 @@ bared label clearance (Some o) = ap (λ (k : Kind Levels). Some (record { label 
     by (Thread old) = refl
     by (Gate old entry) = refl
 
-module _ (accounts : Accounts) (s : State) (f : Flat) (l : ObjectsMatch accounts s f) (me : ProcName) (p : Process) (here : f.processes me ≡ Some p) (runs : p.exited ≡ None)
-    (name : Name) (known_user : (name ≡ nobody) ⊎ (is_some (user_number accounts name) ≡ true)) (held : List ProcName) (held_used : (job : ProcName) → has held job ≡ true → IsUsed accounts f (OfJob job))
-    (held_ordered : AreInOrder l.category held) (held_apart : (job : ProcName) → has p.chain job ≡ true → has held job ≡ false) (held_free : is_some (user_number accounts name) ≡ false → (p.chain ≡ []) × (held ≡ [])) (T : ℕ) (at_thread : l.naming.number (Runner ∷ Inside ∷ home_address me) ≡ Some T) where
+module _ (accounts : Accounts) (s : State) (f : Flat) (l : ObjectsMatch accounts s f) (me : ProcName) (p : Process)
+    (here : f.processes me ≡ Some p) (runs : p.exited ≡ None)
+    (name : Name) (known_user : (name ≡ nobody) ⊎ (is_some (user_number accounts name) ≡ true)) (held : List ProcName)
+    (held_used : (job : ProcName) → has held job ≡ true → IsUsed accounts f (OfJob job))
+    (held_ordered : AreInOrder l.category held)
+    (held_apart : (job : ProcName) → has p.chain job ≡ true → has held job ≡ false)
+    (held_free : is_some (user_number accounts name) ≡ false → (p.chain ≡ []) × (held ≡ [])) (T : ℕ)
+    (at_thread : l.naming.number (Runner ∷ Inside ∷ home_address me) ≡ Some T) where
   -- the process as the new user's, which holds these jobs
   abbrev changed : Process
   changed = record { user = name; chain = p.chain; held = held; exited = p.exited; born = p.born }
@@ -106,28 +113,45 @@ module _ (accounts : Accounts) (s : State) (f : Flat) (l : ObjectsMatch accounts
       ∙ ap (λ (e : Option ℕ). elim e as (λ _. Found) [ None ↦ Some (thread_of label clearance) | Some n ↦ None ]) runs
 
   pub thread_agrees : s.objects T ≡ Some old_thread
-  thread_agrees = bare_is (s.objects T) old_thread refl (at_number same_step step_tests_equality s l.naming old_asked l.agrees runner T at_thread ∙ old_runner)
+  thread_agrees =
+      bare_is (s.objects T) old_thread refl
+      (at_number same_step step_tests_equality s l.naming old_asked l.agrees runner T at_thread ∙ old_runner)
 
   there_alike : (x : ProcName) → is_some (f.processes x) ≡ is_some (after.processes x)
   there_alike x = elim (which x) [
-    | inl e ↦ ap (λ (y : ProcName). is_some (f.processes y)) e ∙ ap is_some here ∙ sym (ap is_some at_me) ∙ ap (λ (y : ProcName). is_some (after.processes y)) (sym e)
+    | inl e ↦
+        ap (λ (y : ProcName). is_some (f.processes y)) e ∙ ap is_some here ∙ sym (ap is_some at_me)
+        ∙ ap (λ (y : ProcName). is_some (after.processes y)) (sym e)
     | inr other ↦ ap is_some (sym (at_other x other))
   ]
 
   same_bytes : (q : ProcName) (x : Process) → process_bytes f.processes l.naming.number q x ≡ process_bytes after.processes l.naming.number q x
-  same_bytes q x = alike_bytes f.processes after.processes l.naming.number l.naming.number q x refl refl (λ k. refl) (λ k. refl) (λ k. there_alike (k ∷ q))
+  same_bytes q x =
+      alike_bytes f.processes after.processes l.naming.number l.naming.number q x refl refl (λ k. refl) (λ k. refl)
+      (λ k. there_alike (k ∷ q))
 
   -- what stands for a process but its thread
-  object_alike : (object : ProcName → Option Process → Found) → object me (Some p) ≡ object me (Some changed) → (q : ProcName) → object q (f.processes q) ≡ object q (after.processes q)
+  object_alike : (object : ProcName → Option Process → Found) → object me (Some p) ≡ object me (Some changed)
+      → (q : ProcName) → object q (f.processes q) ≡ object q (after.processes q)
   object_alike object same_me q = elim (which q) [
-    | inl e ↦ subst (λ (x : ProcName). object x (f.processes x) ≡ object x (after.processes x)) (sym e) (ap (object me) here ∙ same_me ∙ sym (ap (object me) at_me))
+    | inl e ↦
+        subst (λ (x : ProcName). object x (f.processes x) ≡ object x (after.processes x)) (sym e)
+        (ap (object me) here ∙ same_me ∙ sym (ap (object me) at_me))
     | inr other ↦ ap (object q) (sym (at_other q other))
   ]
 
-  status_alike : (q : ProcName) → expected_status accounts l.category f l.naming.number (Some q) ≡ expected_status accounts l.category after l.naming.number (Some q)
-  status_alike q = by (f.processes q) ∙ object_alike (λ x o. status_object accounts l.category (bytes_for accounts l.category after l.naming.number x o) x o) refl q
+  status_alike : (q : ProcName)
+      → expected_status accounts l.category f l.naming.number (Some q)
+      ≡ expected_status accounts l.category after l.naming.number (Some q)
+  status_alike q =
+      by (f.processes q)
+      ∙ object_alike
+      (λ x o. status_object accounts l.category (bytes_for accounts l.category after l.naming.number x o) x o)
+      refl q
     where
-      by : (o : Option Process) → status_object accounts l.category (bytes_for accounts l.category f l.naming.number q o) q o ≡ status_object accounts l.category (bytes_for accounts l.category after l.naming.number q o) q o
+      by : (o : Option Process)
+          → status_object accounts l.category (bytes_for accounts l.category f l.naming.number q o) q o
+          ≡ status_object accounts l.category (bytes_for accounts l.category after l.naming.number q o) q o
       by None = refl
       by (Some x) = ap (segment (guard_label l.category (process_guard q x))) (same_bytes q x)
 
@@ -147,7 +171,9 @@ module _ (accounts : Accounts) (s : State) (f : Flat) (l : ObjectsMatch accounts
 
   asks : (a : Address Step) → set_at same_step old_asked runner (option_map (becoming label clearance) (old_asked runner)) a ≡ wish a
   asks a = elim (same_tests_equality same_step step_tests_equality runner a) [
-    | inl e ↦ ap (λ (t : Bool). if t then option_map (becoming label clearance) (old_asked runner) else old_asked a) e.0 ∙ ap (option_map (becoming label clearance)) old_runner ∙ sym new_runner ∙ ap wish e.1
+    | inl e ↦
+        ap (λ (t : Bool). if t then option_map (becoming label clearance) (old_asked runner) else old_asked a) e.0
+        ∙ ap (option_map (becoming label clearance)) old_runner ∙ sym new_runner ∙ ap wish e.1
     | inr e ↦ ap (λ (t : Bool). if t then option_map (becoming label clearance) (old_asked runner) else old_asked a) e.0 ∙ wish_other a e.1
   ]
 
@@ -155,7 +181,9 @@ module _ (accounts : Accounts) (s : State) (f : Flat) (l : ObjectsMatch accounts
   same_objects q = elim (eqb_tells q T) [
     | inl e ↦
         ap (with_own s T label clearance).objects e.1 ∙ put_here s.objects T (thread_of label clearance)
-        ∙ sym (ap (changed_at s.objects T (becoming label clearance)) e.1 ∙ changed_here s.objects T (becoming label clearance) ∙ ap (option_map (becoming label clearance)) thread_agrees)
+        ∙ sym (ap (changed_at s.objects T (becoming label clearance)) e.1
+        ∙ changed_here s.objects T (becoming label clearance)
+        ∙ ap (option_map (becoming label clearance)) thread_agrees)
     | inr e ↦ put_other s.objects T (thread_of label clearance) q e.1 ∙ sym (changed_other s.objects T (becoming label clearance) q e.1)
   ]
 
@@ -165,7 +193,8 @@ module _ (accounts : Accounts) (s : State) (f : Flat) (l : ObjectsMatch accounts
     | inl e ↦
         let is : changed ≡ px = same_Some changed px (sym at_me ∙ ap after.processes (sym e) ∙ at) in
         let known_here : (has p.chain job || has held job) ≡ true = subst (λ (y : Process). knows y job ≡ true) (sym is) known in
-        elim (or_cases (has p.chain job) (has held job) known_here) [ inl k ↦ inl (me, p, here, or_left (has p.chain job) (has p.held job) k) | inr k ↦ held_used job k ]
+        elim (or_cases (has p.chain job) (has held job) known_here)
+        [ inl k ↦ inl (me, p, here, or_left (has p.chain job) (has p.held job) k) | inr k ↦ held_used job k ]
     | inr other ↦ inl (x, px, sym (at_other x other) ∙ at, known)
   ]
 
@@ -185,7 +214,9 @@ module _ (accounts : Accounts) (s : State) (f : Flat) (l : ObjectsMatch accounts
 
   given_alike : (y : ProcName) (k : ℕ) → was_given (f.processes y) k ≡ was_given (after.processes y) k
   given_alike y k = elim (which y) [
-    | inl e ↦ subst (λ (x : ProcName). was_given (f.processes x) k ≡ was_given (after.processes x) k) (sym e) (ap (λ (o : Option Process). was_given o k) here ∙ sym (ap (λ (o : Option Process). was_given o k) at_me))
+    | inl e ↦
+        subst (λ (x : ProcName). was_given (f.processes x) k ≡ was_given (after.processes x) k) (sym e)
+        (ap (λ (o : Option Process). was_given o k) here ∙ sym (ap (λ (o : Option Process). was_given o k) at_me))
     | inr other ↦ ap (λ (o : Option Process). was_given o k) (sym (at_other y other))
   ]
 
@@ -198,22 +229,35 @@ module _ (accounts : Accounts) (s : State) (f : Flat) (l : ObjectsMatch accounts
     | inl e ↦
         let o = l.processes me p here in
         subst (IsProcess accounts l.category) (same_Some changed px (sym at_me ∙ ap after.processes (sym e) ∙ at))
-        (record { someone = λ r. known_user; free = λ r u. held_free u; apart = λ r. held_apart; chain = o.chain; held = λ r. held_ordered; few = o.few; status = o.status })
+        (record {
+          someone = λ r. known_user;
+          free = λ r u. held_free u;
+          apart = λ r. held_apart;
+          chain = o.chain;
+          held = λ r. held_ordered;
+          few = o.few;
+          status = o.status;
+        })
     | inr other ↦ l.processes x px (sym (at_other x other) ∙ at)
   ]
 
   gone_then : (with_own s T label clearance).objects boot_thread_number ≡ None
-  gone_then = put_other s.objects T (thread_of label clearance) boot_thread_number (λ e. none-some old_thread (sym l.boot_thread_gone ∙ ap s.objects e ∙ thread_agrees)) ∙ l.boot_thread_gone
+  gone_then =
+      put_other s.objects T (thread_of label clearance) boot_thread_number
+      (λ e. none-some old_thread (sym l.boot_thread_gone ∙ ap s.objects e ∙ thread_agrees)) ∙ l.boot_thread_gone
 
   -- The kernel represents the flat state with the process so.
-  pub becomes : (new : State) → ((q : ℕ) → new.objects q ≡ (with_own s T label clearance).objects q) → new.next_object ≡ s.next_object → s.next_category ≤ new.next_category
+  pub becomes : (new : State) → ((q : ℕ) → new.objects q ≡ (with_own s T label clearance).objects q)
+      → new.next_object ≡ s.next_object → s.next_category ≤ new.next_category
       → (later : ObjectsMatch accounts new after) × (later.naming ≡ l.naming) × (later.category ≡ l.category)
   becomes new objects next_is categories = (
     record {
       naming = l.naming;
       category = l.category;
       agrees = agrees_same same_step _ new l.naming _ wish
-          (agrees_changed same_step step_tests_equality s l.naming old_asked l.agrees T runner (becoming label clearance) at_thread (same_links label clearance) (bared label clearance)) asks (λ q. objects q ∙ same_objects q) next_is;
+          (agrees_changed same_step step_tests_equality s l.naming old_asked l.agrees T runner
+          (becoming label clearance) at_thread (same_links label clearance) (bared label clearance)) asks
+          (λ q. objects q ∙ same_objects q) next_is;
       numbered = subst (λ (m : ℕ). m ≤ greatest) (sym next_is) l.numbered;
       as_booted = l.as_booted;
       different = l.different;

@@ -28,9 +28,11 @@ pub given_other : (naming : Naming Step) (k : ℕ) (a b : Address Step) → a �
 given_other naming k a b other = ap (λ (t : Bool). if t then Some k else naming.number b) (same_other same_step step_tests_equality a b other)
 
 module _ (s : State) (naming : Naming Step) (asked : Address Step → Found) (agrees : Agrees same_step s naming asked) (me : ProcName) (n C S : ℕ)
-    (at_home : naming.number (home_address me) ≡ Some C) (at_status : naming.number (Status ∷ home_address me) ≡ Some S) (holder : is_container (asked (home_address me)) ≡ true)
+    (at_home : naming.number (home_address me) ≡ Some C) (at_status : naming.number (Status ∷ home_address me) ≡ Some S)
+    (holder : is_container (asked (home_address me)) ≡ true)
     (no_home : is_present (asked (home_address (n ∷ me))) ≡ false) (no_inside : is_present (asked (Inside ∷ home_address (n ∷ me))) ≡ false)
-    (no_runner : is_present (asked (Runner ∷ Inside ∷ home_address (n ∷ me))) ≡ false) (no_status : is_present (asked (Status ∷ home_address (n ∷ me))) ≡ false)
+    (no_runner : is_present (asked (Runner ∷ Inside ∷ home_address (n ∷ me))) ≡ false)
+    (no_status : is_present (asked (Status ∷ home_address (n ∷ me))) ≡ false)
     (outer inner label clearance : Levels) (child_bytes own_bytes : List ℕ) where
   -- where the child stands
   abbrev pub home : Address Step
@@ -97,20 +99,30 @@ module _ (s : State) (naming : Naming Step) (asked : Address Step → Found) (ag
   home_holds = ap (λ (t : Bool). is_container (if t then Some container else asked home)) (same_itself same_step step_tests_equality home)
 
   inside_holds : is_container (asked_second (Inside ∷ home)) ≡ true
-  inside_holds = ap (λ (t : Bool). is_container (if t then Some internal else asked_first (Inside ∷ home))) (same_itself same_step step_tests_equality (Inside ∷ home))
+  inside_holds =
+      ap (λ (t : Bool). is_container (if t then Some internal else asked_first (Inside ∷ home)))
+      (same_itself same_step step_tests_equality (Inside ∷ home))
 
   agrees_first : Agrees same_step first naming_first asked_first
-  agrees_first = agrees_added same_step step_tests_equality s naming asked agrees C (home_address me) (Child n) container at_home holder no_home empty_links
+  agrees_first =
+      agrees_added same_step step_tests_equality s naming asked agrees C (home_address me) (Child n) container at_home
+      holder no_home empty_links
 
   agrees_second : Agrees same_step second naming_second asked_second
-  agrees_second = agrees_added same_step step_tests_equality first naming_first asked_first agrees_first s.next_object home Inside internal (given naming s.next_object home) home_holds no_inside empty_links
+  agrees_second =
+      agrees_added same_step step_tests_equality first naming_first asked_first agrees_first s.next_object home Inside
+      internal (given naming s.next_object home) home_holds no_inside empty_links
 
   agrees_third : Agrees same_step third naming_third asked_third
-  agrees_third = agrees_added same_step step_tests_equality second naming_second asked_second agrees_second (s.next_object + 1) (Inside ∷ home) Runner (thread_of label clearance)
+  agrees_third =
+      agrees_added same_step step_tests_equality second naming_second asked_second agrees_second (s.next_object + 1)
+      (Inside ∷ home) Runner (thread_of label clearance)
       (given naming_first (s.next_object + 1) (Inside ∷ home)) inside_holds no_runner empty_links
 
   agrees_fourth : Agrees same_step fourth born_naming asked_fourth
-  agrees_fourth = agrees_added same_step step_tests_equality third naming_third asked_third agrees_third s.next_object home Status segment (given naming s.next_object home) home_holds no_status empty_links
+  agrees_fourth =
+      agrees_added same_step step_tests_equality third naming_third asked_third agrees_third s.next_object home Status
+      segment (given naming s.next_object home) home_holds no_status empty_links
 
   -- the child's process segment is not its parent's
   apart_status : Status ∷ home ≢ Status ∷ home_address me
@@ -120,7 +132,10 @@ module _ (s : State) (naming : Naming Step) (asked : Address Step → Found) (ag
   status_stays = given_other naming_third (s.next_object + 1 + 1 + 1) (Status ∷ home) (Status ∷ home_address me) apart_status ∙ at_status
 
   pub agrees_born : Agrees same_step born_state born_naming born_asked
-  agrees_born = agrees_changed same_step step_tests_equality fourth born_naming asked_fourth agrees_fourth S (Status ∷ home_address me) (holding own_bytes) status_stays (λ o. kind_held_links own_bytes o.kind) (bare_held own_bytes)
+  agrees_born =
+      agrees_changed same_step step_tests_equality fourth born_naming asked_fourth agrees_fourth S
+      (Status ∷ home_address me) (holding own_bytes) status_stays (λ o. kind_held_links own_bytes o.kind)
+      (bare_held own_bytes)
 
   -- the numbers that the new objects have
   pub at_new_home : born_naming.number home ≡ Some s.next_object
@@ -136,7 +151,8 @@ module _ (s : State) (naming : Naming Step) (asked : Address Step → Found) (ag
   at_new_status = given naming_third (s.next_object + 1 + 1 + 1) (Status ∷ home)
 
   -- and each other address the number that it had
-  pub number_kept : (b : Address Step) → home ≢ b → Inside ∷ home ≢ b → Runner ∷ Inside ∷ home ≢ b → Status ∷ home ≢ b → born_naming.number b ≡ naming.number b
+  pub number_kept : (b : Address Step) → home ≢ b → Inside ∷ home ≢ b → Runner ∷ Inside ∷ home ≢ b → Status ∷ home ≢ b
+      → born_naming.number b ≡ naming.number b
   number_kept b not_home not_inside not_runner not_status =
       given_other naming_third (s.next_object + 1 + 1 + 1) (Status ∷ home) b not_status
       ∙ given_other naming_second (s.next_object + 1 + 1) (Runner ∷ Inside ∷ home) b not_runner
@@ -153,18 +169,27 @@ module _ (s : State) (naming : Naming Step) (asked : Address Step → Found) (ag
       (new_none s.objects s.next_object C container q e (λ k. absurd (omega (arith, below, k)))) (λ k. absurd (omega (arith, below, k)))) (λ k. absurd (omega (arith, below, k)))) (λ k. absurd (omega (arith, below, k))))
 
   -- what is asked for after birth is told by five addresses, and by all others
-  module _ (wish : Address Step → Found) (wish_home : Some container ≡ wish home) (wish_inside : Some internal ≡ wish (Inside ∷ home)) (wish_runner : Some (thread_of label clearance) ≡ wish (Runner ∷ Inside ∷ home))
-      (wish_status : Some segment ≡ wish (Status ∷ home)) (wish_own : option_map (holding own_bytes) (asked (Status ∷ home_address me)) ≡ wish (Status ∷ home_address me))
-      (wish_other : (a : Address Step) → home ≢ a → Inside ∷ home ≢ a → Runner ∷ Inside ∷ home ≢ a → Status ∷ home ≢ a → Status ∷ home_address me ≢ a → asked a ≡ wish a) where
+  module _ (wish : Address Step → Found) (wish_home : Some container ≡ wish home)
+      (wish_inside : Some internal ≡ wish (Inside ∷ home))
+      (wish_runner : Some (thread_of label clearance) ≡ wish (Runner ∷ Inside ∷ home))
+      (wish_status : Some segment ≡ wish (Status ∷ home)) (wish_own : option_map (holding own_bytes) (asked (Status ∷ home_address me))
+      ≡ wish (Status ∷ home_address me))
+      (wish_other : (a : Address Step) → home ≢ a → Inside ∷ home ≢ a → Runner ∷ Inside ∷ home ≢ a → Status ∷ home ≢ a
+      → Status ∷ home_address me ≢ a → asked a ≡ wish a) where
     own_before : asked_fourth (Status ∷ home_address me) ≡ asked (Status ∷ home_address me)
-    own_before = ap (λ (t : Bool). if t then Some segment else asked_third (Status ∷ home_address me)) (same_other same_step step_tests_equality (Status ∷ home) (Status ∷ home_address me) apart_status)
+    own_before =
+        ap (λ (t : Bool). if t then Some segment else asked_third (Status ∷ home_address me))
+        (same_other same_step step_tests_equality (Status ∷ home) (Status ∷ home_address me) apart_status)
 
     pub asks_born : (a : Address Step) → born_asked a ≡ wish a
     asks_born a = elim (same_tests_equality same_step step_tests_equality (Status ∷ home_address me) a) [
       | inl e ↦
           ap (λ (t : Bool). if t then option_map (holding own_bytes) (asked_fourth (Status ∷ home_address me)) else asked_fourth a) e.0
           ∙ ap (option_map (holding own_bytes)) own_before ∙ wish_own ∙ ap wish e.1
-      | inr not_own ↦ ap (λ (t : Bool). if t then option_map (holding own_bytes) (asked_fourth (Status ∷ home_address me)) else asked_fourth a) not_own.0
+      | inr not_own ↦
+          ap (λ (t : Bool).
+          if t then option_map (holding own_bytes) (asked_fourth (Status ∷ home_address me)) else asked_fourth a)
+          not_own.0
           ∙ elim (same_tests_equality same_step step_tests_equality (Status ∷ home) a) [
             | inl e ↦ ap (λ (t : Bool). if t then Some segment else asked_third a) e.0 ∙ wish_status ∙ ap wish e.1
             | inr not_status ↦ ap (λ (t : Bool). if t then Some segment else asked_third a) not_status.0
@@ -176,7 +201,9 @@ module _ (s : State) (naming : Naming Step) (asked : Address Step → Found) (ag
                         | inr not_inside ↦ ap (λ (t : Bool). if t then Some internal else asked_first a) not_inside.0
                             ∙ elim (same_tests_equality same_step step_tests_equality home a) [
                               | inl e ↦ ap (λ (t : Bool). if t then Some container else asked a) e.0 ∙ wish_home ∙ ap wish e.1
-                              | inr not_home ↦ ap (λ (t : Bool). if t then Some container else asked a) not_home.0 ∙ wish_other a not_home.1 not_inside.1 not_runner.1 not_status.1 not_own.1
+                              | inr not_home ↦
+                                  ap (λ (t : Bool). if t then Some container else asked a) not_home.0
+                                  ∙ wish_other a not_home.1 not_inside.1 not_runner.1 not_status.1 not_own.1
                             ]
                       ]
                 ]

@@ -34,7 +34,9 @@ use Rattle.histar_layout.proofs.Declared.{group_range, user_range, equal_tested,
 
 -- a user's place is looked for by equal bytes, and a password is tested so
 pub equal_bytes : (a b : Name) → bytes_eq a b ≡ same a b
-equal_bytes a b = same_truth (bytes_eq a b) (same a b) (λ e. equal_tested a b ((bytes_eq-Decides a b).0 e)) (λ e. (bytes_eq-Decides a b).1 (equal_names a b e))
+equal_bytes a b =
+    same_truth (bytes_eq a b) (same a b) (λ e. equal_tested a b ((bytes_eq-Decides a b).0 e))
+    (λ e. (bytes_eq-Decides a b).1 (equal_names a b e))
 
 -- a user's number is one more than the user's place
 pub number_by_place : (accounts : Accounts) (name : Name) → user_number accounts name ≡ option_map (λ place. place + 1) (place_of accounts.users name)
@@ -56,11 +58,15 @@ module _ (accounts : Accounts) (s : State) (f : Flat) (l : ObjectsMatch accounts
   readable_label i h = λ k. guarded_by [] (writes_numbered i h k ∷ [])
 
   -- what is for the members of a group
-  pub group_label : (name : Name) (k : ℕ) → group_number accounts name ≡ Some k → guard_label l.category (group_guard k) ≡ secret_of (read_category (owner_of_group accounts name)) (write_category (owner_of_group accounts name))
+  pub group_label : (name : Name) (k : ℕ) → group_number accounts name ≡ Some k
+      → guard_label l.category (group_guard k)
+      ≡ secret_of (read_category (owner_of_group accounts name)) (write_category (owner_of_group accounts name))
   group_label name k numbered =
       let range = group_range accounts name k numbered in
-      let owner : owner_of_group accounts name ≡ group_owner (length accounts.users) k = λ i. elim (numbered i) as (λ _. ℕ) [ None ↦ 0 | Some number ↦ group_owner (length accounts.users) number ] in
-      (λ i. guarded_by (group_reads accounts l.category l.as_made k range.0 range.1 i ∷ []) (group_writes accounts l.category l.as_made k range.0 range.1 i ∷ []))
+      let owner : owner_of_group accounts name ≡ group_owner (length accounts.users) k =
+      λ i. elim (numbered i) as (λ _. ℕ) [ None ↦ 0 | Some number ↦ group_owner (length accounts.users) number ] in
+      (λ i. guarded_by (group_reads accounts l.category l.as_made k range.0 range.1 i ∷ [])
+      (group_writes accounts l.category l.as_made k range.0 range.1 i ∷ []))
       ∙ ap (λ (o : ℕ). secret_of (read_category o) (write_category o)) (sym owner)
 
 -- star tells what is owned
@@ -71,15 +77,19 @@ star_revealed false = refl
 
 module _ (accounts : Accounts) (s : State) (f : Flat) (l : ObjectsMatch accounts s f) (me : ProcName) (p : Process) where
   -- a process's thread owns a user's first category where the process is that user's
-  pub owns_reads : (j : ℕ) → j ≤ length accounts.users → owns (rights_label l.category (thread_rights accounts me p)) j ≡ is_number (user_number accounts p.user) j
+  pub owns_reads : (j : ℕ) → j ≤ length accounts.users
+      → owns (rights_label l.category (thread_rights accounts me p)) j ≡ is_number (user_number accounts p.user) j
   owns_reads j h =
       ap (λ (q : ℕ). is_star (level_of (rights_label l.category (thread_rights accounts me p)) q)) (sym (reads_numbered accounts s f l j h))
       ∙ ap is_star (at_owning (map l.category (thread_rights accounts me p).owned) (map l.category (map OfJob p.chain)) (l.category (ReadsUser j))
-      ∙ (λ k. owning_level (is_in_names l.category l.different (thread_rights accounts me p).owned (ReadsUser j) k) ((is_in_names l.category l.different (map OfJob p.chain) (ReadsUser j) ∙ among_none OfJob (ReadsUser j) (λ job. refl) p.chain) k)))
+      ∙ (λ k. owning_level (is_in_names l.category l.different (thread_rights accounts me p).owned (ReadsUser j) k)
+      ((is_in_names l.category l.different (map OfJob p.chain) (ReadsUser j)
+      ∙ among_none OfJob (ReadsUser j) (λ job. refl) p.chain) k)))
       ∙ star_revealed (among (thread_rights accounts me p).owned (ReadsUser j)) ∙ owns_read_of accounts me p j
 
   -- so its label tells the user
-  pub user_of_thread : IsUserOf (rights_label l.category (thread_rights accounts me p)) (length accounts.users) (or_zero (user_number accounts p.user))
+  pub user_of_thread : IsUserOf (rights_label l.category (thread_rights accounts me p)) (length accounts.users)
+      (or_zero (user_number accounts p.user))
   user_of_thread = by (user_number accounts p.user) refl
     where
       other_number : (i j : ℕ) → j < i → nat_eq j i ≡ false
@@ -88,7 +98,8 @@ module _ (accounts : Accounts) (s : State) (f : Flat) (l : ObjectsMatch accounts
       itself : (i : ℕ) → nat_eq i i ≡ true
       itself i = grind (arith, nat_tests)
 
-      by : (o : Option ℕ) → user_number accounts p.user ≡ o → IsUserOf (rights_label l.category (thread_rights accounts me p)) (length accounts.users) (or_zero o)
+      by : (o : Option ℕ) → user_number accounts p.user ≡ o
+          → IsUserOf (rights_label l.category (thread_rights accounts me p)) (length accounts.users) (or_zero o)
       by None is = record {
         owner = λ lt. absurd (omega (arith, lt));
         first = λ j low lt. absurd (omega (arith, lt));
@@ -106,7 +117,8 @@ module _ (accounts : Accounts) (s : State) (f : Flat) (l : ObjectsMatch accounts
             known = high;
           }
 
-module _ (accounts : Accounts) (s : State) (f : Flat) (l : ObjectsMatch accounts s f) (me : ProcName) (caller : Caller) (own_reads : l.category (ReadsProcess me) ≡ caller.read) (own_writes : l.category (WritesProcess me) ≡ caller.write)
+module _ (accounts : Accounts) (s : State) (f : Flat) (l : ObjectsMatch accounts s f) (me : ProcName) (caller : Caller)
+    (own_reads : l.category (ReadsProcess me) ≡ caller.read) (own_writes : l.category (WritesProcess me) ≡ caller.write)
     (name : Name) (i : ℕ) (numbered : user_number accounts name ≡ Some i) (exited : Option ℕ) (born : ℕ) where
   -- the process as the user's, in no job and holding none
   abbrev pub as_user : Process
@@ -120,11 +132,14 @@ module _ (accounts : Accounts) (s : State) (f : Flat) (l : ObjectsMatch accounts
   owned_so =
       ap (λ (x : Option ℕ). map l.category (ReadsProcess me ∷ WritesProcess me ∷ owned_as accounts as_user x ++ [])) numbered
       ∙ (λ k. own_reads k ∷ own_writes k ∷ map l.category (append-nil (reading accounts name i ++ writing accounts name i) k))
-      ∙ ap (λ (o : List ℕ). caller.read ∷ caller.write ∷ o) (owned_is accounts l.category l.as_made name i (user_range accounts name i numbered).1 true)
+      ∙ ap (λ (o : List ℕ). caller.read ∷ caller.write ∷ o)
+      (owned_is accounts l.category l.as_made name i (user_range accounts name i numbered).1 true)
 
   -- The label and the clearance that a login gives a process are those of the user.
   pub user_label_is : rights_label l.category (thread_rights accounts me as_user) ≡ user_label caller (owners_of accounts i name)
   user_label_is = ap (λ (o : List ℕ). owner_label o []) owned_so
 
   pub user_clearance_is : rights_clearance l.category (thread_rights accounts me as_user) ≡ user_clearance caller (owners_of accounts i name)
-  user_clearance_is = ap (λ (names : List CategoryName). cleared_at (map l.category names)) (append-nil (thread_rights accounts me as_user).owned) ∙ ap cleared_at owned_so
+  user_clearance_is =
+      ap (λ (names : List CategoryName). cleared_at (map l.category names))
+      (append-nil (thread_rights accounts me as_user).owned) ∙ ap cleared_at owned_so

@@ -54,10 +54,13 @@ module _ (accounts : Accounts) (s : State) (f : Flat) (l : ObjectsMatch accounts
   where_is me = record { container = or_zero (l.naming.number (home_address me)); segment = or_zero (l.naming.number (Status ∷ home_address me)) }
 
   -- its process segment tells what it is
-  pub status_is : (me : ProcName) (p : Process) → f.processes me ≡ Some p → status_at s (or_zero (l.naming.number (Status ∷ home_address me))) ≡ Some (status_by f.processes l.naming.number me p)
+  pub status_is : (me : ProcName) (p : Process) → f.processes me ≡ Some p
+      → status_at s (or_zero (l.naming.number (Status ∷ home_address me)))
+      ≡ Some (status_by f.processes l.naming.number me p)
   status_is me p here =
       status_again _ (status_by f.processes l.naming.number me p)
-      (holds_status accounts s f l me p (or_zero (l.naming.number (Status ∷ home_address me))) here (is_or_zero _ (numbered_status accounts s f l me ∙ ap is_some here)))
+      (holds_status accounts s f l me p (or_zero (l.naming.number (Status ∷ home_address me))) here
+      (is_or_zero _ (numbered_status accounts s f l me ∙ ap is_some here)))
       few
     where
       few : length (map (listed_by l.naming.number me) (children f.processes me p.born)) ≤ most_children
@@ -71,14 +74,20 @@ module _ (accounts : Accounts) (s : State) (f : Flat) (l : ObjectsMatch accounts
 
   -- a child is listed where it is there
   pub child_is : (n : ℕ) (me : ProcName) (p : Process) → f.processes me ≡ Some p
-      → child_at (map (listed_by l.naming.number me) (children f.processes me p.born)) n ≡ option_map (λ (q : Process). listed_by l.naming.number me n) (f.processes (n ∷ me))
+      → child_at (map (listed_by l.naming.number me) (children f.processes me p.born)) n
+      ≡ option_map (λ (q : Process). listed_by l.naming.number me n) (f.processes (n ∷ me))
   child_is n me p here = by (f.processes (n ∷ me)) refl
     where
-      no_other : f.processes (n ∷ me) ≡ None → (o : Option Listed) → child_at (map (listed_by l.naming.number me) (children f.processes me p.born)) n ≡ o → o ≡ None
+      no_other : f.processes (n ∷ me) ≡ None → (o : Option Listed)
+          → child_at (map (listed_by l.naming.number me) (children f.processes me p.born)) n ≡ o → o ≡ None
       no_other none None is = refl
-      no_other none (Some x) is = absurd (true≢false (sym (listed_back l.naming.number me (λ k. is_some (f.processes (k ∷ me))) n x 1 p.born is).0 ∙ ap is_some none))
+      no_other none (Some x) is =
+          absurd (true≢false (sym (listed_back l.naming.number me (λ k. is_some (f.processes (k ∷ me))) n x 1 p.born is).0
+          ∙ ap is_some none))
 
-      by : (o : Option Process) → f.processes (n ∷ me) ≡ o → child_at (map (listed_by l.naming.number me) (children f.processes me p.born)) n ≡ option_map (λ (q : Process). listed_by l.naming.number me n) o
+      by : (o : Option Process) → f.processes (n ∷ me) ≡ o
+          → child_at (map (listed_by l.naming.number me) (children f.processes me p.born)) n
+          ≡ option_map (λ (q : Process). listed_by l.naming.number me n) o
       by None is = no_other is (child_at (map (listed_by l.naming.number me) (children f.processes me p.born)) n) refl
       by (Some q) is =
           let range = child_range accounts s f l n me p here (ap is_some is) in
@@ -97,18 +106,27 @@ module _ (accounts : Accounts) (s : State) (f : Flat) (l : ObjectsMatch accounts
 
   -- from the process above on to a child
   abbrev below : ℕ → Option Where → Option Where
-  below n o = option_and_then (λ (home : Where). option_and_then (λ (status : ProcessStatus). option_and_then (λ (child : Listed). Some (record { container = child.container; segment = child.segment })) (child_at status.children n)) (status_at s home.segment)) o
+  below n o =
+      option_and_then (λ (home : Where). option_and_then (λ (status : ProcessStatus). option_and_then
+      (λ (child : Listed). Some (record { container = child.container; segment = child.segment }))
+      (child_at status.children n)) (status_at s home.segment)) o
 
   listed_is : (n : ℕ) (me : ProcName) (o : Option Process)
-      → option_and_then (λ (child : Listed). Some (record { container = child.container; segment = child.segment })) (option_map (λ (q : Process). listed_by l.naming.number me n) o) ≡ option_map (λ (q : Process). where_is (n ∷ me)) o
+      → option_and_then (λ (child : Listed). Some (record { container = child.container; segment = child.segment }))
+      (option_map (λ (q : Process). listed_by l.naming.number me n) o)
+      ≡ option_map (λ (q : Process). where_is (n ∷ me)) o
   listed_is n me None = refl
   listed_is n me (Some q) = refl
 
-  home_below : (n : ℕ) (me : ProcName) (o : Option Process) → f.processes me ≡ o → home_at s first me ≡ option_map (λ (p : Process). where_is me) o → home_at s first (n ∷ me) ≡ option_map (λ (p : Process). where_is (n ∷ me)) (f.processes (n ∷ me))
+  home_below : (n : ℕ) (me : ProcName) (o : Option Process) → f.processes me ≡ o
+      → home_at s first me ≡ option_map (λ (p : Process). where_is me) o
+      → home_at s first (n ∷ me) ≡ option_map (λ (p : Process). where_is (n ∷ me)) (f.processes (n ∷ me))
   home_below n me None is above = ap (below n) above ∙ sym (ap (option_map (λ (p : Process). where_is (n ∷ me))) (parent_there n me is))
   home_below n me (Some p) is above =
       ap (below n) above
-      ∙ ap (option_and_then (λ (status : ProcessStatus). option_and_then (λ (child : Listed). Some (record { container = child.container; segment = child.segment })) (child_at status.children n))) (status_is me p is)
+      ∙ ap (option_and_then (λ (status : ProcessStatus). option_and_then
+      (λ (child : Listed). Some (record { container = child.container; segment = child.segment }))
+      (child_at status.children n))) (status_is me p is)
       ∙ ap (option_and_then (λ (child : Listed). Some (record { container = child.container; segment = child.segment }))) (child_is n me p is)
       ∙ listed_is n me (f.processes (n ∷ me))
 
@@ -116,7 +134,10 @@ module _ (accounts : Accounts) (s : State) (f : Flat) (l : ObjectsMatch accounts
   pub home_is : (me : ProcName) → home_at s first me ≡ option_map (λ (p : Process). where_is me) (f.processes me)
   home_is [] =
       let there = some_of (f.processes []) l.first in
-      (λ i. Some (record { container = or_zero (sym (l.as_booted (Home ∷ []) _ refl) i); segment = or_zero (sym (l.as_booted (Status ∷ Home ∷ []) _ refl) i) }))
+      (λ i. Some (record {
+        container = or_zero (sym (l.as_booted (Home ∷ []) _ refl) i);
+        segment = or_zero (sym (l.as_booted (Status ∷ Home ∷ []) _ refl) i);
+      }))
       ∙ sym (ap (option_map (λ (p : Process). where_is [])) there.1)
   home_is (n ∷ me) = home_below n me (f.processes me) refl (home_is me)
 
@@ -136,15 +157,21 @@ module _ (accounts : Accounts) (s : State) (f : Flat) (l : ObjectsMatch accounts
     outer_label : label_there (s.objects (where_is me).container) ≡ Some (guard_label l.category (process_guard me p))
     outer_label =
         sym (label_bare (s.objects (where_is me).container))
-        ∙ ap label_there (at_number same_step step_tests_equality s l.naming (expected accounts l.category f l.naming.number) l.agrees (home_address me) (where_is me).container (is_or_zero _ (numbered_home accounts s f l me ∙ ap is_some here)))
+        ∙ ap label_there (at_number same_step step_tests_equality s l.naming (expected accounts l.category f l.naming.number)
+        l.agrees (home_address me) (where_is me).container
+        (is_or_zero _ (numbered_home accounts s f l me ∙ ap is_some here)))
         ∙ ap label_there (asked_home accounts l.category f l.naming.number me ∙ ap (home_object accounts l.category me) here)
 
     abbrev of_inner : ProcessStatus → Levels → Levels → Option Caller
-    of_inner revealed outer inner = option_and_then (λ write. option_and_then (λ read. Some (record { home = where_is me; thread = revealed.thread; read = read; write = write })) (read_category_in outer inner)) (write_category_in outer)
+    of_inner revealed outer inner =
+        option_and_then (λ write. option_and_then
+        (λ read. Some (record { home = where_is me; thread = revealed.thread; read = read; write = write }))
+        (read_category_in outer inner)) (write_category_in outer)
 
     found_here : caller_at s first me ≡ caller_by s (where_is me) status
     found_here =
-        ap (option_and_then (λ (home : Where). option_and_then (caller_by s home) (status_at s home.segment))) (home_is me ∙ ap (option_map (λ (q : Process). where_is me)) here)
+        ap (option_and_then (λ (home : Where). option_and_then (caller_by s home) (status_at s home.segment)))
+        (home_is me ∙ ap (option_map (λ (q : Process). where_is me)) here)
         ∙ ap (option_and_then (caller_by s (where_is me))) (status_is me p here)
 
     module _ (runs : p.exited ≡ None) where
@@ -154,19 +181,31 @@ module _ (accounts : Accounts) (s : State) (f : Flat) (l : ObjectsMatch accounts
       inner_label : label_there (s.objects (or_zero (l.naming.number (Inside ∷ home_address me)))) ≡ Some (guard_label l.category (inside_guard me p))
       inner_label =
           sym (label_bare (s.objects (or_zero (l.naming.number (Inside ∷ home_address me)))))
-          ∙ ap label_there (at_number same_step step_tests_equality s l.naming (expected accounts l.category f l.naming.number) l.agrees (Inside ∷ home_address me) (or_zero (l.naming.number (Inside ∷ home_address me))) (is_or_zero _ inner_there))
+          ∙ ap label_there (at_number same_step step_tests_equality s l.naming (expected accounts l.category f l.naming.number)
+          l.agrees (Inside ∷ home_address me) (or_zero (l.naming.number (Inside ∷ home_address me)))
+          (is_or_zero _ inner_there))
           ∙ ap label_there (asked_inside accounts l.category f l.naming.number me ∙ ap (inside_object accounts l.category me) here)
           ∙ ap (λ (e : Option ℕ). label_there (inside_object accounts l.category me (Some (record p { exited = e })))) runs
 
       -- it is found where it is
       pub runs_here : caller_by s (where_is me) status ≡ Some (caller_is me)
       runs_here =
-          ap (λ (e : Option ℕ). if_runs e (option_and_then (λ outer. option_and_then (of_inner status outer) (label_there (s.objects status.internal))) (label_there (s.objects (where_is me).container)))) runs
+          ap (λ (e : Option ℕ). if_runs e (option_and_then
+          (λ outer. option_and_then (of_inner status outer) (label_there (s.objects status.internal)))
+          (label_there (s.objects (where_is me).container)))) runs
           ∙ ap (option_and_then (λ outer. option_and_then (of_inner status outer) (label_there (s.objects status.internal)))) outer_label
           ∙ ap (option_and_then (of_inner status (guard_label l.category (process_guard me p)))) inner_label
-          ∙ ap (option_and_then (λ write. option_and_then (λ read. Some (record { home = where_is me; thread = status.thread; read = read; write = write })) (read_category_in (guard_label l.category (process_guard me p)) (guard_label l.category (inside_guard me p)))))
+          ∙ ap (option_and_then (λ write. option_and_then (λ read.
+          Some (record { home = where_is me; thread = status.thread; read = read; write = write }))
+          (read_category_in (guard_label l.category (process_guard me p))
+          (guard_label l.category (inside_guard me p)))))
           (write_found l.category l.different me p)
-          ∙ ap (option_and_then (λ read. Some (record { home = where_is me; thread = status.thread; read = read; write = l.category (WritesProcess me) }))) (read_found l.category l.different me p)
+          ∙ ap (option_and_then (λ read. Some (record {
+            home = where_is me;
+            thread = status.thread;
+            read = read;
+            write = l.category (WritesProcess me);
+          }))) (read_found l.category l.different me p)
 
       -- and by its name
       pub runs_found : caller_at s first me ≡ Some (caller_is me)
@@ -174,11 +213,17 @@ module _ (accounts : Accounts) (s : State) (f : Flat) (l : ObjectsMatch accounts
 
     -- one that has exited is not
     exited_lost : (n : ℕ) → p.exited ≡ Some n → caller_at s first me ≡ None
-    exited_lost n is = found_here ∙ ap (λ (e : Option ℕ). if_runs e (option_and_then (λ outer. option_and_then (of_inner status outer) (label_there (s.objects status.internal))) (label_there (s.objects (where_is me).container)))) is
+    exited_lost n is =
+        found_here
+        ∙ ap (λ (e : Option ℕ). if_runs e (option_and_then
+        (λ outer. option_and_then (of_inner status outer) (label_there (s.objects status.internal)))
+        (label_there (s.objects (where_is me).container)))) is
 
   -- and no process that isn't there
   no_process_lost : (me : ProcName) → f.processes me ≡ None → caller_at s first me ≡ None
-  no_process_lost me none = ap (option_and_then (λ (home : Where). option_and_then (caller_by s home) (status_at s home.segment))) (home_is me ∙ ap (option_map (λ (q : Process). where_is me)) none)
+  no_process_lost me none =
+      ap (option_and_then (λ (home : Where). option_and_then (caller_by s home) (status_at s home.segment)))
+      (home_is me ∙ ap (option_map (λ (q : Process). where_is me)) none)
 
   -- so who is found runs
   module _ (me : ProcName) (caller : Caller) (found : caller_at s first me ≡ Some caller) where
@@ -197,7 +242,12 @@ module _ (accounts : Accounts) (s : State) (f : Flat) (l : ObjectsMatch accounts
         let some = ap is_some there.1 in (
           there.0,
           record {
-            runs = (there.1, there.2, is_or_zero _ (numbered_runner accounts s f l me there.0 there.1 there.2) ∙ ap (λ (c : Caller). Some c.thread) same);
+            runs = (
+              there.1,
+              there.2,
+              is_or_zero _ (numbered_runner accounts s f l me there.0 there.1 there.2)
+                  ∙ ap (λ (c : Caller). Some c.thread) same,
+            );
             home = is_or_zero _ (numbered_home accounts s f l me ∙ some) ∙ ap (λ (c : Caller). Some c.home.container) same;
             segment = is_or_zero _ (numbered_status accounts s f l me ∙ some) ∙ ap (λ (c : Caller). Some c.home.segment) same;
             reads = ap (λ (c : Caller). c.read) same;
@@ -219,7 +269,8 @@ module _ (accounts : Accounts) (s : State) (f : Flat) (l : ObjectsMatch accounts
   pub caller_there : (me : ProcName) → is_some (caller_at s first me) ≡ is_some (running f me)
   caller_there me = by (f.processes me) refl
     where
-      of_life : (p : Process) → f.processes me ≡ Some p → (e : Option ℕ) → p.exited ≡ e → is_some (caller_at s first me) ≡ is_some (if_running (Some (record p { exited = e })))
+      of_life : (p : Process) → f.processes me ≡ Some p → (e : Option ℕ) → p.exited ≡ e
+          → is_some (caller_at s first me) ≡ is_some (if_running (Some (record p { exited = e })))
       of_life p is None runs = ap is_some (runs_found me p is runs)
       of_life p is (Some n) exited = ap is_some (exited_lost me p is n exited)
 
@@ -228,7 +279,8 @@ module _ (accounts : Accounts) (s : State) (f : Flat) (l : ObjectsMatch accounts
       by (Some p) is = of_life p is p.exited refl
 
 pub callers_are_found : CallersAreFound
-callers_are_found accounts s f l me caller = ((λ found. caller_found accounts s f l me caller found), (λ c. caller_revealed accounts s f l me caller c.0 c.1))
+callers_are_found accounts s f l me caller =
+    ((λ found. caller_found accounts s f l me caller found), (λ c. caller_revealed accounts s f l me caller c.0 c.1))
 
 pub callers_are_there : CallersAreThere
 callers_are_there accounts s f l me = caller_there accounts s f l me

@@ -98,7 +98,8 @@ module _ (category : Categories) (different : AreDifferent category) (me : ProcN
   pub read_found : read_category_in outer inner ≡ Some r
   read_found =
       found_in_label (λ (e : ℕ × Level). is_three e.1 && not (is_three (level_of outer e.0))) r inner L3
-      (at_guarded (r ∷ jobs) (w ∷ []) r ∙ (λ i. guarded_level (is_in (r ∷ jobs) r) (read_not_written i)) ∙ ap (λ (b : Bool). guarded_level b false) here)
+      (at_guarded (r ∷ jobs) (w ∷ []) r ∙ (λ i. guarded_level (is_in (r ∷ jobs) r) (read_not_written i))
+      ∙ ap (λ (b : Bool). guarded_level b false) here)
       (apart_from_default (r ∷ jobs) (w ∷ []) L3 three_apart)
       (ap (λ (m : Level). not (is_three m)) (outer_at r read_not_written ∙ ap (λ (b : Bool). guarded_level b false) read_in_jobs))
       only
@@ -108,6 +109,10 @@ module _ (category : Categories) (different : AreDifferent category) (me : ProcN
 
       only : (d : ℕ) (m : Level) → level_of inner d ≡ m → (is_three m && not (is_three (level_of outer d))) ≡ true → d ≡ r
       only d m at passes =
-          let secret = three_secret (is_in (r ∷ jobs) d) (is_in (w ∷ []) d) (ap is_three (sym (at_guarded (r ∷ jobs) (w ∷ []) d) ∙ at) ∙ first_of (is_three m) (not (is_three (level_of outer d))) passes) in
-          let open_outside : not (is_three (guarded_level (is_in jobs d) false)) ≡ true = ap (λ (k : Level). not (is_three k)) (sym (outer_at d secret.1)) ∙ second_of (is_three m) (not (is_three (level_of outer d))) passes in
+          let secret =
+          three_secret (is_in (r ∷ jobs) d) (is_in (w ∷ []) d) (ap is_three (sym (at_guarded (r ∷ jobs) (w ∷ []) d) ∙ at)
+          ∙ first_of (is_three m) (not (is_three (level_of outer d))) passes) in
+          let open_outside : not (is_three (guarded_level (is_in jobs d) false)) ≡ true =
+          ap (λ (k : Level). not (is_three k)) (sym (outer_at d secret.1))
+          ∙ second_of (is_three m) (not (is_three (level_of outer d))) passes in
           first_or r d (is_in jobs d) secret.0 (not_three (is_in jobs d) open_outside)

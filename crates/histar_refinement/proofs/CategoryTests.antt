@@ -12,7 +12,8 @@ use Rattle.histar_flat.proofs.FileLemmas.{same_name_found}
 use Rattle.histar_container.proofs.Addresses.{TestsEquality}
 use Rattle.histar_flat.specs.Accounts.{has}
 use Rattle.histar_refinement.specs.Categories.{CategoryName, Categories, AreDifferent, split_category, same_category, among}
-use Rattle.histar_refinement.specs.Categories.CategoryName.{OfBoot, ReadsUser, WritesUser, ReadsGroup, WritesGroup, ReadsProcess, WritesProcess, OfJob}
+use Rattle.histar_refinement.specs.Categories.CategoryName.{OfBoot, ReadsUser, WritesUser, ReadsGroup, WritesGroup, ReadsProcess, WritesProcess}
+use Rattle.histar_refinement.specs.Categories.CategoryName.{OfJob}
 use Rattle.histar_layout.proofs.Members.{is_in, all_mapped, all_same, equal_itself}
 
 -- the name of a kind, with its number or its name
@@ -68,7 +69,8 @@ among-append [] ys c = refl
 among-append (x ∷ xs) ys c = ap (λ b. same_category c x || b) (among-append xs ys c) ∙ sym (or_assoc (same_category c x) (among xs c) (among ys c))
 
 -- among names that a function gives, each of which differs from this one
-pub among_none : {A : Type 0} (f : A → CategoryName) (c : CategoryName) → ((x : A) → same_category c (f x) ≡ false) → (xs : List A) → among (map f xs) c ≡ false
+pub among_none : {A : Type 0} (f : A → CategoryName) (c : CategoryName) → ((x : A) → same_category c (f x) ≡ false)
+    → (xs : List A) → among (map f xs) c ≡ false
 among_none f c other [] = refl
 among_none f c other (x ∷ xs) = rw (other x, among_none f c other xs) refl
 
@@ -86,7 +88,9 @@ module _ (category : Categories) (different : AreDifferent category) where
     | inr e ↦ by (eqb_tells (category c) (category d)) e.1 ∙ sym e.0
   ]
     where
-      by : (((category c == category d) ≡ true) × (category c ≡ category d)) ⊎ (((category c == category d) ≡ false) × (category c ≢ category d)) → c ≢ d → (category c == category d) ≡ false
+      by : (((category c == category d) ≡ true) × (category c ≡ category d))
+          ⊎ (((category c == category d) ≡ false) × (category c ≢ category d)) → c ≢ d
+          → (category c == category d) ≡ false
       by (inl e) other = absurd (other (different c d e.1))
       by (inr e) other = e.0
 
@@ -96,13 +100,17 @@ module _ (category : Categories) (different : AreDifferent category) where
   is_in_names (x ∷ names) c = (λ i. same_number c x i || is_in_names names c i)
 
   -- a test of all numbers of names
-  pub all_names : (test : ℕ → Bool) (other : CategoryName → Bool) → ((c : CategoryName) → test (category c) ≡ other c) → (names : List CategoryName) → list_all test (map category names) ≡ list_all other names
+  pub all_names : (test : ℕ → Bool) (other : CategoryName → Bool) → ((c : CategoryName) → test (category c) ≡ other c)
+      → (names : List CategoryName) → list_all test (map category names) ≡ list_all other names
   all_names test other same names = all_mapped category test names ∙ all_same (λ c. test (category c)) other same names
 
 -- a number among those of names is the number of one of them
-pub named_in : (category : Categories) (names : List CategoryName) (q : ℕ) → is_in (map category names) q ≡ true → (c : CategoryName) × (q ≡ category c) × (among names c ≡ true)
+pub named_in : (category : Categories) (names : List CategoryName) (q : ℕ) → is_in (map category names) q ≡ true
+    → (c : CategoryName) × (q ≡ category c) × (among names c ≡ true)
 named_in category [] q e = absurd (true≢false (sym e))
 named_in category (x ∷ names) q e = elim (eqb_tells q (category x)) [
   | inl k ↦ (x, k.1, or_left (same_category x x) (among names x) (same_itself x))
-  | inr k ↦ let later = named_in category names q (sym (ap (λ b. b || is_in (map category names) q) k.0) ∙ e) in (later.0, later.1, or_right (same_category later.0 x) (among names later.0) later.2)
+  | inr k ↦
+      let later = named_in category names q (sym (ap (λ b. b || is_in (map category names) q) k.0) ∙ e) in
+      (later.0, later.1, or_right (same_category later.0 x) (among names later.0) later.2)
 ]

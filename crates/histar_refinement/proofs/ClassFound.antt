@@ -1,5 +1,6 @@
 -- What stands at a path has the label of its class, by which the class is known to who knows the users and the groups.
-use Rattle.std.proofs.Common.{◌≡◌, ℕ, zero, suc, ◌+◌, ◌-◌, ◌*◌, ◌<◌, ◌≤◌, ◌⊎◌, inl, inr, true, List, [], ◌∷◌, length, Option, Some, arith, refl, sym, ap, ◌∙◌, subst}
+use Rattle.std.proofs.Common.{◌≡◌, ℕ, zero, suc, ◌+◌, ◌-◌, ◌*◌, ◌<◌, ◌≤◌, ◌⊎◌, inl, inr, true, List, [], ◌∷◌, length, Option, Some, arith, refl, sym}
+use Rattle.std.proofs.Common.{ap, ◌∙◌, subst}
 use Rattle.std.specs.Prelude.{map, option_map}
 use Rattle.std.proofs.lemmas.Option.{same_Some}
 use Rattle.std.proofs.lemmas.Simd.{map-map}
@@ -32,18 +33,23 @@ use Rattle.histar_refinement.proofs.Uses.{job_among}
 
 -- ---- the label of a class
 
-module _ (accounts : Accounts) (category : Categories) (as_made : (c : CategoryName) (q : ℕ) → boot_category accounts c ≡ Some q → category c ≡ q) where
+module _ (accounts : Accounts) (category : Categories)
+    (as_made : (c : CategoryName) (q : ℕ) → boot_category accounts c ≡ Some q → category c ≡ q) where
   -- how what is of a class is guarded is the label of this class
-  labels_match : (class : Class) (g : Guard) → class_guard accounts class ≡ Some g → class_label accounts (numbered_class category class) ≡ Some (guard_label category g)
+  labels_match : (class : Class) (g : Guard) → class_guard accounts class ≡ Some g
+      → class_label accounts (numbered_class category class) ≡ Some (guard_label category g)
   labels_match (Private owner) g e =
       let at = mapped_from private_guard (user_number accounts owner) g e in
       let known = (user_range accounts owner at.0 at.1).1 in
-      ap (option_map owned_label) at.1 ∙ (λ i. Some (guarded_by (sym (user_reads accounts category as_made at.0 known) i ∷ []) (sym (user_writes accounts category as_made at.0 known) i ∷ [])))
+      ap (option_map owned_label) at.1
+      ∙ (λ i. Some (guarded_by (sym (user_reads accounts category as_made at.0 known) i ∷ [])
+      (sym (user_writes accounts category as_made at.0 known) i ∷ [])))
       ∙ ap (λ (x : Guard). Some (guard_label category x)) at.2
   labels_match (Readable owner) g e =
       let at = mapped_from readable_guard (user_number accounts owner) g e in
       let known = (user_range accounts owner at.0 at.1).1 in
-      ap (option_map (λ user. written_by (write_category user))) at.1 ∙ (λ i. Some (guarded_by [] (sym (user_writes accounts category as_made at.0 known) i ∷ [])))
+      ap (option_map (λ user. written_by (write_category user))) at.1
+      ∙ (λ i. Some (guarded_by [] (sym (user_writes accounts category as_made at.0 known) i ∷ [])))
       ∙ ap (λ (x : Guard). Some (guard_label category x)) at.2
   labels_match Open g e = ap (λ (x : Guard). Some (guard_label category x)) (same_Some open_guard g e)
   labels_match (Scratch owner jobs) g e =
@@ -56,7 +62,8 @@ module _ (accounts : Accounts) (category : Categories) (as_made : (c : CategoryN
       let at = mapped_from group_guard (group_number accounts group) g e in
       let range = group_range accounts group at.0 at.1 in
       ap (option_map (λ number. owned_label (group_owner (length accounts.users) number))) at.1
-      ∙ (λ i. Some (guarded_by (sym (group_reads accounts category as_made at.0 range.0 range.1) i ∷ []) (sym (group_writes accounts category as_made at.0 range.0 range.1) i ∷ [])))
+      ∙ (λ i. Some (guarded_by (sym (group_reads accounts category as_made at.0 range.0 range.1) i ∷ [])
+      (sym (group_writes accounts category as_made at.0 range.0 range.1) i ∷ [])))
       ∙ ap (λ (x : Guard). Some (guard_label category x)) at.2
 
 -- ---- the categories of jobs
@@ -71,10 +78,14 @@ halves (suc q) =
 module _ (accounts : Accounts) (s : State) (f : Flat) (l : ObjectsMatch accounts s f) where
   -- no job's category has another name
   apart : (job : ProcName) (c : CategoryName) → (split_category c).0 < 7 → l.category c ≡ l.category (OfJob job) → ⊥
-  apart job c kind e = let same : (split_category c).0 ≡ 7 = ap (λ (d : CategoryName). (split_category d).0) (l.different c (OfJob job) e) in omega (arith, same, kind)
+  apart job c kind e =
+      let same : (split_category c).0
+      ≡ 7 = ap (λ (d : CategoryName). (split_category d).0) (l.different c (OfJob job) e) in omega
+      (arith, same, kind)
 
   -- what stands before the categories of jobs is boot's, nobody's, a user's or a group's
-  named_before : (job : ProcName) (i : ℕ) → (l.category (OfJob job) ≡ 2 * i) ⊎ (l.category (OfJob job) ≡ 2 * i + 1) → 0 < l.category (OfJob job) → l.category (OfJob job) < first_after_groups accounts → ⊥
+  named_before : (job : ProcName) (i : ℕ) → (l.category (OfJob job) ≡ 2 * i) ⊎ (l.category (OfJob job) ≡ 2 * i + 1)
+      → 0 < l.category (OfJob job) → l.category (OfJob job) < first_after_groups accounts → ⊥
   named_before job zero (inl e) made low = omega (arith, e, made)
   named_before job zero (inr e) made low = apart job OfBoot (omega arith) (l.as_made OfBoot 1 refl ∙ omega (arith, e))
   named_before job (suc i) half made low = elim (cases_lt (length accounts.users) i) [
@@ -121,7 +132,8 @@ module _ (accounts : Accounts) (s : State) (f : Flat) (l : ObjectsMatch accounts
     jobs_behind (Grouped group) is = tt
 
     -- What stands at a path has the label of its class.
-    pub label_of_class : (g : Guard) → class_guard accounts there.class ≡ Some g → IsClassLabel accounts (numbered_class l.category there.class) (guard_label l.category g)
+    pub label_of_class : (g : Guard) → class_guard accounts there.class ≡ Some g
+        → IsClassLabel accounts (numbered_class l.category there.class) (guard_label l.category g)
     label_of_class g e = record { jobs = jobs_behind there.class refl; is = labels_match accounts l.category l.as_made there.class g e }
 
 -- ---- its owner and its mode
@@ -149,7 +161,8 @@ same_mode category (Scratch owner jobs) = refl
 same_mode category (Grouped group) = refl
 
 -- The label of what stands at a path shows the owner and the mode of its class.
-pub class_revealed : (accounts : Accounts) (s : State) (f : Flat) (l : ObjectsMatch accounts s f) (q : Path) (there : Node) → get f.files q ≡ Some there → (g : Guard) → class_guard accounts there.class ≡ Some g
+pub class_revealed : (accounts : Accounts) (s : State) (f : Flat) (l : ObjectsMatch accounts s f) (q : Path)
+    (there : Node) → get f.files q ≡ Some there → (g : Guard) → class_guard accounts there.class ≡ Some g
     → HasOwnerAndMode there.class (class_shown accounts (guard_label l.category g))
 class_revealed accounts s f l q there at g e = record {
   shown_class = without_jobs (numbered_class l.category there.class);

@@ -38,7 +38,8 @@ modifies_bare None b = refl
 modifies_bare (Some t) None = refl
 modifies_bare (Some t) (Some o) = refl
 
-module _ (accounts : Accounts) (s : State) (f : Flat) (l : ObjectsMatch accounts s f) (ok : AreAccounts accounts) (me : ProcName) (p : Process) (here : f.processes me ≡ Some p) (running : p.exited ≡ None)
+module _ (accounts : Accounts) (s : State) (f : Flat) (l : ObjectsMatch accounts s f) (ok : AreAccounts accounts)
+    (me : ProcName) (p : Process) (here : f.processes me ≡ Some p) (running : p.exited ≡ None)
     (t : ℕ) (at_thread : l.naming.number (Runner ∷ Inside ∷ home_address me) ≡ Some t) where
   abbrev thread : Found
   thread = Some (thread_of (rights_label l.category (thread_rights accounts me p)) (rights_clearance l.category (thread_rights accounts me p)))
@@ -47,22 +48,37 @@ module _ (accounts : Accounts) (s : State) (f : Flat) (l : ObjectsMatch accounts
   is_thread = thread_found accounts s f l me p here running t at_thread
 
   -- of an object that is guarded as what is of the class
-  module _ (class : Class) (g : Guard) (is : class_guard accounts class ≡ Some g) (o : ℕ) (kind : Kind Levels) (found : bare (s.objects o) ≡ Some (record { label = guard_label l.category g; kind = kind })) where
+  module _ (class : Class) (g : Guard) (is : class_guard accounts class ≡ Some g) (o : ℕ) (kind : Kind Levels)
+      (found : bare (s.objects o) ≡ Some (record { label = guard_label l.category g; kind = kind })) where
     pub observes_guarded : observes (s.objects t) (s.objects o) ≡ may_read accounts p class
-    observes_guarded = sym (observes_bare (s.objects t) (s.objects o)) ∙ (λ i. observes (is_thread i) (found i)) ∙ observes_class accounts me p l.category l.different ok class g is
+    observes_guarded =
+        sym (observes_bare (s.objects t) (s.objects o)) ∙ (λ i. observes (is_thread i) (found i))
+        ∙ observes_class accounts me p l.category l.different ok class g is
 
     pub modifies_guarded : modifies (s.objects t) (s.objects o) ≡ may_write accounts p class
-    modifies_guarded = sym (modifies_bare (s.objects t) (s.objects o)) ∙ (λ i. modifies (is_thread i) (found i)) ∙ modifies_class accounts me p l.category l.different ok class g is
+    modifies_guarded =
+        sym (modifies_bare (s.objects t) (s.objects o)) ∙ (λ i. modifies (is_thread i) (found i))
+        ∙ modifies_class accounts me p l.category l.different ok class g is
 
   module _ (q : Path) (there : Node) (at : get f.files q ≡ Some there) (o : ℕ) where
     -- what stands for a path is guarded as its class says
-    guarded_so : StandsFor accounts s f l q o → (g : Guard) × (kind : Kind Levels) × (class_guard accounts there.class ≡ Some g) × (bare (s.objects o) ≡ Some (record { label = guard_label l.category g; kind = kind }))
-    guarded_so (inl at_object) = let g = guard_at accounts s f l q there at in (g.0, content_kind there.content, g.1, path_agrees accounts s f l q there at g.0 g.1 o at_object)
+    guarded_so : StandsFor accounts s f l q o
+        → (g : Guard) × (kind : Kind Levels) × (class_guard accounts there.class ≡ Some g)
+        × (bare (s.objects o) ≡ Some (record { label = guard_label l.category g; kind = kind }))
+    guarded_so (inl at_object) =
+        let g = guard_at accounts s f l q there at in
+        (g.0, content_kind there.content, g.1, path_agrees accounts s f l q there at g.0 g.1 o at_object)
     guarded_so (inr at_listing) =
         let g = guard_at accounts s f l q there at in
         let dir = listed_is_dir accounts s f l q (ap is_some at_listing) in
-        let class : there.class ≡ dir.0 = ap (λ (x : Node). x.class) (same_Some there (record { class = dir.0; content = Dir }) (sym at ∙ dir.1)) in
-        (g.0, Segment (spelling (directory_of f.files l.naming.number q)), g.1, ap bare (listing_found accounts s f l q dir.0 dir.1 g.0 (ap (class_guard accounts) (sym class) ∙ g.1) o at_listing))
+        let class : there.class ≡ dir.0 = ap (λ (x : Node). x.class) (same_Some there (record { class = dir.0; content = Dir }) (sym at ∙ dir.1)) in (
+          g.0,
+          Segment (spelling (directory_of f.files l.naming.number q)),
+          g.1,
+          ap bare
+              (listing_found accounts s f l q dir.0 dir.1 g.0 (ap (class_guard accounts) (sym class) ∙ g.1) o
+              at_listing),
+        )
 
     pub observes_path : StandsFor accounts s f l q o → observes (s.objects t) (s.objects o) ≡ may_read accounts p there.class
     observes_path agrees = let g = guarded_so agrees in observes_guarded there.class g.0 g.2 o g.1 g.3

@@ -1,5 +1,6 @@
 -- A category is counted, and has a name from then on: what is represented stays so.
-use Rattle.std.proofs.Common.{◌≡◌, ℕ, ◌≤◌, inl, inr, Bool, true, false, ◌&&◌, cond, [], ◌∷◌, length, Option, None, Some, arith, refl, sym, ap, ◌∙◌, subst}
+use Rattle.std.proofs.Common.{◌≡◌, ℕ, ◌≤◌, inl, inr, Bool, true, false, ◌&&◌, cond, [], ◌∷◌, length, Option, None, Some, arith, refl, sym, ap, ◌∙◌}
+use Rattle.std.proofs.Common.{subst}
 use Rattle.std.specs.Prelude.{is_some, nat_le}
 use Rattle.std.proofs.lemmas.Bool.Decides.{nat_tests}
 use Rattle.std.proofs.lemmas.Option.{none-some}
@@ -16,7 +17,8 @@ use Rattle.histar_flat.specs.Classes.{Class, Process}
 use Rattle.histar_flat.specs.Classes.Class.{Private, Readable, Open, Scratch, Grouped}
 use Rattle.histar_flat.specs.FlatState.{Node, Flat}
 use Rattle.histar_refinement.specs.Categories.{CategoryName, Categories, naming_next, boot_category, is_for, IsUsed}
-use Rattle.histar_refinement.specs.Categories.CategoryName.{OfBoot, ReadsUser, WritesUser, ReadsGroup, WritesGroup, ReadsProcess, WritesProcess, OfJob}
+use Rattle.histar_refinement.specs.Categories.CategoryName.{OfBoot, ReadsUser, WritesUser, ReadsGroup, WritesGroup, ReadsProcess, WritesProcess}
+use Rattle.histar_refinement.specs.Categories.CategoryName.{OfJob}
 use Rattle.histar_refinement.specs.Addresses.{Step, same_step}
 use Rattle.histar_refinement.specs.Directories.{directory_of}
 use Rattle.histar_refinement.specs.Processes.{process_bytes}
@@ -56,12 +58,16 @@ module _ (accounts : Accounts) (f : Flat) (first : is_some (f.processes []) ≡ 
   boot_used (OfJob job) q e = absurd (none-some q e)
 
 -- A naming that keeps the numbers of used names keeps orders, and what is asked for.
-module _ (accounts : Accounts) (f : Flat) (category other : Categories) (keeps : (c : CategoryName) → IsUsed accounts f c → other c ≡ category c) where
-  order_by : (q : Path) (there : Node) → get f.files q ≡ Some there → (class : Class) → there.class ≡ class → IsInOrder category class → IsInOrder other class
+module _ (accounts : Accounts) (f : Flat) (category other : Categories)
+    (keeps : (c : CategoryName) → IsUsed accounts f c → other c ≡ category c) where
+  order_by : (q : Path) (there : Node) → get f.files q ≡ Some there → (class : Class) → there.class ≡ class
+      → IsInOrder category class → IsInOrder other class
   order_by q there at (Private owner) is o = tt
   order_by q there at (Readable owner) is o = tt
   order_by q there at Open is o = tt
-  order_by q there at (Scratch owner jobs) is o = keep_order accounts f category other keeps jobs (λ job e. inr (q, there, at, ap (λ (c : Class). is_for c job) is ∙ e)) o
+  order_by q there at (Scratch owner jobs) is o =
+      keep_order accounts f category other keeps jobs
+      (λ job e. inr (q, there, at, ap (λ (c : Class). is_for c job) is ∙ e)) o
   order_by q there at (Grouped group) is o = tt
 
   pub order_kept : (q : Path) (there : Node) → get f.files q ≡ Some there → IsInOrder category there.class → IsInOrder other there.class
@@ -73,13 +79,17 @@ module _ (accounts : Accounts) (f : Flat) (category other : Categories) (keeps :
     free = o.free;
     apart = o.apart;
     chain = keep_order accounts f category other keeps px.chain (λ job e. inl (x, px, at, or_left (has px.chain job) (has px.held job) e)) o.chain;
-    held = λ r. keep_order accounts f category other keeps px.held (λ job e. inl (x, px, at, or_right (has px.chain job) (has px.held job) e)) (o.held r);
+    held =
+        λ r. keep_order accounts f category other keeps px.held
+        (λ job e. inl (x, px, at, or_right (has px.chain job) (has px.held job) e)) (o.held r);
     few = o.few;
     status = o.status;
   }
 
   module _ (number : Address Step → Option ℕ) where
-    status_kept : (q : ProcName) (o : Option Process) → f.processes q ≡ o → status_object accounts category (bytes_for accounts category f number q o) q o ≡ status_object accounts other (bytes_for accounts other f number q o) q o
+    status_kept : (q : ProcName) (o : Option Process) → f.processes q ≡ o
+        → status_object accounts category (bytes_for accounts category f number q o) q o
+        ≡ status_object accounts other (bytes_for accounts other f number q o) q o
     status_kept q None at = refl
     status_kept q (Some p) at = ap (λ m. segment m (process_bytes f.processes number q p)) (keep_process_label accounts f category other keeps q p at)
 
@@ -98,7 +108,9 @@ module _ (accounts : Accounts) (f : Flat) (category other : Categories) (keeps :
 
 module _ (accounts : Accounts) (s : State) (f : Flat) (l : ObjectsMatch accounts s f) where
   -- a category more, which has no name
-  pub matched_more : (new : State) → ((q : ℕ) → new.objects q ≡ s.objects q) → new.next_object ≡ s.next_object → s.next_category ≤ new.next_category → (later : ObjectsMatch accounts new f) × (later.naming ≡ l.naming) × (later.category ≡ l.category)
+  pub matched_more : (new : State) → ((q : ℕ) → new.objects q ≡ s.objects q) → new.next_object ≡ s.next_object
+      → s.next_category ≤ new.next_category
+      → (later : ObjectsMatch accounts new f) × (later.naming ≡ l.naming) × (later.category ≡ l.category)
   matched_more new objects next_is categories = (
     record {
       naming = l.naming;
@@ -132,12 +144,16 @@ module _ (accounts : Accounts) (s : State) (f : Flat) (l : ObjectsMatch accounts
     pub keeps_named : (d : CategoryName) → IsUsed accounts f d → named d ≡ l.category d
     keeps_named d used = old_number l.category l.different s.next_category c d (λ e. unused (subst (IsUsed accounts f) e used)) (l.made d used).1
 
-    pub matched_named : (new : State) → ((q : ℕ) → new.objects q ≡ s.objects q) → new.next_object ≡ s.next_object → s.next_category ≤ new.next_category → (later : ObjectsMatch accounts new f) × (later.naming ≡ l.naming) × (later.category ≡ named)
+    pub matched_named : (new : State) → ((q : ℕ) → new.objects q ≡ s.objects q) → new.next_object ≡ s.next_object
+        → s.next_category ≤ new.next_category
+        → (later : ObjectsMatch accounts new f) × (later.naming ≡ l.naming) × (later.category ≡ named)
     matched_named new objects next_is categories = (
       record {
         naming = l.naming;
         category = named;
-        agrees = agrees_same same_step s new l.naming _ _ l.agrees (asked_kept accounts f l.category named keeps_named l.naming.number) objects next_is;
+        agrees =
+            agrees_same same_step s new l.naming _ _ l.agrees
+            (asked_kept accounts f l.category named keeps_named l.naming.number) objects next_is;
         numbered = subst (λ (m : ℕ). m ≤ greatest) (sym next_is) l.numbered;
         as_booted = l.as_booted;
         different = still_different l.category l.different s.next_category c;

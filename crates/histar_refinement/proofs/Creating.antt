@@ -44,13 +44,16 @@ gone_added : (s : State) (d b : ℕ) (o : Object Levels) → s.objects b ≡ Non
 gone_added s d b o nothing other = new_none s.objects s.next_object d o b nothing other
 
 -- what has a guard is a container, where its kind is one
-container_there : (accounts : Accounts) (category : Categories) (g : Option Guard) → g ≢ None → is_container (guarded_object accounts category (Container set.empty) g) ≡ true
+container_there : (accounts : Accounts) (category : Categories) (g : Option Guard) → g ≢ None
+    → is_container (guarded_object accounts category (Container set.empty) g) ≡ true
 container_there accounts category None some = absurd (some refl)
 container_there accounts category (Some g) some = refl
 
-module _ (accounts : Accounts) (s : State) (f : Flat) (l : ObjectsMatch accounts s f) (d : Path) (above : Class) (at_parent : get f.files d ≡ Some (record { class = above; content = Dir }))
+module _ (accounts : Accounts) (s : State) (f : Flat) (l : ObjectsMatch accounts s f) (d : Path) (above : Class)
+    (at_parent : get f.files d ≡ Some (record { class = above; content = Dir }))
     (D N : ℕ) (at_directory : l.naming.number (address_of d) ≡ Some D) (at_listing : l.naming.number (Listing ∷ address_of d) ≡ Some N)
-    (m : Name) (absent : get f.files (m ∷ d) ≡ None) (class : Class) (fits : ClassFits accounts s f l class) (g : Guard) (class_has : class_guard accounts class ≡ Some g) where
+    (m : Name) (absent : get f.files (m ∷ d) ≡ None) (class : Class) (fits : ClassFits accounts s f l class) (g : Guard)
+    (class_has : class_guard accounts class ≡ Some g) where
   abbrev label : Levels
   label = guard_label l.category g
 
@@ -61,7 +64,11 @@ module _ (accounts : Accounts) (s : State) (f : Flat) (l : ObjectsMatch accounts
   here = Named m ∷ address_of d
 
   holder : is_container (old_asked (address_of d)) ≡ true
-  holder = ap is_container (asked_path accounts l.category f l.naming.number d ∙ ap (node_object accounts l.category) at_parent) ∙ container_there accounts l.category (class_guard accounts above) (l.guarded d (record { class = above; content = Dir }) at_parent)
+  holder =
+      ap is_container
+      (asked_path accounts l.category f l.naming.number d ∙ ap (node_object accounts l.category) at_parent)
+      ∙ container_there accounts l.category (class_guard accounts above)
+      (l.guarded d (record { class = above; content = Dir }) at_parent)
 
   free : is_present (old_asked here) ≡ false
   free = ap is_present (asked_path accounts l.category f l.naming.number (m ∷ d) ∙ ap (node_object accounts l.category) absent)
@@ -101,10 +108,17 @@ module _ (accounts : Accounts) (s : State) (f : Flat) (l : ObjectsMatch accounts
 
   file_agrees : s.next_object < greatest → Agreeing accounts s f l d m class (File []) absent fits with_file file_naming file_asked
   file_agrees few = record {
-    agrees = agrees_added same_step step_tests_equality s l.naming old_asked l.agrees D (address_of d) (Named m) empty_segment at_directory holder free (λ c. sym (none_linked c));
-    elsewhere = λ a not_here not_inner. number_old same_step step_tests_equality s l.naming old_asked l.agrees D (address_of d) (Named m) empty_segment at_directory holder free (λ c. sym (none_linked c)) a not_here;
+    agrees =
+        agrees_added same_step step_tests_equality s l.naming old_asked l.agrees D (address_of d) (Named m)
+        empty_segment at_directory holder free (λ c. sym (none_linked c));
+    elsewhere =
+        λ a not_here not_inner.
+        number_old same_step step_tests_equality s l.naming old_asked l.agrees D (address_of d) (Named m)
+        empty_segment at_directory holder free (λ c. sym (none_linked c)) a not_here;
     asked_new = itself_set old_asked here (segment label []) ∙ sym (ap (guarded_object accounts l.category (Segment [])) class_has);
-    asked_inner = other_set old_asked here (Listing ∷ here) (segment label []) (λ e. longer same_step step_tests_equality Listing here (sym e)) ∙ nothing_inner;
+    asked_inner =
+        other_set old_asked here (Listing ∷ here) (segment label [])
+        (λ e. longer same_step step_tests_equality Listing here (sym e)) ∙ nothing_inner;
     asked_old = λ a not_here not_inner. other_set old_asked here a (segment label []) not_here;
     numbered = omega (arith, few);
     same_next = refl;
@@ -113,9 +127,14 @@ module _ (accounts : Accounts) (s : State) (f : Flat) (l : ObjectsMatch accounts
 
   -- The file is made, and the parent's segment is written: `create` at any depth.
   pub matched_created : IsTrue (is_name m) → length (entries_in f d) < most_entries → s.next_object < greatest
-      → (later : ObjectsMatch accounts (with_segment_bytes with_file N (spelling (map.insert (directory_of f.files l.naming.number d) m (targets.File s.next_object)))) (with_node f (m ∷ d) class (File []))) × (later.naming ≡ file_naming) × (later.category ≡ l.category)
-  matched_created name room few = matched_made accounts s f l d m class (File []) absent fits with_file file_naming file_asked (file_agrees few) N at_listing (targets.File s.next_object)
-      (ap (option_map targets.File) (number_new same_step step_tests_equality s l.naming old_asked l.agrees D (address_of d) (Named m) empty_segment at_directory holder free (λ c. sym (none_linked c))))
+      → (later : ObjectsMatch accounts (with_segment_bytes with_file N
+      (spelling (map.insert (directory_of f.files l.naming.number d) m (targets.File s.next_object))))
+      (with_node f (m ∷ d) class (File []))) × (later.naming ≡ file_naming) × (later.category ≡ l.category)
+  matched_created name room few =
+      matched_made accounts s f l d m class (File []) absent fits with_file file_naming file_asked (file_agrees few) N
+      at_listing (targets.File s.next_object)
+      (ap (option_map targets.File) (number_new same_step step_tests_equality s l.naming old_asked l.agrees D (address_of d) (Named m)
+      empty_segment at_directory holder free (λ c. sym (none_linked c))))
       name (omega (arith, below), omega (arith, few)) parent_is_dir room
 
   -- ---- a directory
@@ -143,10 +162,14 @@ module _ (accounts : Accounts) (s : State) (f : Flat) (l : ObjectsMatch accounts
   directory_asked = set_at same_step container_asked (Listing ∷ here) (segment label [])
 
   container_agrees : Agrees same_step with_container container_naming container_asked
-  container_agrees = agrees_added same_step step_tests_equality s l.naming old_asked l.agrees D (address_of d) (Named m) empty_container at_directory holder free (λ c. sym (none_linked c))
+  container_agrees =
+      agrees_added same_step step_tests_equality s l.naming old_asked l.agrees D (address_of d) (Named m)
+      empty_container at_directory holder free (λ c. sym (none_linked c))
 
   number_here : container_naming.number here ≡ Some s.next_object
-  number_here = number_new same_step step_tests_equality s l.naming old_asked l.agrees D (address_of d) (Named m) empty_container at_directory holder free (λ c. sym (none_linked c))
+  number_here =
+      number_new same_step step_tests_equality s l.naming old_asked l.agrees D (address_of d) (Named m) empty_container
+      at_directory holder free (λ c. sym (none_linked c))
 
   holder_here : is_container (container_asked here) ≡ true
   holder_here = ap is_container (itself_set old_asked here (bare_container label))
@@ -159,32 +182,58 @@ module _ (accounts : Accounts) (s : State) (f : Flat) (l : ObjectsMatch accounts
 
   directory_agrees : s.next_object + 1 < greatest → Agreeing accounts s f l d m class Dir absent fits with_directory directory_naming directory_asked
   directory_agrees few = record {
-    agrees = agrees_added same_step step_tests_equality with_container container_naming container_asked container_agrees s.next_object here Listing empty_segment number_here holder_here free_here (λ c. sym (none_linked c));
+    agrees =
+        agrees_added same_step step_tests_equality with_container container_naming container_asked container_agrees
+        s.next_object here Listing empty_segment number_here holder_here free_here (λ c. sym (none_linked c));
     elsewhere = λ a not_here not_inner.
-        number_old same_step step_tests_equality with_container container_naming container_asked container_agrees s.next_object here Listing empty_segment number_here holder_here free_here (λ c. sym (none_linked c)) a not_inner
-        ∙ number_old same_step step_tests_equality s l.naming old_asked l.agrees D (address_of d) (Named m) empty_container at_directory holder free (λ c. sym (none_linked c)) a not_here;
-    asked_new = other_set container_asked (Listing ∷ here) here (segment label []) (λ e. inner_other (sym e)) ∙ itself_set old_asked here (bare_container label) ∙ sym (ap (guarded_object accounts l.category (Container set.empty)) class_has);
-    asked_inner = itself_set container_asked (Listing ∷ here) (segment label []) ∙ sym (ap (guarded_object accounts l.category (Segment [])) class_has);
-    asked_old = λ a not_here not_inner. other_set container_asked (Listing ∷ here) a (segment label []) not_inner ∙ other_set old_asked here a (bare_container label) not_here;
+        number_old same_step step_tests_equality with_container container_naming container_asked container_agrees
+        s.next_object here Listing empty_segment number_here holder_here free_here (λ c. sym (none_linked c)) a
+        not_inner
+        ∙ number_old same_step step_tests_equality s l.naming old_asked l.agrees D (address_of d) (Named m)
+        empty_container at_directory holder free (λ c. sym (none_linked c)) a not_here;
+    asked_new =
+        other_set container_asked (Listing ∷ here) here (segment label []) (λ e. inner_other (sym e))
+        ∙ itself_set old_asked here (bare_container label)
+        ∙ sym (ap (guarded_object accounts l.category (Container set.empty)) class_has);
+    asked_inner =
+        itself_set container_asked (Listing ∷ here) (segment label [])
+        ∙ sym (ap (guarded_object accounts l.category (Segment [])) class_has);
+    asked_old =
+        λ a not_here not_inner. other_set container_asked (Listing ∷ here) a (segment label []) not_inner
+        ∙ other_set old_asked here a (bare_container label) not_here;
     numbered = omega (arith, few);
     same_next = refl;
-    gone = gone_added with_container s.next_object boot_thread_number empty_segment (gone_added s D boot_thread_number empty_container l.boot_thread_gone not_boot)
+    gone =
+        gone_added with_container s.next_object boot_thread_number empty_segment
+        (gone_added s D boot_thread_number empty_container l.boot_thread_gone not_boot)
         (λ e. let low = boot_thread_below accounts s f l in absurd (omega (arith, low, e)));
   }
 
   -- what processes have keeps its numbers
   pub directory_numbers : s.next_object + 1 < greatest → SameNumbers l.naming.number directory_naming.number
-  directory_numbers few = same_numbers accounts s f l d m class Dir absent fits with_directory directory_naming directory_asked (directory_agrees few) N at_listing
+  directory_numbers few =
+      same_numbers accounts s f l d m class Dir absent fits with_directory directory_naming directory_asked
+      (directory_agrees few) N at_listing
 
   -- The directory is made, and the parent's segment is written: `mkdir` at any depth.
   pub matched_directory_created : IsTrue (is_name m) → length (entries_in f d) < most_entries → s.next_object + 1 < greatest
-      → (later : ObjectsMatch accounts (with_segment_bytes with_directory N (spelling (map.insert (directory_of f.files l.naming.number d) m (targets.Directory s.next_object (s.next_object + 1))))) (with_node f (m ∷ d) class Dir)) × (later.naming ≡ directory_naming) × (later.category ≡ l.category)
-  matched_directory_created name room few = matched_made accounts s f l d m class Dir absent fits with_directory directory_naming directory_asked (directory_agrees few) N at_listing (targets.Directory s.next_object (s.next_object + 1))
+      → (later : ObjectsMatch accounts (with_segment_bytes with_directory N
+      (spelling (map.insert (directory_of f.files l.naming.number d) m
+      (targets.Directory s.next_object (s.next_object + 1))))) (with_node f (m ∷ d) class Dir))
+      × (later.naming ≡ directory_naming) × (later.category ≡ l.category)
+  matched_directory_created name room few =
+      matched_made accounts s f l d m class Dir absent fits with_directory directory_naming directory_asked
+      (directory_agrees few) N at_listing (targets.Directory s.next_object (s.next_object + 1))
       ((λ i. both_numbers (here_then i) (inner_then i)))
       name ((omega (arith, below), omega (arith, few)), (omega (arith, below), omega (arith, few))) parent_is_dir room
     where
       here_then : directory_naming.number here ≡ Some s.next_object
-      here_then = number_old same_step step_tests_equality with_container container_naming container_asked container_agrees s.next_object here Listing empty_segment number_here holder_here free_here (λ c. sym (none_linked c)) here (λ e. inner_other (sym e)) ∙ number_here
+      here_then =
+          number_old same_step step_tests_equality with_container container_naming container_asked container_agrees
+          s.next_object here Listing empty_segment number_here holder_here free_here (λ c. sym (none_linked c)) here
+          (λ e. inner_other (sym e)) ∙ number_here
 
       inner_then : directory_naming.number (Listing ∷ here) ≡ Some (s.next_object + 1)
-      inner_then = number_new same_step step_tests_equality with_container container_naming container_asked container_agrees s.next_object here Listing empty_segment number_here holder_here free_here (λ c. sym (none_linked c))
+      inner_then =
+          number_new same_step step_tests_equality with_container container_naming container_asked container_agrees
+          s.next_object here Listing empty_segment number_here holder_here free_here (λ c. sym (none_linked c))

@@ -46,7 +46,8 @@ module _ (number : AddressNumbers) (d : Path) where
   not_named n m other e = let same : n ≡ m = cc in other same
 
   -- an entry of the name before others
-  find_same : (n : Name) (there : Node) (es : List (Path × Node)) → T (below_all path_cmp (n ∷ d) es) → find by_bytes n (listed es) ≡ option_and_then (leads n) (find path_cmp (n ∷ d) es)
+  find_same : (n : Name) (there : Node) (es : List (Path × Node)) → T (below_all path_cmp (n ∷ d) es)
+      → find by_bytes n (listed es) ≡ option_and_then (leads n) (find path_cmp (n ∷ d) es)
       → find by_bytes n (cons_option (option_map (λ target. (n, target)) (leads n there)) (listed es)) ≡ leads n there
   find_same n there es below rest = by (leads n there)
     where
@@ -55,43 +56,68 @@ module _ (number : AddressNumbers) (d : Path) where
       by (Some target) = find_first nat_list_cmp_total antisymmetric n target (listed es)
 
   -- an entry of another name before others
-  find_other : (n m : Name) (target : Option Target) (es : List (Path × Node)) → n ≢ m → find by_bytes n (cons_option (option_map (λ goal. (m, goal)) target) (listed es)) ≡ find by_bytes n (listed es)
+  find_other : (n m : Name) (target : Option Target) (es : List (Path × Node)) → n ≢ m
+      → find by_bytes n (cons_option (option_map (λ goal. (m, goal)) target) (listed es)) ≡ find by_bytes n (listed es)
   find_other n m None es other = refl
   find_other n m (Some target) es other = find_behind nat_list_cmp_total antisymmetric n m target (listed es) other
 
   -- an entry before others
-  find_one : (n m : Name) (there : Node) (es : List (Path × Node)) → T (below_all path_cmp (m ∷ d) es) → find by_bytes n (listed es) ≡ option_and_then (leads n) (find path_cmp (n ∷ d) es)
-      → find by_bytes n (cons_option (option_map (λ target. (m, target)) (leads m there)) (listed es)) ≡ option_and_then (leads n) (find path_cmp (n ∷ d) ((m ∷ d, there) ∷ es))
+  find_one : (n m : Name) (there : Node) (es : List (Path × Node)) → T (below_all path_cmp (m ∷ d) es)
+      → find by_bytes n (listed es) ≡ option_and_then (leads n) (find path_cmp (n ∷ d) es)
+      → find by_bytes n (cons_option (option_map (λ target. (m, target)) (leads m there)) (listed es))
+      ≡ option_and_then (leads n) (find path_cmp (n ∷ d) ((m ∷ d, there) ∷ es))
   find_one n m there es below rest = elim (same_name_found n m) [
     | inl e ↦
         let low : T (below_all path_cmp (n ∷ d) es) = subst (λ (k : Name). T (below_all path_cmp (k ∷ d) es)) (sym e.1) below in
-        subst (λ (k : Name). find by_bytes n (cons_option (option_map (λ target. (k, target)) (leads k there)) (listed es)) ≡ option_and_then (leads n) (find path_cmp (n ∷ d) ((k ∷ d, there) ∷ es))) e.1
+        subst (λ (k : Name).
+        find by_bytes n (cons_option (option_map (λ target. (k, target)) (leads k there)) (listed es))
+        ≡ option_and_then (leads n) (find path_cmp (n ∷ d) ((k ∷ d, there) ∷ es))) e.1
         (find_same n there es low rest ∙ sym (ap (option_and_then (leads n)) (find_first path_cmp_total path_cmp_exact (n ∷ d) there es)))
-    | inr e ↦ find_other n m (leads m there) es e.1 ∙ rest ∙ sym (ap (option_and_then (leads n)) (find_behind path_cmp_total path_cmp_exact (n ∷ d) (m ∷ d) there es (not_named n m e.1)))
+    | inr e ↦
+        find_other n m (leads m there) es e.1 ∙ rest
+        ∙ sym (ap (option_and_then (leads n))
+        (find_behind path_cmp_total path_cmp_exact (n ∷ d) (m ∷ d) there es (not_named n m e.1)))
   ]
 
   -- an entry above which stands this directory, before others
   abbrev Agrees : Name → Name → Node → List (Path × Node) → Path → Type 0
   Agrees n m there es above = T (below_all path_cmp (m ∷ above) es)
-      → find by_bytes n (cons_option (option_map (λ target. (m, target)) (target_for number (m ∷ above, there))) (listed es)) ≡ option_and_then (leads n) (find path_cmp (n ∷ d) ((m ∷ above, there) ∷ es))
+      → find by_bytes n
+      (cons_option (option_map (λ target. (m, target)) (target_for number (m ∷ above, there))) (listed es))
+      ≡ option_and_then (leads n) (find path_cmp (n ∷ d) ((m ∷ above, there) ∷ es))
 
   -- what is found among the entries of the directory is where the path leads
-  find_listed : (n : Name) (es : List (Path × Node)) → T (is_sorted path_cmp es) → find by_bytes n (listed es) ≡ option_and_then (leads n) (find path_cmp (n ∷ d) es)
+  find_listed : (n : Name) (es : List (Path × Node)) → T (is_sorted path_cmp es)
+      → find by_bytes n (listed es) ≡ option_and_then (leads n) (find path_cmp (n ∷ d) es)
   find_listed n [] h = refl
   find_listed n (e ∷ es) h = step e.0 e.1 (first (below_all path_cmp e.0 es) _ h) (find_listed n es (second (below_all path_cmp e.0 es) _ h))
     where
-      step : (q : Path) (there : Node) → T (below_all path_cmp q es) → find by_bytes n (listed es) ≡ option_and_then (leads n) (find path_cmp (n ∷ d) es)
+      step : (q : Path) (there : Node) → T (below_all path_cmp q es)
+          → find by_bytes n (listed es) ≡ option_and_then (leads n) (find path_cmp (n ∷ d) es)
           → find by_bytes n (listed ((q, there) ∷ es)) ≡ option_and_then (leads n) (find path_cmp (n ∷ d) ((q, there) ∷ es))
-      step [] there below rest = rest ∙ sym (ap (option_and_then (leads n)) (find_behind path_cmp_total path_cmp_exact (n ∷ d) [] there es (not_root n)))
+      step [] there below rest =
+          rest
+          ∙ sym (ap (option_and_then (leads n))
+          (find_behind path_cmp_total path_cmp_exact (n ∷ d) [] there es (not_root n)))
       step (m ∷ above) there below rest = elim (same_path_found d above) [
-        | inl t ↦ ap (λ b. find by_bytes n (cons_option (cond b (option_map (λ target. (m, target)) (target_for number (m ∷ above, there))) None) (listed es))) t.0
+        | inl t ↦
+            ap (λ b. find by_bytes n (cons_option
+            (cond b (option_map (λ target. (m, target)) (target_for number (m ∷ above, there))) None)
+            (listed es))) t.0
             ∙ subst (Agrees n m there es) t.1 (λ low. find_one n m there es low rest) below
-        | inr t ↦ ap (λ b. find by_bytes n (cons_option (cond b (option_map (λ target. (m, target)) (target_for number (m ∷ above, there))) None) (listed es))) t.0
-            ∙ rest ∙ sym (ap (option_and_then (leads n)) (find_behind path_cmp_total path_cmp_exact (n ∷ d) (m ∷ above) there es (not_above n m above t.1)))
+        | inr t ↦
+            ap (λ b. find by_bytes n (cons_option
+            (cond b (option_map (λ target. (m, target)) (target_for number (m ∷ above, there))) None)
+            (listed es))) t.0
+            ∙ rest
+            ∙ sym (ap (option_and_then (leads n)) (find_behind path_cmp_total path_cmp_exact (n ∷ d) (m ∷ above) there es
+            (not_above n m above t.1)))
       ]
 
   -- a name below one entry and those behind it is below both
-  below_named : (n m : Name) (target : Option Target) (es : List (Path × Node)) → T (is_lt (path_cmp (n ∷ d) (m ∷ d))) → T (below_all by_bytes n (listed es)) → T (below_all by_bytes n (cons_option (option_map (λ goal. (m, goal)) target) (listed es)))
+  below_named : (n m : Name) (target : Option Target) (es : List (Path × Node)) → T (is_lt (path_cmp (n ∷ d) (m ∷ d)))
+      → T (below_all by_bytes n (listed es))
+      → T (below_all by_bytes n (cons_option (option_map (λ goal. (m, goal)) target) (listed es)))
   below_named n m None es low rest = rest
   below_named n m (Some target) es low rest = both (is_lt (by_bytes n m)) _ (subst (λ o. T (is_lt o)) (names_decide d n m) low) rest
 
@@ -100,14 +126,20 @@ module _ (number : AddressNumbers) (d : Path) where
   below_listed n [] h = tt
   below_listed n (e ∷ es) h = step e.0 e.1 (first (is_lt (path_cmp (n ∷ d) e.0)) _ h) (below_listed n es (second (is_lt (path_cmp (n ∷ d) e.0)) _ h))
     where
-      step : (q : Path) (there : Node) → T (is_lt (path_cmp (n ∷ d) q)) → T (below_all by_bytes n (listed es)) → T (below_all by_bytes n (listed ((q, there) ∷ es)))
+      step : (q : Path) (there : Node) → T (is_lt (path_cmp (n ∷ d) q)) → T (below_all by_bytes n (listed es))
+          → T (below_all by_bytes n (listed ((q, there) ∷ es)))
       step [] there low rest = rest
       step (m ∷ above) there low rest = elim (same_path_found d above) [
         | inl t ↦
             let near : T (is_lt (path_cmp (n ∷ d) (m ∷ d))) = subst (λ (a : Path). T (is_lt (path_cmp (n ∷ d) (m ∷ a)))) (sym t.1) low in
-            subst (λ b. T (below_all by_bytes n (cons_option (cond b (option_map (λ target. (m, target)) (target_for number (m ∷ above, there))) None) (listed es)))) (sym t.0)
+            subst (λ b. T (below_all by_bytes n (cons_option
+            (cond b (option_map (λ target. (m, target)) (target_for number (m ∷ above, there))) None)
+            (listed es)))) (sym t.0)
             (below_named n m (target_for number (m ∷ above, there)) es near rest)
-        | inr t ↦ subst (λ b. T (below_all by_bytes n (cons_option (cond b (option_map (λ target. (m, target)) (target_for number (m ∷ above, there))) None) (listed es)))) (sym t.0) rest
+        | inr t ↦
+            subst (λ b. T (below_all by_bytes n (cons_option
+            (cond b (option_map (λ target. (m, target)) (target_for number (m ∷ above, there))) None)
+            (listed es)))) (sym t.0) rest
       ]
 
   -- the names of a directory's entries rise
@@ -115,18 +147,26 @@ module _ (number : AddressNumbers) (d : Path) where
   sorted_listed [] h = tt
   sorted_listed (e ∷ es) h = step e.0 e.1 (first (below_all path_cmp e.0 es) _ h) (sorted_listed es (second (below_all path_cmp e.0 es) _ h))
     where
-      one : (n : Name) (target : Option Target) → T (below_all by_bytes n (listed es)) → T (is_sorted by_bytes (listed es)) → T (is_sorted by_bytes (cons_option (option_map (λ goal. (n, goal)) target) (listed es)))
+      one : (n : Name) (target : Option Target) → T (below_all by_bytes n (listed es))
+          → T (is_sorted by_bytes (listed es))
+          → T (is_sorted by_bytes (cons_option (option_map (λ goal. (n, goal)) target) (listed es)))
       one n None low rest = rest
       one n (Some target) low rest = both (below_all by_bytes n (listed es)) _ low rest
 
-      step : (q : Path) (there : Node) → T (below_all path_cmp q es) → T (is_sorted by_bytes (listed es)) → T (is_sorted by_bytes (listed ((q, there) ∷ es)))
+      step : (q : Path) (there : Node) → T (below_all path_cmp q es) → T (is_sorted by_bytes (listed es))
+          → T (is_sorted by_bytes (listed ((q, there) ∷ es)))
       step [] there low rest = rest
       step (n ∷ above) there low rest = elim (same_path_found d above) [
         | inl t ↦
             let near : T (below_all path_cmp (n ∷ d) es) = subst (λ (a : Path). T (below_all path_cmp (n ∷ a) es)) (sym t.1) low in
-            subst (λ b. T (is_sorted by_bytes (cons_option (cond b (option_map (λ target. (n, target)) (target_for number (n ∷ above, there))) None) (listed es)))) (sym t.0)
+            subst (λ b.
+            T (is_sorted by_bytes (cons_option (cond b (option_map (λ target. (n, target)) (target_for number (n ∷ above, there)))
+            None) (listed es)))) (sym t.0)
             (one n (target_for number (n ∷ above, there)) (below_listed n es near) rest)
-        | inr t ↦ subst (λ b. T (is_sorted by_bytes (cons_option (cond b (option_map (λ target. (n, target)) (target_for number (n ∷ above, there))) None) (listed es)))) (sym t.0) rest
+        | inr t ↦
+            subst (λ b.
+            T (is_sorted by_bytes (cons_option (cond b (option_map (λ target. (n, target)) (target_for number (n ∷ above, there)))
+            None) (listed es)))) (sym t.0) rest
       ]
 
   -- each entry of the directory leads somewhere
@@ -136,10 +176,12 @@ module _ (number : AddressNumbers) (d : Path) where
   -- an entry before others is in both lists, or in none of them
   abbrev AsMany : Name → Path → Node → List (Path × Node) → Bool → Type 0
   AsMany n above there es b =
-      length (cons_option (cond b (option_map (λ target. (n, target)) (target_for number (n ∷ above, there))) None) (listed es)) ≡ length (cons_option (cond b (Some (n, is_dir there)) None) (filter_map (entry_in d) es))
+      length (cons_option (cond b (option_map (λ target. (n, target)) (target_for number (n ∷ above, there))) None)
+      (listed es)) ≡ length (cons_option (cond b (Some (n, is_dir there)) None) (filter_map (entry_in d) es))
 
   -- one entry that leads somewhere counts in both lists
-  length_one : (n : Name) (target : Option Target) (small : Entry) (es : List (Path × Node)) → target ≢ None → length (listed es) ≡ length (filter_map (entry_in d) es)
+  length_one : (n : Name) (target : Option Target) (small : Entry) (es : List (Path × Node)) → target ≢ None
+      → length (listed es) ≡ length (filter_map (entry_in d) es)
       → length (cons_option (option_map (λ goal. (n, goal)) target) (listed es)) ≡ length (cons_option (Some small) (filter_map (entry_in d) es))
   length_one n None small es some rest = absurd (some refl)
   length_one n (Some target) small es some rest = omega (arith, rest)
@@ -150,24 +192,36 @@ module _ (number : AddressNumbers) (d : Path) where
   length_listed (e ∷ es) h lead = step e.0 e.1 lead (length_listed es (second (below_all path_cmp e.0 es) _ h)
       (λ n there is. lead n there (find_later path_cmp_total path_cmp_exact e.0 e.1 es (n ∷ d) there (first (below_all path_cmp e.0 es) _ h) is)))
     where
-      step : (q : Path) (there : Node) → AllLead ((q, there) ∷ es) → length (listed es) ≡ length (filter_map (entry_in d) es) → length (listed ((q, there) ∷ es)) ≡ length (filter_map (entry_in d) ((q, there) ∷ es))
+      step : (q : Path) (there : Node) → AllLead ((q, there) ∷ es)
+          → length (listed es) ≡ length (filter_map (entry_in d) es)
+          → length (listed ((q, there) ∷ es)) ≡ length (filter_map (entry_in d) ((q, there) ∷ es))
       step [] there lead rest = rest
       step (n ∷ above) there lead rest = elim (same_path_found d above) [
         | inl t ↦
             let found : find path_cmp (n ∷ d) ((n ∷ above, there) ∷ es) ≡ Some there =
-            subst (λ (a : Path). find path_cmp (n ∷ d) ((n ∷ a, there) ∷ es) ≡ Some there) t.1 (find_first path_cmp_total path_cmp_exact (n ∷ d) there es) in
-            let some : target_for number (n ∷ above, there) ≢ None = subst (λ (a : Path). target_for number (n ∷ a, there) ≢ None) t.1 (lead n there found) in
+            subst (λ (a : Path). find path_cmp (n ∷ d) ((n ∷ a, there) ∷ es) ≡ Some there) t.1
+            (find_first path_cmp_total path_cmp_exact (n ∷ d) there es) in
+            let some : target_for number (n ∷ above, there) ≢ None =
+            subst (λ (a : Path). target_for number (n ∷ a, there) ≢ None) t.1 (lead n there found) in
             subst (λ b. AsMany n above there es b) (sym t.0) (length_one n (target_for number (n ∷ above, there)) (n, is_dir there) es some rest)
         | inr t ↦ subst (λ b. AsMany n above there es b) (sym t.0) rest
       ]
 
 -- the entry of a name in a directory is where its path leads
-pub get_directory : (files : Files Node) (number : AddressNumbers) (d : Path) (n : Name) → map.get (directory_of files number d) n ≡ option_and_then (λ (there : Node). target_for number (n ∷ d, there)) (get files (n ∷ d))
-get_directory files number d n = map.get-from_entries nat_list_cmp_total (filter_map (target_in number d) files.entries) n ∙ find_listed number d n files.entries files.sorted
+pub get_directory : (files : Files Node) (number : AddressNumbers) (d : Path) (n : Name)
+    → map.get (directory_of files number d) n
+    ≡ option_and_then (λ (there : Node). target_for number (n ∷ d, there)) (get files (n ∷ d))
+get_directory files number d n =
+    map.get-from_entries nat_list_cmp_total (filter_map (target_in number d) files.entries) n
+    ∙ find_listed number d n files.entries files.sorted
 
 -- a directory has as many entries as the flat state, where each of them leads somewhere
-pub len_directory : (f : Flat) (number : AddressNumbers) (d : Path) → ((n : Name) (there : Node) → get f.files (n ∷ d) ≡ Some there → target_for number (n ∷ d, there) ≢ None) → map.len (directory_of f.files number d) ≡ length (entries_in f d)
-len_directory f number d lead = len_sorted (filter_map (target_in number d) f.files.entries) (sorted_listed number d f.files.entries f.files.sorted) ∙ length_listed number d f.files.entries f.files.sorted lead
+pub len_directory : (f : Flat) (number : AddressNumbers) (d : Path)
+    → ((n : Name) (there : Node) → get f.files (n ∷ d) ≡ Some there → target_for number (n ∷ d, there) ≢ None)
+    → map.len (directory_of f.files number d) ≡ length (entries_in f d)
+len_directory f number d lead =
+    len_sorted (filter_map (target_in number d) f.files.entries) (sorted_listed number d f.files.entries f.files.sorted)
+    ∙ length_listed number d f.files.entries f.files.sorted lead
 
 -- ---- the bytes of a directory
 
@@ -175,7 +229,15 @@ len_directory f number d lead = len_sorted (filter_map (target_in number d) f.fi
 length_entries : (es : List (Name × Target)) → AllByRecursion IsEntry es → length (flat_map entry_bytes es) ≤ 50 * length es
 length_entries [] h = omega arith
 length_entries (e ∷ es) h =
-    omega (arith, length_entries es h.1, short_name e.0 h.0.0, target_len e.1, length-append (entry_bytes e) (flat_map entry_bytes es), length-append e.0 (target_bytes e.1))
+    omega (
+      arith,
+      length_entries es h.1,
+      short_name e.0 h.0.0,
+      target_len e.1,
+      length-append (entry_bytes e)
+          (flat_map entry_bytes es),
+      length-append e.0 (target_bytes e.1),
+    )
 
 -- the bytes of a directory are not too many for a segment
 pub spelling_fits : (dir : Entries) → IsListable dir → length (spelling dir) ≤ 4096

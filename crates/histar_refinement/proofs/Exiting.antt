@@ -1,6 +1,7 @@
 -- After a process exits the kernel represents the flat state in which it has: its process segment is written, and its internal container is
 -- unlinked, with its thread.
-use Rattle.std.proofs.Common.{◌≡◌, ◌≢◌, ℕ, ◌+◌, ◌*◌, ◌≤◌, ◌⊎◌, inl, inr, Bool, true, false, ◌&&◌, ◌||◌, cond, if◌then◌else◌, List, [], ◌∷◌, length, Option, None, Some, refl, sym, ap, ◌∙◌, subst, map}
+use Rattle.std.proofs.Common.{◌≡◌, ◌≢◌, ℕ, ◌+◌, ◌*◌, ◌≤◌, ◌⊎◌, inl, inr, Bool, true, false, ◌&&◌, ◌||◌, cond, if◌then◌else◌, List, [], ◌∷◌, length}
+use Rattle.std.proofs.Common.{Option, None, Some, refl, sym, ap, ◌∙◌, subst, map}
 use Rattle.std.specs.Prelude.{is_some, option_map}
 use Rattle.std.specs.List.{filter, range_with_len}
 use Rattle.std.proofs.lemmas.Option.{none-some, same_Some}
@@ -23,23 +24,29 @@ use Rattle.histar_flat.specs.FlatState.{Flat, with_process, was_given, is_given}
 use Rattle.histar_layout.specs.declared.status.Child.{Child as Listed}
 use Rattle.histar_layout.specs.Status.{status_bytes}
 use Rattle.histar_refinement.specs.Categories.{CategoryName, IsMade, IsKnown, IsServed, IsUsed}
-use Rattle.histar_refinement.specs.Categories.CategoryName.{OfBoot, ReadsUser, WritesUser, ReadsGroup, WritesGroup, ReadsProcess, WritesProcess, OfJob}
+use Rattle.histar_refinement.specs.Categories.CategoryName.{OfBoot, ReadsUser, WritesUser, ReadsGroup, WritesGroup, ReadsProcess, WritesProcess}
+use Rattle.histar_refinement.specs.Categories.CategoryName.{OfJob}
 use Rattle.histar_refinement.specs.Guards.{guard_label}
 use Rattle.histar_refinement.specs.Labels.{process_guard}
 use Rattle.histar_refinement.specs.Addresses.{Step, same_step, address_of, home_address, path_at, process_at, inside_at, boot_number}
 use Rattle.histar_refinement.specs.Addresses.Step.{Left, Slash, Listing, Named, Home, Status, Inside, Runner, Child}
 use Rattle.histar_refinement.specs.Processes.{or_zero, children, listed_by, process_bytes}
 use Rattle.histar_refinement.specs.Agrees.{Agrees}
-use Rattle.histar_refinement.specs.Expected.{listing_object, home_object, status_object, inside_object, thread_object, expected_node, listing_at, expected_home, bytes_for, expected_status, container_inside, thread_at, expected}
+use Rattle.histar_refinement.specs.Expected.{listing_object, home_object, status_object, inside_object, thread_object, expected_node, listing_at}
+use Rattle.histar_refinement.specs.Expected.{expected_home, bytes_for, expected_status, container_inside, thread_at, expected}
 use Rattle.histar_login.specs.Start.{segment}
 use Rattle.histar_refinement.specs.Represents.{IsProcess, AreJobsGiven, ObjectsMatch, Represents}
 use Rattle.histar_refinement.proofs.ProcessBytes.{alike_bytes}
-use Rattle.histar_refinement.proofs.Roots.{address_path, address_process, address_inside, same_home, same_directory, AsksAlike, asked_alike, asked_status}
+use Rattle.histar_refinement.proofs.Roots.{address_path, address_process, address_inside, same_home, same_directory, AsksAlike, asked_alike}
+use Rattle.histar_refinement.proofs.Roots.{asked_status}
 use Rattle.histar_refinement.proofs.Steps.{step_tests_equality}
 use Rattle.histar_refinement.proofs.Moving.{bare_held, agrees_changed, agrees_cut, agrees_same, no_address}
 
-module _ (accounts : Accounts) (s : State) (f : Flat) (l : ObjectsMatch accounts s f) (me : ProcName) (p : Process) (here : f.processes me ≡ Some p) (n : ℕ) (small : n ≤ greatest_status) (C S o : ℕ)
-    (at_home : l.naming.number (home_address me) ≡ Some C) (at_own : l.naming.number (Status ∷ home_address me) ≡ Some S) (at_inside : l.naming.number (Inside ∷ home_address me) ≡ Some o) where
+module _ (accounts : Accounts) (s : State) (f : Flat) (l : ObjectsMatch accounts s f) (me : ProcName) (p : Process)
+    (here : f.processes me ≡ Some p) (n : ℕ) (small : n ≤ greatest_status) (C S o : ℕ)
+    (at_home : l.naming.number (home_address me) ≡ Some C)
+    (at_own : l.naming.number (Status ∷ home_address me) ≡ Some S)
+    (at_inside : l.naming.number (Inside ∷ home_address me) ≡ Some o) where
   -- the process then
   abbrev pub changed : Process
   changed = record { user = p.user; chain = p.chain; held = p.held; exited = Some n; born = p.born }
@@ -77,7 +84,9 @@ module _ (accounts : Accounts) (s : State) (f : Flat) (l : ObjectsMatch accounts
 
   there_alike : (x : ProcName) → is_some (f.processes x) ≡ is_some (after.processes x)
   there_alike x = elim (which x) [
-    | inl e ↦ ap (λ (y : ProcName). is_some (f.processes y)) e ∙ ap is_some here ∙ sym (ap is_some at_me) ∙ ap (λ (y : ProcName). is_some (after.processes y)) (sym e)
+    | inl e ↦
+        ap (λ (y : ProcName). is_some (f.processes y)) e ∙ ap is_some here ∙ sym (ap is_some at_me)
+        ∙ ap (λ (y : ProcName). is_some (after.processes y)) (sym e)
     | inr other ↦ ap is_some (sym (at_other x other))
   ]
 
@@ -104,7 +113,9 @@ module _ (accounts : Accounts) (s : State) (f : Flat) (l : ObjectsMatch accounts
   asked_first = set_at same_step old_asked (Status ∷ home_address me) (option_map (holding written) (old_asked (Status ∷ home_address me)))
 
   agrees_first : Agrees same_step state_written l.naming asked_first
-  agrees_first = agrees_changed same_step step_tests_equality s l.naming old_asked l.agrees S (Status ∷ home_address me) (holding written) at_own (λ x. kind_held_links written x.kind) (bare_held written)
+  agrees_first =
+      agrees_changed same_step step_tests_equality s l.naming old_asked l.agrees S (Status ∷ home_address me)
+      (holding written) at_own (λ x. kind_held_links written x.kind) (bare_held written)
 
   -- no path leads below it
   no_path : (a : Address Step) → under same_step top a ≡ true → path_at a ≡ None
@@ -167,32 +178,53 @@ module _ (accounts : Accounts) (s : State) (f : Flat) (l : ObjectsMatch accounts
   files_alike : AsksAlike accounts l.category l.category f after l.naming.number naming.number
   files_alike = record {
     at_path = λ q. refl;
-    in_directory = λ d. ap (λ (dir : Entries). listing_object accounts l.category (spelling dir) (get f.files d)) (same_directory f l.naming.number naming.number kept_path kept_listing d);
+    in_directory =
+        λ d. ap (λ (dir : Entries). listing_object accounts l.category (spelling dir) (get f.files d))
+        (same_directory f l.naming.number naming.number kept_path kept_listing d);
   }
 
   -- another process keeps its process segment
   same_bytes : (q : ProcName) (x : Process) → q ≢ me → process_bytes f.processes l.naming.number q x ≡ process_bytes after.processes naming.number q x
-  same_bytes q x not_me = alike_bytes f.processes after.processes l.naming.number naming.number q x (kept (Inside ∷ home_address q) (inside_other q not_me)) (kept (Runner ∷ Inside ∷ home_address q) (inside_other q not_me))
-      (λ k. kept (home_address (k ∷ q)) (under_home (k ∷ q))) (λ k. kept (Status ∷ home_address (k ∷ q)) (under_home (k ∷ q))) (λ k. there_alike (k ∷ q))
+  same_bytes q x not_me =
+      alike_bytes f.processes after.processes l.naming.number naming.number q x
+      (kept (Inside ∷ home_address q) (inside_other q not_me))
+      (kept (Runner ∷ Inside ∷ home_address q) (inside_other q not_me))
+      (λ k. kept (home_address (k ∷ q)) (under_home (k ∷ q)))
+      (λ k. kept (Status ∷ home_address (k ∷ q)) (under_home (k ∷ q))) (λ k. there_alike (k ∷ q))
 
   object_alike : (object : ProcName → Option Process → Found) → (q : ProcName) → q ≢ me → object q (f.processes q) ≡ object q (after.processes q)
   object_alike object q other = ap (object q) (sym (at_other q other))
 
   home_alike : (q : ProcName) → home_object accounts l.category q (f.processes q) ≡ home_object accounts l.category q (after.processes q)
   home_alike q = elim (which q) [
-    | inl e ↦ subst (λ (x : ProcName). home_object accounts l.category x (f.processes x) ≡ home_object accounts l.category x (after.processes x)) (sym e) (ap (home_object accounts l.category me) here ∙ sym (ap (home_object accounts l.category me) at_me))
+    | inl e ↦
+        subst (λ (x : ProcName).
+        home_object accounts l.category x (f.processes x) ≡ home_object accounts l.category x (after.processes x))
+        (sym e) (ap (home_object accounts l.category me) here ∙ sym (ap (home_object accounts l.category me) at_me))
     | inr other ↦ object_alike (home_object accounts l.category) q other
   ]
 
-  status_alike : (q : ProcName) → q ≢ me → expected_status accounts l.category f l.naming.number (Some q) ≡ expected_status accounts l.category after naming.number (Some q)
-  status_alike q other = by (f.processes q) ∙ object_alike (λ x r. status_object accounts l.category (bytes_for accounts l.category after naming.number x r) x r) q other
+  status_alike : (q : ProcName) → q ≢ me
+      → expected_status accounts l.category f l.naming.number (Some q)
+      ≡ expected_status accounts l.category after naming.number (Some q)
+  status_alike q other =
+      by (f.processes q)
+      ∙ object_alike
+      (λ x r. status_object accounts l.category (bytes_for accounts l.category after naming.number x r) x r) q
+      other
     where
-      by : (x : Option Process) → status_object accounts l.category (bytes_for accounts l.category f l.naming.number q x) q x ≡ status_object accounts l.category (bytes_for accounts l.category after naming.number q x) q x
+      by : (x : Option Process)
+          → status_object accounts l.category (bytes_for accounts l.category f l.naming.number q x) q x
+          ≡ status_object accounts l.category (bytes_for accounts l.category after naming.number q x) q x
       by None = refl
       by (Some x) = ap (segment (guard_label l.category (process_guard q x))) (same_bytes q x other)
 
-  not_this : (a : Address Step) (q : ProcName) → under same_step top a ≡ false → under same_step top a ≡ under same_step top (Inside ∷ home_address q) → q ≢ me
-  not_this a q e is same_one = true≢false (sym (ap (λ (t : Bool). t || under same_step top (home_address me)) (same_itself same_step step_tests_equality top)) ∙ ap (λ (x : ProcName). under same_step top (Inside ∷ home_address x)) (sym same_one) ∙ sym is ∙ e)
+  not_this : (a : Address Step) (q : ProcName) → under same_step top a ≡ false
+      → under same_step top a ≡ under same_step top (Inside ∷ home_address q) → q ≢ me
+  not_this a q e is same_one =
+      true≢false (sym (ap (λ (t : Bool). t || under same_step top (home_address me))
+      (same_itself same_step step_tests_equality top))
+      ∙ ap (λ (x : ProcName). under same_step top (Inside ∷ home_address x)) (sym same_one) ∙ sym is ∙ e)
 
   wish_other : (a : Address Step) → under same_step top a ≡ false → Status ∷ home_address me ≢ a → old_asked a ≡ wish a
   wish_other a e not_own = asked_alike accounts l.category l.category f after l.naming.number naming.number files_alike a (record {
@@ -204,16 +236,27 @@ module _ (accounts : Accounts) (s : State) (f : Flat) (l : ObjectsMatch accounts
 
   wish_own : option_map (holding written) (old_asked (Status ∷ home_address me)) ≡ wish (Status ∷ home_address me)
   wish_own =
-      ap (option_map (holding written)) (asked_status accounts l.category f l.naming.number me ∙ ap (λ (x : Option Process). status_object accounts l.category (bytes_for accounts l.category f l.naming.number me x) me x) here)
-      ∙ sym (asked_status accounts l.category after naming.number me ∙ ap (λ (x : Option Process). status_object accounts l.category (bytes_for accounts l.category after naming.number me x) me x) at_me)
+      ap (option_map (holding written)) (asked_status accounts l.category f l.naming.number me
+      ∙ ap (λ (x : Option Process).
+      status_object accounts l.category (bytes_for accounts l.category f l.naming.number me x) me x) here)
+      ∙ sym (asked_status accounts l.category after naming.number me
+      ∙ ap (λ (x : Option Process).
+      status_object accounts l.category (bytes_for accounts l.category after naming.number me x) me x)
+      at_me)
 
   asks : (a : Address Step) → cut same_step asked_first top a ≡ wish a
   asks a = by (under same_step top a) refl
     where
       outside : under same_step top a ≡ false → asked_first a ≡ wish a
       outside e = elim (same_tests_equality same_step step_tests_equality (Status ∷ home_address me) a) [
-        | inl k ↦ ap (λ (t : Bool). if t then option_map (holding written) (old_asked (Status ∷ home_address me)) else old_asked a) k.0 ∙ wish_own ∙ ap wish k.1
-        | inr k ↦ ap (λ (t : Bool). if t then option_map (holding written) (old_asked (Status ∷ home_address me)) else old_asked a) k.0 ∙ wish_other a e k.1
+        | inl k ↦
+            ap (λ (t : Bool).
+            if t then option_map (holding written) (old_asked (Status ∷ home_address me)) else old_asked a) k.0
+            ∙ wish_own ∙ ap wish k.1
+        | inr k ↦
+            ap (λ (t : Bool).
+            if t then option_map (holding written) (old_asked (Status ∷ home_address me)) else old_asked a) k.0
+            ∙ wish_other a e k.1
       ]
 
       by : (t : Bool) → under same_step top a ≡ t → (if t then None else asked_first a) ≡ wish a
@@ -228,13 +271,25 @@ module _ (accounts : Accounts) (s : State) (f : Flat) (l : ObjectsMatch accounts
   top_under = ap (λ (t : Bool). t || under same_step top (home_address me)) (same_itself same_step step_tests_equality top)
 
   -- what is written: the old status, with the number that the process has exited with, and no internal container and no thread
-  pub written_is : written ≡ status_bytes (record { exited = Some n; born = p.born; internal = 0; thread = 0; children = map (listed_by l.naming.number me) (children f.processes me p.born) })
+  pub written_is : written
+      ≡ status_bytes (record {
+        exited = Some n;
+        born = p.born;
+        internal = 0;
+        thread = 0;
+        children = map (listed_by l.naming.number me) (children f.processes me p.born);
+      })
   written_is = λ i. status_bytes (record {
     exited = Some n;
     born = p.born;
     internal = or_zero (number_gone top top_under i);
     thread = or_zero (number_gone (Runner ∷ top) top_under i);
-    children = map {B = Listed} (λ k. record { number = k; container = or_zero (sym (kept (home_address (k ∷ me)) (under_home (k ∷ me))) i); segment = or_zero (sym (kept (Status ∷ home_address (k ∷ me)) (under_home (k ∷ me))) i) })
+    children =
+        map {B = Listed} (λ k. record {
+          number = k;
+          container = or_zero (sym (kept (home_address (k ∷ me)) (under_home (k ∷ me))) i);
+          segment = or_zero (sym (kept (Status ∷ home_address (k ∷ me)) (under_home (k ∷ me))) i);
+        })
         (filter (λ k. sym (there_alike (k ∷ me)) i) (range_with_len 1 p.born));
   })
 
@@ -260,7 +315,9 @@ module _ (accounts : Accounts) (s : State) (f : Flat) (l : ObjectsMatch accounts
 
   given_alike : (y : ProcName) (k : ℕ) → was_given (f.processes y) k ≡ was_given (after.processes y) k
   given_alike y k = elim (which y) [
-    | inl e ↦ subst (λ (x : ProcName). was_given (f.processes x) k ≡ was_given (after.processes x) k) (sym e) (ap (λ (r : Option Process). was_given r k) here ∙ sym (ap (λ (r : Option Process). was_given r k) at_me))
+    | inl e ↦
+        subst (λ (x : ProcName). was_given (f.processes x) k ≡ was_given (after.processes x) k) (sym e)
+        (ap (λ (r : Option Process). was_given r k) here ∙ sym (ap (λ (r : Option Process). was_given r k) at_me))
     | inr other ↦ ap (λ (r : Option Process). was_given r k) (sym (at_other y other))
   ]
 
@@ -316,12 +373,15 @@ module _ (accounts : Accounts) (s : State) (f : Flat) (l : ObjectsMatch accounts
 
   module _ (new : State) (cuts : CutsOff state_written C o new) where
     agrees_then : Agrees same_step new naming (cut same_step asked_first top)
-    agrees_then = agrees_cut same_step step_tests_equality state_written l.naming asked_first agrees_first new C o (home_address me) Inside cuts at_inside at_home
+    agrees_then =
+        agrees_cut same_step step_tests_equality state_written l.naming asked_first agrees_first new C o
+        (home_address me) Inside cuts at_inside at_home
 
     gone_then : new.objects boot_thread_number ≡ None
     gone_then =
         agrees_then.tree.as_expected boot_thread_number
-        ∙ ap (wanted (objects_at new.objects naming)) (ap (λ (x : Option (Address Step)). if is_under same_step top x then None else x) (no_address same_step s l.naming old_asked l.agrees boot_thread_number l.boot_thread_gone))
+        ∙ ap (wanted (objects_at new.objects naming)) (ap (λ (x : Option (Address Step)). if is_under same_step top x then None else x)
+        (no_address same_step s l.naming old_asked l.agrees boot_thread_number l.boot_thread_gone))
 
     -- the numbers in the names of jobs were given as before
     pub jobs_exited : AreJobsGiven f → AreJobsGiven after

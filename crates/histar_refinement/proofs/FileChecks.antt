@@ -42,15 +42,20 @@ use Rattle.histar_refinement.proofs.Agreeing.{thread_found, guard_at, file_found
 pub fits : (held bytes : List ℕ) → length bytes ≤ 4096 → fits_segment (min 0 (length held) + length bytes) ≡ true
 fits held bytes h = grind (arith, nat_tests, h)
 
-module _ (accounts : Accounts) (s : State) (f : Flat) (l : ObjectsMatch accounts s f) (ok : AreAccounts accounts) (me : ProcName) (p : Process) (t : ℕ) (runs : RunsAs accounts s f l me p t)
-    (d : Path) (class : Class) (at : get f.files d ≡ Some (record { class = class; content = Dir })) (D N : ℕ) (at_directory : l.naming.number (address_of d) ≡ Some D) (at_listing : l.naming.number (Listing ∷ address_of d) ≡ Some N) where
+module _ (accounts : Accounts) (s : State) (f : Flat) (l : ObjectsMatch accounts s f) (ok : AreAccounts accounts)
+    (me : ProcName) (p : Process) (t : ℕ) (runs : RunsAs accounts s f l me p t)
+    (d : Path) (class : Class) (at : get f.files d ≡ Some (record { class = class; content = Dir })) (D N : ℕ)
+    (at_directory : l.naming.number (address_of d) ≡ Some D)
+    (at_listing : l.naming.number (Listing ∷ address_of d) ≡ Some N) where
   abbrev label : Levels
   label = rights_label l.category (thread_rights accounts me p)
 
   abbrev clearance : Levels
   clearance = rights_clearance l.category (thread_rights accounts me p)
 
-  thread : s.objects t ≡ object (rights_label l.category (thread_rights accounts me p)) (Thread (rights_clearance l.category (thread_rights accounts me p)))
+  thread : s.objects t
+      ≡ object (rights_label l.category (thread_rights accounts me p))
+      (Thread (rights_clearance l.category (thread_rights accounts me p)))
   thread = thread_found accounts s f l me p runs.0 runs.1 t runs.2
 
   guard : (g : Guard) × (class_guard accounts class ≡ Some g)
@@ -75,14 +80,18 @@ module _ (accounts : Accounts) (s : State) (f : Flat) (l : ObjectsMatch accounts
   may_change = modifies_class accounts me p l.category l.different ok class guard.0 guard.1
 
   listing_inside : set.contains links N ≡ true
-  listing_inside = sym (ap (λ (o : Found). set.contains (links_in o) N) holder) ∙ step_linked accounts s f l Listing (address_of d) D N at_directory at_listing
+  listing_inside =
+      sym (ap (λ (o : Found). set.contains (links_in o) N) holder)
+      ∙ step_linked accounts s f l Listing (address_of d) D N at_directory at_listing
 
   -- the read of the directory segment
   pub read_listing_said : check s t (Read D N) ≡ unless (may_read accounts p class) Observe
   read_listing_said = by (may_read accounts p class) refl
     where
       by : (b : Bool) → may_read accounts p class ≡ b → check s t (Read D N) ≡ unless (may_read accounts p class) Observe
-      by true may = read_check s t label clearance thread D above links holder (sees ∙ may) N listing_inside above (spelling (directory_of f.files l.naming.number d)) listing ∙ ap (λ b. unless b Observe) sees
+      by true may =
+          read_check s t label clearance thread D above links holder (sees ∙ may) N listing_inside above
+          (spelling (directory_of f.files l.naming.number d)) listing ∙ ap (λ b. unless b Observe) sees
       by false may = read_blocked s t label clearance thread D above links holder (sees ∙ may) N ∙ sym (ap (λ b. unless b Observe) may)
 
   module _ (may : may_read accounts p class ≡ true) where
@@ -92,8 +101,12 @@ module _ (accounts : Accounts) (s : State) (f : Flat) (l : ObjectsMatch accounts
     -- the write of the directory segment, with a directory that can be listed
     pub write_listing_said : (dir : Entries) → IsListable dir → check s t (Write D N 0 (spelling dir)) ≡ unless (may_write accounts p class) Modify
     write_listing_said dir h =
-        write_check s t label clearance thread D above links holder observed N listing_inside above (spelling (directory_of f.files l.naming.number d)) listing 0 (spelling dir)
-        ∙ (λ i. unless (may_change i) Modify orelse unless (fits (spelling (directory_of f.files l.naming.number d)) (spelling dir) (spelling_fits dir h) i) TooBig)
+        write_check s t label clearance thread D above links holder observed N listing_inside above
+        (spelling (directory_of f.files l.naming.number d)) listing 0 (spelling dir)
+        ∙ (λ i. unless (may_change i) Modify
+        orelse unless
+        (fits (spelling (directory_of f.files l.naming.number d)) (spelling dir) (spelling_fits dir h) i)
+        TooBig)
         ∙ or_none (may_write accounts p class) Modify
 
     -- the first tests of a making in the directory
@@ -101,10 +114,14 @@ module _ (accounts : Accounts) (s : State) (f : Flat) (l : ObjectsMatch accounts
     making_said = making_check s t label clearance thread D above links holder observed ∙ ap (λ b. unless b Modify) may_change
 
     -- a label that the thread may not hand in is refused for that, where the directory may be written
-    refused_range : (g : Guard) → is_made_within accounts l.category l.different me p g ≡ false → in_range (s.objects t) (guard_label l.category g) ≡ false
+    refused_range : (g : Guard) → is_made_within accounts l.category l.different me p g ≡ false
+        → in_range (s.objects t) (guard_label l.category g) ≡ false
     refused_range g outside = ap (λ (o : Found). in_range o (guard_label l.category g)) thread ∙ outside
 
-    pub segment_out_of_range : (g : Guard) → is_made_within accounts l.category l.different me p g ≡ false → (bytes : List ℕ) → check s t (MakeSegment D (guard_label l.category g) bytes) ≡ (unless (may_write accounts p class) Modify orelse Some Range)
+    pub segment_out_of_range : (g : Guard) → is_made_within accounts l.category l.different me p g ≡ false
+        → (bytes : List ℕ)
+        → check s t (MakeSegment D (guard_label l.category g) bytes)
+        ≡ (unless (may_write accounts p class) Modify orelse Some Range)
     segment_out_of_range g outside bytes = λ i. making_said i
         orelse unless (refused_range g outside i) Range
         orelse unless (known s (guard_label l.category g)) Range
@@ -112,7 +129,9 @@ module _ (accounts : Accounts) (s : State) (f : Flat) (l : ObjectsMatch accounts
         orelse unless (fits_segment (length bytes)) TooBig
         orelse unless (has_number s) TooBig
 
-    pub container_out_of_range : (g : Guard) → is_made_within accounts l.category l.different me p g ≡ false → check s t (MakeContainer D (guard_label l.category g)) ≡ (unless (may_write accounts p class) Modify orelse Some Range)
+    pub container_out_of_range : (g : Guard) → is_made_within accounts l.category l.different me p g ≡ false
+        → check s t (MakeContainer D (guard_label l.category g))
+        ≡ (unless (may_write accounts p class) Modify orelse Some Range)
     container_out_of_range g outside = λ i. making_said i
         orelse unless (refused_range g outside i) Range
         orelse unless (known s (guard_label l.category g)) Range
@@ -131,14 +150,20 @@ module _ (accounts : Accounts) (s : State) (f : Flat) (l : ObjectsMatch accounts
       in_its_range : in_range (s.objects t) (guard_label l.category g) ≡ is_made_within accounts l.category l.different me p g
       in_its_range = ap (λ (o : Found). in_range o (guard_label l.category g)) thread
 
-      pub make_segment_said : check s t (MakeSegment D (guard_label l.category g) []) ≡ (unless (may_write accounts p class) Modify orelse unless (is_made_within accounts l.category l.different me p g) Range orelse unless (has_number s) TooBig)
+      pub make_segment_said : check s t (MakeSegment D (guard_label l.category g) [])
+          ≡ (unless (may_write accounts p class) Modify
+          orelse unless (is_made_within accounts l.category l.different me p g) Range
+          orelse unless (has_number s) TooBig)
       make_segment_said = λ i. making_said i
           orelse unless (in_its_range i) Range
           orelse unless (is_known i) Range
           orelse unless (not (guard_owns_nothing l.category g i)) Range
           orelse unless (has_number s) TooBig
 
-      pub make_container_said : check s t (MakeContainer D (guard_label l.category g)) ≡ (unless (may_write accounts p class) Modify orelse unless (is_made_within accounts l.category l.different me p g) Range orelse unless (has_number s) TooBig)
+      pub make_container_said : check s t (MakeContainer D (guard_label l.category g))
+          ≡ (unless (may_write accounts p class) Modify
+          orelse unless (is_made_within accounts l.category l.different me p g) Range
+          orelse unless (has_number s) TooBig)
       make_container_said = λ i. making_said i
           orelse unless (in_its_range i) Range
           orelse unless (is_known i) Range
@@ -148,7 +173,9 @@ module _ (accounts : Accounts) (s : State) (f : Flat) (l : ObjectsMatch accounts
     -- what stands in the directory
     module _ (n : Name) (O : ℕ) (at_object : l.naming.number (address_of (n ∷ d)) ≡ Some O) where
       inside : set.contains links O ≡ true
-      inside = sym (ap (λ (o : Found). set.contains (links_in o) O) holder) ∙ step_linked accounts s f l (Named n) (address_of d) D O at_directory at_object
+      inside =
+          sym (ap (λ (o : Found). set.contains (links_in o) O) holder)
+          ∙ step_linked accounts s f l (Named n) (address_of d) D O at_directory at_object
 
       -- it is unlinked, file or directory, unless the directory may not be written
       pub unlink_said : check s t (Unlink D O) ≡ unless (may_write accounts p class) Modify
@@ -171,6 +198,12 @@ module _ (accounts : Accounts) (s : State) (f : Flat) (l : ObjectsMatch accounts
             ∙ ap (λ b. unless b Observe) (observes_class accounts me p l.category l.different ok kind file_guard.0 file_guard.1)
 
         -- and written unless the process may not write it, or the bytes are too many
-        pub write_file_said : (keep : ℕ) (bytes : List ℕ) → check s t (Write D O keep bytes) ≡ (unless (may_write accounts p kind) Modify orelse unless (fits_segment (min keep (length old) + length bytes)) TooBig)
-        write_file_said keep bytes = write_check s t label clearance thread D above links holder observed O inside (guard_label l.category file_guard.0) old file keep bytes
-            ∙ ap (λ b. unless b Modify orelse unless (fits_segment (min keep (length old) + length bytes)) TooBig) (modifies_class accounts me p l.category l.different ok kind file_guard.0 file_guard.1)
+        pub write_file_said : (keep : ℕ) (bytes : List ℕ)
+            → check s t (Write D O keep bytes)
+            ≡ (unless (may_write accounts p kind) Modify
+            orelse unless (fits_segment (min keep (length old) + length bytes)) TooBig)
+        write_file_said keep bytes =
+            write_check s t label clearance thread D above links holder observed O inside
+            (guard_label l.category file_guard.0) old file keep bytes
+            ∙ ap (λ b. unless b Modify orelse unless (fits_segment (min keep (length old) + length bytes)) TooBig)
+            (modifies_class accounts me p l.category l.different ok kind file_guard.0 file_guard.1)

@@ -60,19 +60,23 @@ module _ (accounts : Accounts) (s : State) (f : Flat) (l : ObjectsMatch accounts
     pub no_thread_at : is_thread (s.objects o) ≡ false
     no_thread_at =
         let g = guard_at accounts s f l q there at in
-        sym (thread_bare (s.objects o)) ∙ ap is_thread (path_agrees accounts s f l q there at g.0 g.1 o numbered) ∙ content_is_none (guard_label l.category g.0) there.content
+        sym (thread_bare (s.objects o)) ∙ ap is_thread (path_agrees accounts s f l q there at g.0 g.1 o numbered)
+        ∙ content_is_none (guard_label l.category g.0) there.content
 
   -- the label of `/` is told to the thread of every process
-  pub slash_label_said : (me : ProcName) (p : Process) (t : ℕ) → RunsAs accounts s f l me p t → check s t (LabelOf root_number (slash_number (length accounts.users))) ≡ None
+  pub slash_label_said : (me : ProcName) (p : Process) (t : ℕ) → RunsAs accounts s f l me p t
+      → check s t (LabelOf root_number (slash_number (length accounts.users))) ≡ None
   slash_label_said me p t runs =
       let slash = slash_number (length accounts.users) in
       let own = rights_label l.category (thread_rights accounts me p) in
       let root = root_found accounts s f l in
       let numbered = l.as_booted (Slash ∷ []) slash refl in
       let seen : is_below_raised (guard_label (booted accounts) boot_guard) own ≡ true =
-      ap (λ (label : Levels). is_below_raised label own) (root_label accounts s f l) ∙ sees_unguarded accounts me p l.category l.different boot_guard refl in
+      ap (λ (label : Levels). is_below_raised label own) (root_label accounts s f l)
+      ∙ sees_unguarded accounts me p l.category l.different boot_guard refl in
       let linked : set.contains root.0 slash ≡ true =
-      sym (ap (λ (o : Found). set.contains (links_in o) slash) root.1) ∙ step_linked accounts s f l Slash [] root_number slash (l.as_booted [] root_number refl) numbered in
+      sym (ap (λ (o : Found). set.contains (links_in o) slash) root.1)
+      ∙ step_linked accounts s f l Slash [] root_number slash (l.as_booted [] root_number refl) numbered in
       label_check s t own (rights_clearance l.category (thread_rights accounts me p)) (thread_found accounts s f l me p runs.0 runs.1 t runs.2)
       root_number (guard_label (booted accounts) boot_guard) root.0 root.1 seen slash linked
       (no_thread_at [] (record { class = (root_is_dir accounts s f l).0; content = Dir }) (root_is_dir accounts s f l).1 slash numbered)

@@ -1,5 +1,6 @@
 -- The labels of gates and threads, which own the categories of a user and of its groups, by the numbers that boot gave these.
-use Rattle.std.proofs.Common.{◌≡◌, ℕ, ◌+◌, ◌*◌, ◌≤◌, ◌||◌, ◌&&◌, ◌==◌, Bool, true, false, cond, List, [], ◌∷◌, ◌++◌, length, None, Some, if◌then◌else◌, refl, sym, ap, ◌∙◌, arith}
+use Rattle.std.proofs.Common.{◌≡◌, ℕ, ◌+◌, ◌*◌, ◌≤◌, ◌||◌, ◌&&◌, ◌==◌, Bool, true, false, cond, List, [], ◌∷◌, ◌++◌, length, None, Some}
+use Rattle.std.proofs.Common.{if◌then◌else◌, refl, sym, ap, ◌∙◌, arith}
 use Rattle.std.specs.Prelude.{map, nat_le}
 use Rattle.std.proofs.lemmas.Bool.Decides.{nat_tests}
 use Rattle.std.proofs.lemmas.List.{append-nil, map-append}
@@ -54,7 +55,8 @@ module _ (accounts : Accounts) where
   pub group_test : (k : ℕ) → 1 ≤ k → k ≤ length accounts.groups → (nat_le 1 k && nat_le k (length accounts.groups)) ≡ true
   group_test k low high = grind (arith, nat_tests, low, high)
 
-module _ (accounts : Accounts) (category : Categories) (as_made : (c : CategoryName) (q : ℕ) → boot_category accounts c ≡ Some q → category c ≡ q) where
+module _ (accounts : Accounts) (category : Categories)
+    (as_made : (c : CategoryName) (q : ℕ) → boot_category accounts c ≡ Some q → category c ≡ q) where
   -- a user's two categories have boot's numbers
   pub user_reads : (i : ℕ) → i ≤ length accounts.users → category (ReadsUser i) ≡ read_category i
   user_reads i h = as_made (ReadsUser i) (2 + 2 * i) (ap (λ b. cond b (Some (2 + 2 * i)) None) (low_test accounts i h))
@@ -66,26 +68,34 @@ module _ (accounts : Accounts) (category : Categories) (as_made : (c : CategoryN
   pub group_reads : (k : ℕ) → 1 ≤ k → k ≤ length accounts.groups → category (ReadsGroup k) ≡ read_category (group_owner (length accounts.users) k)
   group_reads k low high =
       let number : 2 + 2 * length accounts.users + 2 * k ≡ 2 + 2 * (length accounts.users + k) = omega arith in
-      as_made (ReadsGroup k) (2 + 2 * length accounts.users + 2 * k) (ap (λ b. cond b (Some (2 + 2 * length accounts.users + 2 * k)) None) (group_test accounts k low high)) ∙ number
+      as_made (ReadsGroup k) (2 + 2 * length accounts.users + 2 * k)
+      (ap (λ b. cond b (Some (2 + 2 * length accounts.users + 2 * k)) None) (group_test accounts k low high))
+      ∙ number
 
   pub group_writes : (k : ℕ) → 1 ≤ k → k ≤ length accounts.groups → category (WritesGroup k) ≡ write_category (group_owner (length accounts.users) k)
   group_writes k low high =
       let number : 3 + 2 * length accounts.users + 2 * k ≡ 3 + 2 * (length accounts.users + k) = omega arith in
-      as_made (WritesGroup k) (3 + 2 * length accounts.users + 2 * k) (ap (λ b. cond b (Some (3 + 2 * length accounts.users + 2 * k)) None) (group_test accounts k low high)) ∙ number
+      as_made (WritesGroup k) (3 + 2 * length accounts.users + 2 * k)
+      (ap (λ b. cond b (Some (3 + 2 * length accounts.users + 2 * k)) None) (group_test accounts k low high))
+      ∙ number
 
-  module _ (name_of : ℕ → CategoryName) (number : ℕ → ℕ) (same : (k : ℕ) → 1 ≤ k → k ≤ length accounts.groups → category (name_of k) ≡ number (group_owner (length accounts.users) k)) where
+  module _ (name_of : ℕ → CategoryName) (number : ℕ → ℕ) (same : (k : ℕ) → 1 ≤ k → k ≤ length accounts.groups
+      → category (name_of k) ≡ number (group_owner (length accounts.users) k)) where
     -- the categories of a user's groups have boot's numbers
     groups_same : (k : ℕ) (groups : List Group) (name : Name) → 1 ≤ k → k + length groups ≤ length accounts.groups + 1
-        → map category (map name_of (numbers_with k groups name)) ≡ map number (map (group_owner (length accounts.users)) (numbers_with k groups name))
+        → map category (map name_of (numbers_with k groups name))
+        ≡ map number (map (group_owner (length accounts.users)) (numbers_with k groups name))
     groups_same k [] name low high = refl
     groups_same k (g ∷ groups) name low high =
         let high_here : k ≤ length accounts.groups = omega (arith, high) in
         by (has g.members name) (same k low high_here) (groups_same (k + 1) groups name (omega arith) (omega (arith, high)))
       where
         by : (b : Bool) → category (name_of k) ≡ number (group_owner (length accounts.users) k)
-            → map category (map name_of (numbers_with (k + 1) groups name)) ≡ map number (map (group_owner (length accounts.users)) (numbers_with (k + 1) groups name))
+            → map category (map name_of (numbers_with (k + 1) groups name))
+            ≡ map number (map (group_owner (length accounts.users)) (numbers_with (k + 1) groups name))
             → map category (map name_of (if b then k ∷ numbers_with (k + 1) groups name else numbers_with (k + 1) groups name))
-            ≡ map number (map (group_owner (length accounts.users)) (if b then k ∷ numbers_with (k + 1) groups name else numbers_with (k + 1) groups name))
+            ≡ map number (map (group_owner (length accounts.users))
+            (if b then k ∷ numbers_with (k + 1) groups name else numbers_with (k + 1) groups name))
         by true here more = λ j. here j ∷ more j
         by false here more = more
 
@@ -99,10 +109,14 @@ module _ (accounts : Accounts) (category : Categories) (as_made : (c : CategoryN
     reading_is = λ j. user_reads i declared j ∷ groups_same ReadsGroup read_category group_reads 1 accounts.groups name (omega arith) (omega arith) j
 
     writing_is : map category (writing accounts name i) ≡ map write_category owners
-    writing_is = λ j. user_writes i declared j ∷ groups_same WritesGroup write_category group_writes 1 accounts.groups name (omega arith) (omega arith) j
+    writing_is =
+        λ j. user_writes i declared j
+        ∷ groups_same WritesGroup write_category group_writes 1 accounts.groups name (omega arith) (omega arith) j
 
     -- and so have those that a process owns as the user, in a job or in none
-    pub owned_is : (free : Bool) → map category (reading accounts name i ++ (if free then writing accounts name i else [])) ≡ categories_of (owners_of accounts i name) free
+    pub owned_is : (free : Bool)
+        → map category (reading accounts name i ++ (if free then writing accounts name i else []))
+        ≡ categories_of (owners_of accounts i name) free
     owned_is true = map-append category (reading accounts name i) (writing accounts name i) ∙ (λ j. reading_is j ++ writing_is j)
     owned_is false = map-append category (reading accounts name i) [] ∙ (λ j. reading_is j ++ [])
 

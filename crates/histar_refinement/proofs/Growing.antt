@@ -1,5 +1,6 @@
 -- A category is made: the naming grows, and labels that are told by used names stay.
-use Rattle.std.proofs.Common.{◌≡◌, ◌≢◌, ℕ, ◌<◌, ◌==◌, ◌⊎◌, inl, inr, Bool, true, false, ◌||◌, List, [], ◌∷◌, ◌++◌, if◌then◌else◌, arith, refl, sym, ap, ◌∙◌}
+use Rattle.std.proofs.Common.{◌≡◌, ◌≢◌, ℕ, ◌<◌, ◌==◌, ◌⊎◌, inl, inr, Bool, true, false, ◌||◌, List, [], ◌∷◌, ◌++◌, if◌then◌else◌, arith, refl, sym}
+use Rattle.std.proofs.Common.{ap, ◌∙◌}
 use Rattle.std.specs.Prelude.{map}
 use Rattle.std.proofs.lemmas.Bool.Decides.{eqb_tells, nat_tests}
 use Rattle.std.proofs.lemmas.Bool.{or_left, or_right}
@@ -25,10 +26,12 @@ pub owner_is : (r w : ℕ) → owner_of r w ≡ owner_label (r ∷ w ∷ []) []
 owner_is r w = refl
 
 -- names that keep their numbers
-pub same_numbers : (category other : Categories) (names : List CategoryName) → ((c : CategoryName) → among names c ≡ true → other c ≡ category c) → map other names ≡ map category names
+pub same_numbers : (category other : Categories) (names : List CategoryName)
+    → ((c : CategoryName) → among names c ≡ true → other c ≡ category c) → map other names ≡ map category names
 same_numbers category other [] same = refl
 same_numbers category other (x ∷ names) same =
-    λ i. same x (or_left (same_category x x) (among names x) (same_itself x)) i ∷ same_numbers category other names (λ c e. same c (or_right (same_category c x) (among names c) e)) i
+    λ i. same x (or_left (same_category x x) (among names x) (same_itself x)) i
+    ∷ same_numbers category other names (λ c e. same c (or_right (same_category c x) (among names c) e)) i
 
 -- all names of a guard, and of rights
 abbrev pub GuardHas : (CategoryName → Type 0) → Guard → Type 0
@@ -41,14 +44,21 @@ abbrev pub KeepsNumber : Categories → Categories → CategoryName → Type 0
 KeepsNumber category other c = other c ≡ category c
 
 -- labels by names that keep their numbers stay
-pub same_guard_label : (category other : Categories) (g : Guard) → GuardHas (KeepsNumber category other) g → guard_label other g ≡ guard_label category g
-same_guard_label category other g keeps = λ i. guarded_by (same_numbers category other g.secret keeps.0 i) (same_numbers category other g.written keeps.1 i)
+pub same_guard_label : (category other : Categories) (g : Guard) → GuardHas (KeepsNumber category other) g
+    → guard_label other g ≡ guard_label category g
+same_guard_label category other g keeps =
+    λ i. guarded_by (same_numbers category other g.secret keeps.0 i) (same_numbers category other g.written keeps.1 i)
 
-pub same_rights_label : (category other : Categories) (r : Rights) → RightsHave (KeepsNumber category other) r → rights_label other r ≡ rights_label category r
-same_rights_label category other r keeps = λ i. owner_label (same_numbers category other r.owned keeps.0 i) (same_numbers category other r.tainted keeps.1 i)
+pub same_rights_label : (category other : Categories) (r : Rights) → RightsHave (KeepsNumber category other) r
+    → rights_label other r ≡ rights_label category r
+same_rights_label category other r keeps =
+    λ i. owner_label (same_numbers category other r.owned keeps.0 i) (same_numbers category other r.tainted keeps.1 i)
 
-pub same_rights_clearance : (category other : Categories) (r : Rights) → RightsHave (KeepsNumber category other) r → rights_clearance other r ≡ rights_clearance category r
-same_rights_clearance category other r keeps = ap cleared_at (same_numbers category other (r.owned ++ r.tainted) (each_append (KeepsNumber category other) r.owned r.tainted keeps.0 keeps.1))
+pub same_rights_clearance : (category other : Categories) (r : Rights) → RightsHave (KeepsNumber category other) r
+    → rights_clearance other r ≡ rights_clearance category r
+same_rights_clearance category other r keeps =
+    ap cleared_at (same_numbers category other (r.owned ++ r.tainted)
+    (each_append (KeepsNumber category other) r.owned r.tainted keeps.0 keeps.1))
 
 module _ (category : Categories) (different : AreDifferent category) (next : ℕ) (c : CategoryName) where
   -- the naming in which c is the next category
@@ -58,7 +68,8 @@ module _ (category : Categories) (different : AreDifferent category) (next : ℕ
   pub new_number : grown c ≡ next
   new_number = by (eqb_tells (category c) (category c))
     where
-      by : (((category c == category c) ≡ true) × (category c ≡ category c)) ⊎ (((category c == category c) ≡ false) × (category c ≢ category c)) → grown c ≡ next
+      by : (((category c == category c) ≡ true) × (category c ≡ category c))
+          ⊎ (((category c == category c) ≡ false) × (category c ≢ category c)) → grown c ≡ next
       by (inl e) = ap (λ b. if b then next else (if category c == next then category c else category c)) e.0
       by (inr e) = absurd (e.1 refl)
 
@@ -112,7 +123,9 @@ module _ (category : Categories) (different : AreDifferent category) (next : ℕ
         | inr k ↦ absurd (true≢false (sym e ∙ k.0))
       ])
       ∙ sym (at_owning (next ∷ map category r.owned) (map category r.tainted) q))
-      ∙ (λ i. owner_label (sym new_number i ∷ sym (same_numbers category grown r.owned (λ d e. old_keeps d (old.0 d e))) i) (sym (same_numbers category grown r.tainted (λ d e. old_keeps d (old.1 d e))) i))
+      ∙ (λ i. owner_label
+      (sym new_number i ∷ sym (same_numbers category grown r.owned (λ d e. old_keeps d (old.0 d e))) i)
+      (sym (same_numbers category grown r.tainted (λ d e. old_keeps d (old.1 d e))) i))
 
   pub made_clearance : (r : Rights) → RightsHave IsOld r → with_level (rights_clearance category r) next L3 ≡ rights_clearance grown (with_owned r)
   made_clearance r old =
@@ -121,4 +134,6 @@ module _ (category : Categories) (different : AreDifferent category) (next : ℕ
       ∙ ap (λ l. if q == next then L3 else l) (at_cleared (map category (r.owned ++ r.tainted)) q)
       ∙ three_here (q == next) (is_in (map category (r.owned ++ r.tainted)) q)
       ∙ sym (at_cleared (next ∷ map category (r.owned ++ r.tainted)) q))
-      ∙ (λ i. cleared_at (sym new_number i ∷ sym (same_numbers category grown (r.owned ++ r.tainted) (λ d e. old_keeps d (each_append IsOld r.owned r.tainted old.0 old.1 d e))) i))
+      ∙ (λ i. cleared_at (sym new_number i
+      ∷ sym (same_numbers category grown (r.owned ++ r.tainted)
+      (λ d e. old_keeps d (each_append IsOld r.owned r.tainted old.0 old.1 d e))) i))

@@ -49,11 +49,14 @@ empty_alike (c ∷ cs) [] same = absurd (true≢false (sym (or_left (c == c) (is
 empty_alike (c ∷ cs) (d ∷ ds) same = refl
 
 -- The own label of the thread of a process tells the jobs that the process is in.
-pub jobs_are : (category : Categories) (accounts : Accounts) (me : ProcName) (p : Process) (c : ℕ) → is_in (jobs_in (rights_label category (thread_rights accounts me p))) c ≡ is_in (map category (map OfJob p.chain)) c
+pub jobs_are : (category : Categories) (accounts : Accounts) (me : ProcName) (p : Process) (c : ℕ)
+    → is_in (jobs_in (rights_label category (thread_rights accounts me p))) c
+    ≡ is_in (map category (map OfJob p.chain)) c
 jobs_are category accounts me p c = in_jobs (map category (thread_rights accounts me p).owned) (map category (map OfJob p.chain)) c
 
 -- So it tells whether the process is in any.
-pub none_if_free : (category : Categories) (accounts : Accounts) (me : ProcName) (p : Process) → is_empty (jobs_in (rights_label category (thread_rights accounts me p))) ≡ is_free p
+pub none_if_free : (category : Categories) (accounts : Accounts) (me : ProcName) (p : Process)
+    → is_empty (jobs_in (rights_label category (thread_rights accounts me p))) ≡ is_free p
 none_if_free category accounts me p = empty_alike _ (map category (map OfJob p.chain)) (jobs_are category accounts me p) ∙ by p.chain
   where
     by : (chain : List ProcName) → is_empty (map category (map OfJob chain)) ≡ elim chain as (λ _. Bool) [ [] ↦ true | job ∷ jobs ↦ false ]
@@ -78,7 +81,10 @@ module _ (category : Categories) (different : AreDifferent category) (me : ProcN
   outer = guard_label category (process_guard me p)
 
   -- the category by which a process writes is no job's
-  not_written : (c : ℕ) → (((c == category (WritesProcess me)) ≡ true) × (c ≡ category (WritesProcess me))) ⊎ (((c == category (WritesProcess me)) ≡ false) × (c ≢ category (WritesProcess me))) → is_in jobs c ≡ true → is_in own c ≡ false
+  not_written : (c : ℕ)
+      → (((c == category (WritesProcess me)) ≡ true) × (c ≡ category (WritesProcess me)))
+      ⊎ (((c == category (WritesProcess me)) ≡ false) × (c ≢ category (WritesProcess me))) → is_in jobs c ≡ true
+      → is_in own c ≡ false
   not_written c (inl is) e = absurd (true≢false (sym e ∙ ap (is_in jobs) is.1 ∙ not_own category different me p.chain))
   not_written c (inr is) e = ap (λ b. b || false) is.0
 

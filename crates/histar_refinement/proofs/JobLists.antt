@@ -1,5 +1,6 @@
 -- Lists of jobs with one job more at the end.
-use Rattle.std.proofs.Common.{◌≡◌, ◌≢◌, ℕ, ◌+◌, ◌<◌, ◌≤◌, inl, inr, Bool, true, false, ◌&&◌, List, [], ◌∷◌, ◌++◌, Option, Some, arith, refl, sym, ap, ◌∙◌}
+use Rattle.std.proofs.Common.{◌≡◌, ◌≢◌, ℕ, ◌+◌, ◌<◌, ◌≤◌, inl, inr, Bool, true, false, ◌&&◌, List, [], ◌∷◌, ◌++◌, Option, Some, arith, refl, sym, ap}
+use Rattle.std.proofs.Common.{◌∙◌}
 use Rattle.std.specs.Prelude.{map, nat_le}
 use Rattle.std.proofs.lemmas.Bool.Decides.{nat_tests}
 use Rattle.std.proofs.lemmas.Bool.{or_left, or_right}
@@ -26,20 +27,27 @@ not_added jobs child job e other = by (has (jobs ++ child ∷ []) job) refl
     by false k = refl
 
 -- jobs in order stay so where the new one's number is above all others
-rising_last : (category : Categories) (child : ProcName) (n : ℕ) (jobs : List ProcName) → n ≤ category (OfJob child) → ((job : ProcName) → has jobs job ≡ true → category (OfJob job) < category (OfJob child))
+rising_last : (category : Categories) (child : ProcName) (n : ℕ) (jobs : List ProcName) → n ≤ category (OfJob child)
+    → ((job : ProcName) → has jobs job ≡ true → category (OfJob job) < category (OfJob child))
     → IsRisingFrom n (map (λ job. category (OfJob job)) jobs) → IsRisingFrom n (map (λ job. category (OfJob job)) (jobs ++ child ∷ []))
 rising_last category child n [] low below rising = (low, tt)
 rising_last category child n (j ∷ jobs) low below rising =
-    let here = below j (or_left (same j j) (has jobs j) (equal_tested j j refl)) in
-    (rising.0, rising_last category child (category (OfJob j) + 1) jobs (omega (arith, here)) (λ job e. below job (or_right (same job j) (has jobs job) e)) rising.1)
+    let here = below j (or_left (same j j) (has jobs j) (equal_tested j j refl)) in (
+      rising.0,
+      rising_last category child (category (OfJob j) + 1) jobs (omega (arith, here))
+          (λ job e. below job (or_right (same job j) (has jobs job) e)) rising.1,
+    )
 
-pub in_order_last : (category : Categories) (child : ProcName) (jobs : List ProcName) → ((job : ProcName) → has jobs job ≡ true → category (OfJob job) < category (OfJob child)) → AreInOrder category jobs → AreInOrder category (jobs ++ child ∷ [])
+pub in_order_last : (category : Categories) (child : ProcName) (jobs : List ProcName)
+    → ((job : ProcName) → has jobs job ≡ true → category (OfJob job) < category (OfJob child))
+    → AreInOrder category jobs → AreInOrder category (jobs ++ child ∷ [])
 in_order_last category child jobs below = rising_last category child 0 jobs (omega arith) below
 
 -- the name of a child that is to be born was never given
 pub never_given : (f : Flat) (me : ProcName) (p : Process) → f.processes me ≡ Some p → is_given f.processes ((p.born + 1) ∷ me) ≡ true → ⊥
 never_given f me p here e =
     let given : was_given (f.processes me) (p.born + 1) ≡ true = first_of (was_given (f.processes me) (p.born + 1)) (is_given f.processes me) e in
-    let within : (nat_le 1 (p.born + 1) && nat_le (p.born + 1) p.born) ≡ true = ap (λ (o : Option Process). was_given o (p.born + 1)) (sym here) ∙ given in
+    let within : (nat_le 1 (p.born + 1) && nat_le (p.born + 1) p.born) ≡ true =
+    ap (λ (o : Option Process). was_given o (p.born + 1)) (sym here) ∙ given in
     let top : nat_le (p.born + 1) p.born ≡ true = second_of (nat_le 1 (p.born + 1)) (nat_le (p.born + 1) p.born) within in
     absurd (grind (arith, nat_tests, top))

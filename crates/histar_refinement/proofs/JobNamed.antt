@@ -17,7 +17,8 @@ use Rattle.histar_refinement.proofs.JobLists.{never_given}
 use Rattle.histar_refinement.proofs.Uses.{class_used}
 use Rattle.histar_refinement.proofs.Counting.{number_named, keeps_named, matched_named}
 
-module _ (accounts : Accounts) (s : State) (f : Flat) (l : Represents accounts s f) (me : ProcName) (p : Process) (here : f.processes me ≡ Some p) where
+module _ (accounts : Accounts) (s : State) (f : Flat) (l : Represents accounts s f) (me : ProcName) (p : Process)
+    (here : f.processes me ≡ Some p) where
   abbrev child : ProcName
   child = (p.born + 1) ∷ me
 
@@ -34,7 +35,9 @@ module _ (accounts : Accounts) (s : State) (f : Flat) (l : Represents accounts s
       by false e = refl
 
   -- no class names the job yet
-  pub not_named : (q : Path) (there : Node) (x : Guard) → get f.files q ≡ Some there → class_guard accounts there.class ≡ Some x → (among x.secret (OfJob ((p.born + 1) ∷ me)) ≡ false) × (among x.written (OfJob ((p.born + 1) ∷ me)) ≡ false)
+  pub not_named : (q : Path) (there : Node) (x : Guard) → get f.files q ≡ Some there
+      → class_guard accounts there.class ≡ Some x
+      → (among x.secret (OfJob ((p.born + 1) ∷ me)) ≡ false) × (among x.written (OfJob ((p.born + 1) ∷ me)) ≡ false)
   not_named q there x at is =
       let used = class_used accounts f q there at there.class refl x is in
       (never (among x.secret (OfJob child)) (used.0 (OfJob child)), never (among x.written (OfJob child)) (used.1 (OfJob child)))
@@ -44,7 +47,8 @@ module _ (accounts : Accounts) (s : State) (f : Flat) (l : Represents accounts s
       never false u = refl
 
   -- once the job's category is made
-  pub named : (later : ObjectsMatch accounts (with_next_category s) f) × (later.naming ≡ l.matched.naming) × (later.category ≡ naming_next l.matched.category s.next_category (OfJob ((p.born + 1) ∷ me)))
+  pub named : (later : ObjectsMatch accounts (with_next_category s) f) × (later.naming ≡ l.matched.naming)
+      × (later.category ≡ naming_next l.matched.category s.next_category (OfJob ((p.born + 1) ∷ me)))
   named = matched_named accounts s f l.matched (OfJob child) unused (with_next_category s) (λ q. refl) refl (omega arith)
 
   abbrev pub m : ObjectsMatch accounts (with_next_category s) f

@@ -1,5 +1,6 @@
 -- After a process is killed the kernel represents the flat state without it and all below it.
-use Rattle.std.proofs.Common.{◌≡◌, ◌≢◌, ℕ, ◌+◌, ◌*◌, ◌⊎◌, inl, inr, Bool, true, false, ◌||◌, cond, if◌then◌else◌, List, [], ◌∷◌, length, Option, None, Some, refl, sym, ap, ◌∙◌, subst, ◌≤◌}
+use Rattle.std.proofs.Common.{◌≡◌, ◌≢◌, ℕ, ◌+◌, ◌*◌, ◌⊎◌, inl, inr, Bool, true, false, ◌||◌, cond, if◌then◌else◌, List, [], ◌∷◌, length, Option, None}
+use Rattle.std.proofs.Common.{Some, refl, sym, ap, ◌∙◌, subst, ◌≤◌}
 use Rattle.std.specs.Prelude.{is_some, option_map, nat_eq}
 use Rattle.std.proofs.lemmas.Option.{none-some}
 use Rattle.std.proofs.lemmas.Bool.{and_from}
@@ -23,24 +24,30 @@ use Rattle.histar_flat.specs.Classes.{Process}
 use Rattle.histar_flat.specs.PathOrder.{under_process}
 use Rattle.histar_flat.specs.FlatState.{Flat, without_process, was_given, is_given}
 use Rattle.histar_refinement.specs.Categories.{CategoryName, IsMade, IsKnown, IsServed, IsUsed}
-use Rattle.histar_refinement.specs.Categories.CategoryName.{OfBoot, ReadsUser, WritesUser, ReadsGroup, WritesGroup, ReadsProcess, WritesProcess, OfJob}
+use Rattle.histar_refinement.specs.Categories.CategoryName.{OfBoot, ReadsUser, WritesUser, ReadsGroup, WritesGroup, ReadsProcess, WritesProcess}
+use Rattle.histar_refinement.specs.Categories.CategoryName.{OfJob}
 use Rattle.histar_refinement.specs.Guards.{guard_label}
 use Rattle.histar_refinement.specs.Labels.{process_guard}
 use Rattle.histar_refinement.specs.Addresses.{Step, same_step, address_of, home_address, path_at, process_at, inside_at, boot_number}
 use Rattle.histar_refinement.specs.Addresses.Step.{Left, Slash, Listing, Named, Home, Status, Inside, Runner, Child}
 use Rattle.histar_refinement.specs.Processes.{process_bytes}
 use Rattle.histar_refinement.specs.Agrees.{Agrees}
-use Rattle.histar_refinement.specs.Expected.{listing_object, home_object, status_object, inside_object, thread_object, expected_node, listing_at, expected_home, bytes_for, expected_status, container_inside, thread_at, expected}
+use Rattle.histar_refinement.specs.Expected.{listing_object, home_object, status_object, inside_object, thread_object, expected_node, listing_at}
+use Rattle.histar_refinement.specs.Expected.{expected_home, bytes_for, expected_status, container_inside, thread_at, expected}
 use Rattle.histar_login.specs.Start.{segment}
 use Rattle.histar_refinement.specs.Represents.{AreJobsGiven, ObjectsMatch, Represents}
 use Rattle.histar_refinement.proofs.ProcessBytes.{alike_bytes}
 use Rattle.histar_layout.proofs.Members.{first_of, second_of}
-use Rattle.histar_refinement.proofs.Roots.{address_path, address_process, address_inside, same_home, same_directory, AsksAlike, asked_alike, asked_status}
+use Rattle.histar_refinement.proofs.Roots.{address_path, address_process, address_inside, same_home, same_directory, AsksAlike, asked_alike}
+use Rattle.histar_refinement.proofs.Roots.{asked_status}
 use Rattle.histar_refinement.proofs.Steps.{step_tests_equality}
 use Rattle.histar_refinement.proofs.Moving.{bare_held, agrees_changed, agrees_cut, agrees_same, no_address}
 
-module _ (accounts : Accounts) (s : State) (f : Flat) (l : ObjectsMatch accounts s f) (me : ProcName) (p : Process) (here : f.processes me ≡ Some p) (n C S o : ℕ)
-    (at_home : l.naming.number (home_address me) ≡ Some C) (at_own : l.naming.number (Status ∷ home_address me) ≡ Some S) (at_victim : l.naming.number (home_address (n ∷ me)) ≡ Some o)
+module _ (accounts : Accounts) (s : State) (f : Flat) (l : ObjectsMatch accounts s f) (me : ProcName) (p : Process)
+    (here : f.processes me ≡ Some p) (n C S o : ℕ)
+    (at_home : l.naming.number (home_address me) ≡ Some C)
+    (at_own : l.naming.number (Status ∷ home_address me) ≡ Some S)
+    (at_victim : l.naming.number (home_address (n ∷ me)) ≡ Some o)
     (mid : State) (cuts : CutsOff s C o mid) where
   abbrev top : ProcName
   top = n ∷ me
@@ -57,7 +64,9 @@ module _ (accounts : Accounts) (s : State) (f : Flat) (l : ObjectsMatch accounts
   -- what is below the victim's address is what is below its name
   same_homes : (x y : ProcName) → same_steps same_step (home_address x) (home_address y) ≡ same_name x y
   same_homes x y = elim (same_name_found x y) [
-    | inl e ↦ ap (λ (z : ProcName). same_steps same_step (home_address x) (home_address z)) (sym e.1) ∙ same_itself same_step step_tests_equality (home_address x) ∙ sym e.0
+    | inl e ↦
+        ap (λ (z : ProcName). same_steps same_step (home_address x) (home_address z)) (sym e.1)
+        ∙ same_itself same_step step_tests_equality (home_address x) ∙ sym e.0
     | inr e ↦ same_other same_step step_tests_equality (home_address x) (home_address y) (λ k. e.1 (same_home x y k)) ∙ sym e.0
   ]
 
@@ -97,8 +106,11 @@ module _ (accounts : Accounts) (s : State) (f : Flat) (l : ObjectsMatch accounts
   agrees_mid : Agrees same_step mid naming (cut same_step old_asked (home_address top))
   agrees_mid = agrees_cut same_step step_tests_equality s l.naming old_asked l.agrees mid C o (home_address me) (Child n) cuts at_victim at_home
 
-  agrees_left : Agrees same_step state_left naming (set_at same_step (cut same_step old_asked (home_address top)) (Status ∷ home_address me) (option_map (holding own_written) (cut same_step old_asked (home_address top) (Status ∷ home_address me))))
-  agrees_left = agrees_changed same_step step_tests_equality mid naming (cut same_step old_asked (home_address top)) agrees_mid S (Status ∷ home_address me) (holding own_written)
+  agrees_left : Agrees same_step state_left naming (set_at same_step (cut same_step old_asked (home_address top)) (Status ∷ home_address me)
+      (option_map (holding own_written) (cut same_step old_asked (home_address top) (Status ∷ home_address me))))
+  agrees_left =
+      agrees_changed same_step step_tests_equality mid naming (cut same_step old_asked (home_address top)) agrees_mid S
+      (Status ∷ home_address me) (holding own_written)
       (sym (kept (Status ∷ home_address me) own_outside) ∙ at_own) (λ x. kind_held_links own_written x.kind) (bare_held own_written)
 
   abbrev wish : Address Step → Found
@@ -130,7 +142,10 @@ module _ (accounts : Accounts) (s : State) (f : Flat) (l : ObjectsMatch accounts
     where
       by : (q : Option ProcName) → process_at a ≡ q → expected_status accounts l.category after naming.number q ≡ None
       by None is = refl
-      by (Some q) is = ap (λ (x : Option Process). status_object accounts l.category (bytes_for accounts l.category after naming.number q x) q x) (below a q e (address_process a q is))
+      by (Some q) is =
+          ap (λ (x : Option Process).
+          status_object accounts l.category (bytes_for accounts l.category after naming.number q x) q x)
+          (below a q e (address_process a q is))
   nothing_below (Inside ∷ a) e = by (process_at a) refl
     where
       by : (q : Option ProcName) → process_at a ≡ q → container_inside accounts l.category after naming.number q ≡ None
@@ -140,7 +155,9 @@ module _ (accounts : Accounts) (s : State) (f : Flat) (l : ObjectsMatch accounts
     where
       by : (q : Option ProcName) → inside_at a ≡ q → thread_at accounts l.category after naming.number q ≡ None
       by None is = refl
-      by (Some q) is = ap (thread_object accounts l.category q) (gone q (sym (under_home q) ∙ ap (under same_step (home_address top)) (sym (address_inside a q is)) ∙ e))
+      by (Some q) is =
+          ap (thread_object accounts l.category q)
+          (gone q (sym (under_home q) ∙ ap (under same_step (home_address top)) (sym (address_inside a q is)) ∙ e))
   nothing_below (Child k ∷ a) e = by (process_at (Child k ∷ a)) refl
     where
       by : (q : Option ProcName) → process_at (Child k ∷ a) ≡ q → expected_home accounts l.category after naming.number q ≡ None
@@ -150,13 +167,19 @@ module _ (accounts : Accounts) (s : State) (f : Flat) (l : ObjectsMatch accounts
   files_alike : AsksAlike accounts l.category l.category f after l.naming.number naming.number
   files_alike = record {
     at_path = λ q. refl;
-    in_directory = λ d. ap (λ (dir : Entries). listing_object accounts l.category (spelling dir) (get f.files d)) (same_directory f l.naming.number naming.number kept_path kept_listing d);
+    in_directory =
+        λ d. ap (λ (dir : Entries). listing_object accounts l.category (spelling dir) (get f.files d))
+        (same_directory f l.naming.number naming.number kept_path kept_listing d);
   }
 
   -- another process that is not below the victim keeps its process segment
-  same_bytes : (q : ProcName) (x : Process) → under_process top q ≡ false → q ≢ me → process_bytes f.processes l.naming.number q x ≡ process_bytes after.processes naming.number q x
-  same_bytes q x out not_me = alike_bytes f.processes after.processes l.naming.number naming.number q x (kept (Inside ∷ home_address q) outside) (kept (Runner ∷ Inside ∷ home_address q) outside)
-      (λ k. kept (home_address (k ∷ q)) (child_outside k)) (λ k. kept (Status ∷ home_address (k ∷ q)) (child_outside k)) (λ k. ap is_some (sym (stays (k ∷ q) (child_out k))))
+  same_bytes : (q : ProcName) (x : Process) → under_process top q ≡ false → q ≢ me
+      → process_bytes f.processes l.naming.number q x ≡ process_bytes after.processes naming.number q x
+  same_bytes q x out not_me =
+      alike_bytes f.processes after.processes l.naming.number naming.number q x (kept (Inside ∷ home_address q) outside)
+      (kept (Runner ∷ Inside ∷ home_address q) outside)
+      (λ k. kept (home_address (k ∷ q)) (child_outside k)) (λ k. kept (Status ∷ home_address (k ∷ q)) (child_outside k))
+      (λ k. ap is_some (sym (stays (k ∷ q) (child_out k))))
     where
       outside : under same_step (home_address top) (home_address q) ≡ false
       outside = under_home q ∙ out
@@ -170,21 +193,33 @@ module _ (accounts : Accounts) (s : State) (f : Flat) (l : ObjectsMatch accounts
       child_outside : (k : ℕ) → under same_step (home_address top) (home_address (k ∷ q)) ≡ false
       child_outside k = under_home (k ∷ q) ∙ child_out k
 
-  outside_of : (a : Address Step) (q : ProcName) → under same_step (home_address top) a ≡ false → under same_step (home_address top) a ≡ under same_step (home_address top) (home_address q) → under_process top q ≡ false
+  outside_of : (a : Address Step) (q : ProcName) → under same_step (home_address top) a ≡ false
+      → under same_step (home_address top) a ≡ under same_step (home_address top) (home_address q)
+      → under_process top q ≡ false
   outside_of a q e is = sym (under_home q) ∙ sym is ∙ e
 
   wish_other : (a : Address Step) → under same_step (home_address top) a ≡ false → Status ∷ home_address me ≢ a → old_asked a ≡ wish a
   wish_other a e not_own = asked_alike accounts l.category l.category f after l.naming.number naming.number files_alike a (record {
     home = λ q is. ap (home_object accounts l.category q) (sym (stays q (outside_of a q e (ap (under same_step (home_address top)) is))));
-    status = λ q is. status_alike q (outside_of a q e (ap (under same_step (home_address top)) is)) (λ k. not_own (ap (λ (x : ProcName). Status ∷ home_address x) (sym k) ∙ sym is));
+    status =
+        λ q is. status_alike q (outside_of a q e (ap (under same_step (home_address top)) is))
+        (λ k. not_own (ap (λ (x : ProcName). Status ∷ home_address x) (sym k) ∙ sym is));
     inside = λ q is. ap (inside_object accounts l.category q) (sym (stays q (outside_of a q e (ap (under same_step (home_address top)) is))));
     runner = λ q is. ap (thread_object accounts l.category q) (sym (stays q (outside_of a q e (ap (under same_step (home_address top)) is))));
   })
     where
-      status_alike : (q : ProcName) → under_process top q ≡ false → q ≢ me → expected_status accounts l.category f l.naming.number (Some q) ≡ expected_status accounts l.category after naming.number (Some q)
-      status_alike q out not_me = by (f.processes q) ∙ sym (ap (λ (x : Option Process). status_object accounts l.category (bytes_for accounts l.category after naming.number q x) q x) (stays q out))
+      status_alike : (q : ProcName) → under_process top q ≡ false → q ≢ me
+          → expected_status accounts l.category f l.naming.number (Some q)
+          ≡ expected_status accounts l.category after naming.number (Some q)
+      status_alike q out not_me =
+          by (f.processes q)
+          ∙ sym (ap (λ (x : Option Process).
+          status_object accounts l.category (bytes_for accounts l.category after naming.number q x) q x)
+          (stays q out))
         where
-          by : (x : Option Process) → status_object accounts l.category (bytes_for accounts l.category f l.naming.number q x) q x ≡ status_object accounts l.category (bytes_for accounts l.category after naming.number q x) q x
+          by : (x : Option Process)
+              → status_object accounts l.category (bytes_for accounts l.category f l.naming.number q x) q x
+              ≡ status_object accounts l.category (bytes_for accounts l.category after naming.number q x) q x
           by None = refl
           by (Some x) = ap (segment (guard_label l.category (process_guard q x))) (same_bytes q x out not_me)
 
@@ -193,17 +228,29 @@ module _ (accounts : Accounts) (s : State) (f : Flat) (l : ObjectsMatch accounts
 
   wish_own : option_map (holding own_written) (old_asked (Status ∷ home_address me)) ≡ wish (Status ∷ home_address me)
   wish_own =
-      ap (option_map (holding own_written)) (asked_status accounts l.category f l.naming.number me ∙ ap (λ (x : Option Process). status_object accounts l.category (bytes_for accounts l.category f l.naming.number me x) me x) here)
-      ∙ sym (asked_status accounts l.category after naming.number me ∙ ap (λ (x : Option Process). status_object accounts l.category (bytes_for accounts l.category after naming.number me x) me x) (stays me me_out ∙ here))
+      ap (option_map (holding own_written)) (asked_status accounts l.category f l.naming.number me
+      ∙ ap (λ (x : Option Process).
+      status_object accounts l.category (bytes_for accounts l.category f l.naming.number me x) me x) here)
+      ∙ sym (asked_status accounts l.category after naming.number me
+      ∙ ap (λ (x : Option Process).
+      status_object accounts l.category (bytes_for accounts l.category after naming.number me x) me x)
+      (stays me me_out ∙ here))
 
-  left_asks : (a : Address Step) → set_at same_step (cut same_step old_asked (home_address top)) (Status ∷ home_address me) (option_map (holding own_written) (cut same_step old_asked (home_address top) (Status ∷ home_address me))) a ≡ wish a
+  left_asks : (a : Address Step)
+      → set_at same_step (cut same_step old_asked (home_address top)) (Status ∷ home_address me)
+      (option_map (holding own_written) (cut same_step old_asked (home_address top) (Status ∷ home_address me))) a
+      ≡ wish a
   left_asks a = elim (same_tests_equality same_step step_tests_equality (Status ∷ home_address me) a) [
     | inl e ↦
-        ap (λ (t : Bool). if t then option_map (holding own_written) (cut same_step old_asked (home_address top) (Status ∷ home_address me)) else cut same_step old_asked (home_address top) a) e.0
+        ap (λ (t : Bool). if t then option_map (holding own_written)
+        (cut same_step old_asked (home_address top) (Status ∷ home_address me)) else cut same_step old_asked
+        (home_address top) a) e.0
         ∙ ap (λ (t : Bool). option_map (holding own_written) (if t then None else old_asked (Status ∷ home_address me))) own_outside
         ∙ wish_own ∙ ap wish e.1
     | inr e ↦
-        ap (λ (t : Bool). if t then option_map (holding own_written) (cut same_step old_asked (home_address top) (Status ∷ home_address me)) else cut same_step old_asked (home_address top) a) e.0
+        ap (λ (t : Bool). if t then option_map (holding own_written)
+        (cut same_step old_asked (home_address top) (Status ∷ home_address me)) else cut same_step old_asked
+        (home_address top) a) e.0
         ∙ by (under same_step (home_address top) a) refl e.1
   ]
     where
@@ -239,7 +286,9 @@ module _ (accounts : Accounts) (s : State) (f : Flat) (l : ObjectsMatch accounts
 
   given_then : (x : ProcName) → is_given f.processes x ≡ true → is_given after.processes x ≡ true
   given_then [] e = refl
-  given_then (k ∷ y) e = and_from _ _ (by (under_process top y) refl (first_of (was_given (f.processes y) k) (is_given f.processes y) e)) (given_then y (second_of (was_given (f.processes y) k) (is_given f.processes y) e))
+  given_then (k ∷ y) e =
+      and_from _ _ (by (under_process top y) refl (first_of (was_given (f.processes y) k) (is_given f.processes y) e))
+      (given_then y (second_of (was_given (f.processes y) k) (is_given f.processes y) e))
     where
       by : (t : Bool) → under_process top y ≡ t → was_given (f.processes y) k ≡ true → was_given (after.processes y) k ≡ true
       by true i given = ap (λ (x : Option Process). was_given x k) (gone y i)
@@ -277,7 +326,9 @@ module _ (accounts : Accounts) (s : State) (f : Flat) (l : ObjectsMatch accounts
   gone_then : mid.objects boot_thread_number ≡ None
   gone_then =
       agrees_mid.tree.as_expected boot_thread_number
-      ∙ ap (wanted (objects_at mid.objects naming)) (ap (λ (x : Option (Address Step)). if is_under same_step (home_address top) x then None else x) (no_address same_step s l.naming old_asked l.agrees boot_thread_number l.boot_thread_gone))
+      ∙ ap (wanted (objects_at mid.objects naming)) (ap
+      (λ (x : Option (Address Step)). if is_under same_step (home_address top) x then None else x)
+      (no_address same_step s l.naming old_asked l.agrees boot_thread_number l.boot_thread_gone))
 
   -- the numbers in the names of jobs were given as before
   pub jobs_left : AreJobsGiven f → AreJobsGiven after

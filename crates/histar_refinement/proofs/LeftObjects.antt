@@ -1,5 +1,6 @@
 -- What boot left stands for good: each user's password and gate, with the numbers of categories that the state has.
-use Rattle.std.proofs.Common.{◌≡◌, ℕ, zero, suc, ◌+◌, ◌*◌, ◌≤◌, Bool, true, false, cond, List, [], ◌∷◌, ◌++◌, length, get_or, Option, None, Some, arith, refl, sym, ap, ◌∙◌, subst}
+use Rattle.std.proofs.Common.{◌≡◌, ℕ, zero, suc, ◌+◌, ◌*◌, ◌≤◌, Bool, true, false, cond, List, [], ◌∷◌, ◌++◌, length, get_or, Option, None, Some}
+use Rattle.std.proofs.Common.{arith, refl, sym, ap, ◌∙◌, subst}
 use Rattle.std.specs.Prelude.{map, position, slice_get, nat_le, nat_lt, unwrap_or, option_map}
 use Rattle.std.specs.List.{find, position_or_len}
 use Rattle.std.specs.FinSet as set
@@ -58,11 +59,22 @@ place_revealed true k m e = same_Some k m e
 place_revealed false k m e = absurd (none-some m e)
 
 -- a user who has a number is the one of this name, and stands at its place
-pub numbered_user : (accounts : Accounts) (name : Name) (i : ℕ) → user_number accounts name ≡ Some i → (k : ℕ) × (u : User) × (k + 1 ≡ i) × (slice_get accounts.users k ≡ Some u) × (user_named accounts.users name ≡ Some u) × (u.name ≡ name)
+pub numbered_user : (accounts : Accounts) (name : Name) (i : ℕ) → user_number accounts name ≡ Some i
+    → (k : ℕ) × (u : User) × (k + 1 ≡ i) × (slice_get accounts.users k ≡ Some u)
+    × (user_named accounts.users name ≡ Some u) × (u.name ≡ name)
 numbered_user accounts name i e =
     let k = mapped_from (λ k. k + 1) (position (λ (u : User). same u.name name) accounts.users) i e in
-    let at = placed (λ (u : User). same u.name name) accounts.users k.0 k.1 in
-    (k.0, at.0, k.2, at.1, named_at accounts.users name ∙ ap (slice_get accounts.users) (place_revealed _ (position_or_len (λ (u : User). same u.name name) accounts.users) k.0 k.1) ∙ at.1, equal_names at.0.name name at.2)
+    let at = placed (λ (u : User). same u.name name) accounts.users k.0 k.1 in (
+      k.0,
+      at.0,
+      k.2,
+      at.1,
+      named_at accounts.users name
+          ∙ ap (slice_get accounts.users)
+          (place_revealed _ (position_or_len (λ (u : User). same u.name name) accounts.users) k.0 k.1)
+          ∙ at.1,
+      equal_names at.0.name name at.2,
+    )
 
 -- at no place from the length on stands a user
 no_user_at : (users : List User) (k : ℕ) → length users ≤ k → slice_get users k ≡ None
@@ -71,7 +83,8 @@ no_user_at (u ∷ users) zero le = absurd (omega (arith, le))
 no_user_at (u ∷ users) (suc k) le = no_user_at users k (omega (arith, le))
 
 -- so a list of users has nobody at a place that is none
-unplaced : (b : Bool) (users : List User) (k : ℕ) → nat_lt k (length users) ≡ b → option_map (λ place. place + 1) (cond b (Some k) None) ≡ None → slice_get users k ≡ None
+unplaced : (b : Bool) (users : List User) (k : ℕ) → nat_lt k (length users) ≡ b
+    → option_map (λ place. place + 1) (cond b (Some k) None) ≡ None → slice_get users k ≡ None
 unplaced true users k is e = absurd (none-some (k + 1) (sym e))
 unplaced false users k is e = no_user_at users k (grind (arith, nat_tests, is))
 
@@ -88,9 +101,14 @@ module _ (accounts : Accounts) where
   password_left i u = record { label = guard_label (booted accounts) (private_guard i); kind = Segment u.password }
 
   abbrev gate_left : ℕ → User → Object Levels
-  gate_left i u = record { label = rights_label (booted accounts) (gate_rights accounts u.name i); kind = Gate (rights_clearance (booted accounts) (gate_rights accounts u.name i)) (Login i) }
+  gate_left i u =
+      record {
+        label = rights_label (booted accounts) (gate_rights accounts u.name i);
+        kind = Gate (rights_clearance (booted accounts) (gate_rights accounts u.name i)) (Login i);
+      }
 
-  password_among : (users : List User) (j k : ℕ) (u : User) (more : List Found) → slice_get users k ≡ Some u → get_or (numbered (left_for_user accounts) j users ++ more) (2 * k) None ≡ Some (password_left (j + k) u)
+  password_among : (users : List User) (j k : ℕ) (u : User) (more : List Found) → slice_get users k ≡ Some u
+      → get_or (numbered (left_for_user accounts) j users ++ more) (2 * k) None ≡ Some (password_left (j + k) u)
   password_among [] j k u more e = absurd (none-some u e)
   password_among (v ∷ users) j zero u more e =
       let is : v ≡ u = same_Some v u e in
@@ -99,9 +117,11 @@ module _ (accounts : Accounts) where
   password_among (v ∷ users) j (suc k) u more e =
       let place : 2 * suc k ≡ suc (suc (2 * k)) = omega arith in
       let number : j + 1 + k ≡ j + suc k = omega arith in
-      ap (λ (m : ℕ). get_or (numbered (left_for_user accounts) j (v ∷ users) ++ more) m None) place ∙ password_among users (j + 1) k u more e ∙ ap (λ (i : ℕ). Some (password_left i u)) number
+      ap (λ (m : ℕ). get_or (numbered (left_for_user accounts) j (v ∷ users) ++ more) m None) place
+      ∙ password_among users (j + 1) k u more e ∙ ap (λ (i : ℕ). Some (password_left i u)) number
 
-  gate_among : (users : List User) (j k : ℕ) (u : User) (more : List Found) → slice_get users k ≡ Some u → get_or (numbered (left_for_user accounts) j users ++ more) (suc (2 * k)) None ≡ Some (gate_left (j + k) u)
+  gate_among : (users : List User) (j k : ℕ) (u : User) (more : List Found) → slice_get users k ≡ Some u
+      → get_or (numbered (left_for_user accounts) j users ++ more) (suc (2 * k)) None ≡ Some (gate_left (j + k) u)
   gate_among [] j k u more e = absurd (none-some u e)
   gate_among (v ∷ users) j zero u more e =
       let is : v ≡ u = same_Some v u e in
@@ -110,9 +130,11 @@ module _ (accounts : Accounts) where
   gate_among (v ∷ users) j (suc k) u more e =
       let place : suc (2 * suc k) ≡ suc (suc (suc (2 * k))) = omega arith in
       let number : j + 1 + k ≡ j + suc k = omega arith in
-      ap (λ (m : ℕ). get_or (numbered (left_for_user accounts) j (v ∷ users) ++ more) m None) place ∙ gate_among users (j + 1) k u more e ∙ ap (λ (i : ℕ). Some (gate_left i u)) number
+      ap (λ (m : ℕ). get_or (numbered (left_for_user accounts) j (v ∷ users) ++ more) m None) place
+      ∙ gate_among users (j + 1) k u more e ∙ ap (λ (i : ℕ). Some (gate_left i u)) number
 
-  left_password : (k : ℕ) (u : User) → slice_get accounts.users k ≡ Some u → left_by_boot accounts (password_of (k + 1)) ≡ Some (password_left (k + 1) u)
+  left_password : (k : ℕ) (u : User) → slice_get accounts.users k ≡ Some u
+      → left_by_boot accounts (password_of (k + 1)) ≡ Some (password_left (k + 1) u)
   left_password k u e =
       let place : password_of (k + 1) ≡ suc (suc (suc (2 * k))) = omega arith in
       let number : 1 + k ≡ k + 1 = omega arith in
@@ -128,9 +150,12 @@ module _ (accounts : Accounts) where
 
 module _ (accounts : Accounts) (s : State) (f : Flat) (l : ObjectsMatch accounts s f) where
   -- the root container
-  pub root_found : (links : Links) × (s.objects root_number ≡ Some (record { label = guard_label (booted accounts) boot_guard; kind = Container links }))
+  pub root_found : (links : Links)
+      × (s.objects root_number
+      ≡ Some (record { label = guard_label (booted accounts) boot_guard; kind = Container links }))
   root_found = bare_container_is (s.objects root_number) (guard_label (booted accounts) boot_guard)
-      (at_number same_step step_tests_equality s l.naming (expected accounts l.category f l.naming.number) l.agrees [] root_number (l.as_booted [] root_number refl))
+      (at_number same_step step_tests_equality s l.naming (expected accounts l.category f l.naming.number) l.agrees []
+      root_number (l.as_booted [] root_number refl))
 
   -- what boot left has the numbers that boot gave
   left_number : (q : ℕ) → first_left ≤ q → q ≤ table_number (length accounts.users) → l.naming.number (Left q ∷ []) ≡ Some q
@@ -140,7 +165,9 @@ module _ (accounts : Accounts) (s : State) (f : Flat) (l : ObjectsMatch accounts
       l.as_booted (Left q ∷ []) q (rw (a, b) refl)
 
   left_bare : (q : ℕ) → first_left ≤ q → q ≤ table_number (length accounts.users) → bare (s.objects q) ≡ left_by_boot accounts q
-  left_bare q low high = at_number same_step step_tests_equality s l.naming (expected accounts l.category f l.naming.number) l.agrees (Left q ∷ []) q (left_number q low high)
+  left_bare q low high =
+      at_number same_step step_tests_equality s l.naming (expected accounts l.category f l.naming.number) l.agrees
+      (Left q ∷ []) q (left_number q low high)
 
   left_linked : (q : ℕ) → first_left ≤ q → q ≤ table_number (length accounts.users) → set.contains (links_in (s.objects root_number)) q ≡ true
   left_linked q low high = step_linked accounts s f l (Left q) [] root_number q (l.as_booted [] root_number refl) (left_number q low high)
@@ -159,14 +186,23 @@ module _ (accounts : Accounts) (s : State) (f : Flat) (l : ObjectsMatch accounts
   tied_writes i low = tied (WritesUser i) (3 + 2 * i) (ap (λ b. cond b (Some (3 + 2 * i)) None) (low_test i (length accounts.users) low))
 
   tied_reads_group : (k : ℕ) → 1 ≤ k → k ≤ length accounts.groups → KeepsNumber (booted accounts) l.category (ReadsGroup k)
-  tied_reads_group k low high = tied (ReadsGroup k) (2 + 2 * length accounts.users + 2 * k) (rw (low_test 1 k low, low_test k (length accounts.groups) high) refl)
+  tied_reads_group k low high =
+      tied (ReadsGroup k) (2 + 2 * length accounts.users + 2 * k)
+      (rw (low_test 1 k low, low_test k (length accounts.groups) high) refl)
 
   tied_writes_group : (k : ℕ) → 1 ≤ k → k ≤ length accounts.groups → KeepsNumber (booted accounts) l.category (WritesGroup k)
-  tied_writes_group k low high = tied (WritesGroup k) (3 + 2 * length accounts.users + 2 * k) (rw (low_test 1 k low, low_test k (length accounts.groups) high) refl)
+  tied_writes_group k low high =
+      tied (WritesGroup k) (3 + 2 * length accounts.users + 2 * k)
+      (rw (low_test 1 k low, low_test k (length accounts.groups) high) refl)
 
   -- the root container as all others, by the state's numbers
   pub root_label : guard_label (booted accounts) boot_guard ≡ guard_label l.category boot_guard
-  root_label = sym (same_guard_label (booted accounts) l.category boot_guard (λ c e. absurd (no_truth e), each_head (KeepsNumber (booted accounts) l.category) OfBoot [] (tied OfBoot 1 refl) (λ c e. absurd (no_truth e))))
+  root_label =
+      sym (same_guard_label (booted accounts) l.category boot_guard (
+        λ c e. absurd (no_truth e),
+        each_head (KeepsNumber (booted accounts) l.category) OfBoot []
+            (tied OfBoot 1 refl) (λ c e. absurd (no_truth e)),
+      ))
 
   module _ (name : Name) (i : ℕ) (numbered_so : user_number accounts name ≡ Some i) where
     user : (k : ℕ) × (u : User) × (k + 1 ≡ i) × (slice_get accounts.users k ≡ Some u) × (user_named accounts.users name ≡ Some u) × (u.name ≡ name)
@@ -194,8 +230,12 @@ module _ (accounts : Accounts) (s : State) (f : Flat) (l : ObjectsMatch accounts
     gate_tied : RightsHave (KeepsNumber (booted accounts) l.category) (gate_rights accounts name i)
     gate_tied = (
       each_append (KeepsNumber (booted accounts) l.category) (reading accounts name i) (writing accounts name i)
-          (each_head (KeepsNumber (booted accounts) l.category) (ReadsUser i) (map ReadsGroup (groups_of accounts name)) (tied_reads i high) (groups_tied ReadsGroup tied_reads_group))
-          (each_head (KeepsNumber (booted accounts) l.category) (WritesUser i) (map WritesGroup (groups_of accounts name)) (tied_writes i high) (groups_tied WritesGroup tied_writes_group)),
+          (each_head (KeepsNumber (booted accounts) l.category) (ReadsUser i)
+          (map ReadsGroup (groups_of accounts name)) (tied_reads i high)
+          (groups_tied ReadsGroup tied_reads_group))
+          (each_head (KeepsNumber (booted accounts) l.category) (WritesUser i)
+          (map WritesGroup (groups_of accounts name)) (tied_writes i high)
+          (groups_tied WritesGroup tied_writes_group)),
       λ c e. absurd (no_truth e),
     )
 
@@ -212,23 +252,46 @@ module _ (accounts : Accounts) (s : State) (f : Flat) (l : ObjectsMatch accounts
     gate_high = let a = high in omega (arith, a)
 
     -- the segment of the user's password is private to the user
-    pub password_found : (u : User) × (user_named accounts.users name ≡ Some u) × (s.objects (password_of i) ≡ Some (record { label = guard_label l.category (private_guard i); kind = Segment u.password }))
+    pub password_found : (u : User) × (user_named accounts.users name ≡ Some u)
+        × (s.objects (password_of i)
+        ≡ Some (record { label = guard_label l.category (private_guard i); kind = Segment u.password }))
     password_found = (
       user.1,
       user.4,
       bare_is (s.objects (password_of i)) (record { label = guard_label l.category (private_guard i); kind = Segment user.1.password }) refl
-          (left_bare (password_of i) password_low password_high ∙ ap (λ (k : ℕ). left_by_boot accounts (password_of k)) (sym user.2) ∙ left_password accounts user.0 user.1 user.3
+          (left_bare (password_of i) password_low password_high
+          ∙ ap (λ (k : ℕ). left_by_boot accounts (password_of k)) (sym user.2)
+          ∙ left_password accounts user.0 user.1 user.3
           ∙ ap (λ (k : ℕ). Some (password_left accounts k user.1)) user.2
-          ∙ ap (λ (label : Levels). Some (record { label = label; kind = Segment user.1.password })) (sym (same_guard_label (booted accounts) l.category (private_guard i) user_tied))),
+          ∙ ap (λ (label : Levels). Some (record { label = label; kind = Segment user.1.password }))
+          (sym (same_guard_label (booted accounts) l.category (private_guard i) user_tied))),
     )
 
     -- the user's gate gives what the user owns
-    pub gate_found : s.objects (gate_of i) ≡ Some (record { label = rights_label l.category (gate_rights accounts name i); kind = Gate (rights_clearance l.category (gate_rights accounts name i)) (Login i) })
-    gate_found = bare_is (s.objects (gate_of i)) (record { label = rights_label l.category (gate_rights accounts name i); kind = Gate (rights_clearance l.category (gate_rights accounts name i)) (Login i) }) refl
-        (left_bare (gate_of i) gate_low gate_high ∙ ap (λ (k : ℕ). left_by_boot accounts (gate_of k)) (sym user.2) ∙ left_gate accounts user.0 user.1 user.3
+    pub gate_found : s.objects (gate_of i)
+        ≡ Some (record {
+          label = rights_label l.category (gate_rights accounts name i);
+          kind = Gate (rights_clearance l.category (gate_rights accounts name i)) (Login i);
+        })
+    gate_found =
+        bare_is (s.objects (gate_of i)) (record {
+          label = rights_label l.category (gate_rights accounts name i);
+          kind = Gate (rights_clearance l.category (gate_rights accounts name i)) (Login i);
+        }) refl
+        (left_bare (gate_of i) gate_low gate_high ∙ ap (λ (k : ℕ). left_by_boot accounts (gate_of k)) (sym user.2)
+        ∙ left_gate accounts user.0 user.1 user.3
         ∙ ap (λ (k : ℕ). Some (gate_left accounts k user.1)) user.2
-        ∙ ap (λ (n : Name). Some (record { label = rights_label (booted accounts) (gate_rights accounts n i); kind = Gate (rights_clearance (booted accounts) (gate_rights accounts n i)) (Login i) })) user.5
-        ∙ (λ j. Some (record { label = sym (same_rights_label (booted accounts) l.category (gate_rights accounts name i) gate_tied) j; kind = Gate (sym (same_rights_clearance (booted accounts) l.category (gate_rights accounts name i) gate_tied) j) (Login i) })))
+        ∙ ap (λ (n : Name). Some (record {
+          label = rights_label (booted accounts) (gate_rights accounts n i);
+          kind = Gate (rights_clearance (booted accounts) (gate_rights accounts n i)) (Login i);
+        })) user.5
+        ∙ (λ j. Some (record {
+          label = sym
+              (same_rights_label (booted accounts) l.category (gate_rights accounts name i) gate_tied)
+              j;
+          kind = Gate (sym (same_rights_clearance (booted accounts) l.category (gate_rights accounts name i)
+              gate_tied) j) (Login i);
+        })))
 
     -- and the root container links both
     pub password_linked : set.contains (links_in (s.objects root_number)) (password_of i) ≡ true

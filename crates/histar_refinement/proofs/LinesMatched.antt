@@ -57,7 +57,10 @@ module _ (accounts : Accounts) (category : Categories) (bytes : List ℕ) where
   listing_there None e h = absurd (true≢false (sym e))
   listing_there (Some there) e h = by there.content e
     where
-      by : (c : Content) → is_dir (record { class = there.class; content = c }) ≡ true → (label : Levels) × (listing_object accounts category bytes (Some (record { class = there.class; content = c })) ≡ segment label bytes)
+      by : (c : Content) → is_dir (record { class = there.class; content = c }) ≡ true
+          → (label : Levels)
+          × (listing_object accounts category bytes (Some (record { class = there.class; content = c }))
+          ≡ segment label bytes)
       by Dir is = guarded_there (class_guard accounts there.class) (h there refl)
       by (File old) is = absurd (true≢false (sym is))
 
@@ -67,7 +70,9 @@ pub leads_to : (number : AddressNumbers) (q : Path) (o : Option Node) → is_som
 leads_to number q None e = absurd (true≢false (sym e))
 leads_to number q (Some there) e = by there.content e
   where
-    by : (c : Content) → is_dir (record { class = there.class; content = c }) ≡ true → target_for number (q, record { class = there.class; content = c }) ≡ both_numbers (number (address_of q)) (number (Listing ∷ address_of q))
+    by : (c : Content) → is_dir (record { class = there.class; content = c }) ≡ true
+        → target_for number (q, record { class = there.class; content = c })
+        ≡ both_numbers (number (address_of q)) (number (Listing ∷ address_of q))
     by Dir is = refl
     by (File old) is = absurd (true≢false (sym is))
 
@@ -77,7 +82,9 @@ is_directory_target (targets.File file) = false
 is_directory_target (targets.Directory container listing) = true
 
 -- what leads to two numbers is a directory
-led_to_dir : (number : AddressNumbers) (q : Path) (o : Option Node) (c g : ℕ) → option_and_then (λ (there : Node). target_for number (q, there)) o ≡ Some (targets.Directory c g) → is_some_and o is_dir ≡ true
+led_to_dir : (number : AddressNumbers) (q : Path) (o : Option Node) (c g : ℕ)
+    → option_and_then (λ (there : Node). target_for number (q, there)) o ≡ Some (targets.Directory c g)
+    → is_some_and o is_dir ≡ true
 led_to_dir number q None c g e = absurd (none-some (targets.Directory c g) e)
 led_to_dir number q (Some there) c g e = by there.content e
   where
@@ -85,7 +92,9 @@ led_to_dir number q (Some there) c g e = by there.content e
     leads_to_file None k = none-some (targets.Directory c g) k
     leads_to_file (Some x) k = true≢false (sym (ap is_directory_target (same_Some (targets.File x) (targets.Directory c g) k)))
 
-    by : (content : Content) → target_for number (q, record { class = there.class; content = content }) ≡ Some (targets.Directory c g) → is_dir (record { class = there.class; content = content }) ≡ true
+    by : (content : Content)
+        → target_for number (q, record { class = there.class; content = content }) ≡ Some (targets.Directory c g)
+        → is_dir (record { class = there.class; content = content }) ≡ true
     by Dir k = refl
     by (File old) k = absurd (leads_to_file (number (address_of q)) k)
 
@@ -104,13 +113,19 @@ node_there (Some there) e = (there, refl)
 
 module _ (accounts : Accounts) (s : State) (f : Flat) (l : ObjectsMatch accounts s f) where
   -- the segment at a directory's listing
-  listed_here : (d : Path) → is_dir_at f d ≡ true → (label : Levels) × (listing_object accounts l.category (spelling (directory_of f.files l.naming.number d)) (get f.files d) ≡ segment label (spelling (directory_of f.files l.naming.number d)))
+  listed_here : (d : Path) → is_dir_at f d ≡ true
+      → (label : Levels)
+      × (listing_object accounts l.category (spelling (directory_of f.files l.naming.number d)) (get f.files d)
+      ≡ segment label (spelling (directory_of f.files l.naming.number d)))
   listed_here d is = listing_there accounts l.category (spelling (directory_of f.files l.naming.number d)) (get f.files d) is (l.guarded d)
 
   has_listing : (d : Path) → is_dir_at f d ≡ true → is_some (l.naming.number (Listing ∷ address_of d)) ≡ true
-  has_listing d is = l.agrees.named (Listing ∷ address_of d) ∙ ap is_present (asked_listing accounts l.category f l.naming.number d ∙ (listed_here d is).1)
+  has_listing d is =
+      l.agrees.named (Listing ∷ address_of d)
+      ∙ ap is_present (asked_listing accounts l.category f l.naming.number d ∙ (listed_here d is).1)
 
-  pub holds_directory : (d : Path) (g : ℕ) → is_dir_at f d ≡ true → l.naming.number (Listing ∷ address_of d) ≡ Some g → IsDirectory (bytes_in (s.objects g)) (directory_of f.files l.naming.number d)
+  pub holds_directory : (d : Path) (g : ℕ) → is_dir_at f d ≡ true → l.naming.number (Listing ∷ address_of d) ≡ Some g
+      → IsDirectory (bytes_in (s.objects g)) (directory_of f.files l.naming.number d)
   holds_directory d g is at = record {
     listable = l.listable d is;
     spelled =
@@ -120,7 +135,8 @@ module _ (accounts : Accounts) (s : State) (f : Flat) (l : ObjectsMatch accounts
   }
 
   -- The segments lead to the numbers of each directory.
-  pub directory_found : (d : Path) (c g : ℕ) → is_dir_at f d ≡ true → l.naming.number (address_of d) ≡ Some c → l.naming.number (Listing ∷ address_of d) ≡ Some g → IsDirectoryAt accounts s d c g
+  pub directory_found : (d : Path) (c g : ℕ) → is_dir_at f d ≡ true → l.naming.number (address_of d) ≡ Some c
+      → l.naming.number (Listing ∷ address_of d) ≡ Some g → IsDirectoryAt accounts s d c g
   directory_found [] c g is here listing =
       (same_Some c _ (sym here ∙ l.as_booted (Slash ∷ []) _ refl), same_Some g _ (sym listing ∙ l.as_booted (Listing ∷ Slash ∷ []) _ refl))
   directory_found (n ∷ d) c g is here listing =
@@ -133,18 +149,30 @@ module _ (accounts : Accounts) (s : State) (f : Flat) (l : ObjectsMatch accounts
         directory_of f.files l.naming.number d,
         directory_found d above.0 segment_above.0 dir above.1 segment_above.1,
         holds_directory d segment_above.0 dir segment_above.1,
-        get_directory f.files l.naming.number d n ∙ leads_to l.naming.number (n ∷ d) (get f.files (n ∷ d)) is ∙ (λ i. both_numbers (here i) (listing i)),
+        get_directory f.files l.naming.number d n ∙ leads_to l.naming.number (n ∷ d) (get f.files (n ∷ d)) is
+            ∙ (λ i. both_numbers (here i) (listing i)),
       )
 
   -- And they lead to no others.
-  pub directory_back : (d : Path) (c g : ℕ) → IsDirectoryAt accounts s d c g → (is_dir_at f d ≡ true) × (l.naming.number (address_of d) ≡ Some c) × (l.naming.number (Listing ∷ address_of d) ≡ Some g)
-  directory_back [] c g found =
-      (ap (λ (o : Option Node). is_some_and o is_dir) (root_is_dir accounts s f l).1, l.as_booted (Slash ∷ []) _ refl ∙ ap Some (sym found.0), l.as_booted (Listing ∷ Slash ∷ []) _ refl ∙ ap Some (sym found.1))
+  pub directory_back : (d : Path) (c g : ℕ) → IsDirectoryAt accounts s d c g
+      → (is_dir_at f d ≡ true) × (l.naming.number (address_of d) ≡ Some c)
+      × (l.naming.number (Listing ∷ address_of d) ≡ Some g)
+  directory_back [] c g found = (
+    ap (λ (o : Option Node). is_some_and o is_dir) (root_is_dir accounts s f l).1,
+    l.as_booted (Slash ∷ []) _ refl
+        ∙ ap Some (sym found.0),
+    l.as_booted (Listing ∷ Slash ∷ []) _ refl ∙ ap Some (sym found.1),
+  )
   directory_back (n ∷ d) c g found =
       let above = directory_back d found.0 found.1 found.3 in
-      let same = same_directory (bytes_in (s.objects found.1)) found.2 (directory_of f.files l.naming.number d) found.4 (holds_directory d found.1 above.0 above.2) in
-      let goal : leads_at f.files l.naming.number (n ∷ d) ≡ Some (targets.Directory c g) = sym (get_directory f.files l.naming.number d n) ∙ ap (λ (x : Entries). map.get x n) (sym same) ∙ found.5 in
+      let same =
+      same_directory (bytes_in (s.objects found.1)) found.2 (directory_of f.files l.naming.number d) found.4
+      (holds_directory d found.1 above.0 above.2) in
+      let goal : leads_at f.files l.naming.number (n ∷ d) ≡ Some (targets.Directory c g) =
+      sym (get_directory f.files l.naming.number d n) ∙ ap (λ (x : Entries). map.get x n) (sym same) ∙ found.5 in
       let dir = led_to_dir l.naming.number (n ∷ d) (get f.files (n ∷ d)) c g goal in
-      let both : both_numbers (l.naming.number (address_of (n ∷ d))) (l.naming.number (Listing ∷ address_of (n ∷ d))) ≡ Some (targets.Directory c g) = sym (leads_to l.naming.number (n ∷ d) (get f.files (n ∷ d)) dir) ∙ goal in
+      let both : both_numbers (l.naming.number (address_of (n ∷ d))) (l.naming.number (Listing ∷ address_of (n ∷ d)))
+      ≡ Some (targets.Directory c g) =
+      sym (leads_to l.naming.number (n ∷ d) (get f.files (n ∷ d)) dir) ∙ goal in
       let numbers = revealed_numbers (l.naming.number (address_of (n ∷ d))) (l.naming.number (Listing ∷ address_of (n ∷ d))) c g both in
       (dir, numbers.0, numbers.1)

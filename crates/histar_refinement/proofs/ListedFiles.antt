@@ -1,5 +1,6 @@
 -- What every row of files shares: the processes are the same, and what is asked for differs at paths and directory segments alone.
-use Rattle.std.proofs.Common.{◌≡◌, ◌≢◌, ℕ, ◌≤◌, ◌⊎◌, inl, inr, Bool, true, false, List, [], ◌∷◌, length, Option, None, Some, refl, sym, ap, ◌∙◌, subst, if◌then◌else◌}
+use Rattle.std.proofs.Common.{◌≡◌, ◌≢◌, ℕ, ◌≤◌, ◌⊎◌, inl, inr, Bool, true, false, List, [], ◌∷◌, length, Option, None, Some, refl, sym, ap, ◌∙◌}
+use Rattle.std.proofs.Common.{subst, if◌then◌else◌}
 use Rattle.std.specs.Prelude.{is_some, option_map, option_and_then, nat_eq}
 use Rattle.std.specs.FinMap as finmap
 use Rattle.std.specs.Cmp.Lexicographic.{nat_list_cmp_total}
@@ -29,7 +30,8 @@ use Rattle.histar_flat.specs.Classes.Class.{Private, Readable, Open, Scratch, Gr
 use Rattle.histar_flat.specs.FlatState.{Node, Content, Flat, is_dir_at}
 use Rattle.histar_flat.specs.FlatState.Content.{Dir, File}
 use Rattle.histar_refinement.specs.Categories.{CategoryName, Categories, IsMade, is_for, IsKnown, IsServed, IsUsed}
-use Rattle.histar_refinement.specs.Categories.CategoryName.{OfBoot, ReadsUser, WritesUser, ReadsGroup, WritesGroup, ReadsProcess, WritesProcess, OfJob}
+use Rattle.histar_refinement.specs.Categories.CategoryName.{OfBoot, ReadsUser, WritesUser, ReadsGroup, WritesGroup, ReadsProcess, WritesProcess}
+use Rattle.histar_refinement.specs.Categories.CategoryName.{OfJob}
 use Rattle.histar_refinement.specs.Guards.{Guard, guard_label}
 use Rattle.histar_refinement.specs.Labels.{class_guard, process_guard}
 use Rattle.histar_refinement.specs.Addresses.{Step, AddressNumbers, same_step, address_of, home_address, path_at, boot_number}
@@ -37,7 +39,8 @@ use Rattle.histar_refinement.specs.Addresses.Step.{Listing, Named, Status, Insid
 use Rattle.histar_refinement.specs.Processes.{status_by, process_bytes}
 use Rattle.histar_refinement.specs.Directories.{both_numbers, target_for, directory_of}
 use Rattle.histar_refinement.specs.Agrees.{Agrees}
-use Rattle.histar_refinement.specs.Expected.{guarded_object, content_kind, node_object, listing_object, status_object, bytes_for, expected_status, expected}
+use Rattle.histar_refinement.specs.Expected.{guarded_object, content_kind, node_object, listing_object, status_object, bytes_for, expected_status}
+use Rattle.histar_refinement.specs.Expected.{expected}
 use Rattle.histar_login.specs.Start.{segment}
 use Rattle.histar_refinement.specs.Represents.{IsInOrder, AreJobsGiven, ObjectsMatch}
 use Rattle.histar_refinement.proofs.ProcessBytes.{alike_status}
@@ -59,12 +62,17 @@ pub record SameNumbers (number numbers : AddressNumbers) : Type 0 where
   pub runner : (q : ProcName) → number (Runner ∷ Inside ∷ home_address q) ≡ numbers (Runner ∷ Inside ∷ home_address q)
 
 -- they tell the same of each process
-pub same_process_status : (number numbers : AddressNumbers) → SameNumbers number numbers → (processes : ProcName → Option Process) (q : ProcName) (x : Process) → status_by processes number q x ≡ status_by processes numbers q x
+pub same_process_status : (number numbers : AddressNumbers) → SameNumbers number numbers
+    → (processes : ProcName → Option Process) (q : ProcName) (x : Process)
+    → status_by processes number q x ≡ status_by processes numbers q x
 same_process_status number numbers same_steps processes q x =
-    alike_status processes processes number numbers q x (same_steps.inside q) (same_steps.runner q) (λ k. same_steps.home (k ∷ q)) (λ k. same_steps.status (k ∷ q)) (λ k. refl)
+    alike_status processes processes number numbers q x (same_steps.inside q) (same_steps.runner q)
+    (λ k. same_steps.home (k ∷ q)) (λ k. same_steps.status (k ∷ q)) (λ k. refl)
 
 -- and so the bytes of its segment
-pub same_process_bytes : (number numbers : AddressNumbers) → SameNumbers number numbers → (processes : ProcName → Option Process) (q : ProcName) (x : Process) → process_bytes processes number q x ≡ process_bytes processes numbers q x
+pub same_process_bytes : (number numbers : AddressNumbers) → SameNumbers number numbers
+    → (processes : ProcName → Option Process) (q : ProcName) (x : Process)
+    → process_bytes processes number q x ≡ process_bytes processes numbers q x
 same_process_bytes number numbers same_steps processes q x = ap status_bytes (same_process_status number numbers same_steps processes q x)
 
 -- ---- addresses of paths
@@ -88,21 +96,28 @@ not_begun p a x nothing e = none-some p (sym nothing ∙ ap path_at (sym e) ∙ 
 -- ---- objects of nodes
 
 module _ (accounts : Accounts) (category : Categories) where
-  held_guarded : (old bytes : List ℕ) (g : Option Guard) → option_map (holding bytes) (guarded_object accounts category (Segment old) g) ≡ guarded_object accounts category (Segment bytes) g
+  held_guarded : (old bytes : List ℕ) (g : Option Guard)
+      → option_map (holding bytes) (guarded_object accounts category (Segment old) g)
+      ≡ guarded_object accounts category (Segment bytes) g
   held_guarded old bytes None = refl
   held_guarded old bytes (Some g) = refl
 
   -- a directory segment with other bytes
-  pub held_listing : (old bytes : List ℕ) (o : Option Node) → option_map (holding bytes) (listing_object accounts category old o) ≡ listing_object accounts category bytes o
+  pub held_listing : (old bytes : List ℕ) (o : Option Node)
+      → option_map (holding bytes) (listing_object accounts category old o) ≡ listing_object accounts category bytes o
   held_listing old bytes None = refl
   held_listing old bytes (Some there) =
-      elim there.content as (λ (c : Content). option_map (holding bytes) (listing_object accounts category old (Some (record { class = there.class; content = c }))) ≡ listing_object accounts category bytes (Some (record { class = there.class; content = c }))) [
+      elim there.content as (λ (c : Content). option_map (holding bytes)
+      (listing_object accounts category old (Some (record { class = there.class; content = c })))
+      ≡ listing_object accounts category bytes (Some (record { class = there.class; content = c }))) [
         | Dir ↦ held_guarded old bytes (class_guard accounts there.class)
         | File was ↦ refl
       ]
 
   -- a file with other bytes
-  pub held_node : (old bytes : List ℕ) (class : Class) → option_map (holding bytes) (node_object accounts category (Some (record { class = class; content = File old }))) ≡ node_object accounts category (Some (record { class = class; content = File bytes }))
+  pub held_node : (old bytes : List ℕ) (class : Class)
+      → option_map (holding bytes) (node_object accounts category (Some (record { class = class; content = File old })))
+      ≡ node_object accounts category (Some (record { class = class; content = File bytes }))
   held_node old bytes class = held_guarded old bytes (class_guard accounts class)
 
 -- ---- where entries lead
@@ -112,38 +127,53 @@ abbrev pub leads_at : Files Node → AddressNumbers → Path → Option Target
 leads_at files number p = option_and_then (λ (there : Node). target_for number (p, there)) (get files p)
 
 -- two directories are the same, where their entries lead to the same
-pub directories_alike : (files other : Files Node) (number numbers : AddressNumbers) (d e : Path) → ((n : Name) → leads_at files number (n ∷ d) ≡ leads_at other numbers (n ∷ e)) → directory_of files number d ≡ directory_of other numbers e
+pub directories_alike : (files other : Files Node) (number numbers : AddressNumbers) (d e : Path)
+    → ((n : Name) → leads_at files number (n ∷ d) ≡ leads_at other numbers (n ∷ e))
+    → directory_of files number d ≡ directory_of other numbers e
 directories_alike files other number numbers d e alike =
     finmap.same_map nat_list_cmp_total antisymmetric _ _ (λ n. get_directory files number d n ∙ alike n ∙ sym (get_directory other numbers e n))
 
 -- where an entry leads is told by two numbers
-pub same_leads : (files other : Files Node) (number numbers : AddressNumbers) (p q : Path) → get files p ≡ get other q → number (address_of p) ≡ numbers (address_of q) → number (Listing ∷ address_of p) ≡ numbers (Listing ∷ address_of q)
+pub same_leads : (files other : Files Node) (number numbers : AddressNumbers) (p q : Path) → get files p ≡ get other q
+    → number (address_of p) ≡ numbers (address_of q)
+    → number (Listing ∷ address_of p) ≡ numbers (Listing ∷ address_of q)
     → leads_at files number p ≡ leads_at other numbers q
-same_leads files other number numbers p q found here listing = ap (option_and_then (λ (there : Node). target_for number (p, there))) found ∙ by (get other q)
+same_leads files other number numbers p q found here listing =
+    ap (option_and_then (λ (there : Node). target_for number (p, there))) found ∙ by (get other q)
   where
     target_same : (there : Node) → target_for number (p, there) ≡ target_for numbers (q, there)
-    target_same there = elim there.content as (λ (c : Content). target_for number (p, record { class = there.class; content = c }) ≡ target_for numbers (q, record { class = there.class; content = c })) [
-      | Dir ↦ λ i. both_numbers (here i) (listing i)
-      | File bytes ↦ ap (option_map targets.File) here
-    ]
+    target_same there =
+        elim there.content as (λ (c : Content). target_for number (p, record { class = there.class; content = c })
+        ≡ target_for numbers (q, record { class = there.class; content = c })) [
+          | Dir ↦ λ i. both_numbers (here i) (listing i)
+          | File bytes ↦ ap (option_map targets.File) here
+        ]
 
-    by : (o : Option Node) → option_and_then (λ (there : Node). target_for number (p, there)) o ≡ option_and_then (λ (there : Node). target_for numbers (q, there)) o
+    by : (o : Option Node)
+        → option_and_then (λ (there : Node). target_for number (p, there)) o
+        ≡ option_and_then (λ (there : Node). target_for numbers (q, there)) o
     by None = refl
     by (Some there) = target_same there
 
 -- ---- what is asked for
 
-module _ (accounts : Accounts) (category : Categories) (f : Flat) (files : Files Node) (number numbers : AddressNumbers) (same_steps : SameNumbers number numbers) where
+module _ (accounts : Accounts) (category : Categories) (f : Flat) (files : Files Node) (number numbers : AddressNumbers)
+    (same_steps : SameNumbers number numbers) where
   -- process segments
-  pub same_status : (q : ProcName) → expected_status accounts category f number (Some q) ≡ expected_status accounts category (with_files f files) numbers (Some q)
+  pub same_status : (q : ProcName)
+      → expected_status accounts category f number (Some q)
+      ≡ expected_status accounts category (with_files f files) numbers (Some q)
   same_status q = by (f.processes q)
     where
-      by : (x : Option Process) → status_object accounts category (bytes_for accounts category f number q x) q x ≡ status_object accounts category (bytes_for accounts category (with_files f files) numbers q x) q x
+      by : (x : Option Process)
+          → status_object accounts category (bytes_for accounts category f number q x) q x
+          ≡ status_object accounts category (bytes_for accounts category (with_files f files) numbers q x) q x
       by None = refl
       by (Some x) = ap (segment (guard_label category (process_guard q x))) (same_process_bytes number numbers same_steps f.processes q x)
 
   -- where nothing has changed the same is asked for
-  pub asked_same : (a : Address Step) → AsksAlikeAt accounts category category f (with_files f files) number numbers a → expected accounts category f number a ≡ expected accounts category (with_files f files) numbers a
+  pub asked_same : (a : Address Step) → AsksAlikeAt accounts category category f (with_files f files) number numbers a
+      → expected accounts category f number a ≡ expected accounts category (with_files f files) numbers a
   asked_same a alike = asked_alike_at accounts category category f (with_files f files) number numbers a alike
       (record { home = λ q is. refl; status = λ q is. same_status q; inside = λ q is. refl; runner = λ q is. refl })
 
@@ -162,14 +192,19 @@ module _ (accounts : Accounts) (s : State) (f : Flat) (l : ObjectsMatch accounts
 
   -- and where there is a number something stands
   pub nothing_unnumbered : (q : Path) → get f.files q ≡ None → is_some (l.naming.number (address_of q)) ≡ false
-  nothing_unnumbered q at = l.agrees.named (address_of q) ∙ ap is_present (asked_path accounts l.category f l.naming.number q ∙ ap (node_object accounts l.category) at)
+  nothing_unnumbered q at =
+      l.agrees.named (address_of q)
+      ∙ ap is_present (asked_path accounts l.category f l.naming.number q ∙ ap (node_object accounts l.category) at)
 
   -- a directory's segment has a number
-  pub numbered_listing : (q : Path) (class : Class) → get f.files q ≡ Some (record { class = class; content = Dir }) → is_some (l.naming.number (Listing ∷ address_of q)) ≡ true
+  pub numbered_listing : (q : Path) (class : Class) → get f.files q ≡ Some (record { class = class; content = Dir })
+      → is_some (l.naming.number (Listing ∷ address_of q)) ≡ true
   numbered_listing q class at =
       l.agrees.named (Listing ∷ address_of q)
-      ∙ ap is_present (asked_listing accounts l.category f l.naming.number q ∙ ap (listing_object accounts l.category (spelling (directory_of f.files l.naming.number q))) at)
-      ∙ guard_there (Segment (spelling (directory_of f.files l.naming.number q))) (class_guard accounts class) (l.guarded q (record { class = class; content = Dir }) at)
+      ∙ ap is_present (asked_listing accounts l.category f l.naming.number q
+      ∙ ap (listing_object accounts l.category (spelling (directory_of f.files l.naming.number q))) at)
+      ∙ guard_there (Segment (spelling (directory_of f.files l.naming.number q))) (class_guard accounts class)
+      (l.guarded q (record { class = class; content = Dir }) at)
 
   -- where nothing stands, nothing stands below
   pub nothing_in : (n : Name) (d : Path) → get f.files d ≡ None → get f.files (n ∷ d) ≡ None
@@ -177,7 +212,9 @@ module _ (accounts : Accounts) (s : State) (f : Flat) (l : ObjectsMatch accounts
     where
       by : (o : Option Node) → get f.files (n ∷ d) ≡ o → o ≡ None
       by None at = refl
-      by (Some there) at = absurd (true≢false (sym (l.agrees.tree.held (Named n) (address_of d) (numbered_path (n ∷ d) there at)) ∙ nothing_unnumbered d nothing))
+      by (Some there) at =
+          absurd (true≢false (sym (l.agrees.tree.held (Named n) (address_of d) (numbered_path (n ∷ d) there at))
+          ∙ nothing_unnumbered d nothing))
 
   -- a class that can be represented: it has a guard, its jobs stand in order, and the category of each was made
   pub record ClassFits (class : Class) : Type 0 where
@@ -201,19 +238,31 @@ module _ (accounts : Accounts) (s : State) (f : Flat) (l : ObjectsMatch accounts
   }
 
   -- and so is what a process makes, where its class has a guard: a Scratch class has the jobs of the process
-  pub made_known : (me : ProcName) (p : Process) → f.processes me ≡ Some p → (class : Class) → ((owner : Name) (jobs : List ProcName) → class ≡ Scratch owner jobs → jobs ≡ p.chain) → AreKnown class
+  pub made_known : (me : ProcName) (p : Process) → f.processes me ≡ Some p → (class : Class)
+      → ((owner : Name) (jobs : List ProcName) → class ≡ Scratch owner jobs → jobs ≡ p.chain) → AreKnown class
   made_known me p here (Private owner) own job is = absurd (true≢false (sym is))
   made_known me p here (Readable owner) own job is = absurd (true≢false (sym is))
   made_known me p here Open own job is = absurd (true≢false (sym is))
   made_known me p here (Grouped group) own job is = absurd (true≢false (sym is))
-  made_known me p here (Scratch owner jobs) own job is = inl (me, p, here, or_left (has p.chain job) (has p.held job) (ap (λ (js : List ProcName). has js job) (sym (own owner jobs refl)) ∙ is))
+  made_known me p here (Scratch owner jobs) own job is =
+      inl (
+        me,
+        p,
+        here,
+        or_left (has p.chain job) (has p.held job)
+            (ap (λ (js : List ProcName). has js job) (sym (own owner jobs refl)) ∙ is),
+      )
 
-  made_order : (me : ProcName) (p : Process) → f.processes me ≡ Some p → (class : Class) → ((owner : Name) (jobs : List ProcName) → class ≡ Scratch owner jobs → jobs ≡ p.chain) → IsInOrder l.category class
+  made_order : (me : ProcName) (p : Process) → f.processes me ≡ Some p → (class : Class)
+      → ((owner : Name) (jobs : List ProcName) → class ≡ Scratch owner jobs → jobs ≡ p.chain)
+      → IsInOrder l.category class
   made_order me p here (Private owner) own = tt
   made_order me p here (Readable owner) own = tt
   made_order me p here Open own = tt
   made_order me p here (Grouped group) own = tt
-  made_order me p here (Scratch owner jobs) own = subst (λ (js : List ProcName). IsInOrder l.category (Scratch owner js)) (sym (own owner jobs refl)) (l.processes me p here).chain
+  made_order me p here (Scratch owner jobs) own =
+      subst (λ (js : List ProcName). IsInOrder l.category (Scratch owner js)) (sym (own owner jobs refl))
+      (l.processes me p here).chain
 
   pub made_fits : (me : ProcName) (p : Process) → f.processes me ≡ Some p → (class : Class) → class_guard accounts class ≢ None
       → ((owner : Name) (jobs : List ProcName) → class ≡ Scratch owner jobs → jobs ≡ p.chain) → ClassFits class
@@ -246,7 +295,9 @@ module _ (accounts : Accounts) (s : State) (f : Flat) (l : ObjectsMatch accounts
 
       -- A state in which what is asked for stands, and whose directories can be listed, has the objects of the flat state with these
       -- files.
-      pub matched_files : (new : State) (naming : Naming Step) → Agrees same_step new naming (expected accounts l.category refiled naming.number) → new.next_object ≤ greatest
+      pub matched_files : (new : State) (naming : Naming Step)
+          → Agrees same_step new naming (expected accounts l.category refiled naming.number)
+          → new.next_object ≤ greatest
           → ((a : Address Step) (q : ℕ) → boot_number (length accounts.users) a ≡ Some q → naming.number a ≡ Some q)
           → ((d : Path) → is_dir_at refiled d ≡ true → IsListable (directory_of files naming.number d))
           → new.next_category ≡ s.next_category → new.objects boot_thread_number ≡ None
@@ -274,37 +325,59 @@ module _ (accounts : Accounts) (s : State) (f : Flat) (l : ObjectsMatch accounts
       )
 
       -- The same after the write of one directory segment, where all else stands as asked.
-      pub matched_listed : (mid : State) (naming : Naming Step) (asked : Address Step → Found) → Agrees same_step mid naming asked → mid.next_object ≤ greatest
+      pub matched_listed : (mid : State) (naming : Naming Step) (asked : Address Step → Found)
+          → Agrees same_step mid naming asked → mid.next_object ≤ greatest
           → (d : Path) (N : ℕ) → naming.number (Listing ∷ address_of d) ≡ Some N
           → (old : List ℕ) → asked (Listing ∷ address_of d) ≡ listing_object accounts l.category old (get files d)
           → ((a : Address Step) → Listing ∷ address_of d ≢ a → asked a ≡ expected accounts l.category refiled naming.number a)
           → ((a : Address Step) (q : ℕ) → boot_number (length accounts.users) a ≡ Some q → naming.number a ≡ Some q)
           → ((e : Path) → is_dir_at refiled e ≡ true → IsListable (directory_of files naming.number e))
           → mid.next_category ≡ s.next_category → mid.objects boot_thread_number ≡ None
-          → (later : ObjectsMatch accounts (with_segment_bytes mid N (spelling (directory_of files naming.number d))) refiled) × (later.naming ≡ naming) × (later.category ≡ l.category)
+          → (later : ObjectsMatch accounts (with_segment_bytes mid N (spelling (directory_of files naming.number d)))
+          refiled) × (later.naming ≡ naming) × (later.category ≡ l.category)
       matched_listed mid naming asked agrees numbered d N at_listing old asked_here asked_else booted listable same_next gone =
-          matched_files (with_segment_bytes mid N (spelling (directory_of files naming.number d))) naming (agrees_same same_step (with_segment_bytes mid N (spelling (directory_of files naming.number d))) (with_segment_bytes mid N (spelling (directory_of files naming.number d))) naming _ (expected accounts l.category refiled naming.number) written asks (λ q. refl) refl) numbered
+          matched_files (with_segment_bytes mid N (spelling (directory_of files naming.number d))) naming
+          (agrees_same same_step (with_segment_bytes mid N (spelling (directory_of files naming.number d)))
+          (with_segment_bytes mid N (spelling (directory_of files naming.number d))) naming _
+          (expected accounts l.category refiled naming.number) written asks (λ q. refl) refl) numbered
           booted listable same_next (by_bytes mid.objects N boot_thread_number gone)
         where
-          written : Agrees same_step (with_segment_bytes mid N (spelling (directory_of files naming.number d))) naming (set_at same_step asked (Listing ∷ address_of d) (option_map (holding (spelling (directory_of files naming.number d))) (asked (Listing ∷ address_of d))))
-          written = agrees_changed same_step step_tests_equality mid naming asked agrees N (Listing ∷ address_of d) (holding (spelling (directory_of files naming.number d))) at_listing
-              (λ x. kind_held_links (spelling (directory_of files naming.number d)) x.kind) (bare_held (spelling (directory_of files naming.number d)))
+          written : Agrees same_step (with_segment_bytes mid N (spelling (directory_of files naming.number d))) naming
+              (set_at same_step asked (Listing ∷ address_of d) (option_map (holding (spelling (directory_of files naming.number d)))
+              (asked (Listing ∷ address_of d))))
+          written =
+              agrees_changed same_step step_tests_equality mid naming asked agrees N (Listing ∷ address_of d)
+              (holding (spelling (directory_of files naming.number d))) at_listing
+              (λ x. kind_held_links (spelling (directory_of files naming.number d)) x.kind)
+              (bare_held (spelling (directory_of files naming.number d)))
 
-          wish_here : option_map (holding (spelling (directory_of files naming.number d))) (asked (Listing ∷ address_of d)) ≡ expected accounts l.category refiled naming.number (Listing ∷ address_of d)
+          wish_here : option_map (holding (spelling (directory_of files naming.number d)))
+              (asked (Listing ∷ address_of d))
+              ≡ expected accounts l.category refiled naming.number (Listing ∷ address_of d)
           wish_here =
               ap (option_map (holding (spelling (directory_of files naming.number d)))) asked_here
               ∙ held_listing accounts l.category old (spelling (directory_of files naming.number d)) (get files d)
               ∙ sym (asked_listing accounts l.category refiled naming.number d)
 
-          asks : (a : Address Step) → set_at same_step asked (Listing ∷ address_of d) (option_map (holding (spelling (directory_of files naming.number d))) (asked (Listing ∷ address_of d))) a ≡ expected accounts l.category refiled naming.number a
+          asks : (a : Address Step)
+              → set_at same_step asked (Listing ∷ address_of d)
+              (option_map (holding (spelling (directory_of files naming.number d)))
+              (asked (Listing ∷ address_of d))) a ≡ expected accounts l.category refiled naming.number a
           asks a = elim (same_tests_equality same_step step_tests_equality (Listing ∷ address_of d) a) [
-            | inl e ↦ ap (λ (t : Bool). if t then option_map (holding (spelling (directory_of files naming.number d))) (asked (Listing ∷ address_of d)) else asked a) e.0
+            | inl e ↦
+                ap (λ (t : Bool). if t then option_map (holding (spelling (directory_of files naming.number d)))
+                (asked (Listing ∷ address_of d)) else asked a) e.0
                 ∙ wish_here ∙ ap (expected accounts l.category refiled naming.number) e.1
-            | inr e ↦ ap (λ (t : Bool). if t then option_map (holding (spelling (directory_of files naming.number d))) (asked (Listing ∷ address_of d)) else asked a) e.0 ∙ asked_else a e.1
+            | inr e ↦
+                ap (λ (t : Bool). if t then option_map (holding (spelling (directory_of files naming.number d)))
+                (asked (Listing ∷ address_of d)) else asked a) e.0 ∙ asked_else a e.1
           ]
 
-          by_bytes : (objects : Objects Levels) (q k : ℕ) → objects k ≡ None → changed_at objects q (holding (spelling (directory_of files naming.number d))) k ≡ None
-          by_bytes objects q k e = elim (nat_eq k q) as (λ t. (if t then option_map (holding (spelling (directory_of files naming.number d))) (objects k) else objects k) ≡ None) [
-            | true ↦ ap (option_map (holding (spelling (directory_of files naming.number d)))) e
-            | false ↦ e
-          ]
+          by_bytes : (objects : Objects Levels) (q k : ℕ) → objects k ≡ None
+              → changed_at objects q (holding (spelling (directory_of files naming.number d))) k ≡ None
+          by_bytes objects q k e =
+              elim (nat_eq k q) as (λ t. (if t then option_map (holding (spelling (directory_of files naming.number d))) (objects k) else
+              objects k) ≡ None) [
+                | true ↦ ap (option_map (holding (spelling (directory_of files naming.number d)))) e
+                | false ↦ e
+              ]

@@ -21,7 +21,8 @@ use Rattle.histar_refinement.specs.Directories.{both_numbers, target_for, target
 use Rattle.histar_refinement.proofs.DirectoryLaws.{sorted_listed}
 
 -- an entry leads to a directory exactly where one stands there
-kind_kept : (number : AddressNumbers) (q : Path) (there : Node) (target : Target) → target_for number (q, there) ≡ Some target → is_directory target ≡ is_dir there
+kind_kept : (number : AddressNumbers) (q : Path) (there : Node) (target : Target)
+    → target_for number (q, there) ≡ Some target → is_directory target ≡ is_dir there
 kind_kept number q there target is = by there.content refl
   where
     of_file : (o : Option _) → option_map targets.File o ≡ Some target → is_directory target ≡ false
@@ -34,8 +35,14 @@ kind_kept number q there target is = by there.content refl
     of_both (Some c) (Some l) e = let same : targets.Directory c l ≡ target = cc in ap is_directory (sym same)
 
     by : (c : Content) → there.content ≡ c → is_directory target ≡ is_dir there
-    by Dir e = of_both _ _ (sym (ap (λ (c : Content). target_for number (q, record { class = there.class; content = c })) e) ∙ is) ∙ sym (ap (λ (c : Content). is_dir (record { class = there.class; content = c })) e)
-    by (File bytes) e = of_file _ (sym (ap (λ (c : Content). target_for number (q, record { class = there.class; content = c })) e) ∙ is) ∙ sym (ap (λ (c : Content). is_dir (record { class = there.class; content = c })) e)
+    by Dir e =
+        of_both _ _
+        (sym (ap (λ (c : Content). target_for number (q, record { class = there.class; content = c })) e) ∙ is)
+        ∙ sym (ap (λ (c : Content). is_dir (record { class = there.class; content = c })) e)
+    by (File bytes) e =
+        of_file _
+        (sym (ap (λ (c : Content). target_for number (q, record { class = there.class; content = c })) e) ∙ is)
+        ∙ sym (ap (λ (c : Content). is_dir (record { class = there.class; content = c })) e)
 
 module _ (number : AddressNumbers) (d : Path) where
   abbrev listed : List (Path × Node) → List (Name × Target)
@@ -48,10 +55,14 @@ module _ (number : AddressNumbers) (d : Path) where
   -- an entry before others is shown as the flat state shows it
   abbrev ShownAlike : Name → Path → Node → List (Path × Node) → Bool → Type 0
   ShownAlike n above there es b =
-      map shown_entry (cons_option (cond b (option_map (λ target. (n, target)) (target_for number (n ∷ above, there))) None) (listed es)) ≡ cons_option (cond b (Some (n, is_dir there)) None) (filter_map (entry_in d) es)
+      map shown_entry (cons_option (cond b (option_map (λ target. (n, target)) (target_for number (n ∷ above, there))) None)
+      (listed es)) ≡ cons_option (cond b (Some (n, is_dir there)) None) (filter_map (entry_in d) es)
 
-  shown_one : (n : Name) (there : Node) (target : Option Target) (es : List (Path × Node)) → target_for number (n ∷ d, there) ≡ target → target ≢ None → map shown_entry (listed es) ≡ filter_map (entry_in d) es
-      → map shown_entry (cons_option (option_map (λ goal. (n, goal)) target) (listed es)) ≡ cons_option (Some (n, is_dir there)) (filter_map (entry_in d) es)
+  shown_one : (n : Name) (there : Node) (target : Option Target) (es : List (Path × Node))
+      → target_for number (n ∷ d, there) ≡ target → target ≢ None
+      → map shown_entry (listed es) ≡ filter_map (entry_in d) es
+      → map shown_entry (cons_option (option_map (λ goal. (n, goal)) target) (listed es))
+      ≡ cons_option (Some (n, is_dir there)) (filter_map (entry_in d) es)
   shown_one n there None es is some rest = absurd (some refl)
   shown_one n there (Some target) es is some rest = λ i. (n, kind_kept number (n ∷ d) there target is i) ∷ rest i
 
@@ -60,18 +71,26 @@ module _ (number : AddressNumbers) (d : Path) where
   names_listed (e ∷ es) h lead = step e.0 e.1 lead (names_listed es (second (below_all path_cmp e.0 es) _ h)
       (λ n there is. lead n there (find_later path_cmp_total path_cmp_exact e.0 e.1 es (n ∷ d) there (first (below_all path_cmp e.0 es) _ h) is)))
     where
-      step : (q : Path) (there : Node) → AllLead ((q, there) ∷ es) → map shown_entry (listed es) ≡ filter_map (entry_in d) es → map shown_entry (listed ((q, there) ∷ es)) ≡ filter_map (entry_in d) ((q, there) ∷ es)
+      step : (q : Path) (there : Node) → AllLead ((q, there) ∷ es)
+          → map shown_entry (listed es) ≡ filter_map (entry_in d) es
+          → map shown_entry (listed ((q, there) ∷ es)) ≡ filter_map (entry_in d) ((q, there) ∷ es)
       step [] there lead rest = rest
       step (n ∷ above) there lead rest = elim (same_path_found d above) [
         | inl t ↦
             let found : find path_cmp (n ∷ d) ((n ∷ above, there) ∷ es) ≡ Some there =
-            subst (λ (a : Path). find path_cmp (n ∷ d) ((n ∷ a, there) ∷ es) ≡ Some there) t.1 (find_first path_cmp_total path_cmp_exact (n ∷ d) there es) in
+            subst (λ (a : Path). find path_cmp (n ∷ d) ((n ∷ a, there) ∷ es) ≡ Some there) t.1
+            (find_first path_cmp_total path_cmp_exact (n ∷ d) there es) in
             subst (λ b. ShownAlike n above there es b) (sym t.0)
-            (subst (λ (a : Path). ShownAlike n a there es true) t.1 (shown_one n there (target_for number (n ∷ d, there)) es refl (lead n there found) rest))
+            (subst (λ (a : Path). ShownAlike n a there es true) t.1
+            (shown_one n there (target_for number (n ∷ d, there)) es refl (lead n there found) rest))
         | inr t ↦ subst (λ b. ShownAlike n above there es b) (sym t.0) rest
       ]
 
 -- what a directory lists is what the flat state has in it, where each entry leads somewhere
-pub names_directory : (f : Flat) (number : AddressNumbers) (d : Path) → ((n : Name) (there : Node) → get f.files (n ∷ d) ≡ Some there → target_for number (n ∷ d, there) ≢ None) → names_in (directory_of f.files number d) ≡ entries_in f d
+pub names_directory : (f : Flat) (number : AddressNumbers) (d : Path)
+    → ((n : Name) (there : Node) → get f.files (n ∷ d) ≡ Some there → target_for number (n ∷ d, there) ≢ None)
+    → names_in (directory_of f.files number d) ≡ entries_in f d
 names_directory f number d lead =
-    ap (map shown_entry) (sorted_made (filter_map (target_in number d) f.files.entries) (sorted_listed number d f.files.entries f.files.sorted)) ∙ names_listed number d f.files.entries f.files.sorted lead
+    ap (map shown_entry) (sorted_made (filter_map (target_in number d) f.files.entries)
+    (sorted_listed number d f.files.entries f.files.sorted))
+    ∙ names_listed number d f.files.entries f.files.sorted lead

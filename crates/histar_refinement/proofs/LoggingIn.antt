@@ -14,23 +14,31 @@ use Rattle.histar_refinement.specs.Addresses.Step.{Inside, Runner}
 use Rattle.histar_refinement.specs.Represents.{Represents}
 use Rattle.histar_refinement.proofs.Becoming.{becomes, given_then, job_used}
 
-module _ (accounts : Accounts) (s : State) (f : Flat) (l : Represents accounts s f) (me : ProcName) (p : Process) (here : f.processes me ≡ Some p) (runs : p.exited ≡ None)
-    (name : Name) (declared : is_some (user_number accounts name) ≡ true) (T : ℕ) (at_thread : l.matched.naming.number (Runner ∷ Inside ∷ home_address me) ≡ Some T) where
+module _ (accounts : Accounts) (s : State) (f : Flat) (l : Represents accounts s f) (me : ProcName) (p : Process)
+    (here : f.processes me ≡ Some p) (runs : p.exited ≡ None)
+    (name : Name) (declared : is_some (user_number accounts name) ≡ true) (T : ℕ)
+    (at_thread : l.matched.naming.number (Runner ∷ Inside ∷ home_address me) ≡ Some T) where
   abbrev changed : Process
   changed = record { user = name; chain = p.chain; held = []; exited = p.exited; born = p.born }
 
   abbrev new : State
-  new = with_own s T (rights_label l.matched.category (thread_rights accounts me changed)) (rights_clearance l.matched.category (thread_rights accounts me changed))
+  new =
+      with_own s T (rights_label l.matched.category (thread_rights accounts me changed))
+      (rights_clearance l.matched.category (thread_rights accounts me changed))
 
   never : is_some (user_number accounts name) ≡ false → (p.chain ≡ []) × (changed.held ≡ [])
   never e = absurd (true≢false (sym declared ∙ e))
 
   pub represents_login : Represents accounts new (with_process f me changed)
   represents_login =
-      let later = becomes accounts s f l.matched me p here runs name (inr declared) [] (λ job e. absurd (true≢false (sym e))) tt (λ job e. refl) never T at_thread new (λ q. refl) refl (omega arith) in
+      let later =
+      becomes accounts s f l.matched me p here runs name (inr declared) [] (λ job e. absurd (true≢false (sym e))) tt
+      (λ job e. refl) never T at_thread new (λ q. refl) refl (omega arith) in
       record {
         matched = later.0;
         jobs_given = λ job u.
-            sym (given_then accounts s f l.matched me p here runs name (inr declared) [] (λ job e. absurd (true≢false (sym e))) tt (λ job e. refl) never T at_thread job)
-            ∙ l.jobs_given job (job_used accounts s f l.matched me p here runs name (inr declared) [] (λ job e. absurd (true≢false (sym e))) tt (λ job e. refl) never T at_thread job u);
+            sym (given_then accounts s f l.matched me p here runs name (inr declared) []
+            (λ job e. absurd (true≢false (sym e))) tt (λ job e. refl) never T at_thread job)
+            ∙ l.jobs_given job (job_used accounts s f l.matched me p here runs name (inr declared) []
+            (λ job e. absurd (true≢false (sym e))) tt (λ job e. refl) never T at_thread job u);
       }

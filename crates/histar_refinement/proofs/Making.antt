@@ -1,5 +1,6 @@
 -- After a file or a directory is made at any depth the kernel represents the flat state with it.
-use Rattle.std.proofs.Common.{◌≡◌, ◌≢◌, ℕ, ◌+◌, ◌*◌, ◌<◌, ◌≤◌, inl, inr, true, cond, [], ◌∷◌, length, Option, None, Some, arith, refl, sym, ap, ◌∙◌, subst}
+use Rattle.std.proofs.Common.{◌≡◌, ◌≢◌, ℕ, ◌+◌, ◌*◌, ◌<◌, ◌≤◌, inl, inr, true, cond, [], ◌∷◌, length, Option, None, Some, arith, refl, sym, ap, ◌∙◌}
+use Rattle.std.proofs.Common.{subst}
 use Rattle.std.specs.Prelude.{IsTrue, is_some, option_map, option_and_then}
 use Rattle.std.specs.List.{flat_map}
 use Rattle.std.specs.FinMap as map
@@ -35,7 +36,9 @@ use Rattle.histar_refinement.proofs.Roots.{process_address, asked_path, asked_li
 use Rattle.histar_refinement.proofs.Steps.{step_tests_equality}
 use Rattle.histar_refinement.proofs.Moving.{number_below}
 use Rattle.histar_refinement.proofs.DirectoryLaws.{get_directory, len_directory}
-use Rattle.histar_refinement.proofs.ListedFiles.{SameNumbers, not_home, not_begun, same_address_path, asked_same, leads_at, directories_alike, same_leads, numbered_path, numbered_listing, nothing_in, ClassFits, AreKnown, old_known, old_fits, jobs_kept, matched_listed}
+use Rattle.histar_refinement.proofs.ListedFiles.{SameNumbers, not_home, not_begun, same_address_path, asked_same, leads_at, directories_alike}
+use Rattle.histar_refinement.proofs.ListedFiles.{same_leads, numbered_path, numbered_listing, nothing_in, ClassFits, AreKnown, old_known, old_fits}
+use Rattle.histar_refinement.proofs.ListedFiles.{jobs_kept, matched_listed}
 
 -- a directory segment's address is no process's
 pub listing_not_home : (a : Address Step) (q : ProcName) → Listing ∷ a ≢ home_address q
@@ -61,9 +64,15 @@ module _ (accounts : Accounts) (s : State) (f : Flat) (l : ObjectsMatch accounts
   entry_leads q there at = by there.content refl
     where
       by : (c : Content) → there.content ≡ c → target_for l.naming.number (q, there) ≢ None
-      by Dir is e = leads_to_directory _ _ (numbered_path accounts s f l q there at) (numbered_listing accounts s f l q there.class (at ∙ ap (λ (c : Content). Some (record { class = there.class; content = c })) is))
+      by Dir is e =
+          leads_to_directory _ _ (numbered_path accounts s f l q there at)
+          (numbered_listing accounts s f l q there.class
+          (at ∙ ap (λ (c : Content). Some (record { class = there.class; content = c })) is))
           (sym (ap (λ (c : Content). target_for l.naming.number (q, record { class = there.class; content = c })) is) ∙ e)
-      by (File bytes) is e = leads_to_file _ (numbered_path accounts s f l q there at) (sym (ap (λ (c : Content). target_for l.naming.number (q, record { class = there.class; content = c })) is) ∙ e)
+      by (File bytes) is e =
+          leads_to_file _ (numbered_path accounts s f l q there at) (sym
+          (ap (λ (c : Content). target_for l.naming.number (q, record { class = there.class; content = c }))
+          is) ∙ e)
 
   -- a directory segment has as many entries as the flat directory
   pub count_entries : (d : Path) → map.len (directory_of f.files l.naming.number d) ≡ length (entries_in f d)
@@ -72,10 +81,14 @@ module _ (accounts : Accounts) (s : State) (f : Flat) (l : ObjectsMatch accounts
   -- the boot thread's number is below the next one
   pub boot_thread_below : boot_thread_number < s.next_object
   boot_thread_below =
-      let below = number_below same_step step_tests_equality s l.naming (expected accounts l.category f l.naming.number) l.agrees (Slash ∷ []) (4 + 2 * length accounts.users) (l.as_booted (Slash ∷ []) (4 + 2 * length accounts.users) refl) in
+      let below =
+      number_below same_step step_tests_equality s l.naming (expected accounts l.category f l.naming.number)
+      l.agrees (Slash ∷ []) (4 + 2 * length accounts.users)
+      (l.as_booted (Slash ∷ []) (4 + 2 * length accounts.users) refl) in
       omega (arith, below)
 
-  module _ (d : Path) (m : Name) (class : Class) (content : Content) (absent : get f.files (m ∷ d) ≡ None) (fits : ClassFits accounts s f l class) where
+  module _ (d : Path) (m : Name) (class : Class) (content : Content) (absent : get f.files (m ∷ d) ≡ None)
+      (fits : ClassFits accounts s f l class) where
     abbrev pub made : Node
     made = record { class = class; content = content }
 
@@ -126,7 +139,8 @@ module _ (accounts : Accounts) (s : State) (f : Flat) (l : ObjectsMatch accounts
       pub same_next : mid.next_category ≡ s.next_category
       pub gone : mid.objects boot_thread_number ≡ None
 
-    module _ (mid : State) (naming : Naming Step) (asked : Address Step → Found) (st : Agreeing mid naming asked) (N : ℕ) (at_listing : l.naming.number (Listing ∷ address_of d) ≡ Some N) where
+    module _ (mid : State) (naming : Naming Step) (asked : Address Step → Found) (st : Agreeing mid naming asked)
+        (N : ℕ) (at_listing : l.naming.number (Listing ∷ address_of d) ≡ Some N) where
       pub same_numbers : SameNumbers l.naming.number naming.number
       same_numbers = record {
         home = λ q. sym (st.elsewhere (home_address q) (not_home (m ∷ d) q) (listing_not_home new_address q));
@@ -136,25 +150,39 @@ module _ (accounts : Accounts) (s : State) (f : Flat) (l : ObjectsMatch accounts
       }
 
       number_path : (q : Path) → q ≢ m ∷ d → naming.number (address_of q) ≡ l.naming.number (address_of q)
-      number_path q other = st.elsewhere (address_of q) (λ e. other (sym (same_address_path (m ∷ d) q e))) (λ e. not_begun q new_address Listing refl (sym e))
+      number_path q other =
+          st.elsewhere (address_of q) (λ e. other (sym (same_address_path (m ∷ d) q e)))
+          (λ e. not_begun q new_address Listing refl (sym e))
 
       number_listing : (q : Path) → q ≢ m ∷ d → naming.number (Listing ∷ address_of q) ≡ l.naming.number (Listing ∷ address_of q)
-      number_listing q other = st.elsewhere (Listing ∷ address_of q) (not_begun (m ∷ d) (address_of q) Listing refl) (λ e. let tails : new_address ≡ address_of q = cc in other (sym (same_address_path (m ∷ d) q tails)))
+      number_listing q other =
+          st.elsewhere (Listing ∷ address_of q) (not_begun (m ∷ d) (address_of q) Listing refl)
+          (λ e. let tails : new_address ≡ address_of q = cc in other (sym (same_address_path (m ∷ d) q tails)))
 
       leads_else : (q : Path) → q ≢ m ∷ d → leads_at f.files l.naming.number q ≡ leads_at after.files naming.number q
-      leads_else q other = same_leads f.files after.files l.naming.number naming.number q q (sym (got_else q other)) (sym (number_path q other)) (sym (number_listing q other))
+      leads_else q other =
+          same_leads f.files after.files l.naming.number naming.number q q (sym (got_else q other))
+          (sym (number_path q other)) (sym (number_listing q other))
 
       directory_else : (e : Path) → d ≢ e → directory_of f.files l.naming.number e ≡ directory_of after.files naming.number e
-      directory_else e other = directories_alike f.files after.files l.naming.number naming.number e e (λ n. leads_else (n ∷ e) (λ i. let tails : e ≡ d = cc in other (sym tails)))
+      directory_else e other =
+          directories_alike f.files after.files l.naming.number naming.number e e
+          (λ n. leads_else (n ∷ e) (λ i. let tails : e ≡ d = cc in other (sym tails)))
 
       -- the new directory is empty
       directory_new : directory_of after.files naming.number (m ∷ d) ≡ map.empty
       directory_new = sym (directory_else (m ∷ d) (λ e. not_in_itself (sym e))) ∙ map.same_map nat_list_cmp_total antisymmetric _ _ (λ n.
-          get_directory f.files l.naming.number (m ∷ d) n ∙ ap (option_and_then (λ (there : Node). target_for l.naming.number (n ∷ m ∷ d, there))) (nothing_in accounts s f l n (m ∷ d) absent) ∙ sym (map.get-empty by_bytes n))
+          get_directory f.files l.naming.number (m ∷ d) n
+          ∙ ap (option_and_then (λ (there : Node). target_for l.naming.number (n ∷ m ∷ d, there)))
+          (nothing_in accounts s f l n (m ∷ d) absent) ∙ sym (map.get-empty by_bytes n))
 
       asked_else : (a : Address Step) → Listing ∷ address_of d ≢ a → asked a ≡ expected accounts l.category after naming.number a
       asked_else a other = elim (same_tests_equality same_step step_tests_equality new_address a) [
-        | inl e ↦ ap asked (sym e.1) ∙ st.asked_new ∙ sym (ap (expected accounts l.category after naming.number) (sym e.1) ∙ asked_path accounts l.category after naming.number (m ∷ d) ∙ ap (node_object accounts l.category) got_new)
+        | inl e ↦
+            ap asked (sym e.1) ∙ st.asked_new
+            ∙ sym (ap (expected accounts l.category after naming.number) (sym e.1)
+            ∙ asked_path accounts l.category after naming.number (m ∷ d)
+            ∙ ap (node_object accounts l.category) got_new)
         | inr e ↦ elim (same_tests_equality same_step step_tests_equality (Listing ∷ new_address) a) [
           | inl t ↦
               ap asked (sym t.1) ∙ st.asked_inner
@@ -162,21 +190,31 @@ module _ (accounts : Accounts) (s : State) (f : Flat) (l : ObjectsMatch accounts
               ∙ (λ i. listing_object accounts l.category ((ap spelling directory_new ∙ spelled_empty) i) (got_new i)))
           | inr t ↦ st.asked_old a e.1 t.1 ∙ asked_same accounts l.category f after.files l.naming.number naming.number same_numbers a (record {
             at_path = λ q is. ap (node_object accounts l.category) (sym (got_else q (λ k. e.1 (ap address_of (sym k) ∙ sym is))));
-            in_directory = λ q is. listing_else q (λ k. other (ap (λ (x : Path). Listing ∷ address_of x) k ∙ sym is)) (λ k. t.1 (ap (λ (x : Path). Listing ∷ address_of x) (sym k) ∙ sym is));
+            in_directory =
+                λ q is. listing_else q (λ k. other (ap (λ (x : Path). Listing ∷ address_of x) k ∙ sym is))
+                (λ k. t.1 (ap (λ (x : Path). Listing ∷ address_of x) (sym k) ∙ sym is));
           })
         ]
       ]
         where
-          listing_else : (q : Path) → d ≢ q → q ≢ m ∷ d → listing_at accounts l.category f l.naming.number (Some q) ≡ listing_at accounts l.category after naming.number (Some q)
+          listing_else : (q : Path) → d ≢ q → q ≢ m ∷ d
+              → listing_at accounts l.category f l.naming.number (Some q)
+              ≡ listing_at accounts l.category after naming.number (Some q)
           listing_else q not_d not_new = λ i. listing_object accounts l.category (spelling (directory_else q not_d i)) (sym (got_else q not_new) i)
 
-      asked_here : asked (Listing ∷ address_of d) ≡ listing_object accounts l.category (spelling (directory_of f.files l.naming.number d)) (get after.files d)
+      asked_here : asked (Listing ∷ address_of d)
+          ≡ listing_object accounts l.category (spelling (directory_of f.files l.naming.number d)) (get after.files d)
       asked_here =
-          st.asked_old (Listing ∷ address_of d) (not_begun (m ∷ d) (address_of d) Listing refl) (λ e. let tails : new_address ≡ address_of d = cc in not_in_itself (same_address_path (m ∷ d) d tails))
-          ∙ asked_listing accounts l.category f l.naming.number d ∙ ap (listing_object accounts l.category (spelling (directory_of f.files l.naming.number d))) (sym (got_else d (λ e. not_in_itself (sym e))))
+          st.asked_old (Listing ∷ address_of d) (not_begun (m ∷ d) (address_of d) Listing refl)
+          (λ e. let tails : new_address ≡ address_of d = cc in not_in_itself (same_address_path (m ∷ d) d tails))
+          ∙ asked_listing accounts l.category f l.naming.number d
+          ∙ ap (listing_object accounts l.category (spelling (directory_of f.files l.naming.number d)))
+          (sym (got_else d (λ e. not_in_itself (sym e))))
 
       booted : (a : Address Step) (q : ℕ) → boot_number (length accounts.users) a ≡ Some q → naming.number a ≡ Some q
-      booted a q is = st.elsewhere a (λ e. none-some q (ap (boot_number (length accounts.users)) e ∙ is)) (λ e. none-some q (ap (boot_number (length accounts.users)) e ∙ is)) ∙ l.as_booted a q is
+      booted a q is =
+          st.elsewhere a (λ e. none-some q (ap (boot_number (length accounts.users)) e ∙ is))
+          (λ e. none-some q (ap (boot_number (length accounts.users)) e ∙ is)) ∙ l.as_booted a q is
 
       module _ (target : Target) (leads : target_for naming.number (m ∷ d, made) ≡ Some target) where
         -- the parent directory with one entry more
@@ -186,13 +224,18 @@ module _ (accounts : Accounts) (s : State) (f : Flat) (l : ObjectsMatch accounts
         pub directory_grown : directory_of after.files naming.number d ≡ grown
         directory_grown = map.same_map nat_list_cmp_total antisymmetric _ _ (λ n.
             get_directory after.files naming.number d n ∙ at_name n
-            ∙ sym (map.get-insert nat_list_cmp_total (directory_of f.files l.naming.number d) m target n ∙ ap (cond (eq_by_cmp by_bytes n m) (Some target)) (get_directory f.files l.naming.number d n)
+            ∙ sym
+            (map.get-insert nat_list_cmp_total (directory_of f.files l.naming.number d) m target n
+            ∙ ap (cond (eq_by_cmp by_bytes n m) (Some target)) (get_directory f.files l.naming.number d n)
             ∙ ap (λ b. cond b (Some target) (leads_at f.files l.naming.number (n ∷ d))) (sym (texts_ties n m))))
           where
-            at_name : (n : Name) → leads_at after.files naming.number (n ∷ d) ≡ cond (same_name n m) (Some target) (leads_at f.files l.naming.number (n ∷ d))
+            at_name : (n : Name)
+                → leads_at after.files naming.number (n ∷ d)
+                ≡ cond (same_name n m) (Some target) (leads_at f.files l.naming.number (n ∷ d))
             at_name n = elim (same_name_found n m) [
               | inl e ↦
-                  ap (λ (x : Name). leads_at after.files naming.number (x ∷ d)) e.1 ∙ ap (option_and_then (λ (there : Node). target_for naming.number (m ∷ d, there))) got_new ∙ leads
+                  ap (λ (x : Name). leads_at after.files naming.number (x ∷ d)) e.1
+                  ∙ ap (option_and_then (λ (there : Node). target_for naming.number (m ∷ d, there))) got_new ∙ leads
                   ∙ sym (ap (λ b. cond b (Some target) (leads_at f.files l.naming.number (n ∷ d))) e.0)
               | inr e ↦
                   sym (leads_else (n ∷ d) (λ i. let heads : n ≡ m = cc in e.1 heads))
@@ -201,19 +244,31 @@ module _ (accounts : Accounts) (s : State) (f : Flat) (l : ObjectsMatch accounts
 
         -- The kernel has the objects of the flat state with what was made.
         pub matched_made : IsTrue (is_name m) → IsTarget target → is_dir_at f d ≡ true → length (entries_in f d) < most_entries
-            → (later : ObjectsMatch accounts (with_segment_bytes mid N (spelling grown)) after) × (later.naming ≡ naming) × (later.category ≡ l.category)
-        matched_made name goal dir room = subst (λ (x : Entries). (later : ObjectsMatch accounts (with_segment_bytes mid N (spelling x)) after) × (later.naming ≡ naming) × (later.category ≡ l.category)) directory_grown
-            (matched_listed accounts s f l after.files all_fit mid naming asked st.agrees st.numbered d N (number_listing d (λ e. not_in_itself (sym e)) ∙ at_listing)
+            → (later : ObjectsMatch accounts (with_segment_bytes mid N (spelling grown)) after)
+            × (later.naming ≡ naming) × (later.category ≡ l.category)
+        matched_made name goal dir room =
+            subst (λ (x : Entries). (later : ObjectsMatch accounts (with_segment_bytes mid N (spelling x)) after)
+            × (later.naming ≡ naming) × (later.category ≡ l.category)) directory_grown
+            (matched_listed accounts s f l after.files all_fit mid naming asked st.agrees st.numbered d N
+            (number_listing d (λ e. not_in_itself (sym e)) ∙ at_listing)
             (spelling (directory_of f.files l.naming.number d)) asked_here asked_else booted listable st.same_next st.gone)
           where
             fuller : IsListable grown
-            fuller = listable_insert (directory_of f.files l.naming.number d) m target (l.listable d dir) (omega (arith, room, count_entries d)) (name, goal)
+            fuller =
+                listable_insert (directory_of f.files l.naming.number d) m target (l.listable d dir)
+                (omega (arith, room, count_entries d)) (name, goal)
 
             listable : (e : Path) → is_dir_at after e ≡ true → IsListable (directory_of after.files naming.number e)
             listable e is = elim (same_path_found d e) [
-              | inl t ↦ subst (λ (z : Path). IsListable (directory_of after.files naming.number z)) t.1 (subst IsListable (sym directory_grown) fuller)
+              | inl t ↦
+                  subst (λ (z : Path). IsListable (directory_of after.files naming.number z)) t.1
+                  (subst IsListable (sym directory_grown) fuller)
               | inr t ↦ elim (same_path_found e (m ∷ d)) [
-                | inl u ↦ subst (λ (z : Path). IsListable (directory_of after.files naming.number z)) (sym u.1) (subst IsListable (sym directory_new) listable_empty)
-                | inr u ↦ subst IsListable (directory_else e t.1) (l.listable e (ap (λ (o : Option Node). is_some_and o is_dir) (sym (got_else e u.1)) ∙ is))
+                | inl u ↦
+                    subst (λ (z : Path). IsListable (directory_of after.files naming.number z)) (sym u.1)
+                    (subst IsListable (sym directory_new) listable_empty)
+                | inr u ↦
+                    subst IsListable (directory_else e t.1)
+                    (l.listable e (ap (λ (o : Option Node). is_some_and o is_dir) (sym (got_else e u.1)) ∙ is))
               ]
             ]

@@ -1,5 +1,6 @@
 -- The moves of a kernel over objects that stand at addresses: one is added, one is changed, a tree is cut off.
-use Rattle.std.proofs.Common.{◌≡◌, ◌≢◌, ℕ, ◌+◌, ◌<◌, Bool, true, false, List, ◌∷◌, Option, None, Some, inl, inr, arith, refl, sym, ap, ◌∙◌, subst, if◌then◌else◌}
+use Rattle.std.proofs.Common.{◌≡◌, ◌≢◌, ℕ, ◌+◌, ◌<◌, Bool, true, false, List, ◌∷◌, Option, None, Some, inl, inr, arith, refl, sym, ap, ◌∙◌, subst}
+use Rattle.std.proofs.Common.{if◌then◌else◌}
 use Rattle.std.specs.Prelude.{is_some, option_map, option_and_then}
 use Rattle.std.specs.FinSet as set
 use Rattle.std.proofs.lemmas.Bool.{cases_lt}
@@ -10,13 +11,16 @@ use Rattle.histar_label.specs.Levels.{Levels}
 use Rattle.histar_object.specs.declared.objects.Kind.{Kind}
 use Rattle.histar_object.specs.declared.objects.Kind.TheVariants.{Segment, Container, Thread, Gate}
 use Rattle.histar_object.specs.declared.objects.Object.{Object}
-use Rattle.histar_object.specs.Objects.{Objects, changed_at, linking, kind_linking, unlinking, kind_unlinking, holding, kind_holding, kind_links, is_present, is_container, kind_is_container}
+use Rattle.histar_object.specs.Objects.{Objects, changed_at, linking, kind_linking, unlinking, kind_unlinking, holding, kind_holding, kind_links}
+use Rattle.histar_object.specs.Objects.{is_present, is_container, kind_is_container}
 use Rattle.histar_object.specs.State.{State, Found, with_object}
 use Rattle.histar_container.specs.ObjectsModel.{CutsOff}
-use Rattle.histar_container.specs.Tree.{Address, Naming, with_number, without_below, under, is_under, set_at, cut, same_steps, MatchesNaming, objects_at}
+use Rattle.histar_container.specs.Tree.{Address, Naming, with_number, without_below, under, is_under, set_at, cut, same_steps, MatchesNaming}
+use Rattle.histar_container.specs.Tree.{objects_at}
 use Rattle.histar_container.proofs.Addresses.{TestsEquality, same_tests_equality, same_itself, same_other}
 use Rattle.histar_container.proofs.Reaching.{not_reached}
-use Rattle.histar_container.proofs.TableMoves.{changed_here, changed_other, new_there, new_holder, new_other, matched_new, matched_changed, matched_without}
+use Rattle.histar_container.proofs.TableMoves.{changed_here, changed_other, new_there, new_holder, new_other, matched_new, matched_changed}
+use Rattle.histar_container.proofs.TableMoves.{matched_without}
 use Rattle.histar_container.proofs.Trees.{matched_itself}
 use Rattle.histar_refinement.specs.Agrees.{kind_bare, bare, Agrees}
 
@@ -64,10 +68,13 @@ bare_container_there (Some o) = by o.kind
     by (Gate clearance entry) = refl
 
 -- an object that is no container is what it is but for its links
-bare_kind : (label : Levels) (k : Kind Levels) (o : Object Levels) → kind_is_container o.kind ≡ false → Some (record { label = label; kind = kind_bare k }) ≡ Some o → Some (record { label = label; kind = k }) ≡ Some o
+bare_kind : (label : Levels) (k : Kind Levels) (o : Object Levels) → kind_is_container o.kind ≡ false
+    → Some (record { label = label; kind = kind_bare k }) ≡ Some o → Some (record { label = label; kind = k }) ≡ Some o
 bare_kind label (Segment bytes) o other e = e
 bare_kind label (Container links) o other e =
-    let is : true ≡ false = ap (λ (x : Object Levels). kind_is_container x.kind) (same_Some (record { label = label; kind = Container set.empty }) o e) ∙ other in
+    let is : true ≡ false =
+    ap (λ (x : Object Levels). kind_is_container x.kind)
+    (same_Some (record { label = label; kind = Container set.empty }) o e) ∙ other in
     absurd (true≢false is)
 bare_kind label (Thread clearance) o other e = e
 bare_kind label (Gate clearance entry) o other e = e
@@ -85,7 +92,8 @@ pub not_some : (x : Option ℕ) → is_some x ≡ false → x ≡ None
 not_some None e = refl
 not_some (Some x) e = absurd (true≢false e)
 
-module _ {X : Type 0} (same_step : X → X → Bool) (decides : TestsEquality same_step) (s : State) (naming : Naming X) (asked : Address X → Found) (agrees : Agrees same_step s naming asked) where
+module _ {X : Type 0} (same_step : X → X → Bool) (decides : TestsEquality same_step) (s : State) (naming : Naming X)
+    (asked : Address X → Found) (agrees : Agrees same_step s naming asked) where
   -- a number that an address has is below the next one
   pub number_below : (a : Address X) (q : ℕ) → naming.number a ≡ Some q → q < s.next_object
   number_below a q is = elim (cases_lt q s.next_object) [
@@ -106,7 +114,9 @@ module _ {X : Type 0} (same_step : X → X → Bool) (decides : TestsEquality sa
   no_number a e = not_some (naming.number a) (agrees.named a ∙ e)
 
   -- what stands at an address is as before, where the object of its number is
-  same_found : (new : Objects Levels) (b : Address X) → ((k : ℕ) → naming.number b ≡ Some k → bare (new k) ≡ bare (s.objects k)) → bare (option_and_then new (naming.number b)) ≡ asked b
+  same_found : (new : Objects Levels) (b : Address X)
+      → ((k : ℕ) → naming.number b ≡ Some k → bare (new k) ≡ bare (s.objects k))
+      → bare (option_and_then new (naming.number b)) ≡ asked b
   same_found new b same_at = by (naming.number b) refl ∙ agrees.objects b
     where
       by : (k : Option ℕ) → naming.number b ≡ k → bare (option_and_then new k) ≡ bare (option_and_then s.objects k)
@@ -134,8 +144,13 @@ module _ {X : Type 0} (same_step : X → X → Bool) (decides : TestsEquality sa
       | inr e ↦
           ap (λ (t : Bool). bare (option_and_then (with_object s d o).objects (if t then Some s.next_object else naming.number b))) e.0
           ∙ same_found (with_object s d o).objects b (λ k is. elim (eqb_tells k d) [
-            | inl same_k ↦ ap (λ (q : ℕ). bare ((with_object s d o).objects q)) same_k.1 ∙ ap bare (new_holder s.objects s.next_object d o apart) ∙ bare_linked s.next_object (s.objects d) ∙ ap (λ (q : ℕ). bare (s.objects q)) (sym same_k.1)
-            | inr other ↦ ap bare (new_other s.objects s.next_object d o k (λ new. let below = number_below b k is in absurd (omega (arith, below, new))) other.1)
+            | inl same_k ↦
+                ap (λ (q : ℕ). bare ((with_object s d o).objects q)) same_k.1
+                ∙ ap bare (new_holder s.objects s.next_object d o apart) ∙ bare_linked s.next_object (s.objects d)
+                ∙ ap (λ (q : ℕ). bare (s.objects q)) (sym same_k.1)
+            | inr other ↦
+                ap bare (new_other s.objects s.next_object d o k
+                (λ new. let below = number_below b k is in absurd (omega (arith, below, new))) other.1)
           ])
           ∙ sym (ap (λ (t : Bool). if t then bare (Some o) else asked b) e.0)
     ]
@@ -150,7 +165,8 @@ module _ {X : Type 0} (same_step : X → X → Bool) (decides : TestsEquality sa
     pub agrees_added : Agrees same_step (with_object s d o) grown_naming (set_at same_step asked (x ∷ a) (bare (Some o)))
     agrees_added = record {
       tree = matched_itself same_step (with_object s d o).objects (s.next_object + 1) _ grown_naming
-          (matched_new same_step decides s.objects s.next_object (objects_at s.objects naming) naming agrees.tree d a x o (agrees.tree.addressed a d at_d) (no_number (x ∷ a) free) is_holder leaf);
+          (matched_new same_step decides s.objects s.next_object (objects_at s.objects naming) naming agrees.tree d a
+          x o (agrees.tree.addressed a d at_d) (no_number (x ∷ a) free) is_holder leaf);
       objects = added_objects;
       named = added_named;
     }
@@ -164,7 +180,8 @@ module _ {X : Type 0} (same_step : X → X → Bool) (decides : TestsEquality sa
 
   -- An object is changed, but for its links.
   module _ (q : ℕ) (a : Address X) (change : Object Levels → Object Levels) (at_q : naming.number a ≡ Some q)
-      (same_links : (o : Object Levels) → kind_links (change o).kind ≡ kind_links o.kind) (bared : (o : Found) → bare (option_map change o) ≡ option_map change (bare o)) where
+      (same_links : (o : Object Levels) → kind_links (change o).kind ≡ kind_links o.kind)
+      (bared : (o : Found) → bare (option_map change o) ≡ option_map change (bare o)) where
     abbrev pub changed_state : State
     changed_state = record { objects = changed_at s.objects q change; next_object = s.next_object; next_category = s.next_category }
 
@@ -175,26 +192,32 @@ module _ {X : Type 0} (same_step : X → X → Bool) (decides : TestsEquality sa
           ∙ ap bare (changed_here s.objects q change) ∙ bared (s.objects q) ∙ ap (option_map change) (at_number a q at_q)
           ∙ sym (ap (λ (t : Bool). if t then option_map change (asked a) else asked b) e.0)
       | inr e ↦
-          same_found changed_state.objects b (λ k is. ap bare (changed_other s.objects q change k (λ same_k. e.1 (one_address a b q at_q (is ∙ ap Some same_k)))))
+          same_found changed_state.objects b (λ k is. ap bare
+          (changed_other s.objects q change k (λ same_k. e.1 (one_address a b q at_q (is ∙ ap Some same_k)))))
           ∙ sym (ap (λ (t : Bool). if t then option_map change (asked a) else asked b) e.0)
     ]
 
     changed_named : (b : Address X) → is_some (naming.number b) ≡ is_present (set_at same_step asked a (option_map change (asked a)) b)
     changed_named b = elim (same_tests_equality same_step decides a b) [
-      | inl e ↦ ap (λ (y : Address X). is_some (naming.number y)) (sym e.1) ∙ agrees.named a ∙ sym (there_mapped change (asked a)) ∙ sym (ap (λ (t : Bool). is_present (if t then option_map change (asked a) else asked b)) e.0)
+      | inl e ↦
+          ap (λ (y : Address X). is_some (naming.number y)) (sym e.1) ∙ agrees.named a
+          ∙ sym (there_mapped change (asked a))
+          ∙ sym (ap (λ (t : Bool). is_present (if t then option_map change (asked a) else asked b)) e.0)
       | inr e ↦ agrees.named b ∙ sym (ap (λ (t : Bool). is_present (if t then option_map change (asked a) else asked b)) e.0)
     ]
 
     pub agrees_changed : Agrees same_step changed_state naming (set_at same_step asked a (option_map change (asked a)))
     agrees_changed = record {
       tree = matched_itself same_step changed_state.objects s.next_object _ naming
-          (matched_changed same_step decides s.objects s.next_object (objects_at s.objects naming) naming agrees.tree q a change (agrees.tree.addressed a q at_q) same_links);
+          (matched_changed same_step decides s.objects s.next_object (objects_at s.objects naming) naming agrees.tree
+          q a change (agrees.tree.addressed a q at_q) same_links);
       objects = changed_objects;
       named = changed_named;
     }
 
   -- What the container d links one step below it is taken away with all below it.
-  module _ (new : State) (d o : ℕ) (a : Address X) (x : X) (cuts : CutsOff s d o new) (at_o : naming.number (x ∷ a) ≡ Some o) (at_d : naming.number a ≡ Some d) where
+  module _ (new : State) (d o : ℕ) (a : Address X) (x : X) (cuts : CutsOff s d o new)
+      (at_o : naming.number (x ∷ a) ≡ Some o) (at_d : naming.number a ≡ Some d) where
     abbrev pub left_naming : Naming X
     left_naming = without_below same_step naming (x ∷ a)
 
@@ -203,15 +226,20 @@ module _ {X : Type 0} (same_step : X → X → Bool) (decides : TestsEquality sa
 
     left_object : (b : Address X) (k : ℕ) → under same_step (x ∷ a) b ≡ false → naming.number b ≡ Some k → bare (new.objects k) ≡ bare (s.objects k)
     left_object b k outside is = elim (eqb_tells k d) [
-      | inl e ↦ ap (λ (q : ℕ). bare (new.objects q)) e.1 ∙ ap bare cuts.is_cut.unlinked ∙ bare_unlinked o (s.objects d) ∙ ap (λ (q : ℕ). bare (s.objects q)) (sym e.1)
-      | inr e ↦ ap bare (cuts.is_cut.stays k (not_reached same_step decides s.objects s.next_object (objects_at s.objects naming) naming agrees.tree o (x ∷ a) address_o k
+      | inl e ↦
+          ap (λ (q : ℕ). bare (new.objects q)) e.1 ∙ ap bare cuts.is_cut.unlinked ∙ bare_unlinked o (s.objects d)
+          ∙ ap (λ (q : ℕ). bare (s.objects q)) (sym e.1)
+      | inr e ↦ ap bare
+          (cuts.is_cut.stays k
+          (not_reached same_step decides s.objects s.next_object (objects_at s.objects naming) naming agrees.tree o (x ∷ a) address_o k
           (ap (is_under same_step (x ∷ a)) (agrees.tree.addressed b k is) ∙ outside)) e.1)
     ]
 
     left_objects : (b : Address X) → bare (objects_at new.objects left_naming b) ≡ cut same_step asked (x ∷ a) b
     left_objects b = by (under same_step (x ∷ a) b) refl
       where
-        by : (t : Bool) → under same_step (x ∷ a) b ≡ t → bare (option_and_then new.objects (if t then None else naming.number b)) ≡ (if t then None else asked b)
+        by : (t : Bool) → under same_step (x ∷ a) b ≡ t
+            → bare (option_and_then new.objects (if t then None else naming.number b)) ≡ (if t then None else asked b)
         by true e = refl
         by false e = same_found new.objects b (λ k is. left_object b k e is)
 
@@ -226,14 +254,17 @@ module _ {X : Type 0} (same_step : X → X → Bool) (decides : TestsEquality sa
     agrees_cut = record {
       tree = subst (λ (next : ℕ). MatchesNaming same_step new.objects next (objects_at new.objects left_naming) left_naming) (sym cuts.next_object)
           (matched_itself same_step new.objects s.next_object _ left_naming
-          (matched_without same_step decides s.objects s.next_object (objects_at s.objects naming) naming agrees.tree new.objects d o a x cuts.is_cut address_o (agrees.tree.addressed a d at_d)));
+          (matched_without same_step decides s.objects s.next_object (objects_at s.objects naming) naming agrees.tree
+          new.objects d o a x cuts.is_cut address_o (agrees.tree.addressed a d at_d)));
       objects = left_objects;
       named = left_named;
     }
 
 -- the same is asked for everywhere, and the state has the same objects and the same next number
-pub agrees_same : {X : Type 0} (same_step : X → X → Bool) (s new : State) (naming : Naming X) (asked other : Address X → Found) → Agrees same_step s naming asked
-    → ((a : Address X) → asked a ≡ other a) → ((q : ℕ) → new.objects q ≡ s.objects q) → new.next_object ≡ s.next_object → Agrees same_step new naming other
+pub agrees_same : {X : Type 0} (same_step : X → X → Bool) (s new : State) (naming : Naming X)
+    (asked other : Address X → Found) → Agrees same_step s naming asked
+    → ((a : Address X) → asked a ≡ other a) → ((q : ℕ) → new.objects q ≡ s.objects q) → new.next_object ≡ s.next_object
+    → Agrees same_step new naming other
 agrees_same same_step s new naming asked other agrees alike same_objects same_next =
     let objects : s.objects ≡ new.objects = λ i q. sym (same_objects q) i in
     record {
@@ -244,7 +275,8 @@ agrees_same same_step s new naming asked other agrees alike same_objects same_ne
     }
 
 -- where nothing stands under a number, the number has no address
-pub no_address : {X : Type 0} (same_step : X → X → Bool) (s : State) (naming : Naming X) (asked : Address X → Found) → Agrees same_step s naming asked → (q : ℕ) → s.objects q ≡ None → naming.address q ≡ None
+pub no_address : {X : Type 0} (same_step : X → X → Bool) (s : State) (naming : Naming X) (asked : Address X → Found)
+    → Agrees same_step s naming asked → (q : ℕ) → s.objects q ≡ None → naming.address q ≡ None
 no_address {X} same_step s naming asked agrees q e = by (naming.address q) refl
   where
     by : (o : Option (Address X)) → naming.address q ≡ o → o ≡ None

@@ -12,7 +12,8 @@ use Rattle.histar_label.specs.Level.{rank}
 use Rattle.histar_label.specs.declared.levels.Level.TheVariants.{L0, L1, L3}
 use Rattle.histar_label.specs.Levels.{Levels, level_of}
 use Rattle.histar_refinement.specs.Categories.{CategoryName, Categories, AreDifferent, same_category, among}
-use Rattle.histar_refinement.specs.Categories.CategoryName.{OfBoot, ReadsUser, WritesUser, ReadsGroup, WritesGroup, ReadsProcess, WritesProcess, OfJob}
+use Rattle.histar_refinement.specs.Categories.CategoryName.{OfBoot, ReadsUser, WritesUser, ReadsGroup, WritesGroup, ReadsProcess, WritesProcess}
+use Rattle.histar_refinement.specs.Categories.CategoryName.{OfJob}
 use Rattle.histar_refinement.specs.Guards.{Guard, guard_label}
 use Rattle.histar_refinement.specs.Labels.{class_guard, private_guard, readable_guard, scratch_guard, group_guard, open_guard}
 use Rattle.histar_refinement.specs.Represents.{IsInOrder}
@@ -57,8 +58,12 @@ module _ (category : Categories) (different : AreDifferent category) where
   guards_alike : (a b : Guard) → IsApart a → IsApart b → guard_label category a ≡ guard_label category b → AreAlike a b
   guards_alike a b apart_a apart_b e = record { secret = λ c. (both c).0; written = λ c. (both c).1 }
     where
-      level_for : (g : Guard) (c : CategoryName) → level_of (guard_label category g) (category c) ≡ guarded_level (among g.secret c) (among g.written c)
-      level_for g c = at_guarded (map category g.secret) (map category g.written) (category c) ∙ (λ i. guarded_level (is_in_names category different g.secret c i) (is_in_names category different g.written c i))
+      level_for : (g : Guard) (c : CategoryName)
+          → level_of (guard_label category g) (category c) ≡ guarded_level (among g.secret c) (among g.written c)
+      level_for g c =
+          at_guarded (map category g.secret) (map category g.written) (category c)
+          ∙ (λ i. guarded_level (is_in_names category different g.secret c i)
+          (is_in_names category different g.written c i))
 
       both : (c : CategoryName) → (among a.secret c ≡ among b.secret c) × (among a.written c ≡ among b.written c)
       both c = revealed_both (among a.secret c) (among b.secret c) (among a.written c) (among b.written c) (apart_a c) (apart_b c)
@@ -71,23 +76,28 @@ data View (accounts : Accounts) (c : Class) (g : Guard) : Type 0 where
   ViewPrivate : (name : Name) (i : ℕ) → user_number accounts name ≡ Some i → c ≡ Private name → g ≡ private_guard i → View accounts c g
   ViewReadable : (name : Name) (i : ℕ) → user_number accounts name ≡ Some i → c ≡ Readable name → g ≡ readable_guard i → View accounts c g
   ViewOpen : c ≡ Open → g ≡ open_guard → View accounts c g
-  ViewScratch : (name : Name) (jobs : List ProcName) (i : ℕ) → user_number accounts name ≡ Some i → c ≡ Scratch name jobs → g ≡ scratch_guard jobs i → View accounts c g
+  ViewScratch : (name : Name) (jobs : List ProcName) (i : ℕ) → user_number accounts name ≡ Some i
+      → c ≡ Scratch name jobs → g ≡ scratch_guard jobs i → View accounts c g
   ViewGroup : (name : Name) (k : ℕ) → group_number accounts name ≡ Some k → c ≡ Grouped name → g ≡ group_guard k → View accounts c g
 
 view : (accounts : Accounts) (c : Class) (g : Guard) → class_guard accounts c ≡ Some g → View accounts c g
 view accounts (Private name) g e = let at = mapped_from private_guard (user_number accounts name) g e in ViewPrivate name at.0 at.1 refl (sym at.2)
 view accounts (Readable name) g e = let at = mapped_from readable_guard (user_number accounts name) g e in ViewReadable name at.0 at.1 refl (sym at.2)
 view accounts Open g e = ViewOpen refl (sym (same_Some open_guard g e))
-view accounts (Scratch name jobs) g e = let at = mapped_from (scratch_guard jobs) (user_number accounts name) g e in ViewScratch name jobs at.0 at.1 refl (sym at.2)
+view accounts (Scratch name jobs) g e =
+    let at = mapped_from (scratch_guard jobs) (user_number accounts name) g e in ViewScratch name jobs at.0 at.1 refl
+    (sym at.2)
 view accounts (Grouped name) g e = let at = mapped_from group_guard (group_number accounts name) g e in ViewGroup name at.0 at.1 refl (sym at.2)
 
 -- what is secret is not written
 class_apart : (accounts : Accounts) (c : Class) (g : Guard) → View accounts c g → IsApart g
-class_apart accounts c g (ViewPrivate name i numbered is like) = subst IsApart (sym like) (λ d e. ap (among (WritesUser i ∷ [])) (revealed_one (ReadsUser i) d e))
+class_apart accounts c g (ViewPrivate name i numbered is like) =
+    subst IsApart (sym like) (λ d e. ap (among (WritesUser i ∷ [])) (revealed_one (ReadsUser i) d e))
 class_apart accounts c g (ViewReadable name i numbered is like) = subst IsApart (sym like) (λ d e. absurd (true≢false (sym e)))
 class_apart accounts c g (ViewOpen is like) = subst IsApart (sym like) (λ d e. refl)
 class_apart accounts c g (ViewScratch name jobs i numbered is like) = subst IsApart (sym like) (λ d e. refl)
-class_apart accounts c g (ViewGroup name k numbered is like) = subst IsApart (sym like) (λ d e. ap (among (WritesGroup k ∷ [])) (revealed_one (ReadsGroup k) d e))
+class_apart accounts c g (ViewGroup name k numbered is like) =
+    subst IsApart (sym like) (λ d e. ap (among (WritesGroup k ∷ [])) (revealed_one (ReadsGroup k) d e))
 
 -- the numbers that names tell
 number_of : CategoryName → ℕ
@@ -123,45 +133,77 @@ module _ (accounts : Accounts) (category : Categories) (different : AreDifferent
   one_view : (c e : Class) (a b : Guard) → View accounts c a → View accounts e b → AreAlike a b → IsInOrder category c → IsInOrder category e → c ≡ e
   unfolding number_of
   one_view c e a b (ViewPrivate n i x is like) (ViewPrivate m j y it at) alike order_c order_e =
-      let number : i ≡ j = ap number_of (revealed_one (ReadsUser j) (ReadsUser i) (sym ((sets like at alike).secret (ReadsUser i)) ∙ at_head (ReadsUser i) [])) in
+      let number : i ≡ j =
+      ap number_of (revealed_one (ReadsUser j) (ReadsUser i)
+      (sym ((sets like at alike).secret (ReadsUser i)) ∙ at_head (ReadsUser i) [])) in
       is ∙ ap Private (one_user accounts n m j (x ∙ ap Some number) y) ∙ sym it
-  one_view c e a b (ViewPrivate n i x is like) (ViewReadable m j y it at) alike order_c order_e = absurd (clash ((sets like at alike).secret (ReadsUser i)) (at_head (ReadsUser i) []) refl)
-  one_view c e a b (ViewPrivate n i x is like) (ViewOpen it at) alike order_c order_e = absurd (clash ((sets like at alike).secret (ReadsUser i)) (at_head (ReadsUser i) []) refl)
-  one_view c e a b (ViewPrivate n i x is like) (ViewScratch m others j y it at) alike order_c order_e = absurd (clash ((sets like at alike).written (WritesUser i)) (at_head (WritesUser i) []) refl)
-  one_view c e a b (ViewPrivate n i x is like) (ViewGroup m j y it at) alike order_c order_e = absurd (clash ((sets like at alike).secret (ReadsUser i)) (at_head (ReadsUser i) []) refl)
-  one_view c e a b (ViewReadable n i x is like) (ViewPrivate m j y it at) alike order_c order_e = absurd (clash (sym ((sets like at alike).secret (ReadsUser j))) (at_head (ReadsUser j) []) refl)
+  one_view c e a b (ViewPrivate n i x is like) (ViewReadable m j y it at) alike order_c order_e =
+      absurd (clash ((sets like at alike).secret (ReadsUser i)) (at_head (ReadsUser i) []) refl)
+  one_view c e a b (ViewPrivate n i x is like) (ViewOpen it at) alike order_c order_e =
+      absurd (clash ((sets like at alike).secret (ReadsUser i)) (at_head (ReadsUser i) []) refl)
+  one_view c e a b (ViewPrivate n i x is like) (ViewScratch m others j y it at) alike order_c order_e =
+      absurd (clash ((sets like at alike).written (WritesUser i)) (at_head (WritesUser i) []) refl)
+  one_view c e a b (ViewPrivate n i x is like) (ViewGroup m j y it at) alike order_c order_e =
+      absurd (clash ((sets like at alike).secret (ReadsUser i)) (at_head (ReadsUser i) []) refl)
+  one_view c e a b (ViewReadable n i x is like) (ViewPrivate m j y it at) alike order_c order_e =
+      absurd (clash (sym ((sets like at alike).secret (ReadsUser j))) (at_head (ReadsUser j) []) refl)
   one_view c e a b (ViewReadable n i x is like) (ViewReadable m j y it at) alike order_c order_e =
-      let number : i ≡ j = ap number_of (revealed_one (WritesUser j) (WritesUser i) (sym ((sets like at alike).written (WritesUser i)) ∙ at_head (WritesUser i) [])) in
+      let number : i ≡ j =
+      ap number_of (revealed_one (WritesUser j) (WritesUser i)
+      (sym ((sets like at alike).written (WritesUser i)) ∙ at_head (WritesUser i) [])) in
       is ∙ ap Readable (one_user accounts n m j (x ∙ ap Some number) y) ∙ sym it
-  one_view c e a b (ViewReadable n i x is like) (ViewOpen it at) alike order_c order_e = absurd (clash ((sets like at alike).written (WritesUser i)) (at_head (WritesUser i) []) refl)
-  one_view c e a b (ViewReadable n i x is like) (ViewScratch m others j y it at) alike order_c order_e = absurd (clash ((sets like at alike).written (WritesUser i)) (at_head (WritesUser i) []) refl)
-  one_view c e a b (ViewReadable n i x is like) (ViewGroup m j y it at) alike order_c order_e = absurd (clash ((sets like at alike).written (WritesUser i)) (at_head (WritesUser i) []) refl)
-  one_view c e a b (ViewOpen is like) (ViewPrivate m j y it at) alike order_c order_e = absurd (clash (sym ((sets like at alike).secret (ReadsUser j))) (at_head (ReadsUser j) []) refl)
-  one_view c e a b (ViewOpen is like) (ViewReadable m j y it at) alike order_c order_e = absurd (clash (sym ((sets like at alike).written (WritesUser j))) (at_head (WritesUser j) []) refl)
+  one_view c e a b (ViewReadable n i x is like) (ViewOpen it at) alike order_c order_e =
+      absurd (clash ((sets like at alike).written (WritesUser i)) (at_head (WritesUser i) []) refl)
+  one_view c e a b (ViewReadable n i x is like) (ViewScratch m others j y it at) alike order_c order_e =
+      absurd (clash ((sets like at alike).written (WritesUser i)) (at_head (WritesUser i) []) refl)
+  one_view c e a b (ViewReadable n i x is like) (ViewGroup m j y it at) alike order_c order_e =
+      absurd (clash ((sets like at alike).written (WritesUser i)) (at_head (WritesUser i) []) refl)
+  one_view c e a b (ViewOpen is like) (ViewPrivate m j y it at) alike order_c order_e =
+      absurd (clash (sym ((sets like at alike).secret (ReadsUser j))) (at_head (ReadsUser j) []) refl)
+  one_view c e a b (ViewOpen is like) (ViewReadable m j y it at) alike order_c order_e =
+      absurd (clash (sym ((sets like at alike).written (WritesUser j))) (at_head (WritesUser j) []) refl)
   one_view c e a b (ViewOpen is like) (ViewOpen it at) alike order_c order_e = is ∙ sym it
-  one_view c e a b (ViewOpen is like) (ViewScratch m others j y it at) alike order_c order_e = absurd (clash (sym ((sets like at alike).secret (ReadsUser j))) (at_head (ReadsUser j) (map OfJob others)) refl)
-  one_view c e a b (ViewOpen is like) (ViewGroup m j y it at) alike order_c order_e = absurd (clash (sym ((sets like at alike).secret (ReadsGroup j))) (at_head (ReadsGroup j) []) refl)
-  one_view c e a b (ViewScratch n jobs i x is like) (ViewPrivate m j y it at) alike order_c order_e = absurd (clash (sym ((sets like at alike).written (WritesUser j))) (at_head (WritesUser j) []) refl)
-  one_view c e a b (ViewScratch n jobs i x is like) (ViewReadable m j y it at) alike order_c order_e = absurd (clash (sym ((sets like at alike).written (WritesUser j))) (at_head (WritesUser j) []) refl)
-  one_view c e a b (ViewScratch n jobs i x is like) (ViewOpen it at) alike order_c order_e = absurd (clash ((sets like at alike).secret (ReadsUser i)) (at_head (ReadsUser i) (map OfJob jobs)) refl)
+  one_view c e a b (ViewOpen is like) (ViewScratch m others j y it at) alike order_c order_e =
+      absurd (clash (sym ((sets like at alike).secret (ReadsUser j))) (at_head (ReadsUser j) (map OfJob others)) refl)
+  one_view c e a b (ViewOpen is like) (ViewGroup m j y it at) alike order_c order_e =
+      absurd (clash (sym ((sets like at alike).secret (ReadsGroup j))) (at_head (ReadsGroup j) []) refl)
+  one_view c e a b (ViewScratch n jobs i x is like) (ViewPrivate m j y it at) alike order_c order_e =
+      absurd (clash (sym ((sets like at alike).written (WritesUser j))) (at_head (WritesUser j) []) refl)
+  one_view c e a b (ViewScratch n jobs i x is like) (ViewReadable m j y it at) alike order_c order_e =
+      absurd (clash (sym ((sets like at alike).written (WritesUser j))) (at_head (WritesUser j) []) refl)
+  one_view c e a b (ViewScratch n jobs i x is like) (ViewOpen it at) alike order_c order_e =
+      absurd (clash ((sets like at alike).secret (ReadsUser i)) (at_head (ReadsUser i) (map OfJob jobs)) refl)
   one_view c e a b (ViewScratch n jobs i x is like) (ViewScratch m others j y it at) alike order_c order_e =
       let same = sets like at alike in
       let number : i ≡ j = user_read others i j (sym (same.secret (ReadsUser i)) ∙ at_head (ReadsUser i) (map OfJob jobs)) in
       let name : n ≡ m = one_user accounts n m j (x ∙ ap Some number) y in
-      let list : jobs ≡ others = one_jobs category different jobs others (subst (IsInOrder category) is order_c) (subst (IsInOrder category) it order_e) (λ job. sym (among_jobs jobs job) ∙ same.secret (OfJob job) ∙ among_jobs others job) in
+      let list : jobs ≡ others =
+      one_jobs category different jobs others (subst (IsInOrder category) is order_c)
+      (subst (IsInOrder category) it order_e)
+      (λ job. sym (among_jobs jobs job) ∙ same.secret (OfJob job) ∙ among_jobs others job) in
       is ∙ (λ k. Scratch (name k) (list k)) ∙ sym it
-  one_view c e a b (ViewScratch n jobs i x is like) (ViewGroup m j y it at) alike order_c order_e = absurd (clash ((sets like at alike).secret (ReadsUser i)) (at_head (ReadsUser i) (map OfJob jobs)) refl)
-  one_view c e a b (ViewGroup n i x is like) (ViewPrivate m j y it at) alike order_c order_e = absurd (clash (sym ((sets like at alike).secret (ReadsUser j))) (at_head (ReadsUser j) []) refl)
-  one_view c e a b (ViewGroup n i x is like) (ViewReadable m j y it at) alike order_c order_e = absurd (clash (sym ((sets like at alike).written (WritesUser j))) (at_head (WritesUser j) []) refl)
-  one_view c e a b (ViewGroup n i x is like) (ViewOpen it at) alike order_c order_e = absurd (clash ((sets like at alike).secret (ReadsGroup i)) (at_head (ReadsGroup i) []) refl)
-  one_view c e a b (ViewGroup n i x is like) (ViewScratch m others j y it at) alike order_c order_e = absurd (clash (sym ((sets like at alike).secret (ReadsUser j))) (at_head (ReadsUser j) (map OfJob others)) refl)
+  one_view c e a b (ViewScratch n jobs i x is like) (ViewGroup m j y it at) alike order_c order_e =
+      absurd (clash ((sets like at alike).secret (ReadsUser i)) (at_head (ReadsUser i) (map OfJob jobs)) refl)
+  one_view c e a b (ViewGroup n i x is like) (ViewPrivate m j y it at) alike order_c order_e =
+      absurd (clash (sym ((sets like at alike).secret (ReadsUser j))) (at_head (ReadsUser j) []) refl)
+  one_view c e a b (ViewGroup n i x is like) (ViewReadable m j y it at) alike order_c order_e =
+      absurd (clash (sym ((sets like at alike).written (WritesUser j))) (at_head (WritesUser j) []) refl)
+  one_view c e a b (ViewGroup n i x is like) (ViewOpen it at) alike order_c order_e =
+      absurd (clash ((sets like at alike).secret (ReadsGroup i)) (at_head (ReadsGroup i) []) refl)
+  one_view c e a b (ViewGroup n i x is like) (ViewScratch m others j y it at) alike order_c order_e =
+      absurd (clash (sym ((sets like at alike).secret (ReadsUser j))) (at_head (ReadsUser j) (map OfJob others)) refl)
   one_view c e a b (ViewGroup n i x is like) (ViewGroup m j y it at) alike order_c order_e =
-      let number : i ≡ j = ap number_of (revealed_one (ReadsGroup j) (ReadsGroup i) (sym ((sets like at alike).secret (ReadsGroup i)) ∙ at_head (ReadsGroup i) [])) in
+      let number : i ≡ j =
+      ap number_of (revealed_one (ReadsGroup j) (ReadsGroup i)
+      (sym ((sets like at alike).secret (ReadsGroup i)) ∙ at_head (ReadsGroup i) [])) in
       is ∙ ap Grouped (one_group accounts n m j (x ∙ ap Some number) y) ∙ sym it
 
   -- The label of what is of a class tells the class.
-  pub one_class : (c e : Class) (a b : Guard) → class_guard accounts c ≡ Some a → class_guard accounts e ≡ Some b → guard_label category a ≡ guard_label category b → IsInOrder category c → IsInOrder category e → c ≡ e
+  pub one_class : (c e : Class) (a b : Guard) → class_guard accounts c ≡ Some a → class_guard accounts e ≡ Some b
+      → guard_label category a ≡ guard_label category b → IsInOrder category c → IsInOrder category e → c ≡ e
   one_class c e a b of_c of_e labels order_c order_e =
       let left = view accounts c a of_c in
       let right = view accounts e b of_e in
-      one_view c e a b left right (guards_alike category different a b (class_apart accounts c a left) (class_apart accounts e b right) labels) order_c order_e
+      one_view c e a b left right
+      (guards_alike category different a b (class_apart accounts c a left) (class_apart accounts e b right) labels)
+      order_c order_e

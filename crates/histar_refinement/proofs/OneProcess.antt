@@ -37,19 +37,27 @@ one_number (Some j) (Some k) alike =
     let same_one : j ≡ k = grind (arith, nat_tests, f) in
     ap (λ (x : ℕ). Some x) same_one
 
-module _ (accounts : Accounts) (category : Categories) (different : AreDifferent category) (me : ProcName) (p q : Process) (p_runs : p.exited ≡ None) (q_runs : q.exited ≡ None) (of_p : IsProcess accounts category p) (of_q : IsProcess accounts category q)
-    (guards : guard_label category (process_guard me p) ≡ guard_label category (process_guard me q)) (rights : rights_label category (thread_rights accounts me p) ≡ rights_label category (thread_rights accounts me q)) where
+module _ (accounts : Accounts) (category : Categories) (different : AreDifferent category) (me : ProcName)
+    (p q : Process) (p_runs : p.exited ≡ None) (q_runs : q.exited ≡ None) (of_p : IsProcess accounts category p)
+    (of_q : IsProcess accounts category q)
+    (guards : guard_label category (process_guard me p) ≡ guard_label category (process_guard me q))
+    (rights : rights_label category (thread_rights accounts me p)
+    ≡ rights_label category (thread_rights accounts me q)) where
   pub one_chain_then : p.chain ≡ q.chain
   one_chain_then = one_chain category different me p q of_p.chain of_q.chain guards
 
-  owned_alike : (c : CategoryName) → among (map OfJob p.chain) c ≡ false → among (map OfJob q.chain) c ≡ false → among (thread_rights accounts me p).owned c ≡ among (thread_rights accounts me q).owned c
+  owned_alike : (c : CategoryName) → among (map OfJob p.chain) c ≡ false → among (map OfJob q.chain) c ≡ false
+      → among (thread_rights accounts me p).owned c ≡ among (thread_rights accounts me q).owned c
   owned_alike c not_p not_q = revealed_owned (among (thread_rights accounts me p).owned c) (among (thread_rights accounts me q).owned c)
       (sym (level_for p not_p) ∙ ap (λ (l : Levels). level_of l (category c)) rights ∙ level_for q not_q)
     where
-      level_for : (x : Process) → among (map OfJob x.chain) c ≡ false → level_of (rights_label category (thread_rights accounts me x)) (category c) ≡ owning_level (among (thread_rights accounts me x).owned c) false
+      level_for : (x : Process) → among (map OfJob x.chain) c ≡ false
+          → level_of (rights_label category (thread_rights accounts me x)) (category c)
+          ≡ owning_level (among (thread_rights accounts me x).owned c) false
       level_for x none_there =
           at_owning (map category (thread_rights accounts me x).owned) (map category (map OfJob x.chain)) (category c)
-          ∙ (λ i. owning_level (is_in_names category different (thread_rights accounts me x).owned c i) ((is_in_names category different (map OfJob x.chain) c ∙ none_there) i))
+          ∙ (λ i. owning_level (is_in_names category different (thread_rights accounts me x).owned c i)
+          ((is_in_names category different (map OfJob x.chain) c ∙ none_there) i))
 
   held_alike : (job : ProcName) → has p.held job ≡ has q.held job
   held_alike job = by (has p.chain job) refl
@@ -58,7 +66,8 @@ module _ (accounts : Accounts) (category : Categories) (different : AreDifferent
       by true e = of_p.apart p_runs job e ∙ sym (of_q.apart q_runs job (ap (λ (jobs : List ProcName). has jobs job) (sym one_chain_then) ∙ e))
       by false e =
           sym (owns_job accounts me p job)
-          ∙ owned_alike (OfJob job) (among_jobs p.chain job ∙ e) (among_jobs q.chain job ∙ ap (λ (jobs : List ProcName). has jobs job) (sym one_chain_then) ∙ e)
+          ∙ owned_alike (OfJob job) (among_jobs p.chain job ∙ e)
+          (among_jobs q.chain job ∙ ap (λ (jobs : List ProcName). has jobs job) (sym one_chain_then) ∙ e)
           ∙ owns_job accounts me q job
 
   pub one_held : p.held ≡ q.held
@@ -66,7 +75,9 @@ module _ (accounts : Accounts) (category : Categories) (different : AreDifferent
 
   same_user_number : user_number accounts p.user ≡ user_number accounts q.user
   same_user_number = one_number (user_number accounts p.user) (user_number accounts q.user) (λ i.
-      sym (owns_read_of accounts me p i) ∙ owned_alike (ReadsUser i) (among_none OfJob (ReadsUser i) (λ job. refl) p.chain) (among_none OfJob (ReadsUser i) (λ job. refl) q.chain) ∙ owns_read_of accounts me q i)
+      sym (owns_read_of accounts me p i)
+      ∙ owned_alike (ReadsUser i) (among_none OfJob (ReadsUser i) (λ job. refl) p.chain)
+      (among_none OfJob (ReadsUser i) (λ job. refl) q.chain) ∙ owns_read_of accounts me q i)
 
   pub one_user : p.user ≡ q.user
   one_user = by (user_number accounts q.user) refl

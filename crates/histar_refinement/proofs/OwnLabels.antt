@@ -31,7 +31,9 @@ name_at (v ∷ users) zero u e = ap (λ (x : User). x.name) (same_Some v u e)
 name_at (v ∷ users) (suc k) u e = name_at users k u e
 
 -- A declared user, or nobody, has the name that its number tells.
-pub name_of_number : (accounts : Accounts) (name : Name) → (name ≡ nobody) ⊎ (is_some (user_number accounts name) ≡ true) → user_name accounts.users (or_zero (user_number accounts name)) ≡ name
+pub name_of_number : (accounts : Accounts) (name : Name)
+    → (name ≡ nobody) ⊎ (is_some (user_number accounts name) ≡ true)
+    → user_name accounts.users (or_zero (user_number accounts name)) ≡ name
 name_of_number accounts name known = by (user_number accounts name) refl known
   where
     by : (o : Option ℕ) → user_number accounts name ≡ o → (name ≡ nobody) ⊎ (is_some o ≡ true) → user_name accounts.users (or_zero o) ≡ name
@@ -44,22 +46,31 @@ name_of_number accounts name known = by (user_number accounts name) refl known
 
 module _ (accounts : Accounts) (category : Categories) (as_made : (c : CategoryName) (q : ℕ) → boot_category accounts c ≡ Some q → category c ≡ q)
     (p : Process) (named : user_name accounts.users (or_zero (user_number accounts p.user)) ≡ p.user) where
-  owned_by_number : (o : Option ℕ) → user_number accounts p.user ≡ o → map category (owned_as accounts p o) ≡ owned_by accounts (or_zero o) (is_free p)
+  owned_by_number : (o : Option ℕ) → user_number accounts p.user ≡ o
+      → map category (owned_as accounts p o) ≡ owned_by accounts (or_zero o) (is_free p)
   owned_by_number None is = refl
   owned_by_number (Some zero) is = absurd (omega (arith, (user_range accounts p.user 0 is).0))
   owned_by_number (Some (suc i)) is =
       owned_is accounts category as_made p.user (suc i) (user_range accounts p.user (suc i) is).1 (is_free p)
-      ∙ ap (λ (name : Name). categories_of (owners_of accounts (suc i) name) (is_free p)) (sym named ∙ ap (λ (o : Option ℕ). user_name accounts.users (or_zero o)) is)
+      ∙ ap (λ (name : Name). categories_of (owners_of accounts (suc i) name) (is_free p))
+      (sym named ∙ ap (λ (o : Option ℕ). user_name accounts.users (or_zero o)) is)
 
   -- What a process owns as its user has the numbers of what a process of this user owns.
-  pub owned_numbers : map category (owned_as accounts p (user_number accounts p.user)) ≡ owned_by accounts (or_zero (user_number accounts p.user)) (is_free p)
+  pub owned_numbers : map category (owned_as accounts p (user_number accounts p.user))
+      ≡ owned_by accounts (or_zero (user_number accounts p.user)) (is_free p)
   owned_numbers = owned_by_number (user_number accounts p.user) refl
 
 module _ (accounts : Accounts) (s : State) (f : Flat) (l : ObjectsMatch accounts s f) (me : ProcName) (p : Process) where
   -- The own label of the thread of a process tells the number of its user.
   pub own_user_is : user_of (rights_label l.category (thread_rights accounts me p)) (length accounts.users) ≡ or_zero (user_number accounts p.user)
-  own_user_is = user_is (rights_label l.category (thread_rights accounts me p)) (length accounts.users) (or_zero (user_number accounts p.user)) (user_of_thread accounts s f l me p)
+  own_user_is =
+      user_is (rights_label l.category (thread_rights accounts me p)) (length accounts.users)
+      (or_zero (user_number accounts p.user)) (user_of_thread accounts s f l me p)
 
   -- And it tells what the process owns as that user.
-  pub own_kin_is : user_name accounts.users (or_zero (user_number accounts p.user)) ≡ p.user → (kin_of accounts (rights_label l.category (thread_rights accounts me p))).owned ≡ map l.category (owned_as accounts p (user_number accounts p.user))
-  own_kin_is named = (λ i. owned_by accounts (own_user_is i) (none_if_free l.category accounts me p i)) ∙ sym (owned_numbers accounts l.category l.as_made p named)
+  pub own_kin_is : user_name accounts.users (or_zero (user_number accounts p.user)) ≡ p.user
+      → (kin_of accounts (rights_label l.category (thread_rights accounts me p))).owned
+      ≡ map l.category (owned_as accounts p (user_number accounts p.user))
+  own_kin_is named =
+      (λ i. owned_by accounts (own_user_is i) (none_if_free l.category accounts me p i))
+      ∙ sym (owned_numbers accounts l.category l.as_made p named)

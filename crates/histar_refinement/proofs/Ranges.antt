@@ -22,11 +22,13 @@ use Rattle.histar_refinement.proofs.AmongNames.{covers, in_first, in_second, at_
 use Rattle.histar_layout.proofs.Members.{is_in, is_in-append}
 use Rattle.histar_layout.proofs.LabelLevels.{at_cleared, at_owning, cleared_level, owning_level}
 use Rattle.histar_refinement.proofs.CategoryTests.{among-append, among_none, is_in_names, named_in}
-use Rattle.histar_refinement.proofs.Tested.{observes_by_names, below_by_names, cleared_by_names, rights_by_names, capped_by_names, clearances_by_names}
+use Rattle.histar_refinement.proofs.Tested.{observes_by_names, below_by_names, cleared_by_names, rights_by_names, capped_by_names}
+use Rattle.histar_refinement.proofs.Tested.{clearances_by_names}
 use Rattle.histar_refinement.proofs.ClassTests.{jobs_apart, tainted_in_none}
 
 -- a test that each name passes
-pub passed_by_all : (test : CategoryName → Bool) (names : List CategoryName) → ((c : CategoryName) → among names c ≡ true → test c ≡ true) → list_all test names ≡ true
+pub passed_by_all : (test : CategoryName → Bool) (names : List CategoryName)
+    → ((c : CategoryName) → among names c ≡ true → test c ≡ true) → list_all test names ≡ true
 passed_by_all test [] each = refl
 passed_by_all test (x ∷ names) each = and_from _ _ (each x (at_head x names)) (passed_by_all test names (λ c e. each c (later x names c e)))
 
@@ -49,76 +51,118 @@ module _ (accounts : Accounts) (category : Categories) (different : AreDifferent
 
   -- the jobs of the process are no bar, since its thread has them at 3
   jobs_seen : list_all (λ c. among grown.owned c || among grown.tainted c) (map OfJob p.chain) ≡ true
-  jobs_seen = passed_by_all (λ c. among grown.owned c || among grown.tainted c) (map OfJob p.chain) (λ c e. or_right (among grown.owned c) (among grown.tainted c) e)
+  jobs_seen =
+      passed_by_all (λ c. among grown.owned c || among grown.tainted c) (map OfJob p.chain)
+      (λ c e. or_right (among grown.owned c) (among grown.tainted c) e)
 
   -- its own container and process segment it modifies
-  pub own_modified : (is_below (rights_label category grown) (guard_label category (process_guard me p)) ≡ true) × (is_below_raised (guard_label category (process_guard me p)) (rights_label category grown) ≡ true)
+  pub own_modified : (is_below (rights_label category grown) (guard_label category (process_guard me p)) ≡ true)
+      × (is_below_raised (guard_label category (process_guard me p)) (rights_label category grown) ≡ true)
   own_modified = (
     below_by_names category different (process_guard me p) grown (jobs_apart accounts me p p.chain (WritesProcess me ∷ []) (λ job. refl))
-        ∙ and_from _ _ (covers (map OfJob p.chain) (map OfJob p.chain) (λ c e. e)) (and_from _ _ (later (WritesProcess child) (ReadsProcess child ∷ own.owned) (WritesProcess me) (later (ReadsProcess child) own.owned (WritesProcess me)
+        ∙ and_from _ _ (covers (map OfJob p.chain) (map OfJob p.chain) (λ c e. e))
+        (and_from _ _
+        (later (WritesProcess child) (ReadsProcess child ∷ own.owned) (WritesProcess me)
+        (later (ReadsProcess child) own.owned (WritesProcess me)
         (later (ReadsProcess me) (WritesProcess me ∷ owned_as accounts p (user_number accounts p.user) ++ map OfJob p.held) (WritesProcess me) (at_head (WritesProcess me) (owned_as accounts p (user_number accounts p.user) ++ map OfJob p.held))))) refl),
-    observes_by_names category different (process_guard me p) grown (jobs_apart accounts me p p.chain (WritesProcess me ∷ []) (λ job. refl)) ∙ jobs_seen,
+    observes_by_names category different (process_guard me p) grown
+        (jobs_apart accounts me p p.chain (WritesProcess me ∷ []) (λ job. refl)) ∙ jobs_seen,
   )
 
   -- the child's container and process segment, and its internal container
   pub outer_above : is_below (rights_label category grown) (guard_label category (process_guard child newborn)) ≡ true
   outer_above =
-      below_by_names category different (process_guard child newborn) grown (jobs_apart accounts me p p.chain (WritesProcess child ∷ []) (λ job. refl))
-      ∙ and_from _ _ (covers (map OfJob p.chain) (map OfJob p.chain) (λ c e. e)) (and_from _ _ (at_head (WritesProcess child) (ReadsProcess child ∷ own.owned)) refl)
+      below_by_names category different (process_guard child newborn) grown
+      (jobs_apart accounts me p p.chain (WritesProcess child ∷ []) (λ job. refl))
+      ∙ and_from _ _ (covers (map OfJob p.chain) (map OfJob p.chain) (λ c e. e))
+      (and_from _ _ (at_head (WritesProcess child) (ReadsProcess child ∷ own.owned)) refl)
 
   pub outer_below : is_below (guard_label category (process_guard child newborn)) (rights_clearance category grown) ≡ true
   outer_below = cleared_by_names category different (process_guard child newborn) grown jobs_covered
 
   pub outer_seen : is_below_raised (guard_label category (process_guard child newborn)) (rights_label category grown) ≡ true
-  outer_seen = observes_by_names category different (process_guard child newborn) grown (jobs_apart accounts me p p.chain (WritesProcess child ∷ []) (λ job. refl)) ∙ jobs_seen
+  outer_seen =
+      observes_by_names category different (process_guard child newborn) grown
+      (jobs_apart accounts me p p.chain (WritesProcess child ∷ []) (λ job. refl)) ∙ jobs_seen
 
   pub inner_above : is_below (rights_label category grown) (guard_label category (inside_guard child newborn)) ≡ true
   inner_above =
       below_by_names category different (inside_guard child newborn) grown (jobs_apart accounts me p p.chain (WritesProcess child ∷ []) (λ job. refl))
-      ∙ and_from _ _ (covers (ReadsProcess child ∷ map OfJob p.chain) (map OfJob p.chain) (λ c e. later (ReadsProcess child) (map OfJob p.chain) c e)) (and_from _ _ (at_head (WritesProcess child) (ReadsProcess child ∷ own.owned)) refl)
+      ∙ and_from _ _ (covers (ReadsProcess child ∷ map OfJob p.chain) (map OfJob p.chain)
+      (λ c e. later (ReadsProcess child) (map OfJob p.chain) c e))
+      (and_from _ _ (at_head (WritesProcess child) (ReadsProcess child ∷ own.owned)) refl)
 
   pub inner_below : is_below (guard_label category (inside_guard child newborn)) (rights_clearance category grown) ≡ true
   inner_below = cleared_by_names category different (inside_guard child newborn) grown
-      (and_from _ _ (in_first grown.owned grown.tainted (ReadsProcess child) (later (WritesProcess child) (ReadsProcess child ∷ own.owned) (ReadsProcess child) (at_head (ReadsProcess child) own.owned))) jobs_covered)
+      (and_from _ _ (in_first grown.owned grown.tainted (ReadsProcess child) (later (WritesProcess child)
+      (ReadsProcess child ∷ own.owned) (ReadsProcess child) (at_head (ReadsProcess child) own.owned)))
+      jobs_covered)
 
   pub inner_seen : is_below_raised (guard_label category (inside_guard child newborn)) (rights_label category grown) ≡ true
   inner_seen = observes_by_names category different (inside_guard child newborn) grown
-      (each_head (λ c. among (WritesProcess child ∷ []) c ≡ false) (ReadsProcess child) (map OfJob p.chain) refl (jobs_apart accounts me p p.chain (WritesProcess child ∷ []) (λ job. refl)))
-      ∙ and_from _ _ (or_left (among grown.owned (ReadsProcess child)) (among grown.tainted (ReadsProcess child)) (later (WritesProcess child) (ReadsProcess child ∷ own.owned) (ReadsProcess child) (at_head (ReadsProcess child) own.owned))) jobs_seen
+      (each_head (λ c. among (WritesProcess child ∷ []) c ≡ false) (ReadsProcess child) (map OfJob p.chain) refl
+      (jobs_apart accounts me p p.chain (WritesProcess child ∷ []) (λ job. refl)))
+      ∙ and_from _ _ (or_left (among grown.owned (ReadsProcess child)) (among grown.tainted (ReadsProcess child))
+      (later (WritesProcess child) (ReadsProcess child ∷ own.owned) (ReadsProcess child)
+      (at_head (ReadsProcess child) own.owned))) jobs_seen
 
   -- the child's thread owns no more than its parent
   abbrev pub childs : Rights
   childs = thread_rights accounts child newborn
 
   owned_by_parent : (c : CategoryName) → among childs.owned c ≡ true → among grown.owned c ≡ true
-  owned_by_parent = each_head (λ c. among grown.owned c ≡ true) (ReadsProcess child) (WritesProcess child ∷ owned_as accounts p (user_number accounts p.user) ++ []) (later (WritesProcess child) (ReadsProcess child ∷ own.owned) (ReadsProcess child) (at_head (ReadsProcess child) own.owned))
-      (each_head (λ c. among grown.owned c ≡ true) (WritesProcess child) (owned_as accounts p (user_number accounts p.user) ++ []) (at_head (WritesProcess child) (ReadsProcess child ∷ own.owned))
+  owned_by_parent =
+      each_head (λ c. among grown.owned c ≡ true) (ReadsProcess child)
+      (WritesProcess child ∷ owned_as accounts p (user_number accounts p.user) ++ [])
+      (later (WritesProcess child) (ReadsProcess child ∷ own.owned) (ReadsProcess child)
+      (at_head (ReadsProcess child) own.owned))
+      (each_head (λ c. among grown.owned c ≡ true) (WritesProcess child)
+      (owned_as accounts p (user_number accounts p.user) ++ [])
+      (at_head (WritesProcess child) (ReadsProcess child ∷ own.owned))
       (each_append (λ c. among grown.owned c ≡ true) (owned_as accounts p (user_number accounts p.user)) []
-      (λ c e. later (WritesProcess child) (ReadsProcess child ∷ own.owned) c (later (ReadsProcess child) own.owned c (later (ReadsProcess me) (WritesProcess me ∷ owned_as accounts p (user_number accounts p.user) ++ map OfJob p.held) c (later (WritesProcess me) (owned_as accounts p (user_number accounts p.user) ++ map OfJob p.held) c (in_first (owned_as accounts p (user_number accounts p.user)) (map OfJob p.held) c e)))))
+      (λ c e.
+      later (WritesProcess child) (ReadsProcess child ∷ own.owned) c (later (ReadsProcess child) own.owned c (later (ReadsProcess me)
+      (WritesProcess me ∷ owned_as accounts p (user_number accounts p.user) ++ map OfJob p.held) c
+      (later (WritesProcess me)
+      (owned_as accounts p (user_number accounts p.user) ++ map OfJob p.held) c
+      (in_first (owned_as accounts p (user_number accounts p.user)) (map OfJob p.held) c e)))))
       (λ c e. absurd (true≢false (sym e)))))
 
   pub thread_above : is_below (rights_label category grown) (rights_label category childs) ≡ true
-  thread_above = rights_by_names category different grown childs (covers (map OfJob p.chain) (map OfJob p.chain) (λ c e. e)) (covers grown.owned childs.owned owned_by_parent)
+  thread_above =
+      rights_by_names category different grown childs (covers (map OfJob p.chain) (map OfJob p.chain) (λ c e. e))
+      (covers grown.owned childs.owned owned_by_parent)
 
   pub thread_below : is_below (rights_label category childs) (rights_clearance category childs) ≡ true
-  thread_below = capped_by_names category different childs (childs.owned ++ childs.tainted) ∙ covers (childs.owned ++ childs.tainted) childs.tainted (in_second childs.owned childs.tainted)
+  thread_below =
+      capped_by_names category different childs (childs.owned ++ childs.tainted)
+      ∙ covers (childs.owned ++ childs.tainted) childs.tainted (in_second childs.owned childs.tainted)
 
   pub clearance_below : is_below (rights_clearance category childs) (rights_clearance category grown) ≡ true
   clearance_below = clearances_by_names category different childs grown
-      (covers both (childs.owned ++ childs.tainted) (each_append (λ c. among both c ≡ true) childs.owned childs.tainted (λ c e. in_first grown.owned grown.tainted c (owned_by_parent c e)) (in_second grown.owned grown.tainted)))
+      (covers both (childs.owned ++ childs.tainted) (each_append (λ c. among both c ≡ true) childs.owned childs.tainted
+      (λ c e. in_first grown.owned grown.tainted c (owned_by_parent c e))
+      (in_second grown.owned grown.tainted)))
 
   -- its own label and clearance it may have again
-  pub label_again : (is_below (rights_label category grown) (rights_label category own) ≡ true) × (is_below (rights_label category own) (rights_clearance category grown) ≡ true)
+  pub label_again : (is_below (rights_label category grown) (rights_label category own) ≡ true)
+      × (is_below (rights_label category own) (rights_clearance category grown) ≡ true)
   label_again = (
-    rights_by_names category different grown own (covers (map OfJob p.chain) (map OfJob p.chain) (λ c e. e)) (covers grown.owned own.owned (λ c e. later (WritesProcess child) (ReadsProcess child ∷ own.owned) c (later (ReadsProcess child) own.owned c e))),
+    rights_by_names category different grown own (covers (map OfJob p.chain) (map OfJob p.chain) (λ c e. e))
+        (covers grown.owned own.owned (λ c e. later (WritesProcess child) (ReadsProcess child ∷ own.owned) c
+        (later (ReadsProcess child) own.owned c e))),
     capped_by_names category different own both ∙ jobs_covered,
   )
 
-  pub clearance_again : (is_below (rights_label category own) (rights_clearance category own) ≡ true) × (is_below_join_raised (rights_clearance category own) (rights_clearance category grown) (rights_label category own) ≡ true)
+  pub clearance_again : (is_below (rights_label category own) (rights_clearance category own) ≡ true)
+      × (is_below_join_raised (rights_clearance category own) (rights_clearance category grown)
+      (rights_label category own) ≡ true)
   clearance_again = (
-    capped_by_names category different own (own.owned ++ own.tainted) ∙ covers (own.owned ++ own.tainted) own.tainted (in_second own.owned own.tainted),
+    capped_by_names category different own (own.owned ++ own.tainted)
+        ∙ covers (own.owned ++ own.tainted) own.tainted (in_second own.owned own.tainted),
     (is_below_join_raised-law (rights_clearance category own) (rights_clearance category grown) (rights_label category own)).1 (λ q.
-        let under = (is_below-law (rights_clearance category own) (rights_clearance category grown)).0 (clearances_by_names category different own grown
+        let under = (is_below-law (rights_clearance category own) (rights_clearance category grown)).0
+        (clearances_by_names category different own grown
         (covers both (own.owned ++ own.tainted) (each_append (λ c. among both c ≡ true) own.owned own.tainted (λ c e. in_first grown.owned grown.tainted c (later (WritesProcess child) (ReadsProcess child ∷ own.owned) c (later (ReadsProcess child) own.owned c e))) (in_second grown.owned grown.tainted)))) q in
         omega (arith, under)),
   )
@@ -146,7 +190,8 @@ join_at true false = refl
 join_at false true = refl
 join_at false false = refl
 
-pub floor_owning : (O T P : List ℕ) → ((q : ℕ) → is_in T q ≡ true → is_in P q ≡ false) → floor_of (owner_label O T) (owner_label P []) ≡ owner_label (O ++ P) T
+pub floor_owning : (O T P : List ℕ) → ((q : ℕ) → is_in T q ≡ true → is_in P q ≡ false)
+    → floor_of (owner_label O T) (owner_label P []) ≡ owner_label (O ++ P) T
 floor_owning O T P apart = same_levels (floor_of (owner_label O T) (owner_label P [])) (owner_label (O ++ P) T) (λ q.
     level_of-combined_of _ (owner_label O T) (owner_label P []) q
     ∙ (λ i. floor_level (at_owning O T q i) (at_owning P [] q i))
@@ -174,7 +219,8 @@ module _ (accounts : Accounts) (category : Categories) (different : AreDifferent
   no_job_given : (job : ProcName) → among gate.owned (OfJob job) ≡ false
   no_job_given job =
       among-append (reading accounts name i) (writing accounts name i) (OfJob job)
-      ∙ (λ k. among_none ReadsGroup (OfJob job) (λ g. refl) (groups_of accounts name) k || among_none WritesGroup (OfJob job) (λ g. refl) (groups_of accounts name) k)
+      ∙ (λ k. among_none ReadsGroup (OfJob job) (λ g. refl) (groups_of accounts name) k
+      || among_none WritesGroup (OfJob job) (λ g. refl) (groups_of accounts name) k)
 
   no_job_both : (job : ProcName) → among (gate.owned ++ []) (OfJob job) ≡ false
   no_job_both job = among-append gate.owned [] (OfJob job) ∙ ap (λ b. b || false) (no_job_given job)
@@ -191,9 +237,11 @@ module _ (accounts : Accounts) (category : Categories) (different : AreDifferent
   floor_behind =
       floor_owning (map category mine.owned) (map category mine.tainted) (map category gate.owned) (λ q e.
       let there = named_in category mine.tainted q e in
-      ap (is_in (map category gate.owned)) there.1 ∙ is_in_names category different gate.owned there.0 ∙ jobs_apart accounts me p p.chain gate.owned no_job_given there.0 there.2)
+      ap (is_in (map category gate.owned)) there.1 ∙ is_in_names category different gate.owned there.0
+      ∙ jobs_apart accounts me p p.chain gate.owned no_job_given there.0 there.2)
       ∙ ap (λ (cs : List ℕ). owner_label cs (map category mine.tainted)) (sym (map_append category mine.owned gate.owned))
 
-  pub join_behind : join_of (rights_clearance category mine) (rights_clearance category gate) ≡ cleared_at (map category ((mine.owned ++ mine.tainted) ++ (gate.owned ++ [])))
+  pub join_behind : join_of (rights_clearance category mine) (rights_clearance category gate)
+      ≡ cleared_at (map category ((mine.owned ++ mine.tainted) ++ (gate.owned ++ [])))
   join_behind = join_cleared (map category (mine.owned ++ mine.tainted)) (map category (gate.owned ++ []))
       ∙ ap cleared_at (sym (map_append category (mine.owned ++ mine.tainted) (gate.owned ++ [])))

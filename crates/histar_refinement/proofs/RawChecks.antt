@@ -37,7 +37,10 @@ module _ (s : State) (t : ℕ) (label clearance : Levels) (thread : s.objects t 
 
     -- a read in a container that may not be observed is refused so
     pub read_blocked : is_below_raised above label ≡ false → (o : ℕ) → check s t (Read d o) ≡ Some Observe
-    read_blocked unseen o = ap (λ (c : Option Denied). ((c orelse unless (set.contains (links_in (s.objects d)) o) NoEntry) orelse unless (is_segment (s.objects o)) BadKind) orelse unless (observes (s.objects t) (s.objects o)) Observe)
+    read_blocked unseen o =
+        ap (λ (c : Option Denied). ((c orelse unless (set.contains (links_in (s.objects d)) o) NoEntry)
+        orelse unless (is_segment (s.objects o)) BadKind)
+        orelse unless (observes (s.objects t) (s.objects o)) Observe)
         (container_check ∙ ap (λ (b : Bool). unless b Observe) unseen)
 
     module _ (seen : is_below_raised above label ≡ true) where
@@ -53,26 +56,42 @@ module _ (s : State) (t : ℕ) (label clearance : Levels) (thread : s.objects t 
 
         module _ (below : Levels) (held : List ℕ) (segment : s.objects o ≡ object below (Segment held)) where
           segment_passes : no_segment s t d o ≡ None
-          segment_passes = ap (λ (c : Option Denied). c orelse unless (is_segment (s.objects o)) BadKind) link_passes ∙ (λ i. unless (is_segment (segment i)) BadKind)
+          segment_passes =
+              ap (λ (c : Option Denied). c orelse unless (is_segment (s.objects o)) BadKind) link_passes
+              ∙ (λ i. unless (is_segment (segment i)) BadKind)
 
           -- a segment is read unless it may not be observed
           pub read_check : check s t (Read d o) ≡ unless (is_below_raised below label) Observe
-          read_check = ap (λ (c : Option Denied). c orelse unless (observes (s.objects t) (s.objects o)) Observe) segment_passes ∙ (λ i. unless (observes (thread i) (segment i)) Observe)
+          read_check =
+              ap (λ (c : Option Denied). c orelse unless (observes (s.objects t) (s.objects o)) Observe) segment_passes
+              ∙ (λ i. unless (observes (thread i) (segment i)) Observe)
 
           -- and written unless it may not be modified, or would hold too many bytes
-          pub write_check : (keep : ℕ) (bytes : List ℕ) → check s t (Write d o keep bytes) ≡ (unless (is_below label below && is_below_raised below label) Modify orelse unless (fits_segment (min keep (length held) + length bytes)) TooBig)
+          pub write_check : (keep : ℕ) (bytes : List ℕ)
+              → check s t (Write d o keep bytes)
+              ≡ (unless (is_below label below && is_below_raised below label) Modify
+              orelse unless (fits_segment (min keep (length held) + length bytes)) TooBig)
           write_check keep bytes =
-              ap (λ (c : Option Denied). c orelse unless (modifies (s.objects t) (s.objects o)) Modify orelse unless (fits_segment (min keep (length (bytes_in (s.objects o))) + length bytes)) TooBig) segment_passes
-              ∙ (λ i. unless (modifies (thread i) (segment i)) Modify orelse unless (fits_segment (min keep (length (bytes_in (segment i))) + length bytes)) TooBig)
+              ap (λ (c : Option Denied). c orelse unless (modifies (s.objects t) (s.objects o)) Modify
+              orelse unless (fits_segment (min keep (length (bytes_in (s.objects o))) + length bytes)) TooBig)
+              segment_passes
+              ∙ (λ i. unless (modifies (thread i) (segment i)) Modify
+              orelse unless (fits_segment (min keep (length (bytes_in (segment i))) + length bytes)) TooBig)
 
         -- the label of what is linked is told, if it is no thread
         pub label_check : is_thread (s.objects o) ≡ false → check s t (LabelOf d o) ≡ None
-        label_check other = ap (λ (c : Option Denied). c orelse unless (not (is_thread (s.objects o))) BadKind) link_passes ∙ ap (λ (b : Bool). unless (not b) BadKind) other
+        label_check other =
+            ap (λ (c : Option Denied). c orelse unless (not (is_thread (s.objects o))) BadKind) link_passes
+            ∙ ap (λ (b : Bool). unless (not b) BadKind) other
 
         -- what is linked is taken away unless the container may not be modified
         pub unlink_check : check s t (Unlink d o) ≡ unless (is_below label above && is_below_raised above label) Modify
-        unlink_check = ap (λ (c : Option Denied). c orelse unless (modifies (s.objects t) (s.objects d)) Modify) link_passes ∙ (λ i. unless (modifies (thread i) (holder i)) Modify)
+        unlink_check =
+            ap (λ (c : Option Denied). c orelse unless (modifies (s.objects t) (s.objects d)) Modify) link_passes
+            ∙ (λ i. unless (modifies (thread i) (holder i)) Modify)
 
       -- an object is made unless the container may not be modified, or a later test says no
       pub making_check : no_making s t d ≡ unless (is_below label above && is_below_raised above label) Modify
-      making_check = ap (λ (c : Option Denied). c orelse unless (modifies (s.objects t) (s.objects d)) Modify) container_passes ∙ (λ i. unless (modifies (thread i) (holder i)) Modify)
+      making_check =
+          ap (λ (c : Option Denied). c orelse unless (modifies (s.objects t) (s.objects d)) Modify) container_passes
+          ∙ (λ i. unless (modifies (thread i) (holder i)) Modify)

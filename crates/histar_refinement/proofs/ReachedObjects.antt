@@ -18,7 +18,8 @@ below_root [] = refl
 below_root (x ∷ a) = below_root a
 
 -- each object that there is is reached from the root container
-pub objects_reached : (accounts : Accounts) (s : State) (f : Flat) → ObjectsMatch accounts s f → (q : ℕ) → is_present (s.objects q) ≡ true → Reached s.objects root_number q
+pub objects_reached : (accounts : Accounts) (s : State) (f : Flat) → ObjectsMatch accounts s f → (q : ℕ)
+    → is_present (s.objects q) ≡ true → Reached s.objects root_number q
 objects_reached accounts s f l q is = by (l.naming.address q) refl
   where
     by : (a : Option (Address Step)) → l.naming.address q ≡ a → Reached s.objects root_number q

@@ -1,5 +1,6 @@
 -- After an entry of a directory is removed with all below it the kernel represents the flat state without it.
-use Rattle.std.proofs.Common.{◌≡◌, ◌≢◌, ℕ, ◌+◌, ◌≤◌, ◌*◌, inl, inr, Bool, true, false, not, ◌||◌, cond, [], ◌∷◌, length, Option, None, Some, refl, sym, ap, ◌∙◌, subst, if◌then◌else◌}
+use Rattle.std.proofs.Common.{◌≡◌, ◌≢◌, ℕ, ◌+◌, ◌≤◌, ◌*◌, inl, inr, Bool, true, false, not, ◌||◌, cond, [], ◌∷◌, length, Option, None, Some, refl}
+use Rattle.std.proofs.Common.{sym, ap, ◌∙◌, subst, if◌then◌else◌}
 use Rattle.std.specs.Prelude.{option_and_then}
 use Rattle.std.specs.FinMap as map
 use Rattle.std.specs.FinMap.Entries.{find-where_key}
@@ -28,24 +29,30 @@ use Rattle.histar_refinement.specs.Addresses.{Step, same_step, address_of, home_
 use Rattle.histar_refinement.specs.Addresses.Step.{Left, Slash, Listing, Named, Home, Status, Inside, Runner, Child}
 use Rattle.histar_refinement.specs.Directories.{directory_of}
 use Rattle.histar_refinement.specs.Agrees.{Agrees}
-use Rattle.histar_refinement.specs.Expected.{node_object, listing_object, expected_node, listing_at, expected_home, expected_status, container_inside, thread_at, expected}
+use Rattle.histar_refinement.specs.Expected.{node_object, listing_object, expected_node, listing_at, expected_home, expected_status, container_inside}
+use Rattle.histar_refinement.specs.Expected.{thread_at, expected}
 use Rattle.histar_refinement.specs.Represents.{AreJobsGiven, ObjectsMatch, Represents}
 use Rattle.histar_refinement.proofs.Roots.{address_path, address_process, address_inside, asked_listing}
 use Rattle.histar_refinement.proofs.Steps.{step_tests_equality}
 use Rattle.histar_refinement.proofs.Moving.{agrees_cut, no_address}
 use Rattle.histar_refinement.proofs.DirectoryLaws.{get_directory}
-use Rattle.histar_refinement.proofs.ListedFiles.{SameNumbers, not_begun, same_address_path, asked_same, leads_at, directories_alike, same_leads, old_known, old_fits, ClassFits, matched_listed, jobs_kept}
+use Rattle.histar_refinement.proofs.ListedFiles.{SameNumbers, not_begun, same_address_path, asked_same, leads_at, directories_alike, same_leads}
+use Rattle.histar_refinement.proofs.ListedFiles.{old_known, old_fits, ClassFits, matched_listed, jobs_kept}
 
 -- ---- what lies below a path, as an address
 
 module _ (q : Path) where
   -- the first step of an address decides nothing where no path begins with it
   under_step : (x : Step) (a : Address Step) → path_at (x ∷ a) ≡ None → under same_step (address_of q) (x ∷ a) ≡ under same_step (address_of q) a
-  under_step x a nothing = ap (λ t. t || under same_step (address_of q) a) (same_other same_step step_tests_equality (address_of q) (x ∷ a) (not_begun q a x nothing))
+  under_step x a nothing =
+      ap (λ t. t || under same_step (address_of q) a)
+      (same_other same_step step_tests_equality (address_of q) (x ∷ a) (not_begun q a x nothing))
 
   same_addresses : (r : Path) → same_steps same_step (address_of q) (address_of r) ≡ same_path q r
   same_addresses r = elim (same_path_found q r) [
-    | inl e ↦ ap (λ (z : Path). same_steps same_step (address_of q) (address_of z)) (sym e.1) ∙ same_itself same_step step_tests_equality (address_of q) ∙ sym e.0
+    | inl e ↦
+        ap (λ (z : Path). same_steps same_step (address_of q) (address_of z)) (sym e.1)
+        ∙ same_itself same_step step_tests_equality (address_of q) ∙ sym e.0
     | inr e ↦ same_other same_step step_tests_equality (address_of q) (address_of r) (λ k. e.1 (same_address_path q r k)) ∙ sym e.0
   ]
 
@@ -57,7 +64,9 @@ module _ (q : Path) where
       by (n ∷ e) = refl
 
   pub under_address : (r : Path) → under same_step (address_of q) (address_of r) ≡ under_path q r
-  under_address [] = ap (λ t. same_steps same_step (address_of q) (Slash ∷ []) || t) not_root ∙ or-false (same_steps same_step (address_of q) (Slash ∷ [])) ∙ same_addresses []
+  under_address [] =
+      ap (λ t. same_steps same_step (address_of q) (Slash ∷ []) || t) not_root
+      ∙ or-false (same_steps same_step (address_of q) (Slash ∷ [])) ∙ same_addresses []
   under_address (n ∷ e) = λ i. same_addresses (n ∷ e) i || under_address e i
 
   pub under_listing : (r : Path) → under same_step (address_of q) (Listing ∷ address_of r) ≡ under_path q r
@@ -68,7 +77,9 @@ module _ (q : Path) where
   under_home (n ∷ p) = under_step (Child n) (home_address p) refl ∙ under_home p
 
 module _ (accounts : Accounts) (s : State) (f : Flat) (l : ObjectsMatch accounts s f) (m : Name) (d : Path) (D N o : ℕ)
-    (at_directory : l.naming.number (address_of d) ≡ Some D) (at_listing : l.naming.number (Listing ∷ address_of d) ≡ Some N) (at_entry : l.naming.number (address_of (m ∷ d)) ≡ Some o)
+    (at_directory : l.naming.number (address_of d) ≡ Some D)
+    (at_listing : l.naming.number (Listing ∷ address_of d) ≡ Some N)
+    (at_entry : l.naming.number (address_of (m ∷ d)) ≡ Some o)
     (mid : State) (cuts : CutsOff s D o mid) where
   abbrev top : Address Step
   top = Named m ∷ address_of d
@@ -86,7 +97,9 @@ module _ (accounts : Accounts) (s : State) (f : Flat) (l : ObjectsMatch accounts
   wish = expected accounts l.category after naming.number
 
   got : (r : Path) → get after.files r ≡ cond (not (under_path (m ∷ d) r)) (get f.files r) None
-  got r = find-where_key path_cmp (λ t. not (under_path (m ∷ d) t)) r (λ x e. ap (λ t. not (under_path (m ∷ d) t)) (sym (path_cmp_exact r x e))) f.files.entries
+  got r =
+      find-where_key path_cmp (λ t. not (under_path (m ∷ d) t)) r
+      (λ x e. ap (λ t. not (under_path (m ∷ d) t)) (sym (path_cmp_exact r x e))) f.files.entries
 
   got_gone : (r : Path) → under_path (m ∷ d) r ≡ true → get after.files r ≡ None
   got_gone r e = got r ∙ ap (λ t. cond (not t) (get f.files r) None) e
@@ -102,7 +115,9 @@ module _ (accounts : Accounts) (s : State) (f : Flat) (l : ObjectsMatch accounts
     home = λ q. kept (home_address q) (under_home (m ∷ d) q);
     status = λ q. kept (Status ∷ home_address q) (under_step (m ∷ d) Status (home_address q) refl ∙ under_home (m ∷ d) q);
     inside = λ q. kept (Inside ∷ home_address q) (under_step (m ∷ d) Inside (home_address q) refl ∙ under_home (m ∷ d) q);
-    runner = λ q. kept (Runner ∷ Inside ∷ home_address q) (under_step (m ∷ d) Runner (Inside ∷ home_address q) refl ∙ under_step (m ∷ d) Inside (home_address q) refl ∙ under_home (m ∷ d) q);
+    runner =
+        λ q. kept (Runner ∷ Inside ∷ home_address q) (under_step (m ∷ d) Runner (Inside ∷ home_address q) refl
+        ∙ under_step (m ∷ d) Inside (home_address q) refl ∙ under_home (m ∷ d) q);
   }
 
   directory_outside : under_path (m ∷ d) d ≡ false
@@ -112,7 +127,10 @@ module _ (accounts : Accounts) (s : State) (f : Flat) (l : ObjectsMatch accounts
   agrees_mid = agrees_cut same_step step_tests_equality s l.naming old_asked l.agrees mid D o (address_of d) (Named m) cuts at_entry at_directory
 
   leads_kept : (p : Path) → under_path (m ∷ d) p ≡ false → leads_at f.files l.naming.number p ≡ leads_at after.files naming.number p
-  leads_kept p out = same_leads f.files after.files l.naming.number naming.number p p (sym (got_kept p out)) (kept (address_of p) (under_address (m ∷ d) p ∙ out)) (kept (Listing ∷ address_of p) (under_listing (m ∷ d) p ∙ out))
+  leads_kept p out =
+      same_leads f.files after.files l.naming.number naming.number p p (sym (got_kept p out))
+      (kept (address_of p) (under_address (m ∷ d) p ∙ out))
+      (kept (Listing ∷ address_of p) (under_listing (m ∷ d) p ∙ out))
 
   out_child : (n : Name) (e : Path) → under_path (m ∷ d) e ≡ false → m ∷ d ≢ n ∷ e → under_path (m ∷ d) (n ∷ e) ≡ false
   out_child n e out other = elim (same_path_found (m ∷ d) (n ∷ e)) [
@@ -120,18 +138,25 @@ module _ (accounts : Accounts) (s : State) (f : Flat) (l : ObjectsMatch accounts
     | inr t ↦ (λ i. t.0 i || out i)
   ]
 
-  directory_kept : (e : Path) → under_path (m ∷ d) e ≡ false → d ≢ e → directory_of f.files l.naming.number e ≡ directory_of after.files naming.number e
-  directory_kept e out other = directories_alike f.files after.files l.naming.number naming.number e e (λ n. leads_kept (n ∷ e) (out_child n e out (λ k. let tails : d ≡ e = cc in other tails)))
+  directory_kept : (e : Path) → under_path (m ∷ d) e ≡ false → d ≢ e
+      → directory_of f.files l.naming.number e ≡ directory_of after.files naming.number e
+  directory_kept e out other =
+      directories_alike f.files after.files l.naming.number naming.number e e
+      (λ n. leads_kept (n ∷ e) (out_child n e out (λ k. let tails : d ≡ e = cc in other tails)))
 
   -- below the removed path nothing is asked for
   no_process : (x : Step) (p : ProcName) → path_at (x ∷ home_address p) ≡ None → under same_step top (x ∷ home_address p) ≡ false
   no_process x p nothing = under_step (m ∷ d) x (home_address p) nothing ∙ under_home (m ∷ d) p
 
-  nothing_path : (a : Address Step) (o : Option Path) → under same_step top a ≡ true → path_at a ≡ o → expected_node accounts l.category after naming.number o ≡ None
+  nothing_path : (a : Address Step) (o : Option Path) → under same_step top a ≡ true → path_at a ≡ o
+      → expected_node accounts l.category after naming.number o ≡ None
   nothing_path a None e is = refl
-  nothing_path a (Some r) e is = ap (node_object accounts l.category) (got_gone r (sym (under_address (m ∷ d) r) ∙ ap (under same_step top) (sym (address_path a r is)) ∙ e))
+  nothing_path a (Some r) e is =
+      ap (node_object accounts l.category)
+      (got_gone r (sym (under_address (m ∷ d) r) ∙ ap (under same_step top) (sym (address_path a r is)) ∙ e))
 
-  nothing_home : (a : Address Step) (o : Option ProcName) → under same_step top a ≡ true → process_at a ≡ o → expected_home accounts l.category after naming.number o ≡ None
+  nothing_home : (a : Address Step) (o : Option ProcName) → under same_step top a ≡ true → process_at a ≡ o
+      → expected_home accounts l.category after naming.number o ≡ None
   nothing_home a None e is = refl
   nothing_home a (Some p) e is = absurd (true≢false (sym e ∙ ap (under same_step top) (address_process a p is) ∙ under_home (m ∷ d) p))
 
@@ -152,26 +177,38 @@ module _ (accounts : Accounts) (s : State) (f : Flat) (l : ObjectsMatch accounts
     where
       by : (q : Option ProcName) → process_at a ≡ q → expected_status accounts l.category after naming.number q ≡ None
       by None is = refl
-      by (Some q) is = absurd (true≢false (sym e ∙ ap (λ (b : Address Step). under same_step top (Status ∷ b)) (address_process a q is) ∙ no_process Status q refl))
+      by (Some q) is =
+          absurd (true≢false (sym e ∙ ap (λ (b : Address Step). under same_step top (Status ∷ b)) (address_process a q is)
+          ∙ no_process Status q refl))
   nothing_below (Inside ∷ a) e = by (process_at a) refl
     where
       by : (q : Option ProcName) → process_at a ≡ q → container_inside accounts l.category after naming.number q ≡ None
       by None is = refl
-      by (Some q) is = absurd (true≢false (sym e ∙ ap (λ (b : Address Step). under same_step top (Inside ∷ b)) (address_process a q is) ∙ no_process Inside q refl))
+      by (Some q) is =
+          absurd (true≢false (sym e ∙ ap (λ (b : Address Step). under same_step top (Inside ∷ b)) (address_process a q is)
+          ∙ no_process Inside q refl))
   nothing_below (Runner ∷ a) e = by (inside_at a) refl
     where
       by : (q : Option ProcName) → inside_at a ≡ q → thread_at accounts l.category after naming.number q ≡ None
       by None is = refl
-      by (Some q) is = absurd (true≢false (sym e ∙ ap (λ (b : Address Step). under same_step top (Runner ∷ b)) (address_inside a q is) ∙ under_step (m ∷ d) Runner (Inside ∷ home_address q) refl ∙ no_process Inside q refl))
+      by (Some q) is =
+          absurd (true≢false (sym e ∙ ap (λ (b : Address Step). under same_step top (Runner ∷ b)) (address_inside a q is)
+          ∙ under_step (m ∷ d) Runner (Inside ∷ home_address q) refl ∙ no_process Inside q refl))
   nothing_below (Child k ∷ a) e = nothing_home (Child k ∷ a) (process_at (Child k ∷ a)) e refl
 
   wish_kept : (a : Address Step) → under same_step top a ≡ false → Listing ∷ address_of d ≢ a → old_asked a ≡ wish a
   wish_kept a out other = asked_same accounts l.category f after.files l.naming.number naming.number same_numbers a (record {
-    at_path = λ r is. ap (node_object accounts l.category) (sym (got_kept r (sym (under_address (m ∷ d) r) ∙ ap (under same_step top) (sym is) ∙ out)));
-    in_directory = λ r is. listing_kept r (sym (under_listing (m ∷ d) r) ∙ ap (under same_step top) (sym is) ∙ out) (λ k. other (ap (λ (x : Path). Listing ∷ address_of x) k ∙ sym is));
+    at_path =
+        λ r is. ap (node_object accounts l.category)
+        (sym (got_kept r (sym (under_address (m ∷ d) r) ∙ ap (under same_step top) (sym is) ∙ out)));
+    in_directory =
+        λ r is. listing_kept r (sym (under_listing (m ∷ d) r) ∙ ap (under same_step top) (sym is) ∙ out)
+        (λ k. other (ap (λ (x : Path). Listing ∷ address_of x) k ∙ sym is));
   })
     where
-      listing_kept : (r : Path) → under_path (m ∷ d) r ≡ false → d ≢ r → listing_at accounts l.category f l.naming.number (Some r) ≡ listing_at accounts l.category after naming.number (Some r)
+      listing_kept : (r : Path) → under_path (m ∷ d) r ≡ false → d ≢ r
+          → listing_at accounts l.category f l.naming.number (Some r)
+          ≡ listing_at accounts l.category after naming.number (Some r)
       listing_kept r out_r not_d = λ i. listing_object accounts l.category (spelling (directory_kept r out_r not_d i)) (sym (got_kept r out_r) i)
 
   asked_else : (a : Address Step) → Listing ∷ address_of d ≢ a → cut same_step old_asked top a ≡ wish a
@@ -184,9 +221,11 @@ module _ (accounts : Accounts) (s : State) (f : Flat) (l : ObjectsMatch accounts
   listing_outside : under same_step top (Listing ∷ address_of d) ≡ false
   listing_outside = under_listing (m ∷ d) d ∙ directory_outside
 
-  asked_here : cut same_step old_asked top (Listing ∷ address_of d) ≡ listing_object accounts l.category (spelling (directory_of f.files l.naming.number d)) (get after.files d)
+  asked_here : cut same_step old_asked top (Listing ∷ address_of d)
+      ≡ listing_object accounts l.category (spelling (directory_of f.files l.naming.number d)) (get after.files d)
   asked_here =
-      ap (λ (t : Bool). if t then None else old_asked (Listing ∷ address_of d)) listing_outside ∙ asked_listing accounts l.category f l.naming.number d
+      ap (λ (t : Bool). if t then None else old_asked (Listing ∷ address_of d)) listing_outside
+      ∙ asked_listing accounts l.category f l.naming.number d
       ∙ ap (listing_object accounts l.category (spelling (directory_of f.files l.naming.number d))) (sym (got_kept d directory_outside))
 
   -- boot made nothing below a path
@@ -221,7 +260,8 @@ module _ (accounts : Accounts) (s : State) (f : Flat) (l : ObjectsMatch accounts
   gone_then : mid.objects boot_thread_number ≡ None
   gone_then =
       agrees_mid.tree.as_expected boot_thread_number
-      ∙ ap (wanted (objects_at mid.objects naming)) (ap (λ (x : Option (Address Step)). if is_under same_step top x then None else x) (no_address same_step s l.naming old_asked l.agrees boot_thread_number l.boot_thread_gone))
+      ∙ ap (wanted (objects_at mid.objects naming)) (ap (λ (x : Option (Address Step)). if is_under same_step top x then None else x)
+      (no_address same_step s l.naming old_asked l.agrees boot_thread_number l.boot_thread_gone))
 
   -- the parent directory with one entry less
   abbrev pub smaller : Entries
@@ -230,7 +270,9 @@ module _ (accounts : Accounts) (s : State) (f : Flat) (l : ObjectsMatch accounts
   pub directory_smaller : directory_of after.files naming.number d ≡ smaller
   directory_smaller = map.same_map nat_list_cmp_total antisymmetric _ _ (λ n.
       get_directory after.files naming.number d n ∙ at_name n
-      ∙ sym (map.get-remove nat_list_cmp_total (directory_of f.files l.naming.number d) m n ∙ ap (cond (eq_by_cmp by_bytes n m) None) (get_directory f.files l.naming.number d n)
+      ∙ sym
+      (map.get-remove nat_list_cmp_total (directory_of f.files l.naming.number d) m n
+      ∙ ap (cond (eq_by_cmp by_bytes n m) None) (get_directory f.files l.naming.number d n)
       ∙ ap (λ b. cond b None (leads_at f.files l.naming.number (n ∷ d))) (sym (texts_ties n m))))
     where
       itself_under : under_path (m ∷ d) (m ∷ d) ≡ true
@@ -261,18 +303,32 @@ module _ (accounts : Accounts) (s : State) (f : Flat) (l : ObjectsMatch accounts
   jobs_removed = jobs_kept accounts s f l after.files (λ r there at. old_known accounts s f l r there (was_there r there at))
 
   -- The kernel has the objects of the flat state without the path and all below it: `unlink`, `rmdir` and `rmtree` at any depth.
-  pub matched_removed : is_dir_at f d ≡ true → (later : ObjectsMatch accounts (with_segment_bytes mid N (spelling smaller)) after) × (later.naming ≡ naming) × (later.category ≡ l.category)
-  matched_removed dir = subst (λ (x : Entries). (later : ObjectsMatch accounts (with_segment_bytes mid N (spelling x)) after) × (later.naming ≡ naming) × (later.category ≡ l.category)) directory_smaller
-      (matched_listed accounts s f l after.files fits_all mid naming (cut same_step old_asked top) agrees_mid (subst (λ (x : ℕ). x ≤ greatest) (sym cuts.next_object) l.numbered) d N
-      (sym (kept (Listing ∷ address_of d) listing_outside) ∙ at_listing) (spelling (directory_of f.files l.naming.number d)) asked_here asked_else booted listable cuts.next_category gone_then)
+  pub matched_removed : is_dir_at f d ≡ true
+      → (later : ObjectsMatch accounts (with_segment_bytes mid N (spelling smaller)) after) × (later.naming ≡ naming)
+      × (later.category ≡ l.category)
+  matched_removed dir =
+      subst (λ (x : Entries).
+      (later : ObjectsMatch accounts (with_segment_bytes mid N (spelling x)) after) × (later.naming ≡ naming)
+      × (later.category ≡ l.category)) directory_smaller
+      (matched_listed accounts s f l after.files fits_all mid naming (cut same_step old_asked top) agrees_mid
+      (subst (λ (x : ℕ). x ≤ greatest) (sym cuts.next_object) l.numbered) d N
+      (sym (kept (Listing ∷ address_of d) listing_outside) ∙ at_listing)
+      (spelling (directory_of f.files l.naming.number d)) asked_here asked_else booted listable cuts.next_category
+      gone_then)
     where
-      dir_kept : (e : Path) → d ≢ e → (t : Bool) → under_path (m ∷ d) e ≡ t → is_dir_at after e ≡ true → IsListable (directory_of after.files naming.number e)
+      dir_kept : (e : Path) → d ≢ e → (t : Bool) → under_path (m ∷ d) e ≡ t → is_dir_at after e ≡ true
+          → IsListable (directory_of after.files naming.number e)
       dir_kept e other true u is = absurd (true≢false (sym is ∙ ap (λ (o : Option Node). is_some_and o is_dir) (got_gone e u)))
-      dir_kept e other false u is = subst IsListable (directory_kept e u other) (l.listable e (ap (λ (o : Option Node). is_some_and o is_dir) (sym (got_kept e u)) ∙ is))
+      dir_kept e other false u is =
+          subst IsListable (directory_kept e u other)
+          (l.listable e (ap (λ (o : Option Node). is_some_and o is_dir) (sym (got_kept e u)) ∙ is))
 
       listable : (e : Path) → is_dir_at after e ≡ true → IsListable (directory_of after.files naming.number e)
       listable e is = elim (same_path_found d e) [
-        | inl t ↦ subst (λ (z : Path). IsListable (directory_of after.files naming.number z)) t.1 (subst IsListable (sym directory_smaller) (listable_remove (directory_of f.files l.naming.number d) m (l.listable d dir)))
+        | inl t ↦
+            subst (λ (z : Path). IsListable (directory_of after.files naming.number z)) t.1
+            (subst IsListable (sym directory_smaller)
+            (listable_remove (directory_of f.files l.naming.number d) m (l.listable d dir)))
         | inr t ↦ dir_kept e t.1 (under_path (m ∷ d) e) refl is
       ]
 

@@ -1,5 +1,6 @@
 -- After an entry of a directory is renamed the kernel represents the flat state with all paths below its new name.
-use Rattle.std.proofs.Common.{◌≡◌, ◌≢◌, ℕ, ◌+◌, ◌*◌, ◌⊎◌, inl, inr, Bool, true, false, ◌||◌, cond, [], ◌∷◌, length, Option, None, Some, refl, sym, ap, ◌∙◌, subst}
+use Rattle.std.proofs.Common.{◌≡◌, ◌≢◌, ℕ, ◌+◌, ◌*◌, ◌⊎◌, inl, inr, Bool, true, false, ◌||◌, cond, [], ◌∷◌, length, Option, None, Some, refl, sym, ap}
+use Rattle.std.proofs.Common.{◌∙◌, subst}
 use Rattle.std.specs.Prelude.{IsTrue, option_map, option_and_then}
 use Rattle.std.specs.FinMap as map
 use Rattle.std.specs.Ordering.{eq_by_cmp}
@@ -23,14 +24,18 @@ use Rattle.histar_refinement.specs.Addresses.Step.{Left, Slash, Listing, Named, 
 use Rattle.histar_refinement.specs.LeftByBoot.{left_by_boot}
 use Rattle.histar_refinement.specs.Directories.{directory_of}
 use Rattle.histar_refinement.specs.Agrees.{Agrees}
-use Rattle.histar_refinement.specs.Expected.{node_object, listing_object, expected_node, listing_at, expected_home, expected_status, container_inside, thread_at, expected}
+use Rattle.histar_refinement.specs.Expected.{node_object, listing_object, expected_node, listing_at, expected_home, expected_status, container_inside}
+use Rattle.histar_refinement.specs.Expected.{thread_at, expected}
 use Rattle.histar_refinement.specs.Represents.{AreJobsGiven, ObjectsMatch, Represents}
 use Rattle.histar_refinement.proofs.Roots.{address_path, asked_listing}
 use Rattle.histar_refinement.proofs.Steps.{step_tests_equality}
 use Rattle.histar_refinement.proofs.DirectoryLaws.{get_directory}
 use Rattle.histar_refinement.proofs.Renamings.{renamed_naming, agrees_renamed}
-use Rattle.histar_refinement.proofs.ListedFiles.{SameNumbers, same_status, leads_at, directories_alike, same_leads, nothing_in, old_known, old_fits, ClassFits, matched_listed, jobs_kept}
-use Rattle.histar_refinement.proofs.Turning.{turned_name, turned_step, turned_n, turned_k, turned_else, turned, turned_address, address_back, directory_stays, address_stays, same_tests, turned_path_address, turned_home, process_turned, inside_turned, path_turned, get_renamed}
+use Rattle.histar_refinement.proofs.ListedFiles.{SameNumbers, same_status, leads_at, directories_alike, same_leads, nothing_in, old_known, old_fits}
+use Rattle.histar_refinement.proofs.ListedFiles.{ClassFits, matched_listed, jobs_kept}
+use Rattle.histar_refinement.proofs.Turning.{turned_name, turned_step, turned_n, turned_k, turned_else, turned, turned_address, address_back}
+use Rattle.histar_refinement.proofs.Turning.{directory_stays, address_stays, same_tests, turned_path_address, turned_home, process_turned}
+use Rattle.histar_refinement.proofs.Turning.{inside_turned, path_turned, get_renamed}
 
 module _ (accounts : Accounts) (s : State) (f : Flat) (l : ObjectsMatch accounts s f) where
   -- where nothing stands, nothing stands below
@@ -52,7 +57,8 @@ module _ (accounts : Accounts) (s : State) (f : Flat) (l : ObjectsMatch accounts
       by true u = absurd (none-some there (sym (nothing_under top absent q u) ∙ at))
       by false u = refl
 
-  module _ (n k : Name) (d : Path) (N : ℕ) (at_listing : l.naming.number (Listing ∷ address_of d) ≡ Some N) (absent : get f.files (k ∷ d) ≡ None) where
+  module _ (n k : Name) (d : Path) (N : ℕ) (at_listing : l.naming.number (Listing ∷ address_of d) ≡ Some N)
+      (absent : get f.files (k ∷ d) ≡ None) where
     abbrev pub after : Flat
     after = with_renamed f (n ∷ d) (k ∷ d)
 
@@ -60,13 +66,18 @@ module _ (accounts : Accounts) (s : State) (f : Flat) (l : ObjectsMatch accounts
     turn = turned_address n k d
 
     abbrev pub naming : Naming Step
-    naming = renamed_naming same_step step_tests_equality (turned_address n k d) (turned_address n k d) (address_back n k d) (address_back n k d) refl (λ x a. (turned_step n k (same_address (address_of d) a) x, refl)) l.naming
+    naming =
+        renamed_naming same_step step_tests_equality (turned_address n k d) (turned_address n k d) (address_back n k d)
+        (address_back n k d) refl (λ x a. (turned_step n k (same_address (address_of d) a) x, refl)) l.naming
 
     abbrev pub asked : Address Step → Found
     asked = λ a. expected accounts l.category f l.naming.number (turned_address n k d a)
 
     agrees_turned : Agrees same_step s naming asked
-    agrees_turned = agrees_renamed same_step step_tests_equality (turned_address n k d) (turned_address n k d) (address_back n k d) (address_back n k d) refl (λ x a. (turned_step n k (same_address (address_of d) a) x, refl)) s l.naming (expected accounts l.category f l.naming.number) l.agrees
+    agrees_turned =
+        agrees_renamed same_step step_tests_equality (turned_address n k d) (turned_address n k d) (address_back n k d)
+        (address_back n k d) refl (λ x a. (turned_step n k (same_address (address_of d) a) x, refl)) s l.naming
+        (expected accounts l.category f l.naming.number) l.agrees
 
     got : (q : Path) → get after.files q ≡ get f.files (turned n k d q)
     got q = get_renamed n k d f.files (not_under (k ∷ d) absent) q
@@ -81,11 +92,16 @@ module _ (accounts : Accounts) (s : State) (f : Flat) (l : ObjectsMatch accounts
 
     -- an entry leads where the one of the turned path led
     leads_turned : (p : Path) → leads_at f.files l.naming.number (turned n k d p) ≡ leads_at after.files naming.number p
-    leads_turned p = same_leads f.files after.files l.naming.number naming.number (turned n k d p) p (sym (got p)) (ap l.naming.number (sym (turned_path_address n k d p))) (ap (λ (a : Address Step). l.naming.number (Listing ∷ a)) (sym (turned_path_address n k d p)))
+    leads_turned p =
+        same_leads f.files after.files l.naming.number naming.number (turned n k d p) p (sym (got p))
+        (ap l.naming.number (sym (turned_path_address n k d p)))
+        (ap (λ (a : Address Step). l.naming.number (Listing ∷ a)) (sym (turned_path_address n k d p)))
 
     -- another directory is the one of the turned path
     directory_else : (e : Path) → d ≢ e → directory_of f.files l.naming.number (turned n k d e) ≡ directory_of after.files naming.number e
-    directory_else e other = directories_alike f.files after.files l.naming.number naming.number (turned n k d e) e (λ m. ap (leads_at f.files l.naming.number) (entry m) ∙ leads_turned (m ∷ e))
+    directory_else e other =
+        directories_alike f.files after.files l.naming.number naming.number (turned n k d e) e
+        (λ m. ap (leads_at f.files l.naming.number) (entry m) ∙ leads_turned (m ∷ e))
       where
         entry : (m : Name) → m ∷ turned n k d e ≡ turned n k d (m ∷ e)
         entry m = elim (same_path_found d e) [
@@ -93,37 +109,53 @@ module _ (accounts : Accounts) (s : State) (f : Flat) (l : ObjectsMatch accounts
           | inr t ↦ ap (λ b. turned_name n k b m ∷ turned n k d e) (sym t.0)
         ]
 
-    node_turned : (o : Option Path) → expected_node accounts l.category f l.naming.number (option_map (turned n k d) o) ≡ expected_node accounts l.category after naming.number o
+    node_turned : (o : Option Path)
+        → expected_node accounts l.category f l.naming.number (option_map (turned n k d) o)
+        ≡ expected_node accounts l.category after naming.number o
     node_turned None = refl
     node_turned (Some q) = ap (node_object accounts l.category) (sym (got q))
 
-    listing_turned : (e : Path) → d ≢ e → listing_at accounts l.category f l.naming.number (Some (turned n k d e)) ≡ listing_at accounts l.category after naming.number (Some e)
+    listing_turned : (e : Path) → d ≢ e
+        → listing_at accounts l.category f l.naming.number (Some (turned n k d e))
+        ≡ listing_at accounts l.category after naming.number (Some e)
     listing_turned e other = λ i. listing_object accounts l.category (spelling (directory_else e other i)) (sym (got e) i)
 
     -- what is asked for at an address is what was at the turned one
     asked_else : (a : Address Step) → Listing ∷ address_of d ≢ a → asked a ≡ expected accounts l.category after naming.number a
     asked_else [] other = refl
     asked_else (Left q ∷ a) other = ap (λ b. cond b (left_by_boot accounts q) None) (same_tests n k d [] a)
-    asked_else (Slash ∷ a) other = ap (expected_node accounts l.category f l.naming.number) (path_turned n k d (Slash ∷ a)) ∙ node_turned (path_at (Slash ∷ a))
+    asked_else (Slash ∷ a) other =
+        ap (expected_node accounts l.category f l.naming.number) (path_turned n k d (Slash ∷ a))
+        ∙ node_turned (path_at (Slash ∷ a))
     asked_else (Listing ∷ a) other = ap (listing_at accounts l.category f l.naming.number) (path_turned n k d a) ∙ by (path_at a) refl
       where
-        by : (o : Option Path) → path_at a ≡ o → listing_at accounts l.category f l.naming.number (option_map (turned n k d) o) ≡ listing_at accounts l.category after naming.number o
+        by : (o : Option Path) → path_at a ≡ o
+            → listing_at accounts l.category f l.naming.number (option_map (turned n k d) o)
+            ≡ listing_at accounts l.category after naming.number o
         by None is = refl
         by (Some e) is = listing_turned e (λ i. other (ap (λ (b : Address Step). Listing ∷ b) (ap address_of i ∙ sym (address_path a e is))))
-    asked_else (Named m ∷ a) other = ap (expected_node accounts l.category f l.naming.number) (path_turned n k d (Named m ∷ a)) ∙ node_turned (path_at (Named m ∷ a))
-    asked_else (Home ∷ a) other = ap (expected_home accounts l.category f l.naming.number) (process_turned n k d (Home ∷ a)) ∙ by (process_at (Home ∷ a))
+    asked_else (Named m ∷ a) other =
+        ap (expected_node accounts l.category f l.naming.number) (path_turned n k d (Named m ∷ a))
+        ∙ node_turned (path_at (Named m ∷ a))
+    asked_else (Home ∷ a) other =
+        ap (expected_home accounts l.category f l.naming.number) (process_turned n k d (Home ∷ a))
+        ∙ by (process_at (Home ∷ a))
       where
         by : (q : Option ProcName) → expected_home accounts l.category f l.naming.number q ≡ expected_home accounts l.category after naming.number q
         by None = refl
         by (Some q) = refl
     asked_else (Status ∷ a) other = ap (expected_status accounts l.category f l.naming.number) (process_turned n k d a) ∙ by (process_at a)
       where
-        by : (q : Option ProcName) → expected_status accounts l.category f l.naming.number q ≡ expected_status accounts l.category after naming.number q
+        by : (q : Option ProcName)
+            → expected_status accounts l.category f l.naming.number q
+            ≡ expected_status accounts l.category after naming.number q
         by None = refl
         by (Some q) = same_status accounts l.category f after.files l.naming.number naming.number same_numbers q
     asked_else (Inside ∷ a) other = ap (container_inside accounts l.category f l.naming.number) (process_turned n k d a) ∙ by (process_at a)
       where
-        by : (q : Option ProcName) → container_inside accounts l.category f l.naming.number q ≡ container_inside accounts l.category after naming.number q
+        by : (q : Option ProcName)
+            → container_inside accounts l.category f l.naming.number q
+            ≡ container_inside accounts l.category after naming.number q
         by None = refl
         by (Some q) = refl
     asked_else (Runner ∷ a) other = ap (thread_at accounts l.category f l.naming.number) (inside_turned n k d a) ∙ by (inside_at a)
@@ -131,7 +163,9 @@ module _ (accounts : Accounts) (s : State) (f : Flat) (l : ObjectsMatch accounts
         by : (q : Option ProcName) → thread_at accounts l.category f l.naming.number q ≡ thread_at accounts l.category after naming.number q
         by None = refl
         by (Some q) = refl
-    asked_else (Child m ∷ a) other = ap (expected_home accounts l.category f l.naming.number) (process_turned n k d (Child m ∷ a)) ∙ by (process_at (Child m ∷ a))
+    asked_else (Child m ∷ a) other =
+        ap (expected_home accounts l.category f l.naming.number) (process_turned n k d (Child m ∷ a))
+        ∙ by (process_at (Child m ∷ a))
       where
         by : (q : Option ProcName) → expected_home accounts l.category f l.naming.number q ≡ expected_home accounts l.category after naming.number q
         by None = refl
@@ -140,11 +174,13 @@ module _ (accounts : Accounts) (s : State) (f : Flat) (l : ObjectsMatch accounts
     listing_stays : naming.number (Listing ∷ address_of d) ≡ Some N
     listing_stays = ap (λ (a : Address Step). l.naming.number (Listing ∷ a)) (address_stays n k d) ∙ at_listing
 
-    asked_here : asked (Listing ∷ address_of d) ≡ listing_object accounts l.category (spelling (directory_of f.files l.naming.number d)) (get after.files d)
+    asked_here : asked (Listing ∷ address_of d)
+        ≡ listing_object accounts l.category (spelling (directory_of f.files l.naming.number d)) (get after.files d)
     asked_here =
         ap (λ (a : Address Step). expected accounts l.category f l.naming.number (Listing ∷ a)) (address_stays n k d)
         ∙ asked_listing accounts l.category f l.naming.number d
-        ∙ ap (listing_object accounts l.category (spelling (directory_of f.files l.naming.number d))) (sym (got d ∙ ap (get f.files) (directory_stays n k d)))
+        ∙ ap (listing_object accounts l.category (spelling (directory_of f.files l.naming.number d)))
+        (sym (got d ∙ ap (get f.files) (directory_stays n k d)))
 
     -- boot gave no number to what turns
     boot_turned : (a : Address Step) → boot_number (length accounts.users) (turned_address n k d a) ≡ boot_number (length accounts.users) a
@@ -178,15 +214,21 @@ module _ (accounts : Accounts) (s : State) (f : Flat) (l : ObjectsMatch accounts
 
       pub directory_renamed : directory_of after.files naming.number d ≡ renamed_directory
       directory_renamed = map.same_map nat_list_cmp_total antisymmetric _ _ (λ m.
-          get_directory after.files naming.number d m ∙ sym (leads_turned (m ∷ d)) ∙ (λ i. leads_at f.files l.naming.number (turned_name n k (itself i) m ∷ directory_stays n k d i)) ∙ at_name m
+          get_directory after.files naming.number d m ∙ sym (leads_turned (m ∷ d))
+          ∙ (λ i. leads_at f.files l.naming.number (turned_name n k (itself i) m ∷ directory_stays n k d i))
+          ∙ at_name m
           ∙ sym (map.get-insert nat_list_cmp_total (map.remove (directory_of f.files l.naming.number d) n) k target m
-          ∙ ap (cond (eq_by_cmp by_bytes m k) (Some target)) (map.get-remove nat_list_cmp_total (directory_of f.files l.naming.number d) n m ∙ ap (cond (eq_by_cmp by_bytes m n) None) (get_directory f.files l.naming.number d m))
+          ∙ ap (cond (eq_by_cmp by_bytes m k) (Some target)) (map.get-remove nat_list_cmp_total (directory_of f.files l.naming.number d) n m
+          ∙ ap (cond (eq_by_cmp by_bytes m n) None) (get_directory f.files l.naming.number d m))
           ∙ (λ i. cond (sym (texts_ties m k) i) (Some target) (cond (sym (texts_ties m n) i) None (leads_at f.files l.naming.number (m ∷ d))))))
         where
           itself : same_path d d ≡ true
           itself = elim (same_path_found d d) [ inl e ↦ e.0 | inr e ↦ absurd (e.1 refl) ]
 
-          at_name : (m : Name) → leads_at f.files l.naming.number (turned_name n k true m ∷ d) ≡ cond (same_name m k) (Some target) (cond (same_name m n) None (leads_at f.files l.naming.number (m ∷ d)))
+          at_name : (m : Name)
+              → leads_at f.files l.naming.number (turned_name n k true m ∷ d)
+              ≡ cond (same_name m k) (Some target)
+              (cond (same_name m n) None (leads_at f.files l.naming.number (m ∷ d)))
           at_name m = elim (same_name_found m k) [
             | inl e ↦
                 ap (λ (x : Name). leads_at f.files l.naming.number (x ∷ d)) (ap (turned_name n k true) e.1 ∙ turned_k n k) ∙ leads
@@ -196,7 +238,9 @@ module _ (accounts : Accounts) (s : State) (f : Flat) (l : ObjectsMatch accounts
                 ∙ sym (ap (λ b. cond b (Some target) (cond (same_name m n) None (leads_at f.files l.naming.number (m ∷ d)))) e.0)
           ]
             where
-              by : ((same_name m n ≡ true) × (m ≡ n)) ⊎ ((same_name m n ≡ false) × (m ≢ n)) → m ≢ k → leads_at f.files l.naming.number (turned_name n k true m ∷ d) ≡ cond (same_name m n) None (leads_at f.files l.naming.number (m ∷ d))
+              by : ((same_name m n ≡ true) × (m ≡ n)) ⊎ ((same_name m n ≡ false) × (m ≢ n)) → m ≢ k
+                  → leads_at f.files l.naming.number (turned_name n k true m ∷ d)
+                  ≡ cond (same_name m n) None (leads_at f.files l.naming.number (m ∷ d))
               by (inl t) not_k =
                   ap (λ (x : Name). leads_at f.files l.naming.number (x ∷ d)) (ap (turned_name n k true) t.1 ∙ turned_n n k) ∙ leads_nowhere
                   ∙ sym (ap (λ b. cond b None (leads_at f.files l.naming.number (m ∷ d))) t.0)
@@ -208,23 +252,34 @@ module _ (accounts : Accounts) (s : State) (f : Flat) (l : ObjectsMatch accounts
       pub listable_renamed : IsTrue (is_name k) → IsListable (directory_of f.files l.naming.number d) → IsListable renamed_directory
       listable_renamed name h =
           let is_there : map.get (directory_of f.files l.naming.number d) n ≡ Some target = get_directory f.files l.naming.number d n ∙ leads in
-          listable_insert (map.remove (directory_of f.files l.naming.number d) n) k target (listable_remove (directory_of f.files l.naming.number d) n h)
-          (room_without (directory_of f.files l.naming.number d) n target h is_there) (name, (entry_found (directory_of f.files l.naming.number d) n target h is_there).1)
+          listable_insert (map.remove (directory_of f.files l.naming.number d) n) k target
+          (listable_remove (directory_of f.files l.naming.number d) n h)
+          (room_without (directory_of f.files l.naming.number d) n target h is_there)
+          (name, (entry_found (directory_of f.files l.naming.number d) n target h is_there).1)
 
       -- The kernel has the objects of the flat state in which all below the old name is below the new one.
       pub matched_renamed : IsTrue (is_name k) → is_dir_at f d ≡ true
-          → (later : ObjectsMatch accounts (with_segment_bytes s N (spelling renamed_directory)) after) × (later.naming ≡ naming) × (later.category ≡ l.category)
-      matched_renamed name dir = subst (λ (x : Entries). (later : ObjectsMatch accounts (with_segment_bytes s N (spelling x)) after) × (later.naming ≡ naming) × (later.category ≡ l.category)) directory_renamed
+          → (later : ObjectsMatch accounts (with_segment_bytes s N (spelling renamed_directory)) after)
+          × (later.naming ≡ naming) × (later.category ≡ l.category)
+      matched_renamed name dir =
+          subst (λ (x : Entries).
+          (later : ObjectsMatch accounts (with_segment_bytes s N (spelling x)) after) × (later.naming ≡ naming)
+          × (later.category ≡ l.category)) directory_renamed
           (matched_listed accounts s f l after.files fits_all s naming asked agrees_turned l.numbered d N listing_stays
           (spelling (directory_of f.files l.naming.number d)) asked_here asked_else
           (λ a q e. l.as_booted (turned_address n k d a) q (boot_turned a ∙ e)) listable refl l.boot_thread_gone)
         where
           listable : (e : Path) → is_dir_at after e ≡ true → IsListable (directory_of after.files naming.number e)
           listable e is = elim (same_path_found d e) [
-            | inl t ↦ subst (λ (z : Path). IsListable (directory_of after.files naming.number z)) t.1 (subst IsListable (sym directory_renamed) (listable_renamed name (l.listable d dir)))
-            | inr t ↦ subst IsListable (directory_else e t.1) (l.listable (turned n k d e) (ap (λ (o : Option Node). is_some_and o is_dir) (sym (got e)) ∙ is))
+            | inl t ↦
+                subst (λ (z : Path). IsListable (directory_of after.files naming.number z)) t.1
+                (subst IsListable (sym directory_renamed) (listable_renamed name (l.listable d dir)))
+            | inr t ↦
+                subst IsListable (directory_else e t.1)
+                (l.listable (turned n k d e) (ap (λ (o : Option Node). is_some_and o is_dir) (sym (got e)) ∙ is))
           ]
 
       -- and so the kernel represents the flat state with the entry renamed
-      pub represents_renamed : AreJobsGiven f → IsTrue (is_name k) → is_dir_at f d ≡ true → Represents accounts (with_segment_bytes s N (spelling renamed_directory)) after
+      pub represents_renamed : AreJobsGiven f → IsTrue (is_name k) → is_dir_at f d ≡ true
+          → Represents accounts (with_segment_bytes s N (spelling renamed_directory)) after
       represents_renamed given name dir = record { matched = (matched_renamed name dir).0; jobs_given = jobs_renamed given }

@@ -7,7 +7,8 @@ use Rattle.histar_container.specs.Tree.{Address, Naming, wanted, is_one_below, s
 use Rattle.histar_container.proofs.Addresses.{TestsEquality, same_tests_equality}
 use Rattle.histar_refinement.specs.Agrees.{Agrees}
 
-module _ {X : Type 0} (same_step : X → X → Bool) (decides : TestsEquality same_step) (to from : Address X → Address X) (there : (a : Address X) → to (from a) ≡ a) (back : (a : Address X) → from (to a) ≡ a)
+module _ {X : Type 0} (same_step : X → X → Bool) (decides : TestsEquality same_step) (to from : Address X → Address X)
+    (there : (a : Address X) → to (from a) ≡ a) (back : (a : Address X) → from (to a) ≡ a)
     (root : from [] ≡ []) (below : (x : X) (a : Address X) → (y : X) × (from (x ∷ a) ≡ y ∷ from a)) where
   -- the test of one address against a new name of another is that of its old name against the other
   pub same_through : (a b : Address X) → same_steps same_step a (to b) ≡ same_steps same_step (from a) b
@@ -16,11 +17,16 @@ module _ {X : Type 0} (same_step : X → X → Bool) (decides : TestsEquality sa
     | inr e ↦ e.0 ∙ by_other (λ k. e.1 (sym (there a) ∙ ap to k)) (same_tests_equality same_step decides (from a) b)
   ]
     where
-      by_equal : from a ≡ b → (((same_steps same_step (from a) b ≡ true) × (from a ≡ b)) ⊎ ((same_steps same_step (from a) b ≡ false) × (from a ≢ b))) → true ≡ same_steps same_step (from a) b
+      by_equal : from a ≡ b
+          → (((same_steps same_step (from a) b ≡ true) × (from a ≡ b))
+          ⊎ ((same_steps same_step (from a) b ≡ false) × (from a ≢ b))) → true ≡ same_steps same_step (from a) b
       by_equal k (inl t) = sym t.0
       by_equal k (inr t) = absurd (t.1 k)
 
-      by_other : from a ≢ b → (((same_steps same_step (from a) b ≡ true) × (from a ≡ b)) ⊎ ((same_steps same_step (from a) b ≡ false) × (from a ≢ b))) → false ≡ same_steps same_step (from a) b
+      by_other : from a ≢ b
+          → (((same_steps same_step (from a) b ≡ true) × (from a ≡ b))
+          ⊎ ((same_steps same_step (from a) b ≡ false) × (from a ≢ b)))
+          → false ≡ same_steps same_step (from a) b
       by_other k (inl t) = absurd (k t.1)
       by_other k (inr t) = sym t.0
 
@@ -57,7 +63,9 @@ module _ {X : Type 0} (same_step : X → X → Bool) (decides : TestsEquality sa
     as_expected_then : (q : ℕ) → s.objects q ≡ wanted (objects_at s.objects (renamed_naming naming)) (option_map to (naming.address q))
     as_expected_then q = agrees.tree.as_expected q ∙ by (naming.address q)
       where
-        by : (o : Option (Address X)) → wanted (objects_at s.objects naming) o ≡ wanted (objects_at s.objects (renamed_naming naming)) (option_map to o)
+        by : (o : Option (Address X))
+            → wanted (objects_at s.objects naming) o
+            ≡ wanted (objects_at s.objects (renamed_naming naming)) (option_map to o)
         by None = refl
         by (Some b) = ap (objects_at s.objects naming) (sym (back b))
 

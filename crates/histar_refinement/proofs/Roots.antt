@@ -17,7 +17,8 @@ use Rattle.histar_refinement.specs.Categories.{Categories}
 use Rattle.histar_refinement.specs.Addresses.{Step, AddressNumbers, address_of, home_address, path_at, process_at, inside_at}
 use Rattle.histar_refinement.specs.Addresses.Step.{Left, Slash, Listing, Named, Home, Status, Inside, Runner, Child}
 use Rattle.histar_refinement.specs.Directories.{both_numbers, target_for, target_in, directory_of}
-use Rattle.histar_refinement.specs.Expected.{node_object, home_object, inside_object, thread_object, expected_node, listing_at, expected_home, expected_status, container_inside, thread_at, expected}
+use Rattle.histar_refinement.specs.Expected.{node_object, home_object, inside_object, thread_object, expected_node, listing_at, expected_home}
+use Rattle.histar_refinement.specs.Expected.{expected_status, container_inside, thread_at, expected}
 
 -- a path's address is that of the path
 pub path_address : (q : Path) → path_at (address_of q) ≡ Some q
@@ -25,7 +26,8 @@ path_address [] = refl
 path_address (n ∷ d) = ap (option_map (λ above. n ∷ above)) (path_address d)
 
 -- by what stands above
-named_by : (n : Name) (a : Address Step) (q : Path) (p : Option Path) → option_map (λ d. n ∷ d) p ≡ Some q → ((d : Path) → p ≡ Some d → a ≡ address_of d) → Named n ∷ a ≡ address_of q
+named_by : (n : Name) (a : Address Step) (q : Path) (p : Option Path) → option_map (λ d. n ∷ d) p ≡ Some q
+    → ((d : Path) → p ≡ Some d → a ≡ address_of d) → Named n ∷ a ≡ address_of q
 named_by n a q None e above = absurd (none-some q e)
 named_by n a q (Some d) e above = ap (λ (b : Address Step). Named n ∷ b) (above d refl) ∙ ap address_of (same_Some (n ∷ d) q e)
 
@@ -48,7 +50,8 @@ pub process_address : (me : ProcName) → process_at (home_address me) ≡ Some 
 process_address [] = refl
 process_address (n ∷ p) = ap (option_map (λ above. n ∷ above)) (process_address p)
 
-child_by : (n : ℕ) (a : Address Step) (q : ProcName) (p : Option ProcName) → option_map (λ d. n ∷ d) p ≡ Some q → ((d : ProcName) → p ≡ Some d → a ≡ home_address d) → Child n ∷ a ≡ home_address q
+child_by : (n : ℕ) (a : Address Step) (q : ProcName) (p : Option ProcName) → option_map (λ d. n ∷ d) p ≡ Some q
+    → ((d : ProcName) → p ≡ Some d → a ≡ home_address d) → Child n ∷ a ≡ home_address q
 child_by n a q None e above = absurd (none-some q e)
 child_by n a q (Some d) e above = ap (λ (b : Address Step). Child n ∷ b) (above d refl) ∙ ap home_address (same_Some (n ∷ d) q e)
 
@@ -88,21 +91,39 @@ same_filter_map : {A B : Type 0} (f g : A → Option B) → ((x : A) → f x ≡
 same_filter_map f g same = λ i x. same x i
 
 -- a directory is told by the numbers at the addresses of paths
-pub same_directory : (f : Flat) (number numbers : AddressNumbers) → ((p : Path) → number (address_of p) ≡ numbers (address_of p)) → ((p : Path) → number (Listing ∷ address_of p) ≡ numbers (Listing ∷ address_of p))
+pub same_directory : (f : Flat) (number numbers : AddressNumbers)
+    → ((p : Path) → number (address_of p) ≡ numbers (address_of p))
+    → ((p : Path) → number (Listing ∷ address_of p) ≡ numbers (Listing ∷ address_of p))
     → (d : Path) → directory_of f.files number d ≡ directory_of f.files numbers d
 same_directory f number numbers here listing d =
-    ap (λ (t : (Path × Node) → Option (Name × Target)). map.from_entries (filter_map t f.files.entries)) (same_filter_map (target_in number d) (target_in numbers d) (λ e. by e.0 e.1 e.0))
+    ap (λ (t : (Path × Node) → Option (Name × Target)). map.from_entries (filter_map t f.files.entries))
+    (same_filter_map (target_in number d) (target_in numbers d) (λ e. by e.0 e.1 e.0))
   where
     target_same : (p : Path) (there : Node) → target_for number (p, there) ≡ target_for numbers (p, there)
-    target_same p there = elim there.content as (λ (c : Content). target_for number (p, record { class = there.class; content = c }) ≡ target_for numbers (p, record { class = there.class; content = c })) [
-      | Dir ↦ λ i. both_numbers (here p i) (listing p i)
-      | File bytes ↦ ap (option_map targets.File) (here p)
-    ]
+    target_same p there =
+        elim there.content as (λ (c : Content). target_for number (p, record { class = there.class; content = c })
+        ≡ target_for numbers (p, record { class = there.class; content = c })) [
+          | Dir ↦ λ i. both_numbers (here p i) (listing p i)
+          | File bytes ↦ ap (option_map targets.File) (here p)
+        ]
 
-    by : (p : Path) (there : Node) (q : Path) → (elim q as (λ _. Option (Name × Target)) [ [] ↦ None | n ∷ above ↦ cond (same_path d above) (option_map (λ (target : Target). (n, target)) (target_for number (p, there))) None ])
-        ≡ (elim q as (λ _. Option (Name × Target)) [ [] ↦ None | n ∷ above ↦ cond (same_path d above) (option_map (λ (target : Target). (n, target)) (target_for numbers (p, there))) None ])
+    by : (p : Path) (there : Node) (q : Path)
+        → (elim q as (λ _. Option (Name × Target)) [
+          | [] ↦ None
+          | n
+              ∷ above ↦ cond (same_path d above)
+              (option_map (λ (target : Target). (n, target)) (target_for number (p, there))) None
+        ])
+        ≡ (elim q as (λ _. Option (Name × Target)) [
+          | [] ↦ None
+          | n
+              ∷ above ↦ cond (same_path d above)
+              (option_map (λ (target : Target). (n, target)) (target_for numbers (p, there))) None
+        ])
     by p there [] = refl
-    by p there (n ∷ above) = ap (λ (t : Option Target). cond (same_path d above) (option_map (λ (target : Target). (n, target)) t) None) (target_same p there)
+    by p there (n ∷ above) =
+        ap (λ (t : Option Target). cond (same_path d above) (option_map (λ (target : Target). (n, target)) t) None)
+        (target_same p there)
 
 module _ (accounts : Accounts) (category other : Categories) (f g : Flat) (number numbers : AddressNumbers) where
   -- what is asked for at the five kinds of places is the same
@@ -113,17 +134,22 @@ module _ (accounts : Accounts) (category other : Categories) (f g : Flat) (numbe
   -- and for a process
   pub record AsksAlikeOf (a : Address Step) : Type 0 where
     pub home : (q : ProcName) → a ≡ home_address q → home_object accounts category q (f.processes q) ≡ home_object accounts other q (g.processes q)
-    pub status : (q : ProcName) → a ≡ Status ∷ home_address q → expected_status accounts category f number (Some q) ≡ expected_status accounts other g numbers (Some q)
-    pub inside : (q : ProcName) → a ≡ Inside ∷ home_address q → inside_object accounts category q (f.processes q) ≡ inside_object accounts other q (g.processes q)
-    pub runner : (q : ProcName) → a ≡ Runner ∷ Inside ∷ home_address q → thread_object accounts category q (f.processes q) ≡ thread_object accounts other q (g.processes q)
+    pub status : (q : ProcName) → a ≡ Status ∷ home_address q
+        → expected_status accounts category f number (Some q) ≡ expected_status accounts other g numbers (Some q)
+    pub inside : (q : ProcName) → a ≡ Inside ∷ home_address q
+        → inside_object accounts category q (f.processes q) ≡ inside_object accounts other q (g.processes q)
+    pub runner : (q : ProcName) → a ≡ Runner ∷ Inside ∷ home_address q
+        → thread_object accounts category q (f.processes q) ≡ thread_object accounts other q (g.processes q)
 
   -- at one address alone
   pub record AsksAlikeAt (a : Address Step) : Type 0 where
     pub at_path : (q : Path) → a ≡ address_of q → node_object accounts category (get f.files q) ≡ node_object accounts other (get g.files q)
-    pub in_directory : (d : Path) → a ≡ Listing ∷ address_of d → listing_at accounts category f number (Some d) ≡ listing_at accounts other g numbers (Some d)
+    pub in_directory : (d : Path) → a ≡ Listing ∷ address_of d
+        → listing_at accounts category f number (Some d) ≡ listing_at accounts other g numbers (Some d)
 
   -- so it is at the address
-  pub asked_alike_at : (a : Address Step) → AsksAlikeAt a → AsksAlikeOf a → expected accounts category f number a ≡ expected accounts other g numbers a
+  pub asked_alike_at : (a : Address Step) → AsksAlikeAt a → AsksAlikeOf a
+      → expected accounts category f number a ≡ expected accounts other g numbers a
   asked_alike_at [] files of = refl
   asked_alike_at (Left k ∷ a) files of = refl
   asked_alike_at (Slash ∷ a) files of = by (path_at (Slash ∷ a)) refl
@@ -163,7 +189,8 @@ module _ (accounts : Accounts) (category other : Categories) (f g : Flat) (numbe
       by (Some q) is = of.runner q (ap (λ (b : Address Step). Runner ∷ b) (address_inside a q is))
   asked_alike_at (Child n ∷ a) files of = by (process_at (Child n ∷ a)) refl
     where
-      by : (q : Option ProcName) → process_at (Child n ∷ a) ≡ q → expected_home accounts category f number q ≡ expected_home accounts other g numbers q
+      by : (q : Option ProcName) → process_at (Child n ∷ a) ≡ q
+          → expected_home accounts category f number q ≡ expected_home accounts other g numbers q
       by None is = refl
       by (Some q) is = of.home q (address_process (Child n ∷ a) q is)
 

@@ -1,5 +1,6 @@
 -- Users and groups by their names and numbers.
-use Rattle.std.proofs.Common.{◌≡◌, ◌≢◌, ℕ, zero, suc, ◌+◌, ◌<◌, ◌≤◌, ◌⊎◌, inl, inr, Bool, true, false, ◌&&◌, cond, if◌then◌else◌, List, [], ◌∷◌, length, Option, None, Some, arith, refl, sym, ap, ◌∙◌, subst}
+use Rattle.std.proofs.Common.{◌≡◌, ◌≢◌, ℕ, zero, suc, ◌+◌, ◌<◌, ◌≤◌, ◌⊎◌, inl, inr, Bool, true, false, ◌&&◌, cond, if◌then◌else◌, List, [], ◌∷◌}
+use Rattle.std.proofs.Common.{length, Option, None, Some, arith, refl, sym, ap, ◌∙◌, subst}
 use Rattle.std.specs.Prelude.{is_some, not, slice_get, nat_lt, nat_eq, option_map, position}
 use Rattle.std.specs.List.{list_any, position_or_len}
 use Rattle.std.proofs.lemmas.Bool.Decides.{nat_tests, eqb_tells}
@@ -29,7 +30,8 @@ abbrev pub is_number : Option ℕ → ℕ → Bool
 is_number None i = false
 is_number (Some j) i = nat_eq i j
 
-pub is_owner : (accounts : Accounts) (name owner : Name) (i : ℕ) → user_number accounts owner ≡ Some i → is_number (user_number accounts name) i ≡ same name owner
+pub is_owner : (accounts : Accounts) (name owner : Name) (i : ℕ) → user_number accounts owner ≡ Some i
+    → is_number (user_number accounts name) i ≡ same name owner
 is_owner accounts name owner i numbered = by (user_number accounts name) refl
   where
     by : (o : Option ℕ) → user_number accounts name ≡ o → is_number o i ≡ same name owner
@@ -68,7 +70,8 @@ pub from_numbers : (m : ℕ) (groups : List Group) (name : Name) (k : ℕ) → h
 from_numbers m [] name k e = absurd (true≢false (sym e))
 from_numbers m (g ∷ groups) name k e = numbers_by m g groups name k (has g.members name) refl e (from_numbers (m + 1) groups name k)
 
-to_numbers : (m : ℕ) (groups : List Group) (name : Name) (i : ℕ) (g : Group) → slice_get groups i ≡ Some g → has g.members name ≡ true → has_number (numbers_with m groups name) (m + i) ≡ true
+to_numbers : (m : ℕ) (groups : List Group) (name : Name) (i : ℕ) (g : Group) → slice_get groups i ≡ Some g
+    → has g.members name ≡ true → has_number (numbers_with m groups name) (m + i) ≡ true
 to_numbers m [] name i g at is = absurd (none-some g at)
 to_numbers m (h ∷ groups) name zero g at is =
     let same_g : h ≡ g = same_Some h g at in
@@ -80,7 +83,9 @@ to_numbers m (h ∷ groups) name (suc i) g at is =
     let number : m + suc i ≡ m + 1 + i = omega arith in
     ap (has_number (numbers_with m (h ∷ groups) name)) number ∙ by (has h.members name) later
   where
-    by : (b : Bool) → has_number (numbers_with (m + 1) groups name) (m + 1 + i) ≡ true → has_number (if b then m ∷ numbers_with (m + 1) groups name else numbers_with (m + 1) groups name) (m + 1 + i) ≡ true
+    by : (b : Bool) → has_number (numbers_with (m + 1) groups name) (m + 1 + i) ≡ true
+        → has_number (if b then m ∷ numbers_with (m + 1) groups name else numbers_with (m + 1) groups name) (m + 1 + i)
+        ≡ true
     by true later = or_right (nat_eq (m + 1 + i) m) (has_number (numbers_with (m + 1) groups name) (m + 1 + i)) later
     by false later = later
 
@@ -88,20 +93,27 @@ to_numbers m (h ∷ groups) name (suc i) g at is =
 pub from_members : (groups : List Group) (name group : Name) → list_any (λ (g : Group). same g.name group && has g.members name) groups ≡ true
     → (i : ℕ) × (g : Group) × (slice_get groups i ≡ Some g) × (same g.name group ≡ true) × (has g.members name ≡ true)
 from_members [] name group e = absurd (true≢false (sym e))
-from_members (g ∷ groups) name group e = elim (or_cases (same g.name group && has g.members name) (list_any (λ (h : Group). same h.name group && has h.members name) groups) e) [
-  | inl here ↦ (0, g, refl, first_of (same g.name group) (has g.members name) here, second_of (same g.name group) (has g.members name) here)
-  | inr later ↦ let at = from_members groups name group later in (suc at.0, at.1, at.2, at.3, at.4)
-]
+from_members (g ∷ groups) name group e =
+    elim (or_cases (same g.name group && has g.members name)
+    (list_any (λ (h : Group). same h.name group && has h.members name) groups) e) [
+      | inl here ↦ (0, g, refl, first_of (same g.name group) (has g.members name) here, second_of (same g.name group) (has g.members name) here)
+      | inr later ↦ let at = from_members groups name group later in (suc at.0, at.1, at.2, at.3, at.4)
+    ]
 
-to_members : (groups : List Group) (name group : Name) (i : ℕ) (g : Group) → slice_get groups i ≡ Some g → same g.name group ≡ true → has g.members name ≡ true
+to_members : (groups : List Group) (name group : Name) (i : ℕ) (g : Group) → slice_get groups i ≡ Some g
+    → same g.name group ≡ true → has g.members name ≡ true
     → list_any (λ (h : Group). same h.name group && has h.members name) groups ≡ true
 to_members [] name group i g at is member = absurd (none-some g at)
 to_members (h ∷ groups) name group zero g at is member =
-    or_left (same h.name group && has h.members name) _ (subst (λ (x : Group). (same x.name group && has x.members name) ≡ true) (sym (same_Some h g at)) (and_from _ _ is member))
-to_members (h ∷ groups) name group (suc i) g at is member = or_right (same h.name group && has h.members name) _ (to_members groups name group i g at is member)
+    or_left (same h.name group && has h.members name) _ (subst
+    (λ (x : Group). (same x.name group && has x.members name) ≡ true) (sym (same_Some h g at))
+    (and_from _ _ is member))
+to_members (h ∷ groups) name group (suc i) g at is member =
+    or_right (same h.name group && has h.members name) _ (to_members groups name group i g at is member)
 
 -- a user is a member of a group exactly where the group's number is among those of the user's groups
-pub is_member_number : (accounts : Accounts) → AreAccounts accounts → (name group : Name) (k : ℕ) → group_number accounts group ≡ Some k → has_number (groups_of accounts name) k ≡ is_member accounts name group
+pub is_member_number : (accounts : Accounts) → AreAccounts accounts → (name group : Name) (k : ℕ)
+    → group_number accounts group ≡ Some k → has_number (groups_of accounts name) k ≡ is_member accounts name group
 is_member_number accounts ok name group k numbered =
     let place = mapped_from (λ k. k + 1) (position (λ (g : Group). same g.name group) accounts.groups) k numbered in
     let at = placed (λ (g : Group). same g.name group) accounts.groups place.0 place.1 in
@@ -113,9 +125,12 @@ is_member_number accounts ok name group k numbered =
     to_members accounts.groups name group found.0 found.1 found.2 (ap (λ (g : Group). same g.name group) one ∙ at.2) found.3)
     (λ e.
     let found = from_members accounts.groups name group e in
-    let alike : same found.1.name at.0.name ≡ true = equal_tested found.1.name at.0.name (equal_names found.1.name group found.3 ∙ sym (equal_names at.0.name group at.2)) in
+    let alike : same found.1.name at.0.name ≡ true =
+    equal_tested found.1.name at.0.name
+    (equal_names found.1.name group found.3 ∙ sym (equal_names at.0.name group at.2)) in
     let same_place : found.0 ≡ place.0 = ok.groups_differ found.0 place.0 found.1 at.0 found.2 at.1 alike in
-    ap (has_number (groups_of accounts name)) (omega (arith, same_place, place.2)) ∙ to_numbers 1 accounts.groups name found.0 found.1 found.2 found.4)
+    ap (has_number (groups_of accounts name)) (omega (arith, same_place, place.2))
+    ∙ to_numbers 1 accounts.groups name found.0 found.1 found.2 found.4)
 
 -- a group that is not declared has no members
 pub no_member : (accounts : Accounts) (name group : Name) → group_number accounts group ≡ None → is_member accounts name group ≡ false

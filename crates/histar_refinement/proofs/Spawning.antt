@@ -1,5 +1,6 @@
 -- After a birth the kernel represents the flat state with the child.
-use Rattle.std.proofs.Common.{◌≡◌, ◌≢◌, ℕ, ◌+◌, ◌*◌, ◌<◌, ◌⊎◌, inl, inr, true, false, ◌&&◌, ◌||◌, cond, List, [], ◌∷◌, length, Option, None, Some, arith, refl, sym, ap, ◌∙◌, subst}
+use Rattle.std.proofs.Common.{◌≡◌, ◌≢◌, ℕ, ◌+◌, ◌*◌, ◌<◌, ◌⊎◌, inl, inr, true, false, ◌&&◌, ◌||◌, cond, List, [], ◌∷◌, length, Option, None, Some}
+use Rattle.std.proofs.Common.{arith, refl, sym, ap, ◌∙◌, subst}
 use Rattle.std.specs.Prelude.{is_some, option_map, nat_le}
 use Rattle.std.proofs.lemmas.Bool.Decides.{nat_tests}
 use Rattle.std.proofs.lemmas.Option.{none-some, same_Some}
@@ -20,8 +21,10 @@ use Rattle.histar_flat.specs.Accounts.{Accounts, has, user_number}
 use Rattle.histar_flat.specs.Classes.{Class, Process, knows}
 use Rattle.histar_flat.specs.Classes.Class.{Private, Readable, Open, Scratch, Grouped}
 use Rattle.histar_flat.specs.FlatState.{Node, Flat, with_child, was_given, is_given}
-use Rattle.histar_refinement.specs.Categories.{CategoryName, Categories, AreDifferent, IsMade, split_category, naming_next, is_for, IsKnown, IsServed, IsUsed}
-use Rattle.histar_refinement.specs.Categories.CategoryName.{OfBoot, ReadsUser, WritesUser, ReadsGroup, WritesGroup, ReadsProcess, WritesProcess, OfJob}
+use Rattle.histar_refinement.specs.Categories.{CategoryName, Categories, AreDifferent, IsMade, split_category, naming_next, is_for, IsKnown, IsServed}
+use Rattle.histar_refinement.specs.Categories.{IsUsed}
+use Rattle.histar_refinement.specs.Categories.CategoryName.{OfBoot, ReadsUser, WritesUser, ReadsGroup, WritesGroup, ReadsProcess, WritesProcess}
+use Rattle.histar_refinement.specs.Categories.CategoryName.{OfJob}
 use Rattle.histar_refinement.specs.Guards.{guard_label, rights_label, rights_clearance}
 use Rattle.histar_refinement.specs.Labels.{process_guard, inside_guard, thread_rights}
 use Rattle.histar_refinement.specs.Addresses.{Step, same_step, address_of, home_address, path_at, boot_number}
@@ -29,14 +32,16 @@ use Rattle.histar_refinement.specs.Addresses.Step.{Left, Slash, Listing, Named, 
 use Rattle.histar_refinement.specs.Processes.{process_bytes}
 use Rattle.histar_refinement.specs.Directories.{directory_of}
 use Rattle.histar_refinement.specs.Agrees.{Agrees}
-use Rattle.histar_refinement.specs.Expected.{listing_object, home_object, status_object, inside_object, thread_object, bytes_for, expected_status, expected}
+use Rattle.histar_refinement.specs.Expected.{listing_object, home_object, status_object, inside_object, thread_object, bytes_for, expected_status}
+use Rattle.histar_refinement.specs.Expected.{expected}
 use Rattle.histar_login.specs.Start.{segment}
 use Rattle.histar_refinement.specs.Represents.{IsInOrder, AreInOrder, IsProcess, ObjectsMatch}
 use Rattle.histar_refinement.proofs.ProcessBytes.{alike_bytes}
 use Rattle.histar_layout.proofs.Members.{first_of, second_of}
 use Rattle.histar_layout.proofs.Declared.{equal_tested}
 use Rattle.histar_refinement.proofs.Growing.{new_number, old_number, still_different}
-use Rattle.histar_refinement.proofs.Roots.{path_address, same_home, same_directory, AsksAlike, asked_alike, asked_home, asked_status, asked_inside, asked_runner}
+use Rattle.histar_refinement.proofs.Roots.{path_address, same_home, same_directory, AsksAlike, asked_alike, asked_home, asked_status, asked_inside}
+use Rattle.histar_refinement.proofs.Roots.{asked_runner}
 use Rattle.histar_refinement.proofs.Moving.{number_below, agrees_same}
 use Rattle.histar_refinement.proofs.Counting.{boot_used}
 use Rattle.histar_refinement.proofs.Steps.{step_tests_equality}
@@ -65,8 +70,10 @@ above : Address Step → Address Step
 above [] = []
 above (x ∷ a) = a
 
-module _ (accounts : Accounts) (s : State) (f : Flat) (l : ObjectsMatch accounts s f) (me : ProcName) (p : Process) (here : f.processes me ≡ Some p) (runs : p.exited ≡ None) (room : p.born < 64)
-    (chain : List ProcName) (chain_used : (job : ProcName) → has chain job ≡ true → IsUsed accounts f (OfJob job)) (chain_ordered : AreInOrder l.category chain)
+module _ (accounts : Accounts) (s : State) (f : Flat) (l : ObjectsMatch accounts s f) (me : ProcName) (p : Process)
+    (here : f.processes me ≡ Some p) (runs : p.exited ≡ None) (room : p.born < 64)
+    (chain : List ProcName) (chain_used : (job : ProcName) → has chain job ≡ true → IsUsed accounts f (OfJob job))
+    (chain_ordered : AreInOrder l.category chain)
     (chain_free : is_some (user_number accounts p.user) ≡ false → chain ≡ [])
     (C S : ℕ) (at_home : l.naming.number (home_address me) ≡ Some C) (at_status : l.naming.number (Status ∷ home_address me) ≡ Some S) where
   -- the child, and its parent then
@@ -96,7 +103,9 @@ module _ (accounts : Accounts) (s : State) (f : Flat) (l : ObjectsMatch accounts
   at_me = (λ i. cond (apart_from child me child_not_me i) (Some newborn) (cond (equal_tested me me refl i) (Some parent) (f.processes me)))
 
   pub at_other : (x : ProcName) → x ≢ child → x ≢ me → after.processes x ≡ f.processes x
-  at_other x not_child not_me = (λ i. cond (apart_from child x (λ e. not_child (sym e)) i) (Some newborn) (cond (apart_from me x (λ e. not_me (sym e)) i) (Some parent) (f.processes x)))
+  at_other x not_child not_me =
+      (λ i. cond (apart_from child x (λ e. not_child (sym e)) i) (Some newborn)
+      (cond (apart_from me x (λ e. not_me (sym e)) i) (Some parent) (f.processes x)))
 
   -- a name is the child's, its parent's, or another
   which : (x : ProcName) → (x ≡ child) ⊎ ((x ≡ me) ⊎ ((x ≢ child) × (x ≢ me)))
@@ -112,7 +121,8 @@ module _ (accounts : Accounts) (s : State) (f : Flat) (l : ObjectsMatch accounts
   pub not_given : is_given f.processes child ≡ true → ⊥
   not_given e =
       let given : was_given (f.processes me) (p.born + 1) ≡ true = first_of (was_given (f.processes me) (p.born + 1)) (is_given f.processes me) e in
-      let within : (nat_le 1 (p.born + 1) && nat_le (p.born + 1) p.born) ≡ true = ap (λ (o : Option Process). was_given o (p.born + 1)) (sym here) ∙ given in
+      let within : (nat_le 1 (p.born + 1) && nat_le (p.born + 1) p.born) ≡ true =
+      ap (λ (o : Option Process). was_given o (p.born + 1)) (sym here) ∙ given in
       let top : nat_le (p.born + 1) p.born ≡ true = second_of (nat_le 1 (p.born + 1)) (nat_le (p.born + 1) p.born) within in
       absurd (grind (arith, nat_tests, top))
 
@@ -163,7 +173,9 @@ module _ (accounts : Accounts) (s : State) (f : Flat) (l : ObjectsMatch accounts
   pub reads_number : category reads ≡ next
   reads_number =
       let first = new_number l.category l.different next reads in
-      old_number with_reads different_reads (next + 1) writes reads (λ e. let k : 5 ≡ 6 = ap (λ (c : CategoryName). (split_category c).0) e in absurd (omega (arith, k))) (omega (arith, first)) ∙ first
+      old_number with_reads different_reads (next + 1) writes reads
+      (λ e. let k : 5 ≡ 6 = ap (λ (c : CategoryName). (split_category c).0) e in absurd (omega (arith, k)))
+      (omega (arith, first)) ∙ first
 
   pub writes_number : category writes ≡ next + 1
   writes_number = new_number with_reads different_reads (next + 1) writes
@@ -186,24 +198,36 @@ module _ (accounts : Accounts) (s : State) (f : Flat) (l : ObjectsMatch accounts
 
   -- nothing stands where the child is to stand, and its parent's container stands
   pub holder : is_container (old_asked (home_address me)) ≡ true
-  holder = ap is_container (asked_home accounts l.category f l.naming.number me) ∙ ap (λ (o : Option Process). is_container (home_object accounts l.category me o)) here
+  holder =
+      ap is_container (asked_home accounts l.category f l.naming.number me)
+      ∙ ap (λ (o : Option Process). is_container (home_object accounts l.category me o)) here
 
   pub no_home : is_present (old_asked (home_address child)) ≡ false
-  no_home = ap is_present (asked_home accounts l.category f l.naming.number child) ∙ ap (λ (o : Option Process). is_present (home_object accounts l.category child o)) no_child
+  no_home =
+      ap is_present (asked_home accounts l.category f l.naming.number child)
+      ∙ ap (λ (o : Option Process). is_present (home_object accounts l.category child o)) no_child
 
   pub no_inside : is_present (old_asked (Inside ∷ home_address child)) ≡ false
-  no_inside = ap is_present (asked_inside accounts l.category f l.naming.number child) ∙ ap (λ (o : Option Process). is_present (inside_object accounts l.category child o)) no_child
+  no_inside =
+      ap is_present (asked_inside accounts l.category f l.naming.number child)
+      ∙ ap (λ (o : Option Process). is_present (inside_object accounts l.category child o)) no_child
 
   pub no_runner : is_present (old_asked (Runner ∷ Inside ∷ home_address child)) ≡ false
-  no_runner = ap is_present (asked_runner accounts l.category f l.naming.number child) ∙ ap (λ (o : Option Process). is_present (thread_object accounts l.category child o)) no_child
+  no_runner =
+      ap is_present (asked_runner accounts l.category f l.naming.number child)
+      ∙ ap (λ (o : Option Process). is_present (thread_object accounts l.category child o)) no_child
 
   pub no_status : is_present (old_asked (Status ∷ home_address child)) ≡ false
   no_status = ap is_present (asked_status accounts l.category f l.naming.number child)
-      ∙ ap (λ (o : Option Process). is_present (status_object accounts l.category (bytes_for accounts l.category f l.naming.number child o) child o)) no_child
+      ∙ ap (λ (o : Option Process). is_present
+      (status_object accounts l.category (bytes_for accounts l.category f l.naming.number child o) child o))
+      no_child
 
   -- the numbers after the birth don't hang on what is written
   abbrev pub naming : Naming Step
-  naming = born_naming s l.naming old_asked l.agrees me (p.born + 1) C S at_home at_status holder no_home no_inside no_runner no_status outer inner label clearance [] []
+  naming =
+      born_naming s l.naming old_asked l.agrees me (p.born + 1) C S at_home at_status holder no_home no_inside no_runner
+      no_status outer inner label clearance [] []
 
   abbrev pub child_written : List ℕ
   child_written = process_bytes after.processes naming.number child newborn
@@ -213,21 +237,31 @@ module _ (accounts : Accounts) (s : State) (f : Flat) (l : ObjectsMatch accounts
 
   -- the state after the birth, once the new categories are counted and the thread has its own labels again
   abbrev pub state_born : State
-  state_born = born_state s l.naming old_asked l.agrees me (p.born + 1) C S at_home at_status holder no_home no_inside no_runner no_status outer inner label clearance child_written own_written
+  state_born =
+      born_state s l.naming old_asked l.agrees me (p.born + 1) C S at_home at_status holder no_home no_inside no_runner
+      no_status outer inner label clearance child_written own_written
 
-  kept : (b : Address Step) → home_address child ≢ b → Inside ∷ home_address child ≢ b → Runner ∷ Inside ∷ home_address child ≢ b → Status ∷ home_address child ≢ b → naming.number b ≡ l.naming.number b
-  kept = number_kept s l.naming old_asked l.agrees me (p.born + 1) C S at_home at_status holder no_home no_inside no_runner no_status outer inner label clearance [] []
+  kept : (b : Address Step) → home_address child ≢ b → Inside ∷ home_address child ≢ b
+      → Runner ∷ Inside ∷ home_address child ≢ b → Status ∷ home_address child ≢ b → naming.number b ≡ l.naming.number b
+  kept =
+      number_kept s l.naming old_asked l.agrees me (p.born + 1) C S at_home at_status holder no_home no_inside no_runner
+      no_status outer inner label clearance [] []
 
   -- addresses of paths, and of other processes
   pub kept_path : (q : Path) → l.naming.number (address_of q) ≡ naming.number (address_of q)
-  kept_path q = sym (kept (address_of q) (not_path q (home_address child) refl) (not_path q (Inside ∷ home_address child) refl) (not_path q (Runner ∷ Inside ∷ home_address child) refl) (not_path q (Status ∷ home_address child) refl))
+  kept_path q =
+      sym (kept (address_of q) (not_path q (home_address child) refl) (not_path q (Inside ∷ home_address child) refl)
+      (not_path q (Runner ∷ Inside ∷ home_address child) refl) (not_path q (Status ∷ home_address child) refl))
 
   unlike : (a b : Address Step) → kind_of a ≢ kind_of b → a ≢ b
   unlike a b other e = other (ap kind_of e)
 
   kept_listing : (q : Path) → l.naming.number (Listing ∷ address_of q) ≡ naming.number (Listing ∷ address_of q)
   unfolding kind_of
-  kept_listing q = sym (kept (Listing ∷ address_of q) (unlike _ _ (λ k. absurd (omega (arith, k)))) (unlike _ _ (λ k. absurd (omega (arith, k)))) (unlike _ _ (λ k. absurd (omega (arith, k)))) (unlike _ _ (λ k. absurd (omega (arith, k)))))
+  kept_listing q =
+      sym (kept (Listing ∷ address_of q) (unlike _ _ (λ k. absurd (omega (arith, k))))
+      (unlike _ _ (λ k. absurd (omega (arith, k)))) (unlike _ _ (λ k. absurd (omega (arith, k))))
+      (unlike _ _ (λ k. absurd (omega (arith, k)))))
 
   home_apart : (q : ProcName) → q ≢ child → home_address child ≢ home_address q
   home_apart q other e = other (sym (same_home child q e))
@@ -249,31 +283,48 @@ module _ (accounts : Accounts) (s : State) (f : Flat) (l : ObjectsMatch accounts
 
   pub kept_home : (q : ProcName) → q ≢ child → l.naming.number (home_address q) ≡ naming.number (home_address q)
   unfolding kind_of
-  kept_home q other = sym (kept (home_address q) (home_apart q other) (λ e. not_inside q (sym (ap kind_of e))) (λ e. not_runner q (sym (ap kind_of e))) (λ e. not_status q (sym (ap kind_of e))))
+  kept_home q other =
+      sym (kept (home_address q) (home_apart q other) (λ e. not_inside q (sym (ap kind_of e)))
+      (λ e. not_runner q (sym (ap kind_of e))) (λ e. not_status q (sym (ap kind_of e))))
 
   pub kept_status : (q : ProcName) → q ≢ child → l.naming.number (Status ∷ home_address q) ≡ naming.number (Status ∷ home_address q)
   unfolding kind_of above
-  kept_status q other = sym (kept (Status ∷ home_address q) (unlike _ _ (λ k. absurd (omega (arith, k)))) (unlike _ _ (λ k. absurd (omega (arith, k)))) (unlike _ _ (λ k. absurd (omega (arith, k)))) (λ e. home_apart q other (ap above e)))
+  kept_status q other =
+      sym (kept (Status ∷ home_address q) (unlike _ _ (λ k. absurd (omega (arith, k))))
+      (unlike _ _ (λ k. absurd (omega (arith, k)))) (unlike _ _ (λ k. absurd (omega (arith, k))))
+      (λ e. home_apart q other (ap above e)))
 
   pub kept_inside : (q : ProcName) → q ≢ child → l.naming.number (Inside ∷ home_address q) ≡ naming.number (Inside ∷ home_address q)
   unfolding kind_of above
-  kept_inside q other = sym (kept (Inside ∷ home_address q) (unlike _ _ (λ k. absurd (omega (arith, k)))) (λ e. home_apart q other (ap above e)) (unlike _ _ (λ k. absurd (omega (arith, k)))) (unlike _ _ (λ k. absurd (omega (arith, k)))))
+  kept_inside q other =
+      sym (kept (Inside ∷ home_address q) (unlike _ _ (λ k. absurd (omega (arith, k))))
+      (λ e. home_apart q other (ap above e)) (unlike _ _ (λ k. absurd (omega (arith, k))))
+      (unlike _ _ (λ k. absurd (omega (arith, k)))))
 
   pub kept_runner : (q : ProcName) → q ≢ child → l.naming.number (Runner ∷ Inside ∷ home_address q) ≡ naming.number (Runner ∷ Inside ∷ home_address q)
   unfolding kind_of above
-  kept_runner q other = sym (kept (Runner ∷ Inside ∷ home_address q) (unlike _ _ (λ k. absurd (omega (arith, k)))) (unlike _ _ (λ k. absurd (omega (arith, k)))) (λ e. home_apart q other (ap (λ (a : Address Step). above (above a)) e)) (unlike _ _ (λ k. absurd (omega (arith, k)))))
+  kept_runner q other =
+      sym (kept (Runner ∷ Inside ∷ home_address q) (unlike _ _ (λ k. absurd (omega (arith, k))))
+      (unlike _ _ (λ k. absurd (omega (arith, k))))
+      (λ e. home_apart q other (ap (λ (a : Address Step). above (above a)) e))
+      (unlike _ _ (λ k. absurd (omega (arith, k)))))
 
   -- whether another process is there hasn't changed
   pub there_alike : (x : ProcName) → x ≢ child → is_some (f.processes x) ≡ is_some (after.processes x)
   there_alike x not_child = elim (which x) [
     | inl e ↦ absurd (not_child e)
-    | inr (inl e) ↦ ap (λ (y : ProcName). is_some (f.processes y)) e ∙ ap is_some here ∙ sym (ap is_some at_me) ∙ ap (λ (y : ProcName). is_some (after.processes y)) (sym e)
+    | inr (inl e) ↦
+        ap (λ (y : ProcName). is_some (f.processes y)) e ∙ ap is_some here ∙ sym (ap is_some at_me)
+        ∙ ap (λ (y : ProcName). is_some (after.processes y)) (sym e)
     | inr (inr e) ↦ ap is_some (sym (at_other x e.0 e.1))
   ]
 
   -- the process segment of another process
-  same_bytes : (q : ProcName) (x : Process) → q ≢ child → q ≢ me → process_bytes f.processes l.naming.number q x ≡ process_bytes after.processes naming.number q x
-  same_bytes q x not_child not_me = alike_bytes f.processes after.processes l.naming.number naming.number q x (kept_inside q not_child) (kept_runner q not_child)
+  same_bytes : (q : ProcName) (x : Process) → q ≢ child → q ≢ me
+      → process_bytes f.processes l.naming.number q x ≡ process_bytes after.processes naming.number q x
+  same_bytes q x not_child not_me =
+      alike_bytes f.processes after.processes l.naming.number naming.number q x (kept_inside q not_child)
+      (kept_runner q not_child)
       (λ k. kept_home (k ∷ q) (no_child_of k)) (λ k. kept_status (k ∷ q) (no_child_of k)) (λ k. there_alike (k ∷ q) (no_child_of k))
     where
       no_child_of : (k : ℕ) → k ∷ q ≢ child
@@ -287,49 +338,86 @@ module _ (accounts : Accounts) (s : State) (f : Flat) (l : ObjectsMatch accounts
   files_alike = record {
     at_path = λ q. keep_node accounts f l.category category keeps q (get f.files q) refl;
     in_directory = λ d.
-        ap (λ (dir : Entries). listing_object accounts l.category (spelling dir) (get f.files d)) (same_directory f l.naming.number naming.number kept_path kept_listing d)
+        ap (λ (dir : Entries). listing_object accounts l.category (spelling dir) (get f.files d))
+        (same_directory f l.naming.number naming.number kept_path kept_listing d)
         ∙ keep_listing accounts f l.category category keeps d (spelling (directory_of f.files naming.number d)) (get f.files d) refl;
   }
 
   -- what stands for a process but its process segment, where the child's is left out
-  object_alike : (object : Categories → ProcName → Option Process → Found) → ((q : ProcName) → object l.category q (f.processes q) ≡ object category q (f.processes q))
-      → object category me (Some p) ≡ object category me (Some parent) → (q : ProcName) → q ≢ child → object l.category q (f.processes q) ≡ object category q (after.processes q)
+  object_alike : (object : Categories → ProcName → Option Process → Found)
+      → ((q : ProcName) → object l.category q (f.processes q) ≡ object category q (f.processes q))
+      → object category me (Some p) ≡ object category me (Some parent) → (q : ProcName) → q ≢ child
+      → object l.category q (f.processes q) ≡ object category q (after.processes q)
   object_alike object keep same_me q not_child = keep q ∙ elim (which q) [
     | inl e ↦ absurd (not_child e)
-    | inr (inl e) ↦ subst (λ (x : ProcName). object category x (f.processes x) ≡ object category x (after.processes x)) (sym e) (ap (object category me) here ∙ same_me ∙ sym (ap (object category me) at_me))
+    | inr (inl e) ↦
+        subst (λ (x : ProcName). object category x (f.processes x) ≡ object category x (after.processes x)) (sym e)
+        (ap (object category me) here ∙ same_me ∙ sym (ap (object category me) at_me))
     | inr (inr e) ↦ ap (object category q) (sym (at_other q e.0 e.1))
   ]
 
-  status_alike : (q : ProcName) → q ≢ child → q ≢ me → expected_status accounts l.category f l.naming.number (Some q) ≡ expected_status accounts category after naming.number (Some q)
-  status_alike q not_child not_me = by (f.processes q) refl ∙ sym (ap (λ (o : Option Process). status_object accounts category (bytes_for accounts category after naming.number q o) q o) (at_other q not_child not_me))
+  status_alike : (q : ProcName) → q ≢ child → q ≢ me
+      → expected_status accounts l.category f l.naming.number (Some q)
+      ≡ expected_status accounts category after naming.number (Some q)
+  status_alike q not_child not_me =
+      by (f.processes q) refl
+      ∙ sym (ap (λ (o : Option Process).
+      status_object accounts category (bytes_for accounts category after naming.number q o) q o)
+      (at_other q not_child not_me))
     where
-      by : (o : Option Process) → f.processes q ≡ o → status_object accounts l.category (bytes_for accounts l.category f l.naming.number q o) q o ≡ status_object accounts category (bytes_for accounts category after naming.number q o) q o
+      by : (o : Option Process) → f.processes q ≡ o
+          → status_object accounts l.category (bytes_for accounts l.category f l.naming.number q o) q o
+          ≡ status_object accounts category (bytes_for accounts category after naming.number q o) q o
       by None e = refl
       by (Some x) e = λ i. segment (keep_process_label accounts f l.category category keeps q x e i) (same_bytes q x not_child not_me i)
 
-  wish_other : (a : Address Step) → home_address child ≢ a → Inside ∷ home_address child ≢ a → Runner ∷ Inside ∷ home_address child ≢ a → Status ∷ home_address child ≢ a → Status ∷ home_address me ≢ a → old_asked a ≡ wish a
-  wish_other a not_home not_inner not_thread not_segment not_own = asked_alike accounts l.category category f after l.naming.number naming.number files_alike a (record {
-    home = λ q is. object_alike (home_object accounts) (λ x. keep_home accounts f l.category category keeps x (f.processes x) refl) refl q (λ e. not_home (ap home_address (sym e) ∙ sym is));
-    status = λ q is. status_alike q (λ e. not_segment (ap (λ (x : ProcName). Status ∷ home_address x) (sym e) ∙ sym is)) (λ e. not_own (ap (λ (x : ProcName). Status ∷ home_address x) (sym e) ∙ sym is));
-    inside = λ q is. object_alike (inside_object accounts) (λ x. keep_inside accounts f l.category category keeps x (f.processes x) refl) refl q (λ e. not_inner (ap (λ (x : ProcName). Inside ∷ home_address x) (sym e) ∙ sym is));
-    runner = λ q is. object_alike (thread_object accounts) (λ x. keep_runner accounts f l.category category keeps x (f.processes x) refl) refl q (λ e. not_thread (ap (λ (x : ProcName). Runner ∷ Inside ∷ home_address x) (sym e) ∙ sym is));
-  })
+  wish_other : (a : Address Step) → home_address child ≢ a → Inside ∷ home_address child ≢ a
+      → Runner ∷ Inside ∷ home_address child ≢ a → Status ∷ home_address child ≢ a → Status ∷ home_address me ≢ a
+      → old_asked a ≡ wish a
+  wish_other a not_home not_inner not_thread not_segment not_own =
+      asked_alike accounts l.category category f after l.naming.number naming.number files_alike a
+      (record {
+        home =
+            λ q is. object_alike (home_object accounts)
+            (λ x. keep_home accounts f l.category category keeps x (f.processes x) refl) refl q
+            (λ e. not_home (ap home_address (sym e) ∙ sym is));
+        status =
+            λ q is. status_alike q (λ e. not_segment (ap (λ (x : ProcName). Status ∷ home_address x) (sym e) ∙ sym is))
+            (λ e. not_own (ap (λ (x : ProcName). Status ∷ home_address x) (sym e) ∙ sym is));
+        inside =
+            λ q is. object_alike (inside_object accounts)
+            (λ x. keep_inside accounts f l.category category keeps x (f.processes x) refl) refl q
+            (λ e. not_inner (ap (λ (x : ProcName). Inside ∷ home_address x) (sym e) ∙ sym is));
+        runner =
+            λ q is. object_alike (thread_object accounts)
+            (λ x. keep_runner accounts f l.category category keeps x (f.processes x) refl) refl q
+            (λ e. not_thread (ap (λ (x : ProcName). Runner ∷ Inside ∷ home_address x) (sym e) ∙ sym is));
+      })
 
   wish_own : option_map (holding own_written) (old_asked (Status ∷ home_address me)) ≡ wish (Status ∷ home_address me)
   wish_own =
-      ap (option_map (holding own_written)) (asked_status accounts l.category f l.naming.number me ∙ ap (λ (o : Option Process). status_object accounts l.category (bytes_for accounts l.category f l.naming.number me o) me o) here)
+      ap (option_map (holding own_written)) (asked_status accounts l.category f l.naming.number me
+      ∙ ap (λ (o : Option Process).
+      status_object accounts l.category (bytes_for accounts l.category f l.naming.number me o) me o) here)
       ∙ ap (λ (m : Levels). segment m own_written) (keep_process_label accounts f l.category category keeps me p here)
-      ∙ sym (asked_status accounts category after naming.number me ∙ ap (λ (o : Option Process). status_object accounts category (bytes_for accounts category after naming.number me o) me o) at_me)
+      ∙ sym (asked_status accounts category after naming.number me
+      ∙ ap (λ (o : Option Process).
+      status_object accounts category (bytes_for accounts category after naming.number me o) me o) at_me)
 
   -- the kernel's objects are what the flat state with the child asks for
   agrees_after : Agrees same_step state_born naming wish
   agrees_after = agrees_same same_step state_born state_born naming _ wish
-      (agrees_born s l.naming old_asked l.agrees me (p.born + 1) C S at_home at_status holder no_home no_inside no_runner no_status outer inner label clearance child_written own_written)
-      (asks_born s l.naming old_asked l.agrees me (p.born + 1) C S at_home at_status holder no_home no_inside no_runner no_status outer inner label clearance child_written own_written wish
+      (agrees_born s l.naming old_asked l.agrees me (p.born + 1) C S at_home at_status holder no_home no_inside
+      no_runner no_status outer inner label clearance child_written own_written)
+      (asks_born s l.naming old_asked l.agrees me (p.born + 1) C S at_home at_status holder no_home no_inside no_runner
+      no_status outer inner label clearance child_written own_written wish
       (sym (asked_home accounts category after naming.number child ∙ ap (home_object accounts category child) at_child))
       (sym (asked_inside accounts category after naming.number child ∙ ap (inside_object accounts category child) at_child))
       (sym (asked_runner accounts category after naming.number child ∙ ap (thread_object accounts category child) at_child))
-      (sym (asked_status accounts category after naming.number child ∙ ap (λ (o : Option Process). status_object accounts category (bytes_for accounts category after naming.number child o) child o) at_child))
+      (sym (asked_status accounts category after naming.number child
+      ∙ ap (λ (o : Option Process).
+      status_object accounts category (bytes_for accounts category after naming.number child o) child
+      o) at_child))
       wish_own wish_other)
       (λ q. refl) refl
 
@@ -370,14 +458,18 @@ module _ (accounts : Accounts) (s : State) (f : Flat) (l : ObjectsMatch accounts
   pub made_then : (c : CategoryName) → IsUsed accounts after c → IsMade (s.next_category + 2) (category c)
   made_then c u = elim (used_then c u) [
     | inl old ↦ let m = l.made c old in let k = keeps c old in (omega (arith, m.0, k), omega (arith, m.1, k))
-    | inr (inl e) ↦ let k : category c ≡ next = ap category e ∙ reads_number in let m = l.made OfBoot tt in (omega (arith, m.0, m.1, k), omega (arith, k))
+    | inr (inl e) ↦
+        let k : category c
+        ≡ next = ap category e
+        ∙ reads_number in let m = l.made OfBoot tt in (omega (arith, m.0, m.1, k), omega (arith, k))
     | inr (inr e) ↦ let k : category c ≡ next + 1 = ap category e ∙ writes_number in (omega (arith, k), omega (arith, k))
   ]
 
   as_booted_then : (a : Address Step) (q : ℕ) → boot_number (length accounts.users) a ≡ Some q → naming.number a ≡ Some q
   as_booted_then a q e =
       kept a (λ k. none-some q (ap (boot_number (length accounts.users)) k ∙ e)) (λ k. none-some q (ap (boot_number (length accounts.users)) k ∙ e))
-      (λ k. none-some q (ap (boot_number (length accounts.users)) k ∙ e)) (λ k. none-some q (ap (boot_number (length accounts.users)) k ∙ e)) ∙ l.as_booted a q e
+      (λ k. none-some q (ap (boot_number (length accounts.users)) k ∙ e))
+      (λ k. none-some q (ap (boot_number (length accounts.users)) k ∙ e)) ∙ l.as_booted a q e
 
   -- names that were given stay so
   higher : (k : ℕ) → was_given (Some p) k ≡ true → was_given (Some parent) k ≡ true
@@ -417,11 +509,14 @@ module _ (accounts : Accounts) (s : State) (f : Flat) (l : ObjectsMatch accounts
   ]
 
   -- classes and processes stay in order
-  in_order_by : (q : Path) (there : Node) → get f.files q ≡ Some there → (class : Class) → there.class ≡ class → IsInOrder l.category class → IsInOrder category class
+  in_order_by : (q : Path) (there : Node) → get f.files q ≡ Some there → (class : Class) → there.class ≡ class
+      → IsInOrder l.category class → IsInOrder category class
   in_order_by q there at (Private owner) is o = tt
   in_order_by q there at (Readable owner) is o = tt
   in_order_by q there at Open is o = tt
-  in_order_by q there at (Scratch owner jobs) is o = keep_order accounts f l.category category keeps jobs (λ job e. inr (q, there, at, ap (λ (c : Class). is_for c job) is ∙ e)) o
+  in_order_by q there at (Scratch owner jobs) is o =
+      keep_order accounts f l.category category keeps jobs
+      (λ job e. inr (q, there, at, ap (λ (c : Class). is_for c job) is ∙ e)) o
   in_order_by q there at (Grouped group) is o = tt
 
   process_kept : (x : ProcName) (px : Process) → f.processes x ≡ Some px → IsProcess accounts category px
@@ -431,8 +526,12 @@ module _ (accounts : Accounts) (s : State) (f : Flat) (l : ObjectsMatch accounts
         someone = o.someone;
         free = o.free;
         apart = o.apart;
-        chain = keep_order accounts f l.category category keeps px.chain (λ job e. inl (x, px, at, or_left (has px.chain job) (has px.held job) e)) o.chain;
-        held = λ r. keep_order accounts f l.category category keeps px.held (λ job e. inl (x, px, at, or_right (has px.chain job) (has px.held job) e)) (o.held r);
+        chain =
+            keep_order accounts f l.category category keeps px.chain
+            (λ job e. inl (x, px, at, or_left (has px.chain job) (has px.held job) e)) o.chain;
+        held =
+            λ r. keep_order accounts f l.category category keeps px.held
+            (λ job e. inl (x, px, at, or_right (has px.chain job) (has px.held job) e)) (o.held r);
         few = o.few;
         status = o.status;
       }
@@ -440,7 +539,15 @@ module _ (accounts : Accounts) (s : State) (f : Flat) (l : ObjectsMatch accounts
   newborn_is : IsProcess accounts category newborn
   newborn_is =
       let o = process_kept me p here in
-      record { someone = λ r. o.someone runs; free = λ r u. (chain_free u, refl); apart = λ r job e. refl; chain = keep_order accounts f l.category category keeps chain chain_used chain_ordered; held = λ r. tt; few = omega arith; status = λ n e. absurd (none-some n e) }
+      record {
+        someone = λ r. o.someone runs;
+        free = λ r u. (chain_free u, refl);
+        apart = λ r job e. refl;
+        chain = keep_order accounts f l.category category keeps chain chain_used chain_ordered;
+        held = λ r. tt;
+        few = omega arith;
+        status = λ n e. absurd (none-some n e);
+      }
 
   parent_is : IsProcess accounts category parent
   parent_is =
@@ -457,14 +564,22 @@ module _ (accounts : Accounts) (s : State) (f : Flat) (l : ObjectsMatch accounts
   -- the boot thread stays gone
   boot_below : boot_thread_number < s.next_object
   boot_below =
-      let below = number_below same_step step_tests_equality s l.naming old_asked l.agrees (Slash ∷ []) (4 + 2 * length accounts.users) (l.as_booted (Slash ∷ []) (4 + 2 * length accounts.users) refl) in
+      let below =
+      number_below same_step step_tests_equality s l.naming old_asked l.agrees (Slash ∷ [])
+      (4 + 2 * length accounts.users) (l.as_booted (Slash ∷ []) (4 + 2 * length accounts.users) refl) in
       omega (arith, below)
 
   gone_then : state_born.objects boot_thread_number ≡ None
-  gone_then = gone_born s l.naming old_asked l.agrees me (p.born + 1) C S at_home at_status holder no_home no_inside no_runner no_status outer inner label clearance child_written own_written boot_thread_number l.boot_thread_gone boot_below
+  gone_then =
+      gone_born s l.naming old_asked l.agrees me (p.born + 1) C S at_home at_status holder no_home no_inside no_runner
+      no_status outer inner label clearance child_written own_written boot_thread_number l.boot_thread_gone
+      boot_below
 
   -- The kernel has the objects of the flat state with the child.
-  pub matched_born : (new : State) → ((q : ℕ) → new.objects q ≡ state_born.objects q) → new.next_object ≡ state_born.next_object → new.next_category ≡ s.next_category + 2 → s.next_object + 3 < greatest → (born : ObjectsMatch accounts new after) × (born.naming ≡ naming) × (born.category ≡ category)
+  pub matched_born : (new : State) → ((q : ℕ) → new.objects q ≡ state_born.objects q)
+      → new.next_object ≡ state_born.next_object → new.next_category ≡ s.next_category + 2
+      → s.next_object + 3 < greatest
+      → (born : ObjectsMatch accounts new after) × (born.naming ≡ naming) × (born.category ≡ category)
   matched_born new objects next_is categories few = (
     record {
       naming = naming;

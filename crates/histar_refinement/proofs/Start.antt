@@ -1,5 +1,6 @@
 -- The state in which a machine starts represents the flat state at the start.
-use Rattle.std.proofs.Common.{◌≡◌, ◌≢◌, ℕ, zero, suc, ◌+◌, ◌*◌, ◌<◌, ◌≤◌, ◌⊎◌, inl, inr, Bool, true, false, cond, List, [], ◌∷◌, ◌++◌, length, get_or, drop, Option, None, Some, arith, refl, sym, ap, ◌∙◌, subst, append_assoc}
+use Rattle.std.proofs.Common.{◌≡◌, ◌≢◌, ℕ, zero, suc, ◌+◌, ◌*◌, ◌<◌, ◌≤◌, ◌⊎◌, inl, inr, Bool, true, false, cond, List, [], ◌∷◌, ◌++◌, length, get_or}
+use Rattle.std.proofs.Common.{drop, Option, None, Some, arith, refl, sym, ap, ◌∙◌, subst, append_assoc}
 use Rattle.std.specs.Prelude.{is_some, option_map, option_and_then, map, nat_lt, nat_le, unwrap_or}
 use Rattle.std.specs.List.{flat_map}
 use Rattle.std.specs.FinSet as set
@@ -25,7 +26,8 @@ use Rattle.histar_container.specs.Tree.{Address, objects_at}
 use Rattle.histar_container.proofs.Addresses.{same_tests_equality}
 use Rattle.histar_layout.specs.Categories.{write_category}
 use Rattle.histar_layout.specs.Labelling.{written_by, guarded_by, owner_label, cleared_at}
-use Rattle.histar_login.specs.Start.{numbered, declared, of_user, of_users, of_directory, of_process, user_table, start_objects, start_state, object_at, first_process_bytes, own_read_category, own_write_category, segment}
+use Rattle.histar_login.specs.Start.{numbered, declared, of_user, of_users, of_directory, of_process, user_table, start_objects, start_state}
+use Rattle.histar_login.specs.Start.{object_at, first_process_bytes, own_read_category, own_write_category, segment}
 use Rattle.histar_flat.specs.Accounts.{Accounts, user_number}
 use Rattle.histar_flat.specs.Classes.{Process, nobody, knows}
 use Rattle.histar_flat.specs.Classes.Class.{Readable}
@@ -33,7 +35,8 @@ use Rattle.histar_flat.specs.FlatState.{Node, Flat, is_given}
 use Rattle.histar_flat.specs.Meaning.{first_user, first_process, boot}
 use Rattle.histar_flat.specs.FlatState.Content.{Dir}
 use Rattle.histar_refinement.specs.Categories.{CategoryName, IsMade, boot_category, booted, is_for, IsKnown, IsServed, IsUsed}
-use Rattle.histar_refinement.specs.Categories.CategoryName.{OfBoot, ReadsUser, WritesUser, ReadsGroup, WritesGroup, ReadsProcess, WritesProcess, OfJob}
+use Rattle.histar_refinement.specs.Categories.CategoryName.{OfBoot, ReadsUser, WritesUser, ReadsGroup, WritesGroup, ReadsProcess, WritesProcess}
+use Rattle.histar_refinement.specs.Categories.CategoryName.{OfJob}
 use Rattle.histar_refinement.specs.Guards.{Rights, guard_label, rights_label, rights_clearance}
 use Rattle.histar_refinement.specs.Labels.{class_guard, readable_guard, owned_as}
 use Rattle.histar_refinement.specs.LeftByBoot.{left_by_boot, left_for_user}
@@ -41,7 +44,8 @@ use Rattle.histar_refinement.specs.Addresses.{Step, AddressNumbers, same_step, s
 use Rattle.histar_refinement.specs.Addresses.Step.{Left, Slash, Listing, Named, Home, Status, Inside, Runner, Child}
 use Rattle.histar_refinement.specs.Directories.{directory_of}
 use Rattle.histar_refinement.specs.Agrees.{bare, Agrees}
-use Rattle.histar_refinement.specs.Expected.{bare_container, node_object, listing_object, guarded_object, expected_node, listing_at, expected_home, expected_status, container_inside, thread_at, expected}
+use Rattle.histar_refinement.specs.Expected.{bare_container, node_object, listing_object, guarded_object, expected_node, listing_at, expected_home}
+use Rattle.histar_refinement.specs.Expected.{expected_status, container_inside, thread_at, expected}
 use Rattle.histar_refinement.specs.Represents.{IsInOrder, IsProcess, ObjectsMatch, Represents}
 use Rattle.histar_refinement.proofs.Steps.{step_tests_equality}
 use Rattle.histar_refinement.proofs.Roots.{address_process, address_inside}
@@ -92,8 +96,12 @@ module _ (accounts : Accounts) (some_user : 0 < length accounts.users) where
   only_slash (name ∷ d) there e = absurd (none-some there (sym (nothing_named name d) ∙ e))
 
   no_job : (job : ProcName) → IsKnown f job ⊎ IsServed f job → ⊥
-  no_job job (inl (me, p, at, known)) = let is = (only_first me p at).1 in let k : false ≡ true = subst (λ (x : Process). knows x job ≡ true) (sym is) known in true≢false (sym k)
-  no_job job (inr (q, there, at, serves)) = let is = only_slash q there at in let k : false ≡ true = subst (λ (x : Node). is_for x.class job ≡ true) (sym is) serves in true≢false (sym k)
+  no_job job (inl (me, p, at, known)) =
+      let is = (only_first me p at).1 in let k : false
+      ≡ true = subst (λ (x : Process). knows x job ≡ true) (sym is) known in true≢false (sym k)
+  no_job job (inr (q, there, at, serves)) =
+      let is = only_slash q there at in let k : false
+      ≡ true = subst (λ (x : Node). is_for x.class job ≡ true) (sym is) serves in true≢false (sym k)
 
   low_test : (i : ℕ) → i ≤ n → nat_le i n ≡ true
   low_test i h = grind (arith, nat_tests, h)
@@ -142,7 +150,8 @@ module _ (accounts : Accounts) (some_user : 0 < length accounts.users) where
   own_write_number = omega arith
 
   -- where a number has a bare object, it has it at an address, and elsewhere nothing is
-  found_if : (here a : Address Step) (x : Option ℕ) (y : Found) → bare (option_and_then objects x) ≡ y → bare (option_and_then objects (if_at here a x)) ≡ if_at here a y
+  found_if : (here a : Address Step) (x : Option ℕ) (y : Found) → bare (option_and_then objects x) ≡ y
+      → bare (option_and_then objects (if_at here a x)) ≡ if_at here a y
   found_if here a x y h = by (same_address here a)
     where
       by : (b : Bool) → bare (option_and_then objects (cond b x None)) ≡ cond b y None
@@ -159,7 +168,10 @@ module _ (accounts : Accounts) (some_user : 0 < length accounts.users) where
       let reads = user_reads accounts (booted accounts) booted_as_made i h in
       let writes = user_writes accounts (booted accounts) booted_as_made i h in
       λ k. Some (record { label = guarded_by (sym reads k ∷ []) (sym writes k ∷ []); kind = Segment u.password })
-      ∷ Some (record { label = gate_label_is accounts (booted accounts) booted_as_made u.name i h k; kind = Gate (gate_clearance_is accounts (booted accounts) booted_as_made u.name i h k) (Login i) }) ∷ []
+      ∷ Some (record {
+        label = gate_label_is accounts (booted accounts) booted_as_made u.name i h k;
+        kind = Gate (gate_clearance_is accounts (booted accounts) booted_as_made u.name i h k) (Login i);
+      }) ∷ []
 
   same_left : (i : ℕ) (some : List User) → i + length some ≤ n + 1 → (table : Found) (back : List Found) (k : ℕ) → k ≤ 2 * length some
       → get_or (numbered (of_user accounts) i some ++ table ∷ back) k None ≡ get_or (numbered (left_for_user accounts) i some ++ table ∷ []) k None
@@ -169,7 +181,8 @@ module _ (accounts : Accounts) (some_user : 0 < length accounts.users) where
   same_left i (u ∷ some) h table back (suc zero) le = ap (λ (l : List Found). get_or (l ++ table ∷ []) 1 None) (same_user i u (omega (arith, h)))
   same_left i (u ∷ some) h table back (suc (suc k)) le = same_left (i + 1) some (omega (arith, h)) table back k (omega (arith, le))
 
-  beyond_left : (i : ℕ) (some : List User) (table : Found) (k : ℕ) → 2 * length some < k → get_or (numbered (left_for_user accounts) i some ++ table ∷ []) k None ≡ None
+  beyond_left : (i : ℕ) (some : List User) (table : Found) (k : ℕ) → 2 * length some < k
+      → get_or (numbered (left_for_user accounts) i some ++ table ∷ []) k None ≡ None
   beyond_left i [] table zero h = absurd (omega (arith, h))
   beyond_left i [] table (suc k) h = refl
   beyond_left i (u ∷ some) table zero h = absurd (omega (arith, h))
@@ -182,7 +195,8 @@ module _ (accounts : Accounts) (some_user : 0 < length accounts.users) where
   left_same (suc (suc zero)) e = absurd (grind (arith, nat_tests, e))
   left_same (suc (suc (suc k))) e =
       ap (λ (l : List Found). get_or l k None) (append_assoc (of_users accounts accounts.users) (of_directory n accounts) (of_process n owners))
-      ∙ same_left 1 accounts.users (omega arith) (segment (written_by 1) (user_table accounts)) (drop 1 (of_directory n accounts) ++ of_process n owners) k (grind (arith, nat_tests, e))
+      ∙ same_left 1 accounts.users (omega arith) (segment (written_by 1) (user_table accounts))
+      (drop 1 (of_directory n accounts) ++ of_process n owners) k (grind (arith, nat_tests, e))
 
   nothing_left : (q : ℕ) → is_left n q ≡ false → None ≡ left_by_boot accounts q
   nothing_left zero e = refl
@@ -195,16 +209,24 @@ module _ (accounts : Accounts) (some_user : 0 < length accounts.users) where
   left_agrees q false e = nothing_left q e
 
   -- what the flat state has at `/`
-  slash_guarded : (kind : Kind Levels) → guarded_object accounts (start_category accounts) kind (class_guard accounts (Readable (first_user accounts.users))) ≡ Some (record { label = written_by (write_category 1); kind = kind })
+  slash_guarded : (kind : Kind Levels)
+      → guarded_object accounts (start_category accounts) kind
+      (class_guard accounts (Readable (first_user accounts.users)))
+      ≡ Some (record { label = written_by (write_category 1); kind = kind })
   slash_guarded kind =
-      ap (λ (i : Option ℕ). guarded_object accounts (start_category accounts) kind (option_map readable_guard i)) (first_numbered accounts.users some_user)
+      ap (λ (i : Option ℕ). guarded_object accounts (start_category accounts) kind (option_map readable_guard i))
+      (first_numbered accounts.users some_user)
       ∙ ap (λ (l : Levels). Some (record { label = l; kind = kind })) root_label
 
   slash_expected : expected_node accounts (start_category accounts) f number (Some []) ≡ bare (objects (4 + 2 * n))
-  slash_expected = ap (node_object accounts (start_category accounts)) slash_got ∙ slash_guarded (Container set.empty) ∙ sym (ap bare (slash_agrees accounts))
+  slash_expected =
+      ap (node_object accounts (start_category accounts)) slash_got ∙ slash_guarded (Container set.empty)
+      ∙ sym (ap bare (slash_agrees accounts))
 
   listing_expected : listing_at accounts (start_category accounts) f number (Some []) ≡ bare (objects (5 + 2 * n))
-  listing_expected = (λ i. listing_object accounts (start_category accounts) (nothing_spelled number [] i) (slash_got i)) ∙ slash_guarded (Segment []) ∙ sym (ap bare (listing_agrees accounts))
+  listing_expected =
+      (λ i. listing_object accounts (start_category accounts) (nothing_spelled number [] i) (slash_got i))
+      ∙ slash_guarded (Segment []) ∙ sym (ap bare (listing_agrees accounts))
 
   node_if : (b : Bool) → expected_node accounts (start_category accounts) f number (cond b (Some []) None) ≡ cond b (bare (objects (4 + 2 * n))) None
   node_if true = slash_expected
@@ -220,10 +242,14 @@ module _ (accounts : Accounts) (some_user : 0 < length accounts.users) where
 
   no_listing : (name : Name) (d : Option Path) → listing_at accounts (start_category accounts) f number (option_map (λ q. name ∷ q) d) ≡ None
   no_listing name None = refl
-  no_listing name (Some d) = ap (listing_object accounts (start_category accounts) (spelling (directory_of f.files number (name ∷ d)))) (nothing_named name d)
+  no_listing name (Some d) =
+      ap (listing_object accounts (start_category accounts) (spelling (directory_of f.files number (name ∷ d))))
+      (nothing_named name d)
 
   -- what is asked for at process 0, and nothing at any other
-  process_wish : (ask : Option ProcName → Found) (y : Found) → ask None ≡ None → ask (Some []) ≡ y → ((n : ℕ) (q : ProcName) → ask (Some (n ∷ q)) ≡ None) → (a : Address Step) → ask (process_at a) ≡ if_at process_address a y
+  process_wish : (ask : Option ProcName → Found) (y : Found) → ask None ≡ None → ask (Some []) ≡ y
+      → ((n : ℕ) (q : ProcName) → ask (Some (n ∷ q)) ≡ None) → (a : Address Step)
+      → ask (process_at a) ≡ if_at process_address a y
   process_wish ask y nowhere here others a = elim (same_tests_equality same_step step_tests_equality process_address a) [
     | inl e ↦ ap (λ (b : Address Step). ask (process_at b)) (sym e.1) ∙ here ∙ sym (ap (λ t. cond t y None) e.0)
     | inr e ↦ by (process_at a) refl e.1 ∙ sym (ap (λ t. cond t y None) e.0)
@@ -234,7 +260,9 @@ module _ (accounts : Accounts) (some_user : 0 < length accounts.users) where
       by (Some []) is other = absurd (other (sym (address_process a [] is)))
       by (Some (n ∷ q)) is other = others n q
 
-  inside_wish : (ask : Option ProcName → Found) (y : Found) → ask None ≡ None → ask (Some []) ≡ y → ((n : ℕ) (q : ProcName) → ask (Some (n ∷ q)) ≡ None) → (a : Address Step) → ask (inside_at a) ≡ if_at inside_address a y
+  inside_wish : (ask : Option ProcName → Found) (y : Found) → ask None ≡ None → ask (Some []) ≡ y
+      → ((n : ℕ) (q : ProcName) → ask (Some (n ∷ q)) ≡ None) → (a : Address Step)
+      → ask (inside_at a) ≡ if_at inside_address a y
   inside_wish ask y nowhere here others a = elim (same_tests_equality same_step step_tests_equality inside_address a) [
     | inl e ↦ ap (λ (b : Address Step). ask (inside_at b)) (sym e.1) ∙ here ∙ sym (ap (λ t. cond t y None) e.0)
     | inr e ↦ by (inside_at a) refl e.1 ∙ sym (ap (λ t. cond t y None) e.0)
@@ -259,7 +287,8 @@ module _ (accounts : Accounts) (some_user : 0 < length accounts.users) where
 
   runner_expected : user_number accounts nobody ≡ None → thread_at accounts (start_category accounts) f number (Some []) ≡ bare (objects (8 + 2 * n))
   runner_expected no_one =
-      ap (λ (o : Option ℕ). Some (thread_of (rights_label (start_category accounts) (rights o)) (rights_clearance (start_category accounts) (rights o)))) no_one
+      ap (λ (o : Option ℕ). Some (thread_of (rights_label (start_category accounts) (rights o))
+      (rights_clearance (start_category accounts) (rights o)))) no_one
       ∙ (λ i. Some (thread_of (owner_label (own_number i ∷ own_write_number i ∷ []) []) (cleared_at (own_number i ∷ own_write_number i ∷ []))))
       ∙ sym (ap bare (runner_agrees accounts))
     where
@@ -315,7 +344,16 @@ module _ (accounts : Accounts) (some_user : 0 < length accounts.users) where
     as_booted_then (Child k ∷ a) q e = e
 
     first_is : IsProcess accounts (start_category accounts) first_process
-    first_is = record { someone = λ r. inl refl; free = λ r u. (refl, refl); apart = λ r job e. refl; chain = tt; held = λ r. tt; few = omega arith; status = λ n e. absurd (none-some n e) }
+    first_is =
+        record {
+          someone = λ r. inl refl;
+          free = λ r u. (refl, refl);
+          apart = λ r job e. refl;
+          chain = tt;
+          held = λ r. tt;
+          few = omega arith;
+          status = λ n e. absurd (none-some n e);
+        }
 
     slash_guard : class_guard accounts (Readable (first_user accounts.users)) ≡ Some (readable_guard 1)
     slash_guard = ap (option_map readable_guard) (first_numbered accounts.users some_user)
@@ -330,7 +368,9 @@ module _ (accounts : Accounts) (some_user : 0 < length accounts.users) where
       different = start_different accounts;
       made = λ c u. let b = used_booted c u in subst (λ (m : ℕ). IsMade m (start_category accounts c)) total (start_made accounts c b.0 b.1);
       as_made = start_as_made accounts;
-      guarded = λ q there at none. none-some (readable_guard 1) (sym none ∙ ap (λ (x : Node). class_guard accounts x.class) (sym (only_slash q there at)) ∙ slash_guard);
+      guarded =
+          λ q there at none. none-some (readable_guard 1)
+          (sym none ∙ ap (λ (x : Node). class_guard accounts x.class) (sym (only_slash q there at)) ∙ slash_guard);
       in_order = λ q there at. subst (λ (x : Node). IsInOrder (start_category accounts) x.class) (only_slash q there at) tt;
       listable = λ d e. listable_empty;
       first = refl;

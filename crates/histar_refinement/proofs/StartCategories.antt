@@ -1,12 +1,14 @@
 -- A naming of categories with the numbers that boot gave: each other name has a number of its own behind these.
-use Rattle.std.proofs.Common.{◌≡◌, ℕ, zero, suc, ◌+◌, ◌*◌, ◌<◌, ◌≤◌, inl, inr, Bool, true, false, ◌&&◌, cond, List, [], ◌∷◌, length, Option, None, Some, arith, refl, sym, ap, ◌∙◌, subst}
+use Rattle.std.proofs.Common.{◌≡◌, ℕ, zero, suc, ◌+◌, ◌*◌, ◌<◌, ◌≤◌, inl, inr, Bool, true, false, ◌&&◌, cond, List, [], ◌∷◌, length, Option, None}
+use Rattle.std.proofs.Common.{Some, arith, refl, sym, ap, ◌∙◌, subst}
 use Rattle.std.specs.Prelude.{nat_le, unwrap_or}
 use Rattle.std.proofs.lemmas.Bool.{cases_lt}
 use Rattle.std.proofs.lemmas.Bool.Decides.{nat_tests}
 use Rattle.std.proofs.lemmas.Option.{none-some, same_Some}
 use Rattle.histar_flat.specs.Accounts.{Accounts}
 use Rattle.histar_refinement.specs.Categories.{CategoryName, Categories, AreDifferent, IsMade, split_category, boot_category}
-use Rattle.histar_refinement.specs.Categories.CategoryName.{OfBoot, ReadsUser, WritesUser, ReadsGroup, WritesGroup, ReadsProcess, WritesProcess, OfJob}
+use Rattle.histar_refinement.specs.Categories.CategoryName.{OfBoot, ReadsUser, WritesUser, ReadsGroup, WritesGroup, ReadsProcess, WritesProcess}
+use Rattle.histar_refinement.specs.Categories.CategoryName.{OfJob}
 use Rattle.histar_layout.proofs.Members.{first_of, second_of}
 use Rattle.histar_refinement.proofs.CategoryTests.{same_split}
 
@@ -156,8 +158,12 @@ module _ (accounts : Accounts) where
 
   booted_is : (c : CategoryName) (q : ℕ) → boot_category accounts c ≡ Some q → Booted n m c q
   booted_is OfBoot q e = on_boot q (sym (same_Some 1 q e))
-  booted_is (ReadsUser i) q e = let t = revealed (nat_le i n) (2 + 2 * i) q e in let le : nat_le i n ≡ true = t.0 in on_reads_user i q (grind (arith, nat_tests, le)) t.1
-  booted_is (WritesUser i) q e = let t = revealed (nat_le i n) (3 + 2 * i) q e in let le : nat_le i n ≡ true = t.0 in on_writes_user i q (grind (arith, nat_tests, le)) t.1
+  booted_is (ReadsUser i) q e =
+      let t = revealed (nat_le i n) (2 + 2 * i) q e in let le : nat_le i n
+      ≡ true = t.0 in on_reads_user i q (grind (arith, nat_tests, le)) t.1
+  booted_is (WritesUser i) q e =
+      let t = revealed (nat_le i n) (3 + 2 * i) q e in let le : nat_le i n
+      ≡ true = t.0 in on_writes_user i q (grind (arith, nat_tests, le)) t.1
   booted_is (ReadsGroup k) q e = let t = revealed (nat_le 1 k && nat_le k m) (2 + 2 * n + 2 * k) q e in on_reads_group k q (in_range k t.0) t.1
   booted_is (WritesGroup k) q e = let t = revealed (nat_le 1 k && nat_le k m) (3 + 2 * n + 2 * k) q e in on_writes_group k q (in_range k t.0) t.1
   booted_is (ReadsProcess []) q e = on_reads_own q (sym (same_Some (4 + 2 * n + 2 * m) q e))
@@ -179,7 +185,8 @@ module _ (accounts : Accounts) where
   pub start_different : AreDifferent start_category
   start_different c d e = by (boot_category accounts c) (boot_category accounts d) refl refl e
     where
-      by : (a b : Option ℕ) → boot_category accounts c ≡ a → boot_category accounts d ≡ b → unwrap_or a (6 + 2 * n + 2 * m + code c) ≡ unwrap_or b (6 + 2 * n + 2 * m + code d) → c ≡ d
+      by : (a b : Option ℕ) → boot_category accounts c ≡ a → boot_category accounts d ≡ b
+          → unwrap_or a (6 + 2 * n + 2 * m + code c) ≡ unwrap_or b (6 + 2 * n + 2 * m + code d) → c ≡ d
       by (Some q) (Some r) at_c at_d e = one_booted n m c d q (booted_is c q at_c) (booted_is d q (at_d ∙ ap Some (sym e)))
       by (Some q) None at_c at_d e = let low = (booted_below n m c q (booted_is c q at_c)).1 in absurd (omega (arith, low, e))
       by None (Some r) at_c at_d e = let low = (booted_below n m d r (booted_is d r at_d)).1 in absurd (omega (arith, low, e))

@@ -1,5 +1,6 @@
 -- The addresses of what stands at the start, where there are n users.
-use Rattle.std.proofs.Common.{◌≡◌, ℕ, zero, suc, ◌+◌, ◌*◌, ◌-◌, ◌≤◌, ◌⊎◌, inl, inr, Bool, true, false, [], ◌∷◌, Option, None, Some, if◌then◌else◌, refl, sym, ap, ◌∙◌, subst, arith}
+use Rattle.std.proofs.Common.{◌≡◌, ℕ, zero, suc, ◌+◌, ◌*◌, ◌-◌, ◌≤◌, ◌⊎◌, inl, inr, Bool, true, false, [], ◌∷◌, Option, None, Some, if◌then◌else◌}
+use Rattle.std.proofs.Common.{refl, sym, ap, ◌∙◌, subst, arith}
 use Rattle.std.specs.Prelude.{nat_le}
 use Rattle.std.proofs.lemmas.Bool.Decides.{leb_tells, nat_tests}
 use Rattle.std.proofs.lemmas.Option.{same_Some}
@@ -77,8 +78,14 @@ module _ (n : ℕ) where
   seen (suc zero) = placed [] (on_root 1 refl) refl
   seen (suc (suc zero)) = unplaced (inr (inl refl)) refl
   seen (suc (suc (suc k))) = elim (leb_tells k (2 * n)) [
-    | inl e ↦ placed (Left (suc (suc (suc k))) ∷ []) (on_left (suc (suc (suc k))) (left_from k e.1)) (ap (λ b. if b then Some (Left (suc (suc (suc k))) ∷ []) else later_address (k - (1 + 2 * n))) e.0)
-    | inr e ↦ let is : suc (suc (suc k)) ≡ 4 + 2 * n + (k - (1 + 2 * n)) = omega (arith, e.1) in seen_later (k - (1 + 2 * n)) (suc (suc (suc k))) is (later_at (k - (1 + 2 * n)) (suc (suc (suc k))) is)
+    | inl e ↦
+        placed (Left (suc (suc (suc k))) ∷ []) (on_left (suc (suc (suc k))) (left_from k e.1))
+        (ap (λ b. if b then Some (Left (suc (suc (suc k))) ∷ []) else later_address (k - (1 + 2 * n))) e.0)
+    | inr e ↦
+        let is : suc (suc (suc k))
+        ≡ 4 + 2 * n
+        + (k - (1 + 2 * n)) = omega (arith, e.1) in seen_later (k - (1 + 2 * n)) (suc (suc (suc k))) is
+        (later_at (k - (1 + 2 * n)) (suc (suc (suc k))) is)
   ]
 
   -- the address of a number has that number
@@ -141,11 +148,23 @@ module _ (n : ℕ) where
   place_of_number q (Left p ∷ a) h =
       let k = at_here [] a (if is_left n p then Some p else None) q h in
       subst (λ x. Place (Left p ∷ x) q) k.0 (left_here p q (is_left n p) refl k.1)
-  place_of_number q (Slash ∷ a) h = let k = at_here [] a (Some (4 + 2 * n)) q h in subst (λ x. Place (Slash ∷ x) q) k.0 (on_slash q (sym (same_Some _ q k.1)))
-  place_of_number q (Listing ∷ a) h = let k = at_here (Slash ∷ []) a (Some (5 + 2 * n)) q h in subst (λ x. Place (Listing ∷ x) q) k.0 (on_listing q (sym (same_Some _ q k.1)))
+  place_of_number q (Slash ∷ a) h =
+      let k = at_here [] a (Some (4 + 2 * n)) q h in subst (λ x. Place (Slash ∷ x) q) k.0
+      (on_slash q (sym (same_Some _ q k.1)))
+  place_of_number q (Listing ∷ a) h =
+      let k = at_here (Slash ∷ []) a (Some (5 + 2 * n)) q h in subst (λ x. Place (Listing ∷ x) q) k.0
+      (on_listing q (sym (same_Some _ q k.1)))
   place_of_number q (Named name ∷ a) h = absurd cc
-  place_of_number q (Home ∷ a) h = let k = at_here [] a (Some (6 + 2 * n)) q h in subst (λ x. Place (Home ∷ x) q) k.0 (on_home q (sym (same_Some _ q k.1)))
-  place_of_number q (Status ∷ a) h = let k = at_here process_address a (Some (9 + 2 * n)) q h in subst (λ x. Place (Status ∷ x) q) k.0 (on_status q (sym (same_Some _ q k.1)))
-  place_of_number q (Inside ∷ a) h = let k = at_here process_address a (Some (7 + 2 * n)) q h in subst (λ x. Place (Inside ∷ x) q) k.0 (on_inside q (sym (same_Some _ q k.1)))
-  place_of_number q (Runner ∷ a) h = let k = at_here inside_address a (Some (8 + 2 * n)) q h in subst (λ x. Place (Runner ∷ x) q) k.0 (on_runner q (sym (same_Some _ q k.1)))
+  place_of_number q (Home ∷ a) h =
+      let k = at_here [] a (Some (6 + 2 * n)) q h in subst (λ x. Place (Home ∷ x) q) k.0
+      (on_home q (sym (same_Some _ q k.1)))
+  place_of_number q (Status ∷ a) h =
+      let k = at_here process_address a (Some (9 + 2 * n)) q h in subst (λ x. Place (Status ∷ x) q) k.0
+      (on_status q (sym (same_Some _ q k.1)))
+  place_of_number q (Inside ∷ a) h =
+      let k = at_here process_address a (Some (7 + 2 * n)) q h in subst (λ x. Place (Inside ∷ x) q) k.0
+      (on_inside q (sym (same_Some _ q k.1)))
+  place_of_number q (Runner ∷ a) h =
+      let k = at_here inside_address a (Some (8 + 2 * n)) q h in subst (λ x. Place (Runner ∷ x) q) k.0
+      (on_runner q (sym (same_Some _ q k.1)))
   place_of_number q (Child k ∷ a) h = absurd cc

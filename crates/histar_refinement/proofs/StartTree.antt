@@ -1,5 +1,6 @@
 -- The objects at the start are a tree, where each stands at its address.
-use Rattle.std.proofs.Common.{◌≡◌, ◌≢◌, ℕ, zero, suc, ◌+◌, ◌*◌, ◌<◌, ◌≤◌, ◌||◌, ◌&&◌, ◌⊎◌, inl, inr, Bool, true, false, List, [], ◌∷◌, ◌++◌, length, Option, None, Some, refl, sym, ap, ◌∙◌, arith}
+use Rattle.std.proofs.Common.{◌≡◌, ◌≢◌, ℕ, zero, suc, ◌+◌, ◌*◌, ◌<◌, ◌≤◌, ◌||◌, ◌&&◌, ◌⊎◌, inl, inr, Bool, true, false, List, [], ◌∷◌, ◌++◌, length}
+use Rattle.std.proofs.Common.{Option, None, Some, refl, sym, ap, ◌∙◌, arith}
 use Rattle.std.specs.Prelude.{nat_eq, nat_le, nat_lt, is_some, option_and_then}
 use Rattle.std.proofs.lemmas.Bool.Decides.{eqb_tells, nat_tests}
 use Rattle.std.specs.List.{list_any, range_with_len}
@@ -18,20 +19,28 @@ use Rattle.histar_refinement.specs.Addresses.{Step, same_step}
 use Rattle.histar_refinement.proofs.StartNumbers.{process_address, inside_address, start_number}
 use Rattle.histar_refinement.specs.Addresses.Step.{Left, Slash, Listing, Status, Runner}
 use Rattle.histar_refinement.proofs.Steps.{step_tests_equality}
-use Rattle.histar_refinement.proofs.StartNames.{start_address, Place, on_root, on_left, on_slash, on_listing, on_home, on_inside, on_runner, on_status, IsFree, Seen, placed, unplaced, seen, place_of_address, address_of_place, number_of_place, place_of_number}
-use Rattle.histar_refinement.proofs.StartTable.{left_plain, slash_agrees, listing_agrees, home_agrees, inside_agrees, runner_agrees, status_agrees, none_behind, length_start}
+use Rattle.histar_refinement.proofs.StartNames.{start_address, Place, on_root, on_left, on_slash, on_listing, on_home, on_inside, on_runner}
+use Rattle.histar_refinement.proofs.StartNames.{on_status, IsFree, Seen, placed, unplaced, seen, place_of_address, address_of_place, number_of_place}
+use Rattle.histar_refinement.proofs.StartNames.{place_of_number}
+use Rattle.histar_refinement.proofs.StartTable.{left_plain, slash_agrees, listing_agrees, home_agrees, inside_agrees, runner_agrees, status_agrees}
+use Rattle.histar_refinement.proofs.StartTable.{none_behind, length_start}
 
 -- the naming at the start, where there are n users
 abbrev pub start_naming : ℕ → Naming Step
 start_naming n = record { address = start_address n; number = start_number n }
 
 -- a number is one of those in a row, or one of those behind it
-in_row : (a n c : ℕ) (ks : List ℕ) → list_any (λ y. nat_eq y c) (range_with_len a n ++ ks) ≡ ((nat_le a c && nat_lt c (a + n)) || list_any (λ y. nat_eq y c) ks)
+in_row : (a n c : ℕ) (ks : List ℕ)
+    → list_any (λ y. nat_eq y c) (range_with_len a n ++ ks)
+    ≡ ((nat_le a c && nat_lt c (a + n)) || list_any (λ y. nat_eq y c) ks)
 in_row a zero c ks =
     let outside : (nat_le a c && nat_lt c (a + 0)) ≡ false = grind (arith, nat_tests) in
     sym (ap (λ b. b || list_any (λ y. nat_eq y c) ks) outside)
 in_row a (suc n) c ks =
-    let one : (x : Bool) → (nat_eq a c || ((nat_le (a + 1) c && nat_lt c (a + 1 + n)) || x)) ≡ ((nat_le a c && nat_lt c (a + suc n)) || x) = λ x. grind (arith, nat_tests) in
+    let one : (x : Bool)
+    → (nat_eq a c || ((nat_le (a + 1) c && nat_lt c (a + 1 + n)) || x))
+    ≡ ((nat_le a c && nat_lt c (a + suc n)) || x) =
+    λ x. grind (arith, nat_tests) in
     ap (λ b. nat_eq a c || b) (in_row (a + 1) n c ks) ∙ one (list_any (λ y. nat_eq y c) ks)
 
 module _ (n : ℕ) where
@@ -43,18 +52,24 @@ module _ (n : ℕ) where
   -- a number is the one of an address exactly where it has this address
   number_is : (m c : ℕ) (here : Address Step) → Place n here m → nat_eq m c ≡ is_this here (start_address n c)
   number_is m c here p = elim (eqb_tells m c) [
-    | inl e ↦ e.0 ∙ sym (ap (is_this here) (sym (ap (start_address n) e.1) ∙ address_of_place n m here p) ∙ same_itself same_step step_tests_equality here)
+    | inl e ↦
+        e.0
+        ∙ sym (ap (is_this here) (sym (ap (start_address n) e.1) ∙ address_of_place n m here p)
+        ∙ same_itself same_step step_tests_equality here)
     | inr e ↦ e.0 ∙ sym (by e.1 (start_address n c) refl)
   ]
     where
       by : m ≢ c → (found : Option (Address Step)) → start_address n c ≡ found → is_this here found ≡ false
       by other None e = refl
       by other (Some b) e = same_other same_step step_tests_equality here b (λ r.
-          let numbers : Some m ≡ Some c = sym (number_of_place n m here p) ∙ ap (start_number n) r ∙ number_of_place n c b (place_of_address n c b e) in
+          let numbers : Some m ≡ Some c =
+          sym (number_of_place n m here p) ∙ ap (start_number n) r
+          ∙ number_of_place n c b (place_of_address n c b e) in
           other (same_Some m c numbers))
 
   -- a test of addresses tells what is one step below an address, where it does for those that have a number
-  child_is : (a : Address Step) (t : Option (Address Step) → Bool) → t None ≡ false → ((b : Address Step) (q : ℕ) → Place n b q → t (Some b) ≡ is_one_below same_step a (Some b))
+  child_is : (a : Address Step) (t : Option (Address Step) → Bool) → t None ≡ false
+      → ((b : Address Step) (q : ℕ) → Place n b q → t (Some b) ≡ is_one_below same_step a (Some b))
       → (c : ℕ) → t (start_address n c) ≡ is_one_below same_step a (start_address n c)
   child_is a t nowhere at c = elim (seen n c) [
     | placed b p e ↦ ap t e ∙ at b c p ∙ sym (ap (is_one_below same_step a) e)
@@ -62,7 +77,8 @@ module _ (n : ℕ) where
   ]
 
   -- nothing stands below what is none of the four containers
-  no_child : (a : Address Step) → same_steps same_step a [] ≡ false → same_steps same_step a (Slash ∷ []) ≡ false → same_steps same_step a process_address ≡ false → same_steps same_step a inside_address ≡ false
+  no_child : (a : Address Step) → same_steps same_step a [] ≡ false → same_steps same_step a (Slash ∷ []) ≡ false
+      → same_steps same_step a process_address ≡ false → same_steps same_step a inside_address ≡ false
       → (c : ℕ) → false ≡ is_one_below same_step a (start_address n c)
   no_child a not_root not_slash not_home not_inside = child_is a (λ found. false) refl at
     where
@@ -77,16 +93,21 @@ module _ (n : ℕ) where
       at b p (on_status q e) = sym not_home
 
   -- a container that links one number links what stands below it, where this is the number of its one child
-  one_link : (m : ℕ) (a here : Address Step) → Place n here m → ((b : Address Step) (q : ℕ) → Place n b q → same_steps same_step here b ≡ is_one_below same_step a (Some b))
+  one_link : (m : ℕ) (a here : Address Step) → Place n here m
+      → ((b : Address Step) (q : ℕ) → Place n b q → same_steps same_step here b ≡ is_one_below same_step a (Some b))
       → (c : ℕ) → set.contains (set.from_list {R = nat_cmp} (m ∷ [])) c ≡ is_one_below same_step a (start_address n c)
-  one_link m a here p at c = set.contains-from_list_nat (m ∷ []) c ∙ or-false (nat_eq m c) ∙ number_is m c here p ∙ child_is a (is_this here) refl at c
+  one_link m a here p at c =
+      set.contains-from_list_nat (m ∷ []) c ∙ or-false (nat_eq m c) ∙ number_is m c here p
+      ∙ child_is a (is_this here) refl at c
 
   -- a number is one of those in the root container
   abbrev in_root : ℕ → Bool
   in_root q = (nat_le 3 q && nat_lt q (3 + (2 + 2 * n))) || (nat_eq (6 + 2 * n) q || false)
 
   -- the root container links 3 to 4 + 2n, and 6 + 2n
-  root_links : (c : ℕ) → set.contains (set.from_list {R = nat_cmp} (range_with_len 3 (2 + 2 * n) ++ (6 + 2 * n) ∷ [])) c ≡ is_one_below same_step [] (start_address n c)
+  root_links : (c : ℕ)
+      → set.contains (set.from_list {R = nat_cmp} (range_with_len 3 (2 + 2 * n) ++ (6 + 2 * n) ∷ [])) c
+      ≡ is_one_below same_step [] (start_address n c)
   root_links c =
       set.contains-from_list_nat (range_with_len 3 (2 + 2 * n) ++ (6 + 2 * n) ∷ []) c
       ∙ in_row 3 (2 + 2 * n) c ((6 + 2 * n) ∷ [])
@@ -124,7 +145,8 @@ module _ (n : ℕ) where
   inside_links : (c : ℕ) → set.contains (set.from_list {R = nat_cmp} ((8 + 2 * n) ∷ [])) c ≡ is_one_below same_step inside_address (start_address n c)
   inside_links = one_link (8 + 2 * n) inside_address (Runner ∷ inside_address) (on_runner (8 + 2 * n) refl) at
     where
-      at : (b : Address Step) (p : ℕ) → Place n b p → same_steps same_step (Runner ∷ inside_address) b ≡ is_one_below same_step inside_address (Some b)
+      at : (b : Address Step) (p : ℕ) → Place n b p
+          → same_steps same_step (Runner ∷ inside_address) b ≡ is_one_below same_step inside_address (Some b)
       at b p (on_root q e) = refl
       at b p other = refl
 
@@ -133,11 +155,14 @@ module _ (n : ℕ) where
   in_home found = is_this inside_address found || is_this (Status ∷ process_address) found
 
   -- the container of process 0 links its internal container and its process segment
-  home_links : (c : ℕ) → set.contains (set.from_list {R = nat_cmp} ((7 + 2 * n) ∷ (9 + 2 * n) ∷ [])) c ≡ is_one_below same_step process_address (start_address n c)
+  home_links : (c : ℕ)
+      → set.contains (set.from_list {R = nat_cmp} ((7 + 2 * n) ∷ (9 + 2 * n) ∷ [])) c
+      ≡ is_one_below same_step process_address (start_address n c)
   home_links c =
       set.contains-from_list_nat ((7 + 2 * n) ∷ (9 + 2 * n) ∷ []) c
       ∙ ap (λ b. nat_eq (7 + 2 * n) c || b) (or-false (nat_eq (9 + 2 * n) c))
-      ∙ (λ i. number_is (7 + 2 * n) c inside_address (on_inside (7 + 2 * n) refl) i || number_is (9 + 2 * n) c (Status ∷ process_address) (on_status (9 + 2 * n) refl) i)
+      ∙ (λ i. number_is (7 + 2 * n) c inside_address (on_inside (7 + 2 * n) refl) i
+      || number_is (9 + 2 * n) c (Status ∷ process_address) (on_status (9 + 2 * n) refl) i)
       ∙ child_is process_address in_home refl at c
     where
       at : (b : Address Step) (p : ℕ) → Place n b p → in_home (Some b) ≡ is_one_below same_step process_address (Some b)
@@ -202,7 +227,8 @@ module _ (accounts : Accounts) where
   ]
 
   -- what is equal to an object has its links
-  same_links : (q c : ℕ) (found : Found) (t : Bool) → objects q ≡ found → set.contains (links_in found) c ≡ t → set.contains (links_in (objects q)) c ≡ t
+  same_links : (q c : ℕ) (found : Found) (t : Bool) → objects q ≡ found → set.contains (links_in found) c ≡ t
+      → set.contains (links_in (objects q)) c ≡ t
   same_links q c found t is h = ap (λ (x : Found). set.contains (links_in x) c) is ∙ h
 
   -- no links
@@ -214,11 +240,17 @@ module _ (accounts : Accounts) where
   place_links p c b (on_root q e) = same_links q c _ _ (ap objects e) (root_links n c)
   place_links p c b (on_left q e) = no_links q c (left_plain accounts q e).linkless ∙ no_child n (Left q ∷ []) refl refl refl refl c
   place_links p c b (on_slash q e) = same_links q c _ _ (ap objects e ∙ slash_agrees accounts) (slash_links n c)
-  place_links p c b (on_listing q e) = no_links q c (ap links_in (ap objects e ∙ listing_agrees accounts)) ∙ no_child n (Listing ∷ Slash ∷ []) refl refl refl refl c
+  place_links p c b (on_listing q e) =
+      no_links q c (ap links_in (ap objects e ∙ listing_agrees accounts))
+      ∙ no_child n (Listing ∷ Slash ∷ []) refl refl refl refl c
   place_links p c b (on_home q e) = same_links q c _ _ (ap objects e ∙ home_agrees accounts) (home_links n c)
   place_links p c b (on_inside q e) = same_links q c _ _ (ap objects e ∙ inside_agrees accounts) (inside_links n c)
-  place_links p c b (on_runner q e) = no_links q c (ap links_in (ap objects e ∙ runner_agrees accounts)) ∙ no_child n (Runner ∷ inside_address) refl refl refl refl c
-  place_links p c b (on_status q e) = no_links q c (ap links_in (ap objects e ∙ status_agrees accounts)) ∙ no_child n (Status ∷ process_address) refl refl refl refl c
+  place_links p c b (on_runner q e) =
+      no_links q c (ap links_in (ap objects e ∙ runner_agrees accounts))
+      ∙ no_child n (Runner ∷ inside_address) refl refl refl refl c
+  place_links p c b (on_status q e) =
+      no_links q c (ap links_in (ap objects e ∙ status_agrees accounts))
+      ∙ no_child n (Status ∷ process_address) refl refl refl refl c
 
   -- something stands where there is an address
   pub place_there : (q : ℕ) (a : Address Step) → Place n a q → is_present (objects q) ≡ true

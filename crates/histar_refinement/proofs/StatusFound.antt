@@ -1,5 +1,6 @@
 -- In a state that is represented the process segments lead to the numbers of each process and its thread, and to no others.
-use Rattle.std.proofs.Common.{◌≡◌, ◌≢◌, ℕ, zero, suc, ◌+◌, ◌<◌, ◌≤◌, ◌==◌, ◌⊎◌, inl, inr, Bool, true, false, cond, [], ◌∷◌, map, Option, None, Some, refl, sym, ap, ◌∙◌, arith}
+use Rattle.std.proofs.Common.{◌≡◌, ◌≢◌, ℕ, zero, suc, ◌+◌, ◌<◌, ◌≤◌, ◌==◌, ◌⊎◌, inl, inr, Bool, true, false, cond, [], ◌∷◌, map, Option, None, Some}
+use Rattle.std.proofs.Common.{refl, sym, ap, ◌∙◌, arith}
 use Rattle.std.specs.Prelude.{is_some, nat_le}
 use Rattle.std.specs.List.{filter, range_with_len}
 use Rattle.std.proofs.lemmas.Bool.{cases_lt}
@@ -39,21 +40,32 @@ module _ (number : AddressNumbers) (me : ProcName) (test : ℕ → Bool) (n : �
   later_number a low other = elim (cases_lt a n) [ inl lt ↦ omega (arith, lt) | inr le ↦ absurd (other (omega (arith, low, le))) ]
 
   abbrev one_more : ℕ → ℕ → Bool → Option Listed
-  one_more a k b = child_at (map (listed_by number me) (cond b (a ∷ filter test (range_with_len (a + 1) k)) (filter test (range_with_len (a + 1) k)))) n
+  one_more a k b =
+      child_at (map (listed_by number me)
+      (cond b (a ∷ filter test (range_with_len (a + 1) k)) (filter test (range_with_len (a + 1) k)))) n
 
   -- a number that passes the test is listed
-  listed_step : test n ≡ true → (a k : ℕ) → a ≤ n → (b : Bool) → test a ≡ b → IsTested a → (a + 1 ≤ n → listed_from (a + 1) k ≡ Some (listed_by number me n)) → one_more a k b ≡ Some (listed_by number me n)
-  listed_step passes a k low true is (inl e) later = ap (λ t. cond t (Some (listed_by number me a)) (listed_from (a + 1) k)) e.0 ∙ ap (λ (x : ℕ). Some (listed_by number me x)) e.1
-  listed_step passes a k low true is (inr e) later = ap (λ t. cond t (Some (listed_by number me a)) (listed_from (a + 1) k)) e.0 ∙ later (later_number a low e.1)
+  listed_step : test n ≡ true → (a k : ℕ) → a ≤ n → (b : Bool) → test a ≡ b → IsTested a
+      → (a + 1 ≤ n → listed_from (a + 1) k ≡ Some (listed_by number me n))
+      → one_more a k b ≡ Some (listed_by number me n)
+  listed_step passes a k low true is (inl e) later =
+      ap (λ t. cond t (Some (listed_by number me a)) (listed_from (a + 1) k)) e.0
+      ∙ ap (λ (x : ℕ). Some (listed_by number me x)) e.1
+  listed_step passes a k low true is (inr e) later =
+      ap (λ t. cond t (Some (listed_by number me a)) (listed_from (a + 1) k)) e.0 ∙ later (later_number a low e.1)
   listed_step passes a k low false is (inl e) later = absurd (true≢false (sym passes ∙ ap test (sym e.1) ∙ is))
   listed_step passes a k low false is (inr e) later = later (later_number a low e.1)
 
   pub listed_there : test n ≡ true → (a k : ℕ) → a ≤ n → n < a + k → listed_from a k ≡ Some (listed_by number me n)
   listed_there passes a zero low high = absurd (omega (arith, low, high))
-  listed_there passes a (suc k) low high = listed_step passes a k low (test a) refl (eqb_tells a n) (λ more. listed_there passes (a + 1) k more (omega (arith, high)))
+  listed_there passes a (suc k) low high =
+      listed_step passes a k low (test a) refl (eqb_tells a n)
+      (λ more. listed_there passes (a + 1) k more (omega (arith, high)))
 
   -- and what is listed passes it
-  back_step : (x : Listed) (a k : ℕ) (b : Bool) → test a ≡ b → IsTested a → (listed_from (a + 1) k ≡ Some x → (test n ≡ true) × (listed_by number me n ≡ x)) → one_more a k b ≡ Some x → (test n ≡ true) × (listed_by number me n ≡ x)
+  back_step : (x : Listed) (a k : ℕ) (b : Bool) → test a ≡ b → IsTested a
+      → (listed_from (a + 1) k ≡ Some x → (test n ≡ true) × (listed_by number me n ≡ x)) → one_more a k b ≡ Some x
+      → (test n ≡ true) × (listed_by number me n ≡ x)
   back_step x a k true is (inl e) later found =
       let here : Some (listed_by number me a) ≡ Some x = sym (ap (λ t. cond t (Some (listed_by number me a)) (listed_from (a + 1) k)) e.0) ∙ found in
       (ap test (sym e.1) ∙ is, ap (listed_by number me) (sym e.1) ∙ same_Some (listed_by number me a) x here)
@@ -79,31 +91,44 @@ module _ (accounts : Accounts) (s : State) (f : Flat) (l : ObjectsMatch accounts
       by (Some p) = refl
 
   pub numbered_status : (me : ProcName) → is_some (l.naming.number (Status ∷ home_address me)) ≡ is_some (f.processes me)
-  numbered_status me = l.agrees.named (Status ∷ home_address me) ∙ ap is_present (asked_status accounts l.category f l.naming.number me) ∙ by (f.processes me)
+  numbered_status me =
+      l.agrees.named (Status ∷ home_address me) ∙ ap is_present (asked_status accounts l.category f l.naming.number me)
+      ∙ by (f.processes me)
     where
-      by : (o : Option Process) → is_present (status_object accounts l.category (bytes_for accounts l.category f l.naming.number me o) me o) ≡ is_some o
+      by : (o : Option Process)
+          → is_present (status_object accounts l.category (bytes_for accounts l.category f l.naming.number me o) me o)
+          ≡ is_some o
       by None = refl
       by (Some p) = refl
 
   -- and its thread has one where it runs
-  pub numbered_runner : (me : ProcName) (p : Process) → f.processes me ≡ Some p → p.exited ≡ None → is_some (l.naming.number (Runner ∷ Inside ∷ home_address me)) ≡ true
+  pub numbered_runner : (me : ProcName) (p : Process) → f.processes me ≡ Some p → p.exited ≡ None
+      → is_some (l.naming.number (Runner ∷ Inside ∷ home_address me)) ≡ true
   numbered_runner me p here running =
-      l.agrees.named (Runner ∷ Inside ∷ home_address me) ∙ ap is_present (asked_runner accounts l.category f l.naming.number me ∙ ap (thread_object accounts l.category me) here) ∙ by p.exited running
+      l.agrees.named (Runner ∷ Inside ∷ home_address me)
+      ∙ ap is_present
+      (asked_runner accounts l.category f l.naming.number me ∙ ap (thread_object accounts l.category me) here)
+      ∙ by p.exited running
     where
       by : (e : Option ℕ) → e ≡ None → is_present (thread_object accounts l.category me (Some (record p { exited = e }))) ≡ true
       by None is = refl
       by (Some n) is = absurd (none-some n (sym is))
 
   -- a child's number is one of those that its parent gave
-  pub child_range : (n : ℕ) (me : ProcName) (p : Process) → f.processes me ≡ Some p → is_some (f.processes (n ∷ me)) ≡ true → (1 ≤ n) × (n < 1 + p.born)
+  pub child_range : (n : ℕ) (me : ProcName) (p : Process) → f.processes me ≡ Some p
+      → is_some (f.processes (n ∷ me)) ≡ true → (1 ≤ n) × (n < 1 + p.born)
   child_range n me p here there =
-      let given : was_given (Some p) n ≡ true = sym (ap (λ (o : Option Process). was_given o n) here) ∙ first_of (was_given (f.processes me) n) (is_given f.processes me) (l.processes_given (n ∷ me) there) in
+      let given : was_given (Some p) n ≡ true =
+      sym (ap (λ (o : Option Process). was_given o n) here)
+      ∙ first_of (was_given (f.processes me) n) (is_given f.processes me) (l.processes_given (n ∷ me) there) in
       let low : nat_le 1 n ≡ true = first_of (nat_le 1 n) (nat_le n p.born) given in
       let high : nat_le n p.born ≡ true = second_of (nat_le 1 n) (nat_le n p.born) given in
       (grind (arith, nat_tests, low), grind (arith, nat_tests, high))
 
   -- The segments lead to the numbers of each process.
-  pub status_found : (me : ProcName) (p : Process) (c g : ℕ) → f.processes me ≡ Some p → l.naming.number (home_address me) ≡ Some c → l.naming.number (Status ∷ home_address me) ≡ Some g → IsStatusSegment accounts s me c g
+  pub status_found : (me : ProcName) (p : Process) (c g : ℕ) → f.processes me ≡ Some p
+      → l.naming.number (home_address me) ≡ Some c → l.naming.number (Status ∷ home_address me) ≡ Some g
+      → IsStatusSegment accounts s me c g
   status_found [] p c g here home status =
       (same_Some c _ (sym home ∙ l.as_booted (Home ∷ []) _ refl), same_Some g _ (sym status ∙ l.as_booted (Status ∷ Home ∷ []) _ refl))
   status_found (n ∷ me) p c g here home status =
@@ -121,36 +146,58 @@ module _ (accounts : Accounts) (s : State) (f : Flat) (l : ObjectsMatch accounts
       )
 
   -- And they lead to no others.
-  pub status_back : (me : ProcName) (c g : ℕ) → IsStatusSegment accounts s me c g → (p : Process) × (f.processes me ≡ Some p) × (l.naming.number (home_address me) ≡ Some c) × (l.naming.number (Status ∷ home_address me) ≡ Some g)
+  pub status_back : (me : ProcName) (c g : ℕ) → IsStatusSegment accounts s me c g
+      → (p : Process) × (f.processes me ≡ Some p) × (l.naming.number (home_address me) ≡ Some c)
+      × (l.naming.number (Status ∷ home_address me) ≡ Some g)
   status_back [] c g found =
       let first = some_of (f.processes []) l.first in
       (first.0, first.1, l.as_booted (Home ∷ []) _ refl ∙ ap Some (sym found.0), l.as_booted (Status ∷ Home ∷ []) _ refl ∙ ap Some (sym found.1))
   status_back (n ∷ me) c g found =
       let above = status_back me found.0 found.1 found.3 in
-      let same = same_status (bytes_in (s.objects found.1)) found.2 (status_by f.processes l.naming.number me above.0) found.4 (holds_status accounts s f l me above.0 found.1 above.1 above.3) in
-      let listed = listed_back l.naming.number me (λ k. is_some (f.processes (k ∷ me))) n (record { number = n; container = c; segment = g }) 1 above.0.born (sym (ap (λ (t : ProcessStatus). child_at t.children n) same) ∙ found.5) in
+      let same =
+      same_status (bytes_in (s.objects found.1)) found.2 (status_by f.processes l.naming.number me above.0) found.4
+      (holds_status accounts s f l me above.0 found.1 above.1 above.3) in
+      let listed =
+      listed_back l.naming.number me (λ k. is_some (f.processes (k ∷ me))) n
+      (record { number = n; container = c; segment = g }) 1 above.0.born
+      (sym (ap (λ (t : ProcessStatus). child_at t.children n) same) ∙ found.5) in
       let there = some_of (f.processes (n ∷ me)) listed.0 in (
         there.0,
         there.1,
         zero_there (l.naming.number (home_address (n ∷ me))) c (numbered_home (n ∷ me) ∙ listed.0) (ap (λ (x : Listed). x.container) listed.1),
-        zero_there (l.naming.number (Status ∷ home_address (n ∷ me))) g (numbered_status (n ∷ me) ∙ listed.0) (ap (λ (x : Listed). x.segment) listed.1),
+        zero_there (l.naming.number (Status ∷ home_address (n ∷ me))) g (numbered_status (n ∷ me) ∙ listed.0)
+            (ap (λ (x : Listed). x.segment) listed.1),
       )
 
   -- The thread of a process that runs is found.
-  pub thread_led : (me : ProcName) (p : Process) (t : ℕ) → f.processes me ≡ Some p → p.exited ≡ None → l.naming.number (Runner ∷ Inside ∷ home_address me) ≡ Some t → IsThreadOf accounts s me t
+  pub thread_led : (me : ProcName) (p : Process) (t : ℕ) → f.processes me ≡ Some p → p.exited ≡ None
+      → l.naming.number (Runner ∷ Inside ∷ home_address me) ≡ Some t → IsThreadOf accounts s me t
   thread_led me p t here running runner =
       let c = some_of (l.naming.number (home_address me)) (numbered_home me ∙ ap is_some here) in
-      let g = some_of (l.naming.number (Status ∷ home_address me)) (numbered_status me ∙ ap is_some here) in
-      (c.0, g.0, status_by f.processes l.naming.number me p, status_found me p c.0 g.0 here c.1 g.1, holds_status accounts s f l me p g.0 here g.1, running, ap or_zero runner)
+      let g = some_of (l.naming.number (Status ∷ home_address me)) (numbered_status me ∙ ap is_some here) in (
+        c.0,
+        g.0,
+        status_by f.processes l.naming.number me p,
+        status_found me p c.0 g.0 here c.1 g.1,
+        holds_status
+            accounts s f l me p g.0 here g.1,
+        running,
+        ap or_zero runner,
+      )
 
   -- And what is found is the thread of a process that runs.
-  pub thread_back : (me : ProcName) (t : ℕ) → IsThreadOf accounts s me t → (p : Process) × (f.processes me ≡ Some p) × (p.exited ≡ None) × (l.naming.number (Runner ∷ Inside ∷ home_address me) ≡ Some t)
+  pub thread_back : (me : ProcName) (t : ℕ) → IsThreadOf accounts s me t
+      → (p : Process) × (f.processes me ≡ Some p) × (p.exited ≡ None)
+      × (l.naming.number (Runner ∷ Inside ∷ home_address me) ≡ Some t)
   thread_back me t found =
       let there = status_back me found.0 found.1 found.3 in
-      let same = same_status (bytes_in (s.objects found.1)) found.2 (status_by f.processes l.naming.number me there.0) found.4 (holds_status accounts s f l me there.0 found.1 there.1 there.3) in
+      let same =
+      same_status (bytes_in (s.objects found.1)) found.2 (status_by f.processes l.naming.number me there.0) found.4
+      (holds_status accounts s f l me there.0 found.1 there.1 there.3) in
       let running : there.0.exited ≡ None = sym (ap (λ (x : ProcessStatus). x.exited) same) ∙ found.5 in (
         there.0,
         there.1,
         running,
-        zero_there (l.naming.number (Runner ∷ Inside ∷ home_address me)) t (numbered_runner me there.0 there.1 running) (sym (ap (λ (x : ProcessStatus). x.thread) same) ∙ found.6),
+        zero_there (l.naming.number (Runner ∷ Inside ∷ home_address me)) t (numbered_runner me there.0 there.1 running)
+            (sym (ap (λ (x : ProcessStatus). x.thread) same) ∙ found.6),
       )

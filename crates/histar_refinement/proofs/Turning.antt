@@ -1,5 +1,6 @@
 -- Two names of one directory change places: what this does to paths and to addresses.
-use Rattle.std.proofs.Common.{◌≡◌, ◌≢◌, ◌≤◌, ◌⊎◌, inl, inr, Bool, true, false, ◌||◌, cond, List, [], ◌∷◌, length, Option, None, Some, arith, refl, sym, ap, ◌∙◌}
+use Rattle.std.proofs.Common.{◌≡◌, ◌≢◌, ◌≤◌, ◌⊎◌, inl, inr, Bool, true, false, ◌||◌, cond, List, [], ◌∷◌, length, Option, None, Some, arith, refl}
+use Rattle.std.proofs.Common.{sym, ap, ◌∙◌}
 use Rattle.std.specs.Prelude.{T, option_map, map}
 use Rattle.std.specs.FinMap.{find, is_sorted}
 use Rattle.std.specs.FinMap.Entries.{below_all}
@@ -27,7 +28,9 @@ abbrev pub turned_list : {X : Type 0} → (List X → List X → Bool) → List 
 turned_list eq top f [] = []
 turned_list eq top f (x ∷ a) = f (eq top a) x ∷ turned_list eq top f a
 
-module _ {X : Type 0} (eq : List X → List X → Bool) (decides : (a b : List X) → ((eq a b ≡ true) × (a ≡ b)) ⊎ ((eq a b ≡ false) × (a ≢ b))) (top : List X) (f : Bool → X → X)
+module _ {X : Type 0} (eq : List X → List X → Bool)
+    (decides : (a b : List X) → ((eq a b ≡ true) × (a ≡ b)) ⊎ ((eq a b ≡ false) × (a ≢ b))) (top : List X)
+    (f : Bool → X → X)
     (still : (x : X) → f false x ≡ x) (back : (b : Bool) (x : X) → f b (f b x) ≡ x) where
   abbrev there : List X → List X
   there = turned_list eq top f
@@ -56,7 +59,9 @@ module _ {X : Type 0} (eq : List X → List X → Bool) (decides : (a b : List X
     | inr e ↦ by e (decides top (there a))
   ]
     where
-      by : (eq top a ≡ false) × (top ≢ a) → ((eq top (there a) ≡ true) × (top ≡ there a)) ⊎ ((eq top (there a) ≡ false) × (top ≢ there a)) → eq top (there a) ≡ eq top a
+      by : (eq top a ≡ false) × (top ≢ a)
+          → ((eq top (there a) ≡ true) × (top ≡ there a)) ⊎ ((eq top (there a) ≡ false) × (top ≢ there a))
+          → eq top (there a) ≡ eq top a
       by e (inl t) = let long = ap length t.1 ∙ as_long a in absurd (e.1 (t.1 ∙ short_stays a (omega (arith, long))))
       by e (inr t) = t.0 ∙ sym e.0
 
@@ -171,7 +176,9 @@ module _ (n k : Name) where
     -- a path's address turns with the path
     same_roots : (e : Path) → same_address (address_of d) (address_of e) ≡ same_path d e
     same_roots e = elim (same_path_found d e) [
-      | inl t ↦ ap (λ (z : Path). same_address (address_of d) (address_of z)) (sym t.1) ∙ same_itself same_step step_tests_equality (address_of d) ∙ sym t.0
+      | inl t ↦
+          ap (λ (z : Path). same_address (address_of d) (address_of z)) (sym t.1)
+          ∙ same_itself same_step step_tests_equality (address_of d) ∙ sym t.0
       | inr t ↦ same_other same_step step_tests_equality (address_of d) (address_of e) (λ i. t.1 (same_address_path d e i)) ∙ sym t.0
     ]
 
@@ -218,7 +225,9 @@ module _ (n k : Name) where
     path_turned (Listing ∷ a) = refl
     path_turned (Named m ∷ a) = ap (option_map (λ e. turned_name (same_address (address_of d) a) m ∷ e)) (path_turned a) ∙ by (path_at a) refl
       where
-        by : (o : Option Path) → path_at a ≡ o → option_map (λ e. turned_name (same_address (address_of d) a) m ∷ e) (option_map turned o) ≡ option_map turned (option_map (λ e. m ∷ e) o)
+        by : (o : Option Path) → path_at a ≡ o
+            → option_map (λ e. turned_name (same_address (address_of d) a) m ∷ e) (option_map turned o)
+            ≡ option_map turned (option_map (λ e. m ∷ e) o)
         by None is = refl
         by (Some e) is = ap (λ b. Some (turned_name b m ∷ turned e)) (ap (same_address (address_of d)) (address_path a e is) ∙ same_roots e)
     path_turned (Home ∷ a) = refl
@@ -256,19 +265,28 @@ module _ (n k : Name) where
     ]
 
     module _ {Y : Type 0} where
-      turned_entries : (es : List (Path × Y)) → T (is_sorted path_cmp es) → ((q : Path) (y : Y) → find path_cmp q es ≡ Some y → under_path (k ∷ d) q ≡ false)
+      turned_entries : (es : List (Path × Y)) → T (is_sorted path_cmp es)
+          → ((q : Path) (y : Y) → find path_cmp q es ≡ Some y → under_path (k ∷ d) q ≡ false)
           → map {B = Path × Y} (λ (e : Path × Y). (moved (n ∷ d) (k ∷ d) e.0, e.1)) es ≡ map {B = Path × Y} (λ (e : Path × Y). (turned e.0, e.1)) es
       turned_entries [] sorted free = refl
       turned_entries (e ∷ es) sorted free =
           let here : moved (n ∷ d) (k ∷ d) e.0 ≡ turned e.0 = moved_turned e.0 (free e.0 e.1 (find_first path_cmp_total path_cmp_exact e.0 e.1 es)) in
-          let rest = turned_entries es (second (below_all path_cmp e.0 es) _ sorted) (λ q y at. free q y (find_later path_cmp_total path_cmp_exact e.0 e.1 es q y (first (below_all path_cmp e.0 es) _ sorted) at)) in
+          let rest =
+          turned_entries es (second (below_all path_cmp e.0 es) _ sorted)
+          (λ q y at. free q y (find_later path_cmp_total path_cmp_exact e.0 e.1 es q y
+          (first (below_all path_cmp e.0 es) _ sorted) at)) in
           λ i. (here i, e.1) ∷ rest i
 
-      find_turned : (es : List (Path × Y)) (q : Path) → get (from_list (map {B = Path × Y} (λ (e : Path × Y). (turned e.0, e.1)) es)) q ≡ find path_cmp (turned q) es
+      find_turned : (es : List (Path × Y)) (q : Path)
+          → get (from_list (map {B = Path × Y} (λ (e : Path × Y). (turned e.0, e.1)) es)) q
+          ≡ find path_cmp (turned q) es
       find_turned [] q = refl
       find_turned (e ∷ es) q =
           get-insert (from_list (map {B = Path × Y} (λ (x : Path × Y). (turned x.0, x.1)) es)) (turned e.0) e.1 q
-          ∙ ap (λ b. cond b (Some e.1) (get (from_list (map {B = Path × Y} (λ (x : Path × Y). (turned x.0, x.1)) es)) q)) (turned_tests same_path same_path_found d turned_name (λ m. refl) name_back q e.0 ∙ sym (ties (turned q) e.0))
+          ∙ ap
+          (λ b. cond b (Some e.1) (get (from_list (map {B = Path × Y} (λ (x : Path × Y). (turned x.0, x.1)) es)) q))
+          (turned_tests same_path same_path_found d turned_name (λ m. refl) name_back q e.0
+          ∙ sym (ties (turned q) e.0))
           ∙ ap (cond (eq_by_cmp path_cmp (turned q) e.0) (Some e.1)) (find_turned es q)
 
       -- what the renamed tree answers at a path is what the tree did at the turned one

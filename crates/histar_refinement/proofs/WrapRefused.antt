@@ -14,14 +14,26 @@ use Rattle.histar_refinement.proofs.Beside.{beside_uncounted, own_set, back}
 use Rattle.histar_refinement.proofs.Spawned.{own_label, own_clearance, beside_start}
 use Rattle.histar_refinement.proofs.Counting.{matched_more}
 
-module _ (accounts : Accounts) (s : State) (f : Flat) (l : Represents accounts s f) (me : ProcName) (p : Process) (here : f.processes me ≡ Some p) (runs : p.exited ≡ None) (T : ℕ) (at_thread : l.matched.naming.number (Runner ∷ Inside ∷ home_address me) ≡ Some T) where
+module _ (accounts : Accounts) (s : State) (f : Flat) (l : Represents accounts s f) (me : ProcName) (p : Process)
+    (here : f.processes me ≡ Some p) (runs : p.exited ≡ None) (T : ℕ)
+    (at_thread : l.matched.naming.number (Runner ∷ Inside ∷ home_address me) ≡ Some T) where
   abbrev pub state_refused : State
-  state_refused = own_set T (with_category s T) (own_label accounts s f l.matched me p here runs T at_thread) (own_clearance accounts s f l.matched me p here runs T at_thread)
+  state_refused =
+      own_set T (with_category s T) (own_label accounts s f l.matched me p here runs T at_thread)
+      (own_clearance accounts s f l.matched me p here runs T at_thread)
 
   -- no object has changed
   pub refused_objects : (q : ℕ) → state_refused.objects q ≡ s.objects q
-  refused_objects = back T (own_label accounts s f l.matched me p here runs T at_thread) (own_clearance accounts s f l.matched me p here runs T at_thread) (with_category s T) s
-      (beside_uncounted T (own_label accounts s f l.matched me p here runs T at_thread) (own_clearance accounts s f l.matched me p here runs T at_thread) s s (beside_start accounts s f l.matched me p here runs T at_thread))
+  refused_objects =
+      back T (own_label accounts s f l.matched me p here runs T at_thread)
+      (own_clearance accounts s f l.matched me p here runs T at_thread) (with_category s T) s
+      (beside_uncounted T (own_label accounts s f l.matched me p here runs T at_thread)
+      (own_clearance accounts s f l.matched me p here runs T at_thread) s s
+      (beside_start accounts s f l.matched me p here runs T at_thread))
 
   pub represents_refused : Represents accounts state_refused f
-  represents_refused = record { matched = (matched_more accounts s f l.matched state_refused refused_objects refl (omega arith)).0; jobs_given = l.jobs_given }
+  represents_refused =
+      record {
+        matched = (matched_more accounts s f l.matched state_refused refused_objects refl (omega arith)).0;
+        jobs_given = l.jobs_given;
+      }

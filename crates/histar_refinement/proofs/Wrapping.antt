@@ -1,5 +1,6 @@
 -- A wrap, granted: a category is made for the job, a directory is made for it, its first process is born, and its wrapper holds the job.
-use Rattle.std.proofs.Common.{◌≡◌, ℕ, ◌+◌, ◌<◌, ◌≤◌, ◌⊎◌, inl, inr, Bool, true, false, cond, List, [], ◌∷◌, ◌++◌, length, Option, None, Some, arith, refl, sym, ap, ◌∙◌, subst}
+use Rattle.std.proofs.Common.{◌≡◌, ℕ, ◌+◌, ◌<◌, ◌≤◌, ◌⊎◌, inl, inr, Bool, true, false, cond, List, [], ◌∷◌, ◌++◌, length, Option, None, Some, arith}
+use Rattle.std.proofs.Common.{refl, sym, ap, ◌∙◌, subst}
 use Rattle.std.specs.Prelude.{IsTrue, is_some, option_map}
 use mathlib.Core.Bool.{true≢false}
 use Rattle.histar_flat.specs.Words.{Name, Path, ProcName, is_name}
@@ -68,7 +69,8 @@ pub record Wrapper (accounts : Accounts) (s : State) (f : Flat) (l : Represents 
   pub at_listing : l.matched.naming.number (Listing ∷ address_of directory) ≡ Some listing
   pub few : s.next_object + 1 < greatest
 
-module _ (accounts : Accounts) (s : State) (f : Flat) (l : Represents accounts s f) (me : ProcName) (p : Process) (it : Wrapper accounts s f l me p) where
+module _ (accounts : Accounts) (s : State) (f : Flat) (l : Represents accounts s f) (me : ProcName) (p : Process)
+    (it : Wrapper accounts s f l me p) where
   -- its fields by name
   abbrev here : f.processes me ≡ Some p
   here = it.here
@@ -155,11 +157,14 @@ module _ (accounts : Accounts) (s : State) (f : Flat) (l : Represents accounts s
   stranger = jobs.stranger accounts s f l me p here
 
   -- no class names the job yet
-  pub not_named : (q : Path) (there : Node) (x : Guard) → get f.files q ≡ Some there → class_guard accounts there.class ≡ Some x → (among x.secret (OfJob child) ≡ false) × (among x.written (OfJob child) ≡ false)
+  pub not_named : (q : Path) (there : Node) (x : Guard) → get f.files q ≡ Some there
+      → class_guard accounts there.class ≡ Some x
+      → (among x.secret (OfJob child) ≡ false) × (among x.written (OfJob child) ≡ false)
   not_named = jobs.not_named accounts s f l me p here
 
   -- once the job's category is made
-  abbrev pub named : (later : ObjectsMatch accounts (with_next_category s) f) × (later.naming ≡ l.matched.naming) × (later.category ≡ naming_next l.matched.category s.next_category (OfJob child))
+  abbrev pub named : (later : ObjectsMatch accounts (with_next_category s) f) × (later.naming ≡ l.matched.naming)
+      × (later.category ≡ naming_next l.matched.category s.next_category (OfJob child))
   named = jobs.named accounts s f l me p here
 
   abbrev pub m : ObjectsMatch accounts (with_next_category s) f
@@ -230,11 +235,19 @@ module _ (accounts : Accounts) (s : State) (f : Flat) (l : Represents accounts s
 
   -- Once the parent's directory has room for it.
   module _ (is_named : IsTrue (is_name n)) (room_above : length (entries_in f d) < most_entries) where
-    pub made : (later : ObjectsMatch accounts made_state with_directory) × (later.naming ≡ directory_naming accounts (with_next_category s) f m d above at_parent D N at_D_named at_N_named n absent class fits (scratch_guard chain i) guard_is) × (later.category ≡ m.category)
-    made = matched_directory_created accounts (with_next_category s) f m d above at_parent D N at_D_named at_N_named n absent class fits (scratch_guard chain i) guard_is is_named room_above (omega (arith, few))
+    pub made : (later : ObjectsMatch accounts made_state with_directory)
+        × (later.naming
+        ≡ directory_naming accounts (with_next_category s) f m d above at_parent D N at_D_named at_N_named n
+        absent class fits (scratch_guard chain i) guard_is) × (later.category ≡ m.category)
+    made =
+        matched_directory_created accounts (with_next_category s) f m d above at_parent D N at_D_named at_N_named n
+        absent class fits (scratch_guard chain i) guard_is is_named room_above (omega (arith, few))
 
-    numbers : SameNumbers m.naming.number (directory_naming accounts (with_next_category s) f m d above at_parent D N at_D_named at_N_named n absent class fits (scratch_guard chain i) guard_is).number
-    numbers = directory_numbers accounts (with_next_category s) f m d above at_parent D N at_D_named at_N_named n absent class fits (scratch_guard chain i) guard_is (omega (arith, few))
+    numbers : SameNumbers m.naming.number (directory_naming accounts (with_next_category s) f m d above at_parent D N
+        at_D_named at_N_named n absent class fits (scratch_guard chain i) guard_is).number
+    numbers =
+        directory_numbers accounts (with_next_category s) f m d above at_parent D N at_D_named at_N_named n absent class
+        fits (scratch_guard chain i) guard_is (omega (arith, few))
 
     abbrev pub k : ObjectsMatch accounts made_state with_directory
     k = made.0
@@ -256,7 +269,14 @@ module _ (accounts : Accounts) (s : State) (f : Flat) (l : Represents accounts s
     is_declared = ap is_some declared
 
     pub served : IsServed with_directory child
-    served = (n ∷ d, record { class = class; content = Dir }, get_new f.files (n ∷ d) (record { class = class; content = Dir }), has_last p.chain child)
+    served = (
+      n
+          ∷ d,
+      record { class = class; content = Dir },
+      get_new f.files (n ∷ d)
+          (record { class = class; content = Dir }),
+      has_last p.chain child,
+    )
 
     pub k_chain : AreInOrder k.category chain
     k_chain = subst (λ (c : Categories). AreInOrder c chain) (sym made.2) chain_ordered
@@ -276,8 +296,11 @@ module _ (accounts : Accounts) (s : State) (f : Flat) (l : Represents accounts s
 
     pub beside : Beside T own clearance state_directory made_state
     beside =
-        beside_written T own clearance (with_object (with_object (with_category s T) D new_container) s.next_object new_segment) (with_object (with_object (with_next_category s) D new_container) s.next_object new_segment) N written
-        (beside_added T own clearance (with_object (with_category s T) D new_container) (with_object (with_next_category s) D new_container) s.next_object new_segment
+        beside_written T own clearance
+        (with_object (with_object (with_category s T) D new_container) s.next_object new_segment)
+        (with_object (with_object (with_next_category s) D new_container) s.next_object new_segment) N written
+        (beside_added T own clearance (with_object (with_category s T) D new_container)
+        (with_object (with_next_category s) D new_container) s.next_object new_segment
         (beside_added T own clearance (with_category s T) (with_next_category s) D new_container
         (beside_category T own clearance s s (beside_start accounts s f l.matched me p here runs T at_thread))))
 
@@ -287,7 +310,9 @@ module _ (accounts : Accounts) (s : State) (f : Flat) (l : Represents accounts s
     -- And once there are numbers for what the birth makes.
     module _ (few_born : made_state.next_object + 3 < greatest) where
       abbrev pub state_wrapped : State
-      state_wrapped = state_held accounts made_state with_directory k me p here runs room is_declared served stranger k_chain k_held C S T k_home k_status k_thread few_born own clearance state_directory beside counted
+      state_wrapped =
+          state_held accounts made_state with_directory k me p here runs room is_declared served stranger k_chain k_held
+          C S T k_home k_status k_thread few_born own clearance state_directory beside counted
 
       -- the flat state after it
       abbrev pub wrapped : Flat
@@ -299,7 +324,8 @@ module _ (accounts : Accounts) (s : State) (f : Flat) (l : Represents accounts s
       abbrev wrapper : Process
       wrapper = record { user = p.user; chain = p.chain; held = held; exited = p.exited; born = p.born + 1 }
 
-      same_process : (x : ProcName) (a b : Bool) → same me x ≡ a → same child x ≡ b → (o q : Option Process) → cond a (Some wrapper) (cond b (Some newborn) (cond a o q)) ≡ cond b (Some newborn) (cond a (Some wrapper) q)
+      same_process : (x : ProcName) (a b : Bool) → same me x ≡ a → same child x ≡ b → (o q : Option Process)
+          → cond a (Some wrapper) (cond b (Some newborn) (cond a o q)) ≡ cond b (Some newborn) (cond a (Some wrapper) q)
       same_process x true true e u o q = elim (same_name_found me x) [
         | inl t ↦ elim (same_name_found child x) [
           | inl r ↦ let w : length me ≡ length child = ap length (t.1 ∙ sym r.1) in absurd (omega (arith, w))
@@ -311,38 +337,74 @@ module _ (accounts : Accounts) (s : State) (f : Flat) (l : Represents accounts s
       same_process x false true e u o q = refl
       same_process x false false e u o q = refl
 
-      same_flat : after accounts made_state with_directory k me p here runs room is_declared served stranger k_chain k_held C S T k_home k_status k_thread few_born ≡ wrapped
-      same_flat = λ j. record { files = with_directory.files; processes = λ x. same_process x (same me x) (same child x) refl refl (Some (record { user = p.user; chain = p.chain; held = p.held; exited = p.exited; born = p.born + 1 })) (f.processes x) j }
+      same_flat : after accounts made_state with_directory k me p here runs room is_declared served stranger k_chain
+          k_held C S T k_home k_status k_thread few_born ≡ wrapped
+      same_flat =
+          λ j. record {
+            files = with_directory.files;
+            processes = λ x. same_process x (same me x) (same child x) refl refl
+                (Some (record {
+                  user = p.user;
+                  chain = p.chain;
+                  held = p.held;
+                  exited = p.exited;
+                  born = p.born + 1;
+                })) (f.processes x) j;
+          }
 
       -- a job that is known or served then was, or is one of the child's
       old_or_new : (job : ProcName) → IsUsed accounts with_directory (OfJob job) → IsUsed accounts f (OfJob job) ⊎ (has chain job ≡ true)
       old_or_new job (inl known) = inl (inl known)
       old_or_new job (inr at) = elim (same_path_found at.0 (n ∷ d)) [
         | inl e ↦
-            let is = same_Some (record { class = class; content = Dir }) at.1 (sym (get_new f.files (n ∷ d) (record { class = class; content = Dir })) ∙ ap (get with_directory.files) (sym e.1) ∙ at.2) in
+            let is =
+            same_Some (record { class = class; content = Dir }) at.1
+            (sym (get_new f.files (n ∷ d) (record { class = class; content = Dir }))
+            ∙ ap (get with_directory.files) (sym e.1) ∙ at.2) in
             inr (ap (λ (x : Node). is_for x.class job) is ∙ at.3)
         | inr e ↦ inl (inr (at.0, at.1, sym (get_other f.files (n ∷ d) (record { class = class; content = Dir }) at.0 e.1) ∙ at.2, at.3))
       ]
 
-      old_given : (job : ProcName) → IsUsed accounts f (OfJob job) → is_given (after accounts made_state with_directory k me p here runs room is_declared served stranger k_chain k_held C S T k_home k_status k_thread few_born).processes job ≡ true
-      old_given job u = given_after accounts made_state with_directory k me p here runs room is_declared served stranger k_chain k_held C S T k_home k_status k_thread few_born job (l.jobs_given job u)
+      old_given : (job : ProcName) → IsUsed accounts f (OfJob job)
+          → is_given (after accounts made_state with_directory k me p here runs room is_declared served stranger k_chain k_held
+          C S T k_home k_status k_thread few_born).processes job ≡ true
+      old_given job u =
+          given_after accounts made_state with_directory k me p here runs room is_declared served stranger k_chain
+          k_held C S T k_home k_status k_thread few_born job (l.jobs_given job u)
 
-      given_now : (job : ProcName) → has chain job ≡ true → is_given (after accounts made_state with_directory k me p here runs room is_declared served stranger k_chain k_held C S T k_home k_status k_thread few_born).processes job ≡ true
+      given_now : (job : ProcName) → has chain job ≡ true
+          → is_given (after accounts made_state with_directory k me p here runs room is_declared served stranger k_chain k_held
+          C S T k_home k_status k_thread few_born).processes job ≡ true
       given_now job e = elim (longer_has p.chain child job e) [
         | inl old ↦ old_given job (chain_known job old)
-        | inr is ↦ subst (λ (j : ProcName). is_given (after accounts made_state with_directory k me p here runs room is_declared served stranger k_chain k_held C S T k_home k_status k_thread few_born).processes j ≡ true) (sym is) (given_child accounts made_state with_directory k me p here runs room is_declared served stranger k_chain k_held C S T k_home k_status k_thread few_born)
+        | inr is ↦
+            subst (λ (j : ProcName).
+            is_given (after accounts made_state with_directory k me p here runs room is_declared served stranger
+            k_chain k_held C S T k_home k_status k_thread few_born).processes j ≡ true) (sym is)
+            (given_child accounts made_state with_directory k me p here runs room is_declared served stranger
+            k_chain k_held C S T k_home k_status k_thread few_born)
       ]
 
-      jobs_given_then : (job : ProcName) → IsKnown (after accounts made_state with_directory k me p here runs room is_declared served stranger k_chain k_held C S T k_home k_status k_thread few_born) job ⊎ IsServed (after accounts made_state with_directory k me p here runs room is_declared served stranger k_chain k_held C S T k_home k_status k_thread few_born) job → is_given (after accounts made_state with_directory k me p here runs room is_declared served stranger k_chain k_held C S T k_home k_status k_thread few_born).processes job ≡ true
-      jobs_given_then job u = elim (old_or_new job (used_before accounts made_state with_directory k me p here runs room is_declared served stranger k_chain k_held C S T k_home k_status k_thread few_born job u)) [
-        | inl old ↦ old_given job old
-        | inr e ↦ given_now job e
-      ]
+      jobs_given_then : (job : ProcName)
+          → IsKnown (after accounts made_state with_directory k me p here runs room is_declared served stranger k_chain k_held
+          C S T k_home k_status k_thread few_born) job
+          ⊎ IsServed (after accounts made_state with_directory k me p here runs room is_declared served stranger k_chain
+          k_held C S T k_home k_status k_thread few_born) job
+          → is_given (after accounts made_state with_directory k me p here runs room is_declared served stranger k_chain k_held
+          C S T k_home k_status k_thread few_born).processes job ≡ true
+      jobs_given_then job u =
+          elim (old_or_new job (used_before accounts made_state with_directory k me p here runs room is_declared served stranger
+          k_chain k_held C S T k_home k_status k_thread few_born job u)) [
+            | inl old ↦ old_given job old
+            | inr e ↦ given_now job e
+          ]
 
       -- The state after all calls of the wrap represents the flat state with the directory and the job's first process, whose wrapper holds the job.
       pub represents_wrapped : Represents accounts state_wrapped wrapped
       represents_wrapped = subst (Represents accounts state_wrapped) same_flat
           (record {
-            matched = matched_held accounts made_state with_directory k me p here runs room is_declared served stranger k_chain k_held C S T k_home k_status k_thread few_born own clearance state_directory beside counted;
+            matched =
+                matched_held accounts made_state with_directory k me p here runs room is_declared served stranger
+                k_chain k_held C S T k_home k_status k_thread few_born own clearance state_directory beside counted;
             jobs_given = jobs_given_then;
           })

@@ -26,9 +26,12 @@ use Rattle.histar_refinement.specs.Represents.{AreJobsGiven, ObjectsMatch, Repre
 use Rattle.histar_refinement.proofs.Steps.{step_tests_equality}
 use Rattle.histar_refinement.proofs.Moving.{bare_held, agrees_changed, agrees_same}
 use Rattle.histar_refinement.proofs.Roots.{asked_path}
-use Rattle.histar_refinement.proofs.ListedFiles.{asked_same, held_node, leads_at, directories_alike, same_leads, ClassFits, AreKnown, old_known, old_fits, jobs_kept, matched_files}
+use Rattle.histar_refinement.proofs.ListedFiles.{asked_same, held_node, leads_at, directories_alike, same_leads, ClassFits, AreKnown, old_known}
+use Rattle.histar_refinement.proofs.ListedFiles.{old_fits, jobs_kept, matched_files}
 
-module _ (accounts : Accounts) (s : State) (f : Flat) (l : ObjectsMatch accounts s f) (q : Path) (class : Class) (old bytes : List ℕ) (at : get f.files q ≡ Some (record { class = class; content = File old })) (O : ℕ) (at_file : l.naming.number (address_of q) ≡ Some O) where
+module _ (accounts : Accounts) (s : State) (f : Flat) (l : ObjectsMatch accounts s f) (q : Path) (class : Class)
+    (old bytes : List ℕ) (at : get f.files q ≡ Some (record { class = class; content = File old })) (O : ℕ)
+    (at_file : l.naming.number (address_of q) ≡ Some O) where
   abbrev after : Flat
   after = with_node f q class (File bytes)
 
@@ -46,7 +49,10 @@ module _ (accounts : Accounts) (s : State) (f : Flat) (l : ObjectsMatch accounts
 
   leads_all : (p : Path) → leads_at f.files l.naming.number p ≡ leads_at after.files l.naming.number p
   leads_all p = elim (same_path_found p q) [
-    | inl e ↦ ap (option_and_then (λ (there : Node). target_for l.naming.number (p, there))) (ap (get f.files) e.1 ∙ at) ∙ sym (ap (option_and_then (λ (there : Node). target_for l.naming.number (p, there))) (ap (get after.files) e.1 ∙ got_new))
+    | inl e ↦
+        ap (option_and_then (λ (there : Node). target_for l.naming.number (p, there))) (ap (get f.files) e.1 ∙ at)
+        ∙ sym (ap (option_and_then (λ (there : Node). target_for l.naming.number (p, there)))
+        (ap (get after.files) e.1 ∙ got_new))
     | inr e ↦ same_leads f.files after.files l.naming.number l.naming.number p p (sym (got_else p e.1)) refl refl
   ]
 
@@ -55,22 +61,36 @@ module _ (accounts : Accounts) (s : State) (f : Flat) (l : ObjectsMatch accounts
 
   listing_all : (d : Path) → listing_at accounts l.category f l.naming.number (Some d) ≡ listing_at accounts l.category after l.naming.number (Some d)
   listing_all d = elim (same_path_found d q) [
-    | inl e ↦ ap (listing_object accounts l.category (spelling (directory_of f.files l.naming.number d))) (ap (get f.files) e.1 ∙ at) ∙ sym (ap (listing_object accounts l.category (spelling (directory_of after.files l.naming.number d))) (ap (get after.files) e.1 ∙ got_new))
+    | inl e ↦
+        ap (listing_object accounts l.category (spelling (directory_of f.files l.naming.number d)))
+        (ap (get f.files) e.1 ∙ at)
+        ∙ sym (ap (listing_object accounts l.category (spelling (directory_of after.files l.naming.number d)))
+        (ap (get after.files) e.1 ∙ got_new))
     | inr e ↦ λ i. listing_object accounts l.category (spelling (directory_all d i)) (sym (got_else d e.1) i)
   ]
 
-  agrees_then : Agrees same_step (with_segment_bytes s O bytes) l.naming (set_at same_step old_asked (address_of q) (option_map (holding bytes) (old_asked (address_of q))))
-  agrees_then = agrees_changed same_step step_tests_equality s l.naming old_asked l.agrees O (address_of q) (holding bytes) at_file (λ x. kind_held_links bytes x.kind) (bare_held bytes)
+  agrees_then : Agrees same_step (with_segment_bytes s O bytes) l.naming
+      (set_at same_step old_asked (address_of q) (option_map (holding bytes) (old_asked (address_of q))))
+  agrees_then =
+      agrees_changed same_step step_tests_equality s l.naming old_asked l.agrees O (address_of q) (holding bytes)
+      at_file (λ x. kind_held_links bytes x.kind) (bare_held bytes)
 
-  asks : (a : Address Step) → set_at same_step old_asked (address_of q) (option_map (holding bytes) (old_asked (address_of q))) a ≡ expected accounts l.category after l.naming.number a
+  asks : (a : Address Step)
+      → set_at same_step old_asked (address_of q) (option_map (holding bytes) (old_asked (address_of q))) a
+      ≡ expected accounts l.category after l.naming.number a
   asks a = elim (same_tests_equality same_step step_tests_equality (address_of q) a) [
     | inl e ↦
         ap (λ (t : Bool). if t then option_map (holding bytes) (old_asked (address_of q)) else old_asked a) e.0
-        ∙ ap (option_map (holding bytes)) (asked_path accounts l.category f l.naming.number q ∙ ap (node_object accounts l.category) at) ∙ held_node accounts l.category old bytes class
-        ∙ sym (ap (expected accounts l.category after l.naming.number) (sym e.1) ∙ asked_path accounts l.category after l.naming.number q ∙ ap (node_object accounts l.category) got_new)
+        ∙ ap (option_map (holding bytes))
+        (asked_path accounts l.category f l.naming.number q ∙ ap (node_object accounts l.category) at)
+        ∙ held_node accounts l.category old bytes class
+        ∙ sym (ap (expected accounts l.category after l.naming.number) (sym e.1)
+        ∙ asked_path accounts l.category after l.naming.number q ∙ ap (node_object accounts l.category) got_new)
     | inr e ↦
         ap (λ (t : Bool). if t then option_map (holding bytes) (old_asked (address_of q)) else old_asked a) e.0
-        ∙ asked_same accounts l.category f after.files l.naming.number l.naming.number (record { home = λ p. refl; status = λ p. refl; inside = λ p. refl; runner = λ p. refl }) a (record {
+        ∙ asked_same accounts l.category f after.files l.naming.number l.naming.number
+        (record { home = λ p. refl; status = λ p. refl; inside = λ p. refl; runner = λ p. refl }) a
+        (record {
           at_path = λ p is. ap (node_object accounts l.category) (sym (got_else p (λ k. e.1 (ap address_of (sym k) ∙ sym is))));
           in_directory = λ p is. listing_all p;
         })
@@ -97,11 +117,16 @@ module _ (accounts : Accounts) (s : State) (f : Flat) (l : ObjectsMatch accounts
   ]
 
   -- The kernel has the objects of the flat state with the new bytes: `write`, and `append` where these are the old ones with more.
-  pub matched_overwritten : (later : ObjectsMatch accounts (with_segment_bytes s O bytes) (with_file_bytes f q bytes)) × (later.naming ≡ l.naming) × (later.category ≡ l.category)
-  matched_overwritten = subst (λ (c : Class). (later : ObjectsMatch accounts (with_segment_bytes s O bytes) (with_node f q c (File bytes))) × (later.naming ≡ l.naming) × (later.category ≡ l.category)) (sym (ap class_of at))
+  pub matched_overwritten : (later : ObjectsMatch accounts (with_segment_bytes s O bytes) (with_file_bytes f q bytes))
+      × (later.naming ≡ l.naming) × (later.category ≡ l.category)
+  matched_overwritten =
+      subst (λ (c : Class). (later : ObjectsMatch accounts (with_segment_bytes s O bytes) (with_node f q c (File bytes)))
+      × (later.naming ≡ l.naming) × (later.category ≡ l.category)) (sym (ap class_of at))
       (matched_files accounts s f l after.files all_fit (with_segment_bytes s O bytes) l.naming
-      (agrees_same same_step (with_segment_bytes s O bytes) (with_segment_bytes s O bytes) l.naming _ (expected accounts l.category after l.naming.number) agrees_then asks (λ k. refl) refl) l.numbered
-      l.as_booted (λ d is. subst IsListable (directory_all d) (l.listable d (was_dir d is))) refl (by_bytes s.objects boot_thread_number l.boot_thread_gone))
+      (agrees_same same_step (with_segment_bytes s O bytes) (with_segment_bytes s O bytes) l.naming _
+      (expected accounts l.category after l.naming.number) agrees_then asks (λ k. refl) refl) l.numbered
+      l.as_booted (λ d is. subst IsListable (directory_all d) (l.listable d (was_dir d is))) refl
+      (by_bytes s.objects boot_thread_number l.boot_thread_gone))
 
   all_known : (p : Path) (there : Node) → get after.files p ≡ Some there → AreKnown accounts s f l there.class
   all_known p there is = elim (same_path_found p q) [
@@ -113,7 +138,9 @@ module _ (accounts : Accounts) (s : State) (f : Flat) (l : ObjectsMatch accounts
 
   -- the numbers in the names of jobs were given as before
   pub jobs_overwritten : AreJobsGiven f → AreJobsGiven (with_file_bytes f q bytes)
-  jobs_overwritten = subst (λ (c : Class). AreJobsGiven f → AreJobsGiven (with_node f q c (File bytes))) (sym (ap class_of at)) (jobs_kept accounts s f l after.files all_known)
+  jobs_overwritten =
+      subst (λ (c : Class). AreJobsGiven f → AreJobsGiven (with_node f q c (File bytes))) (sym (ap class_of at))
+      (jobs_kept accounts s f l after.files all_known)
 
   -- and so the kernel represents the flat state with the new bytes
   pub represents_overwritten : AreJobsGiven f → Represents accounts (with_segment_bytes s O bytes) (with_file_bytes f q bytes)

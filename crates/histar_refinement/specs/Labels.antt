@@ -5,7 +5,8 @@ use Rattle.histar_flat.specs.Accounts.{Accounts, user_number, group_number, grou
 use Rattle.histar_flat.specs.Classes.{Class, Process, is_free}
 use Rattle.histar_flat.specs.Classes.Class.{Private, Readable, Open, Scratch, Grouped}
 use Rattle.histar_refinement.specs.Categories.{CategoryName}
-use Rattle.histar_refinement.specs.Categories.CategoryName.{OfBoot, ReadsUser, WritesUser, ReadsGroup, WritesGroup, ReadsProcess, WritesProcess, OfJob}
+use Rattle.histar_refinement.specs.Categories.CategoryName.{OfBoot, ReadsUser, WritesUser, ReadsGroup, WritesGroup, ReadsProcess, WritesProcess}
+use Rattle.histar_refinement.specs.Categories.CategoryName.{OfJob}
 use Rattle.histar_refinement.specs.Guards.{Guard, Rights}
 
 -- what boot alone wrote: the root container and the user table

@@ -19,7 +19,10 @@ module _ (accounts : Accounts) where
   abbrev pub left_for_user : ℕ → User → List Found
   left_for_user i user =
       Some (record { label = guard_label category (private_guard i); kind = Segment user.password })
-      ∷ Some (record { label = rights_label category (gate_rights accounts user.name i); kind = Gate (rights_clearance category (gate_rights accounts user.name i)) (Login i) })
+      ∷ Some (record {
+        label = rights_label category (gate_rights accounts user.name i);
+        kind = Gate (rights_clearance category (gate_rights accounts user.name i)) (Login i);
+      })
       ∷ []
 
   -- what boot left, from the object 3 on

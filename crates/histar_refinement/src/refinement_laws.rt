@@ -1,6 +1,8 @@
 //! What it comes to that a state represents a flat state. Each law is the contract of a function that
 //! does nothing.
-ghost use Rattle.histar_refinement.specs.Laws.{CallersAreFound, CallersAreThere, DirectoriesAreFound, ObjectsAreReached, OneIsRepresented, StartIsRepresented, ThreadsAreFound, ThreadsModifyWhatIsWritten, ThreadsObserveWhatIsRead};
+ghost use Rattle.histar_refinement.specs.Laws.{CallersAreFound, CallersAreThere, DirectoriesAreFound, ObjectsAreReached};
+ghost use Rattle.histar_refinement.specs.Laws.{OneIsRepresented, StartIsRepresented, ThreadsAreFound, ThreadsModifyWhatIsWritten};
+ghost use Rattle.histar_refinement.specs.Laws.{ThreadsObserveWhatIsRead};
 
 /// A thread may observe what is of a class exactly where its process may read it.
 pub fn threads_observe_what_is_read()

@@ -42,13 +42,16 @@ makes_entries : (accounts : Accounts) (f : Flat) (me : ProcName) (p : Process) (
     → is_there f (n ∷ d) ≡ false → nat_lt (length (entries_in f d)) most_entries ≡ true → is_some (class_made accounts p mode) ≡ true
     → passes (refused accounts f me p (Create (n ∷ d) mode)) ≡ may_make_in accounts f p d
 makes_entries accounts f me p n d mode free room made =
-    made_passes (into accounts f p d) (not (is_there f (n ∷ d))) (nat_lt (length (entries_in f d)) most_entries) (writes accounts f p d) (is_some (class_made accounts p mode)) (ap not free) room made
+    made_passes (into accounts f p d) (not (is_there f (n ∷ d))) (nat_lt (length (entries_in f d)) most_entries)
+    (writes accounts f p d) (is_some (class_made accounts p mode)) (ap not free) room made
 
 -- who may walk into a directory and write it may make an entry of a new name in it, while it has room, and no one else may
 pub writers_make_entries : WritersMakeEntries
 writers_make_entries accounts f me p n d mode free room made =
-    let same = makes_entries accounts f me p n d mode free room made in
-    ((λ e. sym same ∙ none_passes (refused accounts f me p (Create (n ∷ d) mode)) e), (λ e. passes_none (refused accounts f me p (Create (n ∷ d) mode)) (same ∙ e)))
+    let same = makes_entries accounts f me p n d mode free room made in (
+      (λ e. sym same ∙ none_passes (refused accounts f me p (Create (n ∷ d) mode)) e),
+      (λ e. passes_none (refused accounts f me p (Create (n ∷ d) mode)) (same ∙ e)),
+    )
 
 -- the first of a list of one
 first_reply : (a b : RepliedCall) → (a ∷ []) ≡ (b ∷ []) → a ≡ b
@@ -90,7 +93,8 @@ module _ (accounts : Accounts) (calls : List CallLine) (me : ProcName) (p : Proc
       (λ a.
           let last = first_reply (record { call = line; reply = reply_to accounts end me call }) (record { call = line; reply = a.reply })
           (append_cancel_left (meaning accounts calls) _ _ (sym (replies_go_on accounts (boot accounts) calls (line ∷ [])) ∙ a.more)) in
-          answer_passes (refused accounts end me p call) (answer end me p call) (ap is_answer (sym reply_is) ∙ ap (λ (x : RepliedCall). is_answer x.reply) last ∙ a.answered)),
+          answer_passes (refused accounts end me p call) (answer end me p call)
+          (ap is_answer (sym reply_is) ∙ ap (λ (x : RepliedCall). is_answer x.reply) last ∙ a.answered)),
     )
 
   module _ (runs : running end me ≡ Some p) (q : Path) (node : Node) (at : get end.files q ≡ Some node) where
@@ -102,11 +106,15 @@ module _ (accounts : Accounts) (calls : List CallLine) (me : ProcName) (p : Proc
     letters_are = record {
       stat = answered_where runs (Stat q) (ap (λ o. is_answer (stat_reply o)) at);
       read = answered_where runs (reading_call q (is_dir node)) (reading_answers (is_dir node));
-      append = λ file. subst (λ (b : Bool). (may_write_at accounts end me p q b ≡ true) ↔ IsAnswered accounts calls (line runs (Append q []))) (sym file) (answered_where runs (Append q []) refl);
+      append =
+          λ file. subst (λ (b : Bool).
+          (may_write_at accounts end me p q b ≡ true) ↔ IsAnswered accounts calls (line runs (Append q [])))
+          (sym file) (answered_where runs (Append q []) refl);
       create = λ dir n mode r is free room made.
           let same : p ≡ r = some_same p r (sym runs ∙ is) in
           let by = makes_entries accounts end me p n q mode free room (ap (λ (x : Process). is_some (class_made accounts x mode)) same ∙ made) in
-          subst (λ (b : Bool). (b ≡ true) ↔ IsAnswered accounts calls (line runs (Create (n ∷ q) mode))) (by ∙ ap (may_write_at accounts end me p q) (sym dir)) (answered_where runs (Create (n ∷ q) mode) refl);
+          subst (λ (b : Bool). (b ≡ true) ↔ IsAnswered accounts calls (line runs (Create (n ∷ q) mode)))
+          (by ∙ ap (may_write_at accounts end me p q) (sym dir)) (answered_where runs (Create (n ∷ q) mode) refl);
       remove = answered_where runs (Rmtree q) refl;
     }
       where

@@ -18,7 +18,8 @@ use Rattle.histar_rights.specs.Laws.{HaveFewBytes, DirectoriesGiveRights, rights
 use Rattle.histar_rights.proofs.Passing.{passes, passes_one, passes_same, passes_third, passes_then, passes_then_more, passes_second}
 
 -- what a process may write it may read
-written_is_read : (accounts : Accounts) (p : Process) (class : Class) → (may_read accounts p class && may_write accounts p class) ≡ may_write accounts p class
+written_is_read : (accounts : Accounts) (p : Process) (class : Class)
+    → (may_read accounts p class && may_write accounts p class) ≡ may_write accounts p class
 written_is_read accounts p (Private owner) = by (same p.user owner) (is_free p)
   where
     by : (a b : Bool) → (a && (a && b)) ≡ (a && b)
@@ -67,27 +68,39 @@ module _ (accounts : Accounts) (f : Flat) (tree : IsTree f) (small : HaveFewByte
         (ap (λ (bs : List ℕ). nat_le (length bs) most_bytes) (append-nil (bytes_at f q)) ∙ le-leb (length (bytes_at f q)) most_bytes (small q))
 
   -- who walks into a directory walks to it and lists it
-  lists : (d : Path) (above : Node) → get f.files d ≡ Some above → is_dir above ≡ true → is_passed accounts f me p (reading_call d true) ≡ passes (into accounts f p d)
+  lists : (d : Path) (above : Node) → get f.files d ≡ Some above → is_dir above ≡ true
+      → is_passed accounts f me p (reading_call d true) ≡ passes (into accounts f p d)
   lists [] above at dir =
       passes_third None (is_there f []) (is_dir_at f []) (reads accounts f p []) ENOENT ENOTDIR EACCES (there [] above at) (dir_it [] above at ∙ dir)
       ∙ sym (passes_one None (reads accounts f p []) EACCES)
   lists (m ∷ e) above at dir = refl
 
   -- the way into a directory
-  goes_in : (n : Name) (d : Path) (node : Node) → get f.files (n ∷ d) ≡ Some node → is_dir node ≡ true → passes (into accounts f p (n ∷ d)) ≡ (passes (into accounts f p d) && may_read accounts p node.class)
+  goes_in : (n : Name) (d : Path) (node : Node) → get f.files (n ∷ d) ≡ Some node → is_dir node ≡ true
+      → passes (into accounts f p (n ∷ d)) ≡ (passes (into accounts f p d) && may_read accounts p node.class)
   goes_in n d node at dir =
-      passes_third (into accounts f p d) (is_there f (n ∷ d)) (is_dir_at f (n ∷ d)) (reads accounts f p (n ∷ d)) ENOENT ENOTDIR EACCES (there (n ∷ d) node at) (dir_it (n ∷ d) node at ∙ dir)
+      passes_third (into accounts f p d) (is_there f (n ∷ d)) (is_dir_at f (n ∷ d)) (reads accounts f p (n ∷ d)) ENOENT
+      ENOTDIR EACCES (there (n ∷ d) node at) (dir_it (n ∷ d) node at ∙ dir)
       ∙ ap (λ b. passes (into accounts f p d) && b) (reads_it (n ∷ d) node at)
 
   -- the rights below a directory that gives way and gives up so
   abbrev Given : Bool → Bool → Path → Node → Type 0
-  Given way up q node = rights_at accounts f me p q node ≡ record { stat = way; read = way && may_read accounts p node.class; write = way && may_write accounts p node.class; remove = up }
+  Given way up q node =
+      rights_at accounts f me p q node
+      ≡ record {
+        stat = way;
+        read = way && may_read accounts p node.class;
+        write = way && may_write accounts p node.class;
+        remove = up;
+      }
 
   -- at `/`
   root_given : (node : Node) → get f.files [] ≡ Some node → is_dir node ≡ true → Given true false [] node
   root_given node at dir = λ i. record {
     stat = passes_same None (is_there f []) ENOENT (there [] node at) i;
-    read = (ap (λ b. is_passed accounts f me p (reading_call [] b)) dir ∙ lists [] node at dir ∙ passes_one None (reads accounts f p []) EACCES ∙ reads_it [] node at) i;
+    read =
+        (ap (λ b. is_passed accounts f me p (reading_call [] b)) dir ∙ lists [] node at dir
+        ∙ passes_one None (reads accounts f p []) EACCES ∙ reads_it [] node at) i;
     write = (
         ap (λ b. may_write_at accounts f me p [] b) dir
         ∙ ap (λ b. b && writes accounts f p []) (passes_one None (reads accounts f p []) EACCES)
@@ -104,7 +117,8 @@ module _ (accounts : Accounts) (f : Flat) (tree : IsTree f) (small : HaveFewByte
     read_given : (dir : Bool) → is_dir node ≡ dir → is_passed accounts f me p (reading_call (n ∷ d) dir) ≡ (way && may_read accounts p node.class)
     read_given true is = goes_in n d node at is
     read_given false is =
-        passes_then (into accounts f p d) (is_there f (n ∷ d)) (is_file_at f (n ∷ d)) (reads accounts f p (n ∷ d)) ENOENT EISDIR EACCES (there (n ∷ d) node at) (file_it (n ∷ d) node at ∙ ap not is)
+        passes_then (into accounts f p d) (is_there f (n ∷ d)) (is_file_at f (n ∷ d)) (reads accounts f p (n ∷ d))
+        ENOENT EISDIR EACCES (there (n ∷ d) node at) (file_it (n ∷ d) node at ∙ ap not is)
         ∙ ap (λ b. way && b) (reads_it (n ∷ d) node at)
 
     -- what is written
@@ -114,7 +128,8 @@ module _ (accounts : Accounts) (f : Flat) (tree : IsTree f) (small : HaveFewByte
         ∙ walked_written way (may_read accounts p node.class) (may_write accounts p node.class) (written_is_read accounts p node.class)
     write_given false is =
         passes_then_more (into accounts f p d) (is_there f (n ∷ d)) (is_file_at f (n ∷ d)) (writes accounts f p (n ∷ d)) ENOENT EISDIR EACCES
-        (unless (nat_le (length (bytes_at f (n ∷ d) ++ [])) most_bytes) EFBIG) (there (n ∷ d) node at) (file_it (n ∷ d) node at ∙ ap not is) (fits (n ∷ d) node at)
+        (unless (nat_le (length (bytes_at f (n ∷ d) ++ [])) most_bytes) EFBIG) (there (n ∷ d) node at)
+        (file_it (n ∷ d) node at ∙ ap not is) (fits (n ∷ d) node at)
         ∙ ap (λ b. way && b) (writes_it (n ∷ d) node at)
 
     below_given : Given way (way && writes accounts f p d) (n ∷ d) node
@@ -136,7 +151,9 @@ module _ (accounts : Accounts) (f : Flat) (tree : IsTree f) (small : HaveFewByte
       up_of : (rights_at accounts f me p d above).write ≡ (way && writes accounts f p d)
       up_of = ap (λ b. may_write_at accounts f me p d b) is_directory
 
-      pub given_by : rights_at accounts f me p (n ∷ d) node ≡ rights_below (rights_at accounts f me p d above) (may_read accounts p node.class) (may_write accounts p node.class)
+      pub given_by : rights_at accounts f me p (n ∷ d) node
+          ≡ rights_below (rights_at accounts f me p d above) (may_read accounts p node.class)
+          (may_write accounts p node.class)
       given_by = below_given ∙ (λ i. record {
         stat = sym way_of i;
         read = sym way_of i && may_read accounts p node.class;
@@ -146,12 +163,16 @@ module _ (accounts : Accounts) (f : Flat) (tree : IsTree f) (small : HaveFewByte
 
   -- the directory of what is there is there
   by_directory : (n : Name) (d : Path) (node : Node) → get f.files (n ∷ d) ≡ Some node → (o : Option Node) → get f.files d ≡ o
-      → rights_at accounts f me p (n ∷ d) node ≡ rights_below (rights_or accounts f me p d o) (may_read accounts p node.class) (may_write accounts p node.class)
+      → rights_at accounts f me p (n ∷ d) node
+      ≡ rights_below (rights_or accounts f me p d o) (may_read accounts p node.class)
+      (may_write accounts p node.class)
   by_directory n d node at None over = absurd (true≢false (sym (tree.below n d (there (n ∷ d) node at)) ∙ ap (λ o. is_some_and o is_dir) over))
   by_directory n d node at (Some above) over = given_by n d node at above over
 
   pub rights_given : (q : Path) (node : Node) → get f.files q ≡ Some node
-      → rights_at accounts f me p q node ≡ rights_below (rights_above accounts f me p q) (may_read accounts p node.class) (may_write accounts p node.class)
+      → rights_at accounts f me p q node
+      ≡ rights_below (rights_above accounts f me p q) (may_read accounts p node.class)
+      (may_write accounts p node.class)
   rights_given [] node at = root_given node at (sym (dir_it [] node at) ∙ tree.root)
   rights_given (n ∷ d) node at = by_directory n d node at (get f.files d) refl
 

@@ -1,5 +1,6 @@
 -- The processes of a table are exactly those that run, in the order of their names.
-use Rattle.std.specs.Prelude.{◌≡◌, ℕ, zero, suc, ◌+◌, ◌<◌, ◌≤◌, Bool, true, false, cond, T, nat_le, List, [], ◌∷◌, ◌++◌, length, Option, None, Some, is_some, refl}
+use Rattle.std.specs.Prelude.{◌≡◌, ℕ, zero, suc, ◌+◌, ◌<◌, ◌≤◌, Bool, true, false, cond, T, nat_le, List, [], ◌∷◌, ◌++◌, length, Option, None, Some}
+use Rattle.std.specs.Prelude.{is_some, refl}
 use Rattle.std.specs.List.{flat_map, range_with_len}
 use Rattle.std.proofs.Common.{◌⊎◌, arith, ap, inl, inr, sym, ◌∙◌, subst}
 use Rattle.std.proofs.lemmas.Bool.{true≢false, and_parts, leb-true}
@@ -28,7 +29,12 @@ use Rattle.histar_rights.proofs.Named.{AreJoined, calls_place}
 -- ---- the order of names
 
 by_image : {A B : Type 0} (h : A → B) (R : B → B → Ordering) → IsTotalOrder R → IsTotalOrder (λ x y. R (h x) (h y))
-by_image h R o = record { antisymm = λ x y. o.antisymm (h x) (h y); trans = λ x y z. o.trans (h x) (h y) (h z); congr = λ x y z. o.congr (h x) (h y) (h z) }
+by_image h R o =
+    record {
+      antisymm = λ x y. o.antisymm (h x) (h y);
+      trans = λ x y z. o.trans (h x) (h y) (h z);
+      congr = λ x y z. o.congr (h x) (h y) (h z);
+    }
 
 -- the order is total
 process_cmp_total : IsTotalOrder process_cmp
@@ -36,7 +42,10 @@ process_cmp_total = by_image from_root (slice_cmp nat_cmp) (lists_total nat_cmp_
 
 -- two names tie only where they are equal
 process_cmp_exact : IsAntisymmetric process_cmp
-process_cmp_exact a b e = sym (from_root_twice a) ∙ ap from_root (slice_cmp-IsAntisymmetric nat_cmp-IsAntisymmetric (from_root a) (from_root b) e) ∙ from_root_twice b
+process_cmp_exact a b e =
+    sym (from_root_twice a)
+    ∙ ap from_root (slice_cmp-IsAntisymmetric nat_cmp-IsAntisymmetric (from_root a) (from_root b) e)
+    ∙ from_root_twice b
 
 -- ---- entries
 
@@ -60,7 +69,8 @@ module _ (R : ProcName → ProcName → Ordering) where
   below_each k (e ∷ es) h = both (is_lt (R k e.0)) _ (subst (λ o. T (is_lt o)) (sym h.0) tt) (below_each k es h.1)
 
   -- two lists rise together where each key of the one is below all of the other
-  rise_both : (xs ys : List Named) → T (is_sorted R xs) → T (is_sorted R ys) → AllOf (λ e. AllOf (λ d. R e.0 d.0 ≡ Less) ys) xs → T (is_sorted R (xs ++ ys))
+  rise_both : (xs ys : List Named) → T (is_sorted R xs) → T (is_sorted R ys)
+      → AllOf (λ e. AllOf (λ d. R e.0 d.0 ≡ Less) ys) xs → T (is_sorted R (xs ++ ys))
   rise_both [] ys g h low = h
   rise_both (e ∷ xs) ys g h low =
       both (below_all R e.0 (xs ++ ys)) _ (joined xs (first (below_all R e.0 xs) _ g)) (rise_both xs ys (second (below_all R e.0 xs) _ g) h low.1)
@@ -83,7 +93,8 @@ module _ (R : ProcName → ProcName → Ordering) where
   in_behind e (d ∷ xs) ys h = inr (in_behind e xs ys h)
 
   -- it is found there, where keys rise
-  found_in : (total : IsTotalOrder R) (exact : IsAntisymmetric R) (k : ProcName) (x : Process) (es : List Named) → T (is_sorted R es) → IsIn (k, x) es → find R k es ≡ Some x
+  found_in : (total : IsTotalOrder R) (exact : IsAntisymmetric R) (k : ProcName) (x : Process) (es : List Named)
+      → T (is_sorted R es) → IsIn (k, x) es → find R k es ≡ Some x
   found_in total exact k x [] s h = absurd h
   found_in total exact k x (d ∷ es) s h = elim h [
     | inl t ↦ ap (λ (e : Named). find R k (e ∷ es)) t ∙ find_first total exact k x es
@@ -91,7 +102,8 @@ module _ (R : ProcName → ProcName → Ordering) where
   ]
 
   -- what is found holds as of each entry
-  holds_found : (exact : IsAntisymmetric R) (P : Named → Type 0) (k : ProcName) (x : Process) (es : List Named) → AllOf P es → find R k es ≡ Some x → P (k, x)
+  holds_found : (exact : IsAntisymmetric R) (P : Named → Type 0) (k : ProcName) (x : Process) (es : List Named)
+      → AllOf P es → find R k es ≡ Some x → P (k, x)
   holds_found exact P k x [] h is = absurd (none-some x is)
   holds_found exact P k x (e ∷ es) h is = by (eq_by_cmp R k e.0) refl is (holds_found exact P k x es h.1)
     where
@@ -146,7 +158,8 @@ module _ (f : Flat) where
   later_child me from next h e b = let late = b.late in record { number = b.number; ends = b.ends; late = omega arith; is = b.is }
 
   -- children, one after another
-  children_rise : (child : ℕ → List Named) (me : ProcName) → ((n : ℕ) → RiseBelow (n ∷ me) (child n)) → (count from : ℕ) → RiseBelowChildren me from (flat_map child (range_with_len from count))
+  children_rise : (child : ℕ → List Named) (me : ProcName) → ((n : ℕ) → RiseBelow (n ∷ me) (child n)) → (count from : ℕ)
+      → RiseBelowChildren me from (flat_map child (range_with_len from count))
   children_rise child me each zero from = record { rise = tt; below = tt }
   children_rise child me each (suc count) from =
       let one = each from in
@@ -156,10 +169,14 @@ module _ (f : Flat) where
         rise = rise_both process_cmp (child from) others one.rise rest.rise
             (all_so process_cmp (IsBelow (from ∷ me)) (λ e. AllOf process_cmp (λ d. process_cmp e.0 d.0 ≡ Less) others)
             (λ e b. all_so process_cmp (IsBelowChild me (from + 1)) (λ d. process_cmp e.0 d.0 ≡ Less)
-            (λ d c. let late = c.late in ends_order me (from ∷ b.ends) (c.number ∷ c.ends) e.0 d.0 b.is c.is ∙ ap (λ o. ordering_then o (slice_cmp nat_cmp b.ends c.ends)) (less_number from c.number (omega arith)))
+            (λ d c. let late = c.late in ends_order me (from ∷ b.ends) (c.number ∷ c.ends) e.0 d.0 b.is c.is
+            ∙ ap (λ o. ordering_then o (slice_cmp nat_cmp b.ends c.ends))
+            (less_number from c.number (omega arith)))
             others rest.below) (child from) one.below);
         below = all_both process_cmp (IsBelowChild me from) (child from) others
-            (all_so process_cmp (IsBelow (from ∷ me)) (IsBelowChild me from) (λ e b. record { number = from; ends = b.ends; late = omega arith; is = b.is }) (child from) one.below)
+            (all_so process_cmp (IsBelow (from ∷ me)) (IsBelowChild me from)
+            (λ e b. record { number = from; ends = b.ends; late = omega arith; is = b.is }) (child from)
+            one.below)
             (all_so process_cmp (IsBelowChild me (from + 1)) (IsBelowChild me from) (later_child me from (from + 1) (omega arith)) others rest.below);
       }
 
@@ -171,15 +188,21 @@ module _ (f : Flat) where
   }
   with_itself me (Some p) others rest = record {
     rise = both (below_all process_cmp me others) _
-        (below_each process_cmp me others (all_so process_cmp (IsBelowChild me 1) (λ d. process_cmp me d.0 ≡ Less) (λ d c. ends_order me [] (c.number ∷ c.ends) me d.0 refl c.is) others rest.below)) rest.rise;
-    below = (record { ends = []; is = refl }, all_so process_cmp (IsBelowChild me 1) (IsBelow me) (λ e b. record { ends = b.number ∷ b.ends; is = b.is }) others rest.below);
+        (below_each process_cmp me others (all_so process_cmp (IsBelowChild me 1) (λ d. process_cmp me d.0 ≡ Less)
+        (λ d c. ends_order me [] (c.number ∷ c.ends) me d.0 refl c.is) others rest.below)) rest.rise;
+    below = (
+      record { ends = []; is = refl },
+      all_so process_cmp (IsBelowChild me 1) (IsBelow me)
+          (λ e b. record { ends = b.number ∷ b.ends; is = b.is }) others rest.below,
+    );
   }
 
   running_rise : (levels : ℕ) (me : ProcName) → RiseBelow me (running_from levels f me)
   running_rise zero me = record { rise = tt; below = tt }
   running_rise (suc levels) me = by (f.processes me) (λ n. running_rise levels (n ∷ me))
     where
-      by : (o : Option Process) → ((n : ℕ) → RiseBelow (n ∷ me) (running_from levels f (n ∷ me))) → RiseBelow me (and_children (λ n. running_from levels f (n ∷ me)) me o)
+      by : (o : Option Process) → ((n : ℕ) → RiseBelow (n ∷ me) (running_from levels f (n ∷ me)))
+          → RiseBelow me (and_children (λ n. running_from levels f (n ∷ me)) me o)
       by None each = record { rise = tt; below = tt }
       by (Some p) each = with_itself me (if_running (Some p)) (flat_map (λ n. running_from levels f (n ∷ me)) (range_with_len 1 p.born))
           (children_rise (λ n. running_from levels f (n ∷ me)) me each p.born 1)
@@ -200,7 +223,9 @@ module _ (f : Flat) where
   each_runs zero me = tt
   each_runs (suc levels) me = by (f.processes me) refl (λ n. each_runs levels (n ∷ me))
     where
-      by : (o : Option Process) → f.processes me ≡ o → ((n : ℕ) → AllOf process_cmp Runs (running_from levels f (n ∷ me))) → AllOf process_cmp Runs (and_children (λ n. running_from levels f (n ∷ me)) me o)
+      by : (o : Option Process) → f.processes me ≡ o
+          → ((n : ℕ) → AllOf process_cmp Runs (running_from levels f (n ∷ me)))
+          → AllOf process_cmp Runs (and_children (λ n. running_from levels f (n ∷ me)) me o)
       by None e each = tt
       by (Some p) e each =
           all_both process_cmp Runs (itself me (if_running (Some p))) (flat_map (λ n. running_from levels f (n ∷ me)) (range_with_len 1 p.born))
@@ -217,11 +242,16 @@ module _ (f : Flat) where
   there_above joined (n ∷ ws) me h = joined (n ∷ me) (there_above joined ws (n ∷ me) h)
 
   -- what one of these children has, all together have
-  in_children : (child : ℕ → List Named) (e : Named) (n : ℕ) → IsIn process_cmp e (child n) → (count from : ℕ) → from ≤ n → n < from + count → IsIn process_cmp e (flat_map child (range_with_len from count))
+  in_children : (child : ℕ → List Named) (e : Named) (n : ℕ) → IsIn process_cmp e (child n) → (count from : ℕ)
+      → from ≤ n → n < from + count → IsIn process_cmp e (flat_map child (range_with_len from count))
   in_children child e n h zero from low high = absurd (omega arith)
   in_children child e n h (suc count) from low high = elim (split from n low) [
-    | inl t ↦ in_front process_cmp e (child from) (flat_map child (range_with_len (from + 1) count)) (subst (λ k. IsIn process_cmp e (child k)) (sym t) h)
-    | inr t ↦ in_behind process_cmp e (child from) (flat_map child (range_with_len (from + 1) count)) (in_children child e n h count (from + 1) t (omega arith))
+    | inl t ↦
+        in_front process_cmp e (child from) (flat_map child (range_with_len (from + 1) count))
+        (subst (λ k. IsIn process_cmp e (child k)) (sym t) h)
+    | inr t ↦
+        in_behind process_cmp e (child from) (flat_map child (range_with_len (from + 1) count))
+        (in_children child e n h count (from + 1) t (omega arith))
   ]
     where
       split : (a b : ℕ) → a ≤ b → (a ≡ b) ⊎ (a + 1 ≤ b)
@@ -232,7 +262,8 @@ module _ (f : Flat) where
           by false e = inl (grind arith)
 
   -- the process at the end of these numbers is listed where it runs
-  listed : AreJoined f → (levels : ℕ) (ws : List ℕ) (me : ProcName) (p : Process) → length ws < levels → running f (reverse_onto me ws) ≡ Some p → is_given f.processes (reverse_onto me ws) ≡ true
+  listed : AreJoined f → (levels : ℕ) (ws : List ℕ) (me : ProcName) (p : Process) → length ws < levels
+      → running f (reverse_onto me ws) ≡ Some p → is_given f.processes (reverse_onto me ws) ≡ true
       → IsIn process_cmp (reverse_onto me ws, p) (running_from levels f me)
   listed joined zero ws me p short runs given = absurd (omega arith)
   listed joined (suc levels) [] me p short runs given = by (f.processes me) (runs_is_there (f.processes me) p runs)
@@ -248,13 +279,16 @@ module _ (f : Flat) where
       (there_above joined (n ∷ ws) me (ap is_some (runs_is_there (f.processes (reverse_onto (n ∷ me) ws)) p runs)))
       (λ deep. listed joined levels ws (n ∷ me) p deep runs given)
     where
-      by : (o : Option Process) → was_given o n ≡ true → is_some o ≡ true → (length ws < levels → IsIn process_cmp (reverse_onto (n ∷ me) ws, p) (running_from levels f (n ∷ me))) → IsIn process_cmp (reverse_onto (n ∷ me) ws, p) (and_children (λ k. running_from levels f (k ∷ me)) me o)
+      by : (o : Option Process) → was_given o n ≡ true → is_some o ≡ true
+          → (length ws < levels → IsIn process_cmp (reverse_onto (n ∷ me) ws, p) (running_from levels f (n ∷ me)))
+          → IsIn process_cmp (reverse_onto (n ∷ me) ws, p) (and_children (λ k. running_from levels f (k ∷ me)) me o)
       by None e here inner = absurd (true≢false (sym here))
       by (Some r) e here inner =
           let parts = and_parts (nat_le 1 n) (nat_le n r.born) e in
           let low = leb-true 1 n parts.0 in
           let high = leb-true n r.born parts.1 in
-          in_behind process_cmp (reverse_onto (n ∷ me) ws, p) (itself me (if_running (Some r))) (flat_map (λ k. running_from levels f (k ∷ me)) (range_with_len 1 r.born))
+          in_behind process_cmp (reverse_onto (n ∷ me) ws, p) (itself me (if_running (Some r)))
+          (flat_map (λ k. running_from levels f (k ∷ me)) (range_with_len 1 r.born))
           (in_children (λ k. running_from levels f (k ∷ me)) (reverse_onto (n ∷ me) ws, p) n (inner (omega arith)) r.born 1 low (omega arith))
 
   -- a name has as many numbers turned round
@@ -279,10 +313,14 @@ module _ (f : Flat) (named : HaveShownNames f) (joined : AreJoined f) (given : A
       (subst (λ (k : ProcName). IsIn process_cmp (k, p) (running_from levels f [])) back entry)
 
   -- and no other
-  finds_as : (me : ProcName) (o : Option Process) → running f me ≡ o → (r : Option Process) → find process_cmp me (running_from levels f []) ≡ r → r ≡ o
+  finds_as : (me : ProcName) (o : Option Process) → running f me ≡ o → (r : Option Process)
+      → find process_cmp me (running_from levels f []) ≡ r → r ≡ o
   finds_as me (Some p) e r is = sym is ∙ finds me p e
   finds_as me None e None is = refl
-  finds_as me None e (Some p) is = absurd (none-some p (sym e ∙ holds_found process_cmp process_cmp_exact (Runs f) me p (running_from levels f []) (each_runs f levels []) is))
+  finds_as me None e (Some p) is =
+      absurd (none-some p (sym e
+      ∙ holds_found process_cmp process_cmp_exact (Runs f) me p (running_from levels f [])
+      (each_runs f levels []) is))
 
   pub are_running : AreRunning f (running_in f)
   unfolding running_in
@@ -298,6 +336,7 @@ running_are_listed accounts calls =
     let placed = calls_place accounts calls in
     are_running f placed.named placed.joined (λ me here. given_to me (f.processes me) refl here)
   where
-    given_to : (me : ProcName) (o : Option Process) → (flat_end accounts (boot accounts) calls).processes me ≡ o → is_some o ≡ true → is_given (flat_end accounts (boot accounts) calls).processes me ≡ true
+    given_to : (me : ProcName) (o : Option Process) → (flat_end accounts (boot accounts) calls).processes me ≡ o
+        → is_some o ≡ true → is_given (flat_end accounts (boot accounts) calls).processes me ≡ true
     given_to me None e here = absurd (true≢false (sym here))
     given_to me (Some p) e here = (names_are_given_once.old accounts calls).of_processes me p e

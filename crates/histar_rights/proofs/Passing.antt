@@ -25,7 +25,8 @@ module _ {E : Type 0} where
   passes_same w false e h = absurd (true≢false (sym h))
 
   -- two tests that hold, and one
-  pub passes_third : (w : Option E) (x y z : Bool) (c d e : E) → x ≡ true → y ≡ true → passes (w orelse unless x c orelse unless y d orelse unless z e) ≡ (passes w && z)
+  pub passes_third : (w : Option E) (x y z : Bool) (c d e : E) → x ≡ true → y ≡ true
+      → passes (w orelse unless x c orelse unless y d orelse unless z e) ≡ (passes w && z)
   passes_third None true true true c d e h k = refl
   passes_third None true true false c d e h k = refl
   passes_third (Some b) true true z c d e h k = refl
@@ -33,7 +34,8 @@ module _ {E : Type 0} where
   passes_third w true false z c d e h k = absurd (true≢false (sym k))
 
   -- of what comes first and two tests, the tests hold, and so does a last one
-  pub passes_then : (w : Option E) (x y z : Bool) (c d e : E) → x ≡ true → y ≡ true → passes ((w orelse unless x c orelse unless y d) orelse unless z e) ≡ (passes w && z)
+  pub passes_then : (w : Option E) (x y z : Bool) (c d e : E) → x ≡ true → y ≡ true
+      → passes ((w orelse unless x c orelse unless y d) orelse unless z e) ≡ (passes w && z)
   passes_then None true true true c d e h k = refl
   passes_then None true true false c d e h k = refl
   passes_then (Some b) true true z c d e h k = refl
@@ -41,7 +43,8 @@ module _ {E : Type 0} where
   passes_then w true false z c d e h k = absurd (true≢false (sym k))
 
   -- and one more, which holds
-  pub passes_then_more : (w : Option E) (x y z : Bool) (c d e : E) (more : Option E) → x ≡ true → y ≡ true → more ≡ None → passes ((w orelse unless x c orelse unless y d) orelse unless z e orelse more) ≡ (passes w && z)
+  pub passes_then_more : (w : Option E) (x y z : Bool) (c d e : E) (more : Option E) → x ≡ true → y ≡ true → more ≡ None
+      → passes ((w orelse unless x c orelse unless y d) orelse unless z e orelse more) ≡ (passes w && z)
   passes_then_more None true true true c d e more h k m = ap passes m
   passes_then_more None true true false c d e more h k m = refl
   passes_then_more (Some b) true true z c d e more h k m = refl

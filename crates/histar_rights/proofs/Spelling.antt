@@ -12,7 +12,9 @@ text_back : (r : Rights) → rights_spelled (rights_text r) ≡ Some r
 unfolding rights_spelled
 text_back r = by r.stat r.read r.write r.remove
   where
-    by : (s r w d : Bool) → rights_spelled (rights_text (record { stat = s; read = r; write = w; remove = d })) ≡ Some (record { stat = s; read = r; write = w; remove = d })
+    by : (s r w d : Bool)
+        → rights_spelled (rights_text (record { stat = s; read = r; write = w; remove = d }))
+        ≡ Some (record { stat = s; read = r; write = w; remove = d })
     by true true true true = refl
     by true true true false = refl
     by true true false true = refl
@@ -36,8 +38,12 @@ right_back l byte b e = by (byte == l) refl (byte == 45) refl e
   where
     by : (own : Bool) → (byte == l) ≡ own → (hyphen : Bool) → (byte == 45) ≡ hyphen
         → (if own then Some true else (if hyphen then Some false else None)) ≡ Some b → byte ∷ [] ≡ (if b then l ∷ [] else codes "-")
-    by true is hyphen is_hyphen h = ap (λ (n : ℕ). n ∷ []) (eqb-true byte l is) ∙ ap (λ (c : Bool). if c then l ∷ [] else codes "-") (same_Some true b h)
-    by false is true is_hyphen h = ap (λ (n : ℕ). n ∷ []) (eqb-true byte 45 is_hyphen) ∙ ap (λ (c : Bool). if c then l ∷ [] else codes "-") (same_Some false b h)
+    by true is hyphen is_hyphen h =
+        ap (λ (n : ℕ). n ∷ []) (eqb-true byte l is)
+        ∙ ap (λ (c : Bool). if c then l ∷ [] else codes "-") (same_Some true b h)
+    by false is true is_hyphen h =
+        ap (λ (n : ℕ). n ∷ []) (eqb-true byte 45 is_hyphen)
+        ∙ ap (λ (c : Bool). if c then l ∷ [] else codes "-") (same_Some false b h)
     by false is false is_hyphen h = absurd (none-some b h)
 
 -- four bytes that spell rights are their letters
@@ -58,7 +64,9 @@ letters_back [] r e = absurd (none-some r e)
 letters_back (s ∷ []) r e = absurd (none-some r e)
 letters_back (s ∷ t ∷ []) r e = absurd (none-some r e)
 letters_back (s ∷ t ∷ w ∷ []) r e = absurd (none-some r e)
-letters_back (s ∷ t ∷ w ∷ d ∷ []) r e = four_back s t w d (right_spelled 115 s) (right_spelled 114 t) (right_spelled 119 w) (right_spelled 100 d) r refl refl refl refl e
+letters_back (s ∷ t ∷ w ∷ d ∷ []) r e =
+    four_back s t w d (right_spelled 115 s) (right_spelled 114 t) (right_spelled 119 w) (right_spelled 100 d) r refl
+    refl refl refl e
 letters_back (s ∷ t ∷ w ∷ d ∷ b ∷ bs) r e = absurd (none-some r e)
 
 -- a text spells rights exactly where it is their letters
@@ -69,7 +77,9 @@ letters_spell_rights text r = (letters_back text r, λ e. ap rights_spelled e �
 
 -- a text of four bytes, by each of them
 pub spelled_by_four : (text : List ℕ) → 4 ≤ length text → length text < 5
-    → rights_spelled text ≡ rights_by (right_spelled 115 (get_or text 0 0)) (right_spelled 114 (get_or text 1 0)) (right_spelled 119 (get_or text 2 0))
+    → rights_spelled text
+    ≡ rights_by (right_spelled 115 (get_or text 0 0)) (right_spelled 114 (get_or text 1 0))
+    (right_spelled 119 (get_or text 2 0))
     (right_spelled 100 (get_or text 3 0))
 unfolding rights_spelled
 spelled_by_four [] at_least below = absurd (omega arith)

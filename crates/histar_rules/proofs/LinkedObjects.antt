@@ -9,7 +9,8 @@ use Rattle.histar_object.specs.declared.objects.Entry.{Entry}
 use Rattle.histar_object.specs.declared.objects.Object.{Object}
 use Rattle.histar_object.specs.declared.objects.Kind.{Kind}
 use Rattle.histar_object.specs.declared.objects.Kind.TheVariants.{Segment, Container, Thread, Gate}
-use Rattle.histar_object.specs.Objects.{TableModel, Numbers, objects_of, thread_of, bytes_in, label_there, is_thread, is_segment, is_gate, kind_is_segment, kind_is_gate}
+use Rattle.histar_object.specs.Objects.{TableModel, Numbers, objects_of, thread_of, bytes_in, label_there, is_thread, is_segment, is_gate}
+use Rattle.histar_object.specs.Objects.{kind_is_segment, kind_is_gate}
 use Rattle.histar_object.specs.State.{observes, modifies, in_range}
 use Rattle.histar_rules.specs.Rights.{in_span, is_let_in, is_own_below, in_gate, lies_between}
 use Rattle.histar_container.specs.Shown.{kind_by, object_by, shown, AllStand}
@@ -66,14 +67,18 @@ module _ {Id : Type 0} (labels : Id → Option Levels) (es : TableModel Id) wher
 
   module _ (t d o : ℕ) (linked : no_link (state_shown labels es) t d o ≡ None) where
     -- where no segment is linked, this is told
-    pub segment_missing : (later : Option Denied) (denied : Denied) → unless (is_segment (objects_of es o)) BadKind ≡ Some denied → (no_segment (state_shown labels es) t d o orelse later) ≡ Some denied
+    pub segment_missing : (later : Option Denied) (denied : Denied)
+        → unless (is_segment (objects_of es o)) BadKind ≡ Some denied
+        → (no_segment (state_shown labels es) t d o orelse later) ≡ Some denied
     segment_missing later denied e =
         ap (λ (f : Option Denied). (f orelse unless (is_segment (objects_of (shown labels es) o)) BadKind) orelse later) linked
         ∙ ap (λ b. unless b BadKind orelse later) (ap is_segment (shows labels es o) ∙ segment_by (objects_of es o))
         ∙ ap (λ (f : Option Denied). f orelse later) e
 
     -- where no gate is, this is told
-    pub gate_missing : (later : Option Denied) (denied : Denied) → unless (is_gate (objects_of es o)) BadKind ≡ Some denied → (no_gate (state_shown labels es) t d o orelse later) ≡ Some denied
+    pub gate_missing : (later : Option Denied) (denied : Denied)
+        → unless (is_gate (objects_of es o)) BadKind ≡ Some denied
+        → (no_gate (state_shown labels es) t d o orelse later) ≡ Some denied
     gate_missing later denied e =
         ap (λ (f : Option Denied). (f orelse unless (is_gate (objects_of (shown labels es) o)) BadKind) orelse later) linked
         ∙ ap (λ b. unless b BadKind orelse later) (ap is_gate (shows labels es o) ∙ gate_by (objects_of es o))
@@ -88,25 +93,34 @@ module _ {Id : Type 0} (labels : Id → Option Levels) (es : TableModel Id) wher
     module _ (own own_clearance : Id) (thread : objects_of es t ≡ Some (thread_of own own_clearance)) where
       -- of a read, whether the thread observes the segment
       pub read_found : (label : Id) (bytes : List ℕ) (observed : Bool) → objects_of es o ≡ Some (segment_of label bytes)
-          → observed ≡ is_below_raised (label_at labels label) (label_at labels own) → check (state_shown labels es) t (calls.Read d o) ≡ unless observed Observe
+          → observed ≡ is_below_raised (label_at labels label) (label_at labels own)
+          → check (state_shown labels es) t (calls.Read d o) ≡ unless observed Observe
       read_found label bytes observed segment is =
           let T = object_shown labels es t (thread_of own own_clearance) thread in
           let O = object_shown labels es o (segment_of label bytes) segment in
-          ap (λ (f : Option Denied). (f orelse unless (is_segment (objects_of (shown labels es) o)) BadKind) orelse unless (observes (objects_of (shown labels es) t) (objects_of (shown labels es) o)) Observe) linked
+          ap (λ (f : Option Denied). (f orelse unless (is_segment (objects_of (shown labels es) o)) BadKind)
+          orelse unless (observes (objects_of (shown labels es) t) (objects_of (shown labels es) o)) Observe)
+          linked
           ∙ (λ i. unless (is_segment (O i)) BadKind orelse unless (observes (T i) (O i)) Observe)
           ∙ ap (λ b. unless b Observe) (sym is)
 
       -- of a write, whether it modifies it, and then what it is to hold
-      pub write_found : (keep : ℕ) (more : List ℕ) (label : Id) (bytes : List ℕ) (modified : Bool) (held added : ℕ) → objects_of es o ≡ Some (segment_of label bytes)
-          → modified ≡ (is_below (label_at labels own) (label_at labels label) && is_below_raised (label_at labels label) (label_at labels own)) → held ≡ length bytes → added ≡ length more
-          → check (state_shown labels es) t (calls.Write d o keep more) ≡ (unless modified Modify orelse unless (fits_segment (min keep held + added)) TooBig)
+      pub write_found : (keep : ℕ) (more : List ℕ) (label : Id) (bytes : List ℕ) (modified : Bool) (held added : ℕ)
+          → objects_of es o ≡ Some (segment_of label bytes)
+          → modified
+          ≡ (is_below (label_at labels own) (label_at labels label)
+          && is_below_raised (label_at labels label) (label_at labels own)) → held ≡ length bytes
+          → added ≡ length more
+          → check (state_shown labels es) t (calls.Write d o keep more)
+          ≡ (unless modified Modify orelse unless (fits_segment (min keep held + added)) TooBig)
       write_found keep more label bytes modified held added segment is held_is added_is =
           let T = object_shown labels es t (thread_of own own_clearance) thread in
           let O = object_shown labels es o (segment_of label bytes) segment in
           ap (λ (f : Option Denied). (f orelse unless (is_segment (objects_of (shown labels es) o)) BadKind)
           orelse unless (modifies (objects_of (shown labels es) t) (objects_of (shown labels es) o)) Modify
           orelse unless (fits_segment (min keep (length (bytes_in (objects_of (shown labels es) o))) + length more)) TooBig) linked
-          ∙ (λ i. unless (is_segment (O i)) BadKind orelse unless (modifies (T i) (O i)) Modify orelse unless (fits_segment (min keep (length (bytes_in (O i))) + length more)) TooBig)
+          ∙ (λ i. unless (is_segment (O i)) BadKind orelse unless (modifies (T i) (O i)) Modify
+          orelse unless (fits_segment (min keep (length (bytes_in (O i))) + length more)) TooBig)
           ∙ (λ i. unless (sym is i) Modify orelse unless (fits_segment (min keep (sym held_is i) + sym added_is i)) TooBig)
 
       -- of the taking away of an object, whether it modifies the container
@@ -119,32 +133,43 @@ module _ {Id : Type 0} (labels : Id → Option Levels) (es : TableModel Id) wher
           ∙ making_found labels es t d own own_clearance label links below none thread container is
 
       -- of entering a gate, the labels of both
-      pub enter_found : (next : Next) (wanted clearance verify : Levels) (gate_label gate_clearance : Id) (entry : Entry) (O M G L : Levels) → objects_of es o ≡ Some (gate_of gate_label gate_clearance entry)
+      pub enter_found : (next : Next) (wanted clearance verify : Levels) (gate_label gate_clearance : Id)
+          (entry : Entry) (O M G L : Levels) → objects_of es o ≡ Some (gate_of gate_label gate_clearance entry)
           → O ≡ label_at labels own → M ≡ label_at labels own_clearance → G ≡ label_at labels gate_label → L ≡ label_at labels gate_clearance
           → check (state_with labels es next) t (calls.Enter d o wanted clearance verify)
           ≡ (unless (is_below O L) NoWay orelse unless (is_below O verify) NoWay orelse unless (lies_between O G wanted clearance M L) Range
-          orelse unless (is_made next.category wanted) Range orelse unless (is_made next.category clearance) Range orelse unless (is_made next.category verify) Range)
+          orelse unless (is_made next.category wanted) Range orelse unless (is_made next.category clearance) Range
+          orelse unless (is_made next.category verify) Range)
       enter_found next wanted clearance verify gate_label gate_clearance entry O M G L gate own_is own_clearance_is given_is limit_is =
           let T = object_shown labels es t (thread_of own own_clearance) thread in
           let E = object_shown labels es o (gate_of gate_label gate_clearance entry) gate in
-          let made = unless (is_made next.category wanted) Range orelse unless (is_made next.category clearance) Range orelse unless (is_made next.category verify) Range in
+          let made =
+          unless (is_made next.category wanted) Range orelse unless (is_made next.category clearance) Range
+          orelse unless (is_made next.category verify) Range in
           ap (λ (f : Option Denied). (f orelse unless (is_gate (objects_of (shown labels es) o)) BadKind)
           orelse unless (is_let_in (objects_of (shown labels es) t) (objects_of (shown labels es) o)) NoWay
           orelse unless (is_own_below (objects_of (shown labels es) t) verify) NoWay
           orelse unless (in_gate (objects_of (shown labels es) t) (objects_of (shown labels es) o) wanted clearance) Range orelse made) linked
-          ∙ (λ i. unless (is_gate (E i)) BadKind orelse unless (is_let_in (T i) (E i)) NoWay orelse unless (is_own_below (T i) verify) NoWay orelse unless (in_gate (T i) (E i) wanted clearance) Range orelse made)
+          ∙ (λ i. unless (is_gate (E i)) BadKind orelse unless (is_let_in (T i) (E i)) NoWay
+          orelse unless (is_own_below (T i) verify) NoWay
+          orelse unless (in_gate (T i) (E i) wanted clearance) Range orelse made)
           ∙ (λ i. unless (is_below (sym own_is i) (sym limit_is i)) NoWay orelse unless (is_below (sym own_is i) verify) NoWay
           orelse unless (lies_between (sym own_is i) (sym given_is i) wanted clearance (sym own_clearance_is i) (sym limit_is i)) Range orelse made)
 
-  module _ (t d : ℕ) (own own_clearance : Id) (made : no_making (state_shown labels es) t d ≡ None) (thread : objects_of es t ≡ Some (thread_of own own_clearance)) where
+  module _ (t d : ℕ) (own own_clearance : Id) (made : no_making (state_shown labels es) t d ≡ None)
+      (thread : objects_of es t ≡ Some (thread_of own own_clearance)) where
     -- of the making of an object that owns nothing, the thread's labels
     pub new_found : (next : Next) (label : Levels) (size : ℕ) (O M : Levels) → O ≡ label_at labels own → M ≡ label_at labels own_clearance
         → no_new (state_with labels es next) t d label size
-        ≡ (unless (is_below O label && is_below label M) Range orelse unless (is_made next.category label) Range orelse unless (not (has_star label)) Range
+        ≡
+        (unless (is_below O label && is_below label M) Range orelse unless (is_made next.category label) Range
+        orelse unless (not (has_star label)) Range
         orelse unless (fits_segment size) TooBig orelse unless (nat_lt next.object greatest) TooBig)
     new_found next label size O M own_is own_clearance_is =
         let T = object_shown labels es t (thread_of own own_clearance) thread in
-        let later = unless (is_made next.category label) Range orelse unless (not (has_star label)) Range orelse unless (fits_segment size) TooBig orelse unless (nat_lt next.object greatest) TooBig in
+        let later =
+        unless (is_made next.category label) Range orelse unless (not (has_star label)) Range
+        orelse unless (fits_segment size) TooBig orelse unless (nat_lt next.object greatest) TooBig in
         ap (λ (f : Option Denied). f orelse unless (in_range (objects_of (shown labels es) t) label) Range orelse later) made
         ∙ (λ i. unless (in_range (T i) label) Range orelse later)
         ∙ (λ i. unless (is_below (sym own_is i) label && is_below label (sym own_clearance_is i)) Range orelse later)
@@ -152,11 +177,15 @@ module _ {Id : Type 0} (labels : Id → Option Levels) (es : TableModel Id) wher
     -- and of one that may own
     pub new_owner_found : (next : Next) (label clearance : Levels) (O M : Levels) → O ≡ label_at labels own → M ≡ label_at labels own_clearance
         → no_new_owner (state_with labels es next) t d label clearance
-        ≡ (unless (is_below O label && is_below label clearance && is_below clearance M) Range orelse unless (is_made next.category label) Range orelse unless (is_made next.category clearance) Range
+        ≡
+        (unless (is_below O label && is_below label clearance && is_below clearance M) Range
+        orelse unless (is_made next.category label) Range orelse unless (is_made next.category clearance) Range
         orelse unless (nat_lt next.object greatest) TooBig)
     new_owner_found next label clearance O M own_is own_clearance_is =
         let T = object_shown labels es t (thread_of own own_clearance) thread in
-        let later = unless (is_made next.category label) Range orelse unless (is_made next.category clearance) Range orelse unless (nat_lt next.object greatest) TooBig in
+        let later =
+        unless (is_made next.category label) Range orelse unless (is_made next.category clearance) Range
+        orelse unless (nat_lt next.object greatest) TooBig in
         ap (λ (f : Option Denied). f orelse unless (in_span (objects_of (shown labels es) t) label clearance) Range orelse later) made
         ∙ (λ i. unless (in_span (T i) label clearance) Range orelse later)
         ∙ (λ i. unless (is_below (sym own_is i) label && is_below label clearance && is_below clearance (sym own_clearance_is i)) Range orelse later)

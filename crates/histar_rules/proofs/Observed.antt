@@ -11,7 +11,8 @@ use Rattle.histar_object.specs.declared.objects.Entry.{Entry}
 use Rattle.histar_object.specs.declared.objects.Object.{Object}
 use Rattle.histar_object.specs.declared.objects.Kind.{Kind}
 use Rattle.histar_object.specs.declared.objects.Kind.TheVariants.{Segment, Container, Thread, Gate}
-use Rattle.histar_object.specs.Objects.{TableModel, Numbers, objects_of, thread_of, links_in, is_present, is_container, is_thread, kind_is_thread, kind_is_container}
+use Rattle.histar_object.specs.Objects.{TableModel, Numbers, objects_of, thread_of, links_in, is_present, is_container, is_thread, kind_is_thread}
+use Rattle.histar_object.specs.Objects.{kind_is_container}
 use Rattle.histar_object.specs.State.{Found, observes, modifies}
 use Rattle.histar_container.specs.Shown.{kind_by, object_by, shown, AllStand}
 use Rattle.histar_container.proofs.Shows.{shows}
@@ -23,12 +24,14 @@ use Rattle.histar_rules.specs.Rules.{no_container, no_making, no_link, FailsAt}
 use Rattle.histar_rules.proofs.Passing.{unless_none}
 
 -- a check that answers the denial of its first failing part fails there
-pub fails_at_denial : {A : Type 0} (failing : Option Denied) (denied : Denied) (r : Result A Denied) → IsErrAnd r (λ e. e ≡ denied) → failing ≡ Some denied → FailsAt failing r
+pub fails_at_denial : {A : Type 0} (failing : Option Denied) (denied : Denied) (r : Result A Denied)
+    → IsErrAnd r (λ e. e ≡ denied) → failing ≡ Some denied → FailsAt failing r
 fails_at_denial failing denied (Ok x) is e = absurd is
 fails_at_denial failing denied (Err other) is e = e ∙ ap (λ (d : Denied). Some d) (sym is)
 
 -- so does one with more parts behind it
-pub behind_refusal : {A : Type 0} (failing later : Option Denied) (denied : Denied) (r : Result A Denied) → failing ≡ Some denied → IsErrAnd r (λ e. e ≡ denied) → FailsAt (failing orelse later) r
+pub behind_refusal : {A : Type 0} (failing later : Option Denied) (denied : Denied) (r : Result A Denied)
+    → failing ≡ Some denied → IsErrAnd r (λ e. e ≡ denied) → FailsAt (failing orelse later) r
 behind_refusal failing later denied (Ok x) e is = absurd is
 behind_refusal failing later denied (Err other) e is = ap (λ (f : Option Denied). f orelse later) e ∙ ap (λ (d : Denied). Some d) (sym is)
 
@@ -62,56 +65,74 @@ module _ {Id : Type 0} (labels : Id → Option Levels) (es : TableModel Id) wher
   label_stands stand q o e = (stand.each q o e).label
 
   -- and so does the clearance of a thread
-  pub clearance_stands : AllStand labels (objects_of es) → (q : ℕ) (own own_clearance : Id) → objects_of es q ≡ Some (thread_of own own_clearance) → IsSome (labels own_clearance)
+  pub clearance_stands : AllStand labels (objects_of es) → (q : ℕ) (own own_clearance : Id)
+      → objects_of es q ≡ Some (thread_of own own_clearance) → IsSome (labels own_clearance)
   clearance_stands stand q own own_clearance e = (stand.each q (thread_of own own_clearance) e).kind
 
   -- and that of a gate
-  pub limit_stands : AllStand labels (objects_of es) → (q : ℕ) (gate_label gate_clearance : Id) (entry : Entry) → objects_of es q ≡ Some (gate_of gate_label gate_clearance entry) → IsSome (labels gate_clearance)
+  pub limit_stands : AllStand labels (objects_of es) → (q : ℕ) (gate_label gate_clearance : Id) (entry : Entry)
+      → objects_of es q ≡ Some (gate_of gate_label gate_clearance entry) → IsSome (labels gate_clearance)
   limit_stands stand q gate_label gate_clearance entry e = (stand.each q (gate_of gate_label gate_clearance entry) e).kind
 
   -- where there is no thread, this is told
   pub thread_missing : (t d : ℕ) → is_thread (objects_of es t) ≡ false → no_container (state_shown labels es) t d ≡ Some NoThread
-  thread_missing t d e = ap (λ b. unless b NoThread orelse unless (is_present (objects_of (shown labels es) d)) NoEntry orelse unless (is_container (objects_of (shown labels es) d)) BadKind orelse unless (observes (objects_of (shown labels es) t) (objects_of (shown labels es) d)) Observe)
+  thread_missing t d e =
+      ap (λ b. unless b NoThread orelse unless (is_present (objects_of (shown labels es) d)) NoEntry
+      orelse unless (is_container (objects_of (shown labels es) d)) BadKind
+      orelse unless (observes (objects_of (shown labels es) t) (objects_of (shown labels es) d)) Observe)
       (ap is_thread (shows labels es t) ∙ thread_by (objects_of es t) ∙ e)
 
-  first_of : (there container : Bool) (later : Option Denied) (denied : Denied) → (unless there NoEntry orelse unless container BadKind) ≡ Some denied → (unless there NoEntry orelse unless container BadKind orelse later) ≡ Some denied
+  first_of : (there container : Bool) (later : Option Denied) (denied : Denied)
+      → (unless there NoEntry orelse unless container BadKind) ≡ Some denied
+      → (unless there NoEntry orelse unless container BadKind orelse later) ≡ Some denied
   first_of true true later denied e = cc
   first_of true false later denied e = e
   first_of false container later denied e = e
 
   -- where there is a thread and no container, this is told
   pub container_missing : (t d : ℕ) (own own_clearance : Id) (denied : Denied) → objects_of es t ≡ Some (thread_of own own_clearance)
-      → (unless (is_present (objects_of es d)) NoEntry orelse unless (is_container (objects_of es d)) BadKind) ≡ Some denied → no_container (state_shown labels es) t d ≡ Some denied
+      → (unless (is_present (objects_of es d)) NoEntry orelse unless (is_container (objects_of es d)) BadKind)
+      ≡ Some denied → no_container (state_shown labels es) t d ≡ Some denied
   container_missing t d own own_clearance denied thread e =
       let there = ap is_present (shows labels es d) ∙ there_by labels (objects_of es d) in
       let container = ap is_container (shows labels es d) ∙ container_by (objects_of es d) in
       let D = objects_of (shown labels es) d in
-      ap (λ (T : Found). unless (is_thread T) NoThread orelse unless (is_present D) NoEntry orelse unless (is_container D) BadKind orelse unless (observes T D) Observe) (object_shown t (thread_of own own_clearance) thread)
+      ap (λ (T : Found).
+      unless (is_thread T) NoThread orelse unless (is_present D) NoEntry orelse unless (is_container D) BadKind
+      orelse unless (observes T D) Observe) (object_shown t (thread_of own own_clearance) thread)
       ∙ first_of (is_present D) (is_container D) _ denied ((λ i. unless (there i) NoEntry orelse unless (container i) BadKind) ∙ e)
 
   -- where there are both, whether the thread observes the container decides
-  pub container_found : (t d : ℕ) (own own_clearance label : Id) (links : Numbers) (observed : Bool) → objects_of es t ≡ Some (thread_of own own_clearance) → objects_of es d ≡ Some (container_of label links)
+  pub container_found : (t d : ℕ) (own own_clearance label : Id) (links : Numbers) (observed : Bool)
+      → objects_of es t ≡ Some (thread_of own own_clearance) → objects_of es d ≡ Some (container_of label links)
       → observed ≡ is_below_raised (label_at labels label) (label_at labels own) → no_container (state_shown labels es) t d ≡ unless observed Observe
   container_found t d own own_clearance label links observed thread container is =
       let T = object_shown t (thread_of own own_clearance) thread in
       let D = object_shown d (container_of label links) container in
-      (λ i. unless (is_thread (T i)) NoThread orelse unless (is_present (D i)) NoEntry orelse unless (is_container (D i)) BadKind orelse unless (observes (T i) (D i)) Observe)
+      (λ i. unless (is_thread (T i)) NoThread orelse unless (is_present (D i)) NoEntry
+      orelse unless (is_container (D i)) BadKind orelse unless (observes (T i) (D i)) Observe)
       ∙ ap (λ b. unless b Observe) (sym is)
 
   -- where a thread observes a container, whether it modifies it decides
-  pub making_found : (t d : ℕ) (own own_clearance label : Id) (links : Numbers) (below : Bool) → no_container (state_shown labels es) t d ≡ None → objects_of es t ≡ Some (thread_of own own_clearance)
-      → objects_of es d ≡ Some (container_of label links) → below ≡ is_below (label_at labels own) (label_at labels label) → no_making (state_shown labels es) t d ≡ unless below Modify
+  pub making_found : (t d : ℕ) (own own_clearance label : Id) (links : Numbers) (below : Bool)
+      → no_container (state_shown labels es) t d ≡ None → objects_of es t ≡ Some (thread_of own own_clearance)
+      → objects_of es d ≡ Some (container_of label links)
+      → below ≡ is_below (label_at labels own) (label_at labels label)
+      → no_making (state_shown labels es) t d ≡ unless below Modify
   making_found t d own own_clearance label links below none thread container is =
       let T = object_shown t (thread_of own own_clearance) thread in
       let D = object_shown d (container_of label links) container in
-      let raised = unless_none (is_below_raised (label_at labels label) (label_at labels own)) Observe (sym (container_found t d own own_clearance label links _ thread container refl) ∙ none) in
+      let raised =
+      unless_none (is_below_raised (label_at labels label) (label_at labels own)) Observe
+      (sym (container_found t d own own_clearance label links _ thread container refl) ∙ none) in
       ap (λ (f : Option Denied). f orelse unless (modifies (objects_of (shown labels es) t) (objects_of (shown labels es) d)) Modify) none
       ∙ (λ i. unless (modifies (T i) (D i)) Modify)
       ∙ ap (λ b. unless b Modify) (ap (λ r. is_below (label_at labels own) (label_at labels label) && r) raised ∙ and-true _ ∙ sym is)
 
   -- where it observes it, whether the container links the object decides
   pub linking_found : (t d o : ℕ) (label : Id) (links : Numbers) (linked : Bool) → no_container (state_shown labels es) t d ≡ None
-      → objects_of es d ≡ Some (container_of label links) → linked ≡ set.contains links o → no_link (state_shown labels es) t d o ≡ unless linked NoEntry
+      → objects_of es d ≡ Some (container_of label links) → linked ≡ set.contains links o
+      → no_link (state_shown labels es) t d o ≡ unless linked NoEntry
   linking_found t d o label links linked none container is =
       let D = object_shown d (container_of label links) container in
       ap (λ (f : Option Denied). f orelse unless (set.contains (links_in (objects_of (shown labels es) d)) o) NoEntry) none

@@ -53,5 +53,7 @@ no_label (Some o) there none = absurd cc
 pub label_revealed : (s : State) (t d o : ℕ) → AreTree s.objects → check s t (LabelOf d o) ≡ None → label_there (s.objects o) ≡ None → ⊥
 label_revealed s t d o tree passed none =
     let links = first (no_link s t d o) (unless (not (is_thread (s.objects o))) BadKind) passed in
-    let linked = unless_none (set.contains (links_in (s.objects d)) o) NoEntry (rest (no_container s t d) (unless (set.contains (links_in (s.objects d)) o) NoEntry) links) in
+    let linked =
+    unless_none (set.contains (links_in (s.objects d)) o) NoEntry
+    (rest (no_container s t d) (unless (set.contains (links_in (s.objects d)) o) NoEntry) links) in
     no_label (s.objects o) (linked_there s.objects tree.root tree.next tree.tree d o linked) none

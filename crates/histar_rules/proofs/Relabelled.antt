@@ -15,19 +15,25 @@ use Rattle.histar_rules.specs.Rights.{with_label, with_clearance, kind_with_clea
 
 -- where no object is, a change leaves all as it was
 pub changed_none : {L : Type 0} (objects : Objects L) (n : ℕ) (f : Object L → Object L) → None ≡ objects n → objects ≡ changed_at objects n f
-changed_none objects n f none i q = sym (at_each objects n q (option_map f (objects q)) (objects q) (objects q) (λ e. ap (option_map f) (ap objects e ∙ sym none) ∙ none ∙ sym (ap objects e)) (λ e. refl)) i
+changed_none objects n f none i q =
+    sym (at_each objects n q (option_map f (objects q)) (objects q) (objects q)
+    (λ e. ap (option_map f) (ap objects e ∙ sym none) ∙ none ∙ sym (ap objects e)) (λ e. refl)) i
 
-module _ {Id : Type 0} (old new : Id → Option Levels) (keeps : Keeps old new) (es fs : TableModel Id) (n : ℕ) (all : AllStand old (objects_of es)) (id : Id) (L : Levels) (is : new id ≡ Some L) where
+module _ {Id : Type 0} (old new : Id → Option Levels) (keeps : Keeps old new) (es fs : TableModel Id) (n : ℕ)
+    (all : AllStand old (objects_of es)) (id : Id) (L : Levels) (is : new id ≡ Some L) where
   -- the Ids still stand for labels once an object has this label
   pub label_stand : objects_of fs ≡ changed_at (objects_of es) n (with_label id) → AllStand new (objects_of fs)
   label_stand e =
       subst (AllStand new) (sym e)
-      (stand_changed new (objects_of es) n (with_label id) (λ o s. record { label = ap is_some is; kind = s.kind }) (all_on old new keeps (objects_of es) all))
+      (stand_changed new (objects_of es) n (with_label id) (λ o s. record { label = ap is_some is; kind = s.kind })
+      (all_on old new keeps (objects_of es) all))
 
   -- and the table shows it
-  pub label_shown : objects_of fs ≡ changed_at (objects_of es) n (with_label id) → objects_of (shown new fs) ≡ changed_at (objects_of (shown old es)) n (with_label L)
+  pub label_shown : objects_of fs ≡ changed_at (objects_of es) n (with_label id)
+      → objects_of (shown new fs) ≡ changed_at (objects_of (shown old es)) n (with_label L)
   label_shown e =
-      shown_changed new es fs n (with_label id) (with_label L) (λ o i. record { label = label_at-stands new id L is i; kind = kind_by (label_at new) o.kind }) e
+      shown_changed new es fs n (with_label id) (with_label L)
+      (λ o i. record { label = label_at-stands new id L is i; kind = kind_by (label_at new) o.kind }) e
       ∙ ap (λ objects. changed_at objects n (with_label L)) (shown_on old new keeps es all)
 
   -- the clearance of a kind with this clearance stands for a label
@@ -48,10 +54,14 @@ module _ {Id : Type 0} (old new : Id → Option Levels) (keeps : Keeps old new) 
   pub clearance_stand : objects_of fs ≡ changed_at (objects_of es) n (with_clearance id) → AllStand new (objects_of fs)
   clearance_stand e =
       subst (AllStand new) (sym e)
-      (stand_changed new (objects_of es) n (with_clearance id) (λ o s. record { label = s.label; kind = clearance_stands o.kind s.kind }) (all_on old new keeps (objects_of es) all))
+      (stand_changed new (objects_of es) n (with_clearance id)
+      (λ o s. record { label = s.label; kind = clearance_stands o.kind s.kind })
+      (all_on old new keeps (objects_of es) all))
 
   -- and the table shows it
-  pub clearance_shown : objects_of fs ≡ changed_at (objects_of es) n (with_clearance id) → objects_of (shown new fs) ≡ changed_at (objects_of (shown old es)) n (with_clearance L)
+  pub clearance_shown : objects_of fs ≡ changed_at (objects_of es) n (with_clearance id)
+      → objects_of (shown new fs) ≡ changed_at (objects_of (shown old es)) n (with_clearance L)
   clearance_shown e =
-      shown_changed new es fs n (with_clearance id) (with_clearance L) (λ o i. record { label = label_at new o.label; kind = clearance_shows o.kind i }) e
+      shown_changed new es fs n (with_clearance id) (with_clearance L)
+      (λ o i. record { label = label_at new o.label; kind = clearance_shows o.kind i }) e
       ∙ ap (λ objects. changed_at objects n (with_clearance L)) (shown_on old new keeps es all)

@@ -54,9 +54,12 @@ module _ (s : State) (v : ℕ) where
 
   module _ (sound : IsSound s) where
     -- what is reached from a tainted object is not visible
-    pub not_visible : (d q : ℕ) → IsTainted v (s.objects d) → Reached s.objects d q → (path : Address ℕ) (o : Object Levels) → end_of path ≡ q → visible s v path ≡ Some o → ⊥
+    pub not_visible : (d q : ℕ) → IsTainted v (s.objects d) → Reached s.objects d q
+        → (path : Address ℕ) (o : Object Levels) → end_of path ≡ q → visible s v path ≡ Some o → ⊥
     not_visible d q tainted here path o is seen =
-        let e : None ≡ Some o = sym (tainted_none v (s.objects d) tainted) ∙ ap (λ (n : ℕ). untainted v (s.objects n)) (sym is) ∙ visible_is path o seen in
+        let e : None ≡ Some o =
+        sym (tainted_none v (s.objects d) tainted) ∙ ap (λ (n : ℕ). untainted v (s.objects n)) (sym is)
+        ∙ visible_is path o seen in
         cc
     not_visible d q tainted (there p c r k) [] o is seen =
         root_not_reached s.objects root_number s.next_object sound.tree p q k (subst (Reached s.objects q) (sym is) here)
@@ -65,5 +68,6 @@ module _ (s : State) (v : ℕ) where
         let holder = linker (visible s v path) x linked in
         let found = untainted_is v (s.objects (end_of path)) holder.0 (visible_is path holder.0 holder.1) in
         let links : set.contains (links_in (s.objects (end_of path))) q ≡ true =
-        ap (λ (f : Found). set.contains (links_in f) q) (found ∙ sym holder.1) ∙ ap (λ (n : ℕ). set.contains (links_in (visible s v path)) n) (sym is) ∙ linked in
+        ap (λ (f : Found). set.contains (links_in f) q) (found ∙ sym holder.1)
+        ∙ ap (λ (n : ℕ). set.contains (links_in (visible s v path)) n) (sym is) ∙ linked in
         not_visible d p tainted r path holder.0 (one_link s.objects root_number s.next_object sound.tree (end_of path) p q links k) holder.1

@@ -20,7 +20,8 @@ pub data Moved (v : ℕ) (old new : Objects Levels) (q : ℕ) : Type 0 where
 
 module _ (s new : State) (v : ℕ) (sound : IsSound s) (moved : (q : ℕ) → Moved v s.objects new.objects q) where
   -- what goes was not visible
-  gone_before : (d : ℕ) (path : Address ℕ) → IsTainted v (s.objects d) → Reached s.objects d (end_of path) → (f : Found) → visible s v path ≡ f → f ≡ None
+  gone_before : (d : ℕ) (path : Address ℕ) → IsTainted v (s.objects d) → Reached s.objects d (end_of path) → (f : Found)
+      → visible s v path ≡ f → f ≡ None
   gone_before d path h r None e = refl
   gone_before d path h r (Some o) e = absurd (not_visible s v sound d (end_of path) h r path o refl e)
 
@@ -31,13 +32,17 @@ module _ (s new : State) (v : ℕ) (sound : IsSound s) (moved : (q : ℕ) → Mo
     | tainted h k ↦ tainted_none v (new.objects root_number) k ∙ sym (tainted_none v (s.objects root_number) h)
     | gone d h r e ↦ ap (untainted v) e ∙ sym (gone_before d [] h r (visible s v []) refl)
   ]
-  visible_stays (x ∷ path) = ap (λ (f : Found). if set.contains (links_in f) x then untainted v (new.objects x) else None) (visible_stays path) ∙ elim (moved x) [
-    | stays e ↦ ap (λ (f : Found). if set.contains (links_in (visible s v path)) x then untainted v f else None) e
-    | tainted h k ↦ ap (λ (f : Found). if set.contains (links_in (visible s v path)) x then f else None) (tainted_none v (new.objects x) k ∙ sym (tainted_none v (s.objects x) h))
-    | gone d h r e ↦
-        if_none (set.contains (links_in (visible s v path)) x) (untainted v (new.objects x)) (ap (untainted v) e)
-        ∙ sym (gone_before d (x ∷ path) h r (visible s v (x ∷ path)) refl)
-  ]
+  visible_stays (x ∷ path) =
+      ap (λ (f : Found). if set.contains (links_in f) x then untainted v (new.objects x) else None) (visible_stays path)
+      ∙ elim (moved x) [
+        | stays e ↦ ap (λ (f : Found). if set.contains (links_in (visible s v path)) x then untainted v f else None) e
+        | tainted h k ↦
+            ap (λ (f : Found). if set.contains (links_in (visible s v path)) x then f else None)
+            (tainted_none v (new.objects x) k ∙ sym (tainted_none v (s.objects x) h))
+        | gone d h r e ↦
+            if_none (set.contains (links_in (visible s v path)) x) (untainted v (new.objects x)) (ap (untainted v) e)
+            ∙ sym (gone_before d (x ∷ path) h r (visible s v (x ∷ path)) refl)
+      ]
 
   -- a thread that was tainted is, and so is what is a thread now and was none
   pub still_tainted : (t : ℕ) → IsTaintedCaller s v t → IsTaintedCaller new v t

@@ -9,7 +9,8 @@ use Rattle.histar_label.proofs.Made.{is_made-later, is_made-with_level}
 use Rattle.histar_object.specs.declared.objects.Kind.{Kind}
 use Rattle.histar_object.specs.declared.objects.Kind.TheVariants.{Segment, Container, Thread, Gate}
 use Rattle.histar_object.specs.declared.objects.Object.{Object}
-use Rattle.histar_object.specs.Objects.{Objects, put, changed_at, with_new, kind_linking, linking, kind_unlinking, unlinking, kind_holding, holding, thread_of, kind_is_segment, kind_is_container, kind_is_thread, kind_clearance}
+use Rattle.histar_object.specs.Objects.{Objects, put, changed_at, with_new, kind_linking, linking, kind_unlinking, unlinking, kind_holding, holding}
+use Rattle.histar_object.specs.Objects.{thread_of, kind_is_segment, kind_is_container, kind_is_thread, kind_clearance}
 use Rattle.histar_rules.specs.Rights.{kind_with_three_at, with_star_at, with_label, kind_with_clearance, with_clearance}
 use Rattle.histar_container.specs.Tree.{Reached, IsCut}
 use Rattle.histar_container.proofs.Addresses.{inner}
@@ -90,11 +91,16 @@ module _ (next : ℕ) where
   cleared_made : (c : ℕ) → 0 < c → c < next → (k : Kind Levels) → ClearanceMade k → ClearanceMade (kind_with_three_at c k)
   cleared_made c low high (Segment bytes) old = none_made
   cleared_made c low high (Container links) old = none_made
-  cleared_made c low high (Thread clearance) old = λ l e. some_made (with_level clearance c L3) l (is_made-with_level next clearance c L3 low high (old clearance refl)) e
-  cleared_made c low high (Gate clearance entry) old = λ l e. some_made (with_level clearance c L3) l (is_made-with_level next clearance c L3 low high (old clearance refl)) e
+  cleared_made c low high (Thread clearance) old =
+      λ l e.
+      some_made (with_level clearance c L3) l (is_made-with_level next clearance c L3 low high (old clearance refl)) e
+  cleared_made c low high (Gate clearance entry) old =
+      λ l e.
+      some_made (with_level clearance c L3) l (is_made-with_level next clearance c L3 low high (old clearance refl)) e
 
   -- an object of another kind with the same labels
-  well_as : (o : Object Levels) (k : Kind Levels) → HasLabelsOf k o.kind → IsWellLabelled next o → IsWellLabelled next (record { label = o.label; kind = k })
+  well_as : (o : Object Levels) (k : Kind Levels) → HasLabelsOf k o.kind → IsWellLabelled next o
+      → IsWellLabelled next (record { label = o.label; kind = k })
   well_as o k same well = record {
     label_made = well.label_made;
     clearance_made = λ c e. well.clearance_made c (sym same.clearance ∙ e);
@@ -121,7 +127,9 @@ module _ (next : ℕ) where
   }
 
   -- an object with a clearance that is no segment and no container
-  pub well_cleared : (o : Object Levels) (clearance : Levels) → is_made next o.label ≡ true → kind_clearance o.kind ≡ Some clearance → is_made next clearance ≡ true → (kind_is_segment o.kind || kind_is_container o.kind) ≡ false → IsWellLabelled next o
+  pub well_cleared : (o : Object Levels) (clearance : Levels) → is_made next o.label ≡ true
+      → kind_clearance o.kind ≡ Some clearance → is_made next clearance ≡ true
+      → (kind_is_segment o.kind || kind_is_container o.kind) ≡ false → IsWellLabelled next o
   well_cleared o clearance l has c alone = record {
     label_made = l;
     clearance_made = λ other e. some_made clearance other c (sym has ∙ e);
@@ -129,11 +137,13 @@ module _ (next : ℕ) where
   }
 
   -- a thread of labels that name only categories that were made
-  pub well_thread : (label clearance : Levels) → is_made next label ≡ true → is_made next clearance ≡ true → IsWellLabelled next (thread_of label clearance)
+  pub well_thread : (label clearance : Levels) → is_made next label ≡ true → is_made next clearance ≡ true
+      → IsWellLabelled next (thread_of label clearance)
   well_thread label clearance l c = well_cleared (thread_of label clearance) clearance l refl c refl
 
   -- a thread with another label
-  pub well_relabelled : (label : Levels) (o : Object Levels) → kind_is_thread o.kind ≡ true → is_made next label ≡ true → IsWellLabelled next o → IsWellLabelled next (with_label label o)
+  pub well_relabelled : (label : Levels) (o : Object Levels) → kind_is_thread o.kind ≡ true → is_made next label ≡ true
+      → IsWellLabelled next o → IsWellLabelled next (with_label label o)
   well_relabelled label o thread made well = record {
     label_made = made;
     clearance_made = well.clearance_made;
@@ -141,7 +151,8 @@ module _ (next : ℕ) where
   }
 
   -- a thread with another clearance
-  pub well_clearing : (clearance : Levels) (o : Object Levels) → kind_is_thread o.kind ≡ true → is_made next clearance ≡ true → IsWellLabelled next o → IsWellLabelled next (with_clearance clearance o)
+  pub well_clearing : (clearance : Levels) (o : Object Levels) → kind_is_thread o.kind ≡ true
+      → is_made next clearance ≡ true → IsWellLabelled next o → IsWellLabelled next (with_clearance clearance o)
   well_clearing clearance o thread made well = record {
     label_made = well.label_made;
     clearance_made = clearing_made clearance made o.kind;
@@ -149,7 +160,8 @@ module _ (next : ℕ) where
   }
 
   -- a thread that owns one category more
-  pub well_owning : (c : ℕ) (o : Object Levels) → 0 < c → c < next → kind_is_thread o.kind ≡ true → IsWellLabelled next o → IsWellLabelled next (with_star_at c o)
+  pub well_owning : (c : ℕ) (o : Object Levels) → 0 < c → c < next → kind_is_thread o.kind ≡ true
+      → IsWellLabelled next o → IsWellLabelled next (with_star_at c o)
   well_owning c o low high thread well = record {
     label_made = is_made-with_level next o.label c Star low high well.label_made;
     clearance_made = cleared_made c low high o.kind well.clearance_made;
@@ -173,19 +185,23 @@ module _ (next : ℕ) (objects : Objects Levels) (labelled : AreLabelled next ob
   ]
 
   -- a changed object that is there has changed labels
-  mapped : (f : Object Levels → Object Levels) (p : Object Levels) (y : Option (Object Levels)) → ((o : Object Levels) → y ≡ Some o → IsWellLabelled next (f o)) → option_map f y ≡ Some p → IsWellLabelled next p
+  mapped : (f : Object Levels → Object Levels) (p : Object Levels) (y : Option (Object Levels))
+      → ((o : Object Levels) → y ≡ Some o → IsWellLabelled next (f o)) → option_map f y ≡ Some p → IsWellLabelled next p
   mapped f p None well i = cc
   mapped f p (Some o) well i = subst (IsWellLabelled next) (inner (f o) p i) (well o refl)
 
   -- an object is changed
-  pub labelled_changed : (n : ℕ) (f : Object Levels → Object Levels) → ((o : Object Levels) → objects n ≡ Some o → IsWellLabelled next (f o)) → AreLabelled next (changed_at objects n f)
+  pub labelled_changed : (n : ℕ) (f : Object Levels → Object Levels)
+      → ((o : Object Levels) → objects n ≡ Some o → IsWellLabelled next (f o))
+      → AreLabelled next (changed_at objects n f)
   labelled_changed n f well q p i = elim (eqb_tells q n) [
     | inl e ↦ mapped f p (objects n) well (sym (changed_here objects n f) ∙ sym (ap (changed_at objects n f) e.1) ∙ i)
     | inr e ↦ labelled q p (sym (changed_other objects n f q e.1) ∙ i)
   ]
 
   -- what a container links is cut off
-  pub labelled_cut : (d o : ℕ) (new : Objects Levels) → IsCut objects d o new → ((q : ℕ) → Reached objects o q ⊎ (Reached objects o q → ⊥)) → AreLabelled next new
+  pub labelled_cut : (d o : ℕ) (new : Objects Levels) → IsCut objects d o new
+      → ((q : ℕ) → Reached objects o q ⊎ (Reached objects o q → ⊥)) → AreLabelled next new
   labelled_cut d o new is_cut decided q p i = elim (eqb_tells q d) [
     | inl e ↦ mapped (unlinking o) p (objects d) (λ x j. well_unlinking next o x (labelled d x j)) (sym is_cut.unlinked ∙ sym (ap new e.1) ∙ i)
     | inr e ↦ elim (decided q) [
@@ -195,7 +211,8 @@ module _ (next : ℕ) (objects : Objects Levels) (labelled : AreLabelled next ob
   ]
 
 -- a new object is linked
-pub labelled_new : (next : ℕ) (objects : Objects Levels) → AreLabelled next objects → (d n : ℕ) (o : Object Levels) → IsWellLabelled next o → AreLabelled next (with_new objects d n o)
+pub labelled_new : (next : ℕ) (objects : Objects Levels) → AreLabelled next objects → (d n : ℕ) (o : Object Levels)
+    → IsWellLabelled next o → AreLabelled next (with_new objects d n o)
 labelled_new next objects labelled d n o well =
     let linked = labelled_changed next objects labelled d (linking n) (λ x i. well_linking next n x (labelled d x i)) in
     labelled_put next (changed_at objects d (linking n)) linked n o well

@@ -43,7 +43,9 @@ lies_between own gate_label label clearance own_clearance gate_clearance =
 -- a label and a clearance above it that t may have behind a gate: what t or the gate owns is owned, elsewhere the label is at
 -- least both, and the clearance at most the greater of both
 abbrev pub in_gate : Found → Found → Levels → Levels → Bool
-in_gate t gate label clearance = holds_of t (λ own own_clearance. holds_of gate (λ gate_label gate_clearance. lies_between own gate_label label clearance own_clearance gate_clearance))
+in_gate t gate label clearance =
+    holds_of t (λ own own_clearance. holds_of gate
+    (λ gate_label gate_clearance. lies_between own gate_label label clearance own_clearance gate_clearance))
 
 -- a clearance with level 3 at a category
 abbrev pub kind_with_three_at : ℕ → Kind Levels → Kind Levels
@@ -76,4 +78,9 @@ with_changed s t f = record { objects = changed_at s.objects t f; next_object = 
 
 -- the state in which the next category was made, which t owns
 abbrev pub with_category : State → ℕ → State
-with_category s t = record { objects = changed_at s.objects t (with_star_at s.next_category); next_object = s.next_object; next_category = s.next_category + 1 }
+with_category s t =
+    record {
+      objects = changed_at s.objects t (with_star_at s.next_category);
+      next_object = s.next_object;
+      next_category = s.next_category + 1;
+    }

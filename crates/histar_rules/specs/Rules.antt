@@ -3,7 +3,8 @@ use Rattle.std.specs.Prelude.{◌≡◌, ℕ, ◌+◌, ◌<◌, Bool, not, List,
 use Rattle.std.specs.FinSet as set
 use Rattle.histar_base.specs.Refusals.{unless, ◌orelse◌}
 use Rattle.histar_label.specs.Levels.{Levels, is_made, has_star}
-use Rattle.histar_object.specs.Objects.{is_present, is_segment, is_container, is_thread, is_gate, thread_of, links_in, bytes_in, objects_of, label_there, clearance_there, entry_there}
+use Rattle.histar_object.specs.Objects.{is_present, is_segment, is_container, is_thread, is_gate, thread_of, links_in, bytes_in, objects_of}
+use Rattle.histar_object.specs.Objects.{label_there, clearance_there, entry_there}
 use Rattle.histar_object.specs.declared.objects.Entry.{Entry}
 use Rattle.histar_object.specs.declared.objects.Kind.TheVariants.{Segment, Container}
 use Rattle.histar_object.specs.declared.objects.Kind.TheVariants as gates
@@ -15,7 +16,8 @@ use Rattle.histar_rules.specs.declared.raw.Denied.TheVariants.{Observe, Modify, 
 use Rattle.histar_rules.specs.declared.raw.Refusal.{Refusal}
 use Rattle.histar_rules.specs.declared.raw.Refusal.TheVariants as refusals
 use Rattle.histar_rules.specs.declared.raw.RawCall.{RawCall}
-use Rattle.histar_rules.specs.declared.raw.RawCall.TheVariants.{MakeCategory, OwnLabel, SetLabel, SetClearance, MakeSegment, MakeContainer, MakeThread, MakeGate, Enter, Read, Write, Unlink, LabelOf}
+use Rattle.histar_rules.specs.declared.raw.RawCall.TheVariants.{MakeCategory, OwnLabel, SetLabel, SetClearance, MakeSegment, MakeContainer}
+use Rattle.histar_rules.specs.declared.raw.RawCall.TheVariants.{MakeThread, MakeGate, Enter, Read, Write, Unlink, LabelOf}
 
 -- the greatest number of 64 bits: a counter that has it can't rise
 abbrev pub greatest : ℕ

@@ -1,5 +1,6 @@
 -- In a state that represents a flat state what a category is said to be for is what it is for.
-use Rattle.std.proofs.Common.{◌≡◌, ℕ, ◌+◌, ◌*◌, ◌-◌, ◌%◌, ◌<◌, ◌≤◌, ◌==◌, Bool, true, false, ◌&&◌, ◌||◌, cond, List, [], ◌∷◌, length, Option, None, Some, refl, sym, ap, ◌∙◌, subst, inl, inr, if◌then◌else◌, arith}
+use Rattle.std.proofs.Common.{◌≡◌, ℕ, ◌+◌, ◌*◌, ◌-◌, ◌%◌, ◌<◌, ◌≤◌, ◌==◌, Bool, true, false, ◌&&◌, ◌||◌, cond, List, [], ◌∷◌, length, Option, None}
+use Rattle.std.proofs.Common.{Some, refl, sym, ap, ◌∙◌, subst, inl, inr, if◌then◌else◌, arith}
 use Rattle.std.specs.Prelude.{map, not, nat_le, nat_lt, is_some, option_map, option_and_then, slice_get}
 use Rattle.std.proofs.lemmas.Bool.{true≢false}
 use Rattle.std.proofs.lemmas.Bool.Decides.{nat_tests}
@@ -40,7 +41,8 @@ use Rattle.histar_refinement.proofs.Steps.{step_tests_equality}
 use Rattle.histar_run_explain.specs.Births.{Births}
 use Rattle.histar_run_explain.specs.declared.purposes.Purpose.{Purpose}
 use Rattle.histar_run_explain.specs.declared.purposes.Purpose.TheVariants.{Reads, Writes, ReadsProcess, WritesProcess, Job}
-use Rattle.histar_run_explain.specs.Purposes.{owner_in, pair_purpose, boot_purpose, outer_label, inner_label, has_zero, has_three, job_by, purpose_born, purpose_by, purpose_up}
+use Rattle.histar_run_explain.specs.Purposes.{owner_in, pair_purpose, boot_purpose, outer_label, inner_label, has_zero, has_three, job_by}
+use Rattle.histar_run_explain.specs.Purposes.{purpose_born, purpose_by, purpose_up}
 use Rattle.histar_run_explain.specs.Laws.{IsPurposeOf, PurposesAreRight}
 use Rattle.histar_run_explain.proofs.Parts.{either_there, step_there, tested, both}
 
@@ -94,13 +96,18 @@ module _ (accounts : Accounts) (s : State) (f : Flat) (l : ObjectsMatch accounts
 
   outer_there : (me : ProcName) (p : Process) → f.processes me ≡ Some p → outer_label s first me ≡ Some (guard_label l.category (process_guard me p))
   outer_there me p here =
-      ap (option_and_then (λ (home : Where). label_there (s.objects home.container))) (home_is accounts s f l me ∙ ap (option_map (λ (q : Process). there_is me)) here)
+      ap (option_and_then (λ (home : Where). label_there (s.objects home.container)))
+      (home_is accounts s f l me ∙ ap (option_map (λ (q : Process). there_is me)) here)
       ∙ sym (label_bare (s.objects (there_is me).container))
-      ∙ ap label_there (at_number same_step step_tests_equality s l.naming (expected accounts l.category f l.naming.number) l.agrees (home_address me) (there_is me).container (is_or_zero _ (numbered_home accounts s f l me ∙ ap is_some here)))
+      ∙ ap label_there (at_number same_step step_tests_equality s l.naming (expected accounts l.category f l.naming.number) l.agrees
+      (home_address me) (there_is me).container
+      (is_or_zero _ (numbered_home accounts s f l me ∙ ap is_some here)))
       ∙ ap label_there (asked_home accounts l.category f l.naming.number me ∙ ap (home_object accounts l.category me) here)
 
   outer_absent : (me : ProcName) → f.processes me ≡ None → outer_label s first me ≡ None
-  outer_absent me none = ap (option_and_then (λ (home : Where). label_there (s.objects home.container))) (home_is accounts s f l me ∙ ap (option_map (λ (q : Process). there_is me)) none)
+  outer_absent me none =
+      ap (option_and_then (λ (home : Where). label_there (s.objects home.container)))
+      (home_is accounts s f l me ∙ ap (option_map (λ (q : Process). there_is me)) none)
 
   abbrev of_status : ProcessStatus → Option Levels
   of_status status = if_runs status.exited (label_there (s.objects status.internal))
@@ -108,7 +115,9 @@ module _ (accounts : Accounts) (s : State) (f : Flat) (l : ObjectsMatch accounts
   abbrev of_home : Where → Option Levels
   of_home home = option_and_then of_status (status_at s home.segment)
 
-  inner_revealed : (me : ProcName) (p : Process) → f.processes me ≡ Some p → inner_label s first me ≡ if_runs p.exited (label_there (s.objects (or_zero (l.naming.number (Inside ∷ home_address me)))))
+  inner_revealed : (me : ProcName) (p : Process) → f.processes me ≡ Some p
+      → inner_label s first me
+      ≡ if_runs p.exited (label_there (s.objects (or_zero (l.naming.number (Inside ∷ home_address me)))))
   inner_revealed me p here =
       ap (option_and_then of_home) (home_is accounts s f l me ∙ ap (option_map (λ (q : Process). there_is me)) here)
       ∙ ap (option_and_then of_status) (status_is accounts s f l me p here)
@@ -116,13 +125,15 @@ module _ (accounts : Accounts) (s : State) (f : Flat) (l : ObjectsMatch accounts
   inner_absent : (me : ProcName) → f.processes me ≡ None → inner_label s first me ≡ None
   inner_absent me none = ap (option_and_then of_home) (home_is accounts s f l me ∙ ap (option_map (λ (q : Process). there_is me)) none)
 
-  inner_there : (me : ProcName) (p : Process) → f.processes me ≡ Some p → p.exited ≡ None → inner_label s first me ≡ Some (guard_label l.category (inside_guard me p))
+  inner_there : (me : ProcName) (p : Process) → f.processes me ≡ Some p → p.exited ≡ None
+      → inner_label s first me ≡ Some (guard_label l.category (inside_guard me p))
   inner_there me p here runs =
       let inside = l.agrees.tree.held Runner (Inside ∷ home_address me) (numbered_runner accounts s f l me p here runs) in
       inner_revealed me p here
       ∙ ap (λ (e : Option ℕ). if_runs e (label_there (s.objects (or_zero (l.naming.number (Inside ∷ home_address me)))))) runs
       ∙ sym (label_bare (s.objects (or_zero (l.naming.number (Inside ∷ home_address me)))))
-      ∙ ap label_there (at_number same_step step_tests_equality s l.naming (expected accounts l.category f l.naming.number) l.agrees (Inside ∷ home_address me) (or_zero (l.naming.number (Inside ∷ home_address me))) (is_or_zero _ inside))
+      ∙ ap label_there (at_number same_step step_tests_equality s l.naming (expected accounts l.category f l.naming.number) l.agrees
+      (Inside ∷ home_address me) (or_zero (l.naming.number (Inside ∷ home_address me))) (is_or_zero _ inside))
       ∙ ap label_there (asked_inside accounts l.category f l.naming.number me ∙ ap (inside_object accounts l.category me) here)
       ∙ ap (λ (e : Option ℕ). label_there (inside_object accounts l.category me (Some (record p { exited = e })))) runs
 
@@ -141,23 +152,32 @@ module _ (accounts : Accounts) (s : State) (f : Flat) (l : ObjectsMatch accounts
       by : (o : Option Process) → f.processes me ≡ o → Named c (WritesProcess me)
       by None is = absurd (true≢false (sym e ∙ ap (λ (L : Option Levels). has_zero L c) (outer_absent me is)))
       by (Some p) is =
-          let level = sym (ap is_zero (at_guarded (jobs_of p) (own me ∷ []) c)) ∙ sym (ap (λ (L : Option Levels). has_zero L c) (outer_there me p is)) ∙ e in
+          let level =
+          sym (ap is_zero (at_guarded (jobs_of p) (own me ∷ []) c))
+          ∙ sym (ap (λ (L : Option Levels). has_zero L c) (outer_there me p is)) ∙ e in
           (names.WritesProcess me, sym (only_one (own me) c (zero_written (is_in (jobs_of p) c) (is_in (own me ∷ []) c) level)), ap is_some is, refl)
 
   -- what an outer label has at 3 is a job of the process
-  three_outside : (me : ProcName) (p : Process) (c : ℕ) → f.processes me ≡ Some p → has_three (outer_label s first me) c ≡ true → is_in (jobs_of p) c ≡ true
+  three_outside : (me : ProcName) (p : Process) (c : ℕ) → f.processes me ≡ Some p
+      → has_three (outer_label s first me) c ≡ true → is_in (jobs_of p) c ≡ true
   three_outside me p c is e =
-      let level = sym (ap is_three (at_guarded (jobs_of p) (own me ∷ []) c)) ∙ sym (ap (λ (L : Option Levels). has_three L c) (outer_there me p is)) ∙ e in
+      let level =
+      sym (ap is_three (at_guarded (jobs_of p) (own me ∷ []) c))
+      ∙ sym (ap (λ (L : Option Levels). has_three L c) (outer_there me p is)) ∙ e in
       (three_secret (is_in (jobs_of p) c) (is_in (own me ∷ []) c) level).0
 
   -- and what it hasn't is none, where the process doesn't write by it
-  not_outside : (me : ProcName) (p : Process) (c : ℕ) → f.processes me ≡ Some p → not (has_three (outer_label s first me) c) ≡ true → is_in (own me ∷ []) c ≡ false → is_in (jobs_of p) c ≡ false
+  not_outside : (me : ProcName) (p : Process) (c : ℕ) → f.processes me ≡ Some p
+      → not (has_three (outer_label s first me) c) ≡ true → is_in (own me ∷ []) c ≡ false → is_in (jobs_of p) c ≡ false
   not_outside me p c is e other =
-      let level = sym (ap (λ b. not (is_three b)) (at_guarded (jobs_of p) (own me ∷ []) c)) ∙ sym (ap (λ (L : Option Levels). not (has_three L c)) (outer_there me p is)) ∙ e in
+      let level =
+      sym (ap (λ b. not (is_three b)) (at_guarded (jobs_of p) (own me ∷ []) c))
+      ∙ sym (ap (λ (L : Option Levels). not (has_three L c)) (outer_there me p is)) ∙ e in
       not_three (is_in (jobs_of p) c) (is_in (own me ∷ []) c) level other
 
   -- the category at 3 inside and not outside is the one by which the process keeps its secrets
-  secret_named : (me : ProcName) (c : ℕ) → has_three (inner_label s first me) c ≡ true → has_three (outer_label s first me) c ≡ false → Named c (ReadsProcess me)
+  secret_named : (me : ProcName) (c : ℕ) → has_three (inner_label s first me) c ≡ true
+      → has_three (outer_label s first me) c ≡ false → Named c (ReadsProcess me)
   secret_named me c inside outside = by (f.processes me) refl
     where
       parts : (has_three (inner_label s first me) c ≡ true) × (not (has_three (outer_label s first me) c) ≡ true)
@@ -165,10 +185,16 @@ module _ (accounts : Accounts) (s : State) (f : Flat) (l : ObjectsMatch accounts
 
       of_life : (p : Process) → f.processes me ≡ Some p → (x : Option ℕ) → p.exited ≡ x → Named c (ReadsProcess me)
       of_life p is (Some n) exited =
-          absurd (true≢false (sym parts.0 ∙ ap (λ (L : Option Levels). has_three L c) (inner_revealed me p is ∙ ap (λ (x : Option ℕ). if_runs x (label_there (s.objects (or_zero (l.naming.number (Inside ∷ home_address me)))))) exited)))
+          absurd (true≢false (sym parts.0
+          ∙ ap (λ (L : Option Levels). has_three L c) (inner_revealed me p is
+          ∙ ap (λ (x : Option ℕ). if_runs x (label_there
+          (s.objects (or_zero (l.naming.number (Inside ∷ home_address me))))))
+          exited)))
       of_life p is None runs =
           let r = l.category (names.ReadsProcess me) in
-          let level = sym (ap is_three (at_guarded (r ∷ jobs_of p) (own me ∷ []) c)) ∙ sym (ap (λ (L : Option Levels). has_three L c) (inner_there me p is runs)) ∙ parts.0 in
+          let level =
+          sym (ap is_three (at_guarded (r ∷ jobs_of p) (own me ∷ []) c))
+          ∙ sym (ap (λ (L : Option Levels). has_three L c) (inner_there me p is runs)) ∙ parts.0 in
           let secret = three_secret (is_in (r ∷ jobs_of p) c) (is_in (own me ∷ []) c) level in
           (names.ReadsProcess me, sym (first_or r c (is_in (jobs_of p) c) secret.0 (not_outside me p c is parts.1 secret.1)), ap is_some is, refl)
 
@@ -177,7 +203,8 @@ module _ (accounts : Accounts) (s : State) (f : Flat) (l : ObjectsMatch accounts
       by (Some p) is = of_life p is p.exited refl
 
   -- the category at 3 outside, and not outside the process above, is a job that begins there
-  job_begun : (n : ℕ) (above : ProcName) (c : ℕ) → has_three (outer_label s first (n ∷ above)) c ≡ true → has_three (outer_label s first above) c ≡ false → Named c (Job (n ∷ above))
+  job_begun : (n : ℕ) (above : ProcName) (c : ℕ) → has_three (outer_label s first (n ∷ above)) c ≡ true
+      → has_three (outer_label s first above) c ≡ false → Named c (Job (n ∷ above))
   job_begun n above c in_it begins = by (f.processes (n ∷ above)) refl
     where
       parts : (has_three (outer_label s first (n ∷ above)) c ≡ true) × (not (has_three (outer_label s first above) c) ≡ true)
@@ -191,8 +218,12 @@ module _ (accounts : Accounts) (s : State) (f : Flat) (l : ObjectsMatch accounts
           let at : l.category (names.OfJob job.0) ≡ c = ap l.category (sym job.1) ∙ sym found.1 in
           let inside : has p.chain job.0 ≡ true = sym (among_jobs p.chain job.0) ∙ ap (among (map names.OfJob p.chain)) (sym job.1) ∙ found.2 in
           let other : (parent : Process) → f.processes above ≡ Some parent → has parent.chain job.0 ≡ false = λ parent there.
-          let apart : is_in (own above ∷ []) c ≡ false = ap (is_in (own above ∷ [])) (sym at) ∙ is_in_names l.category l.different (names.WritesProcess above ∷ []) (names.OfJob job.0) in
-          sym (among_jobs parent.chain job.0) ∙ sym (is_in_names l.category l.different (map names.OfJob parent.chain) (names.OfJob job.0)) ∙ ap (is_in (jobs_of parent)) at ∙ not_outside above parent c there parts.1 apart in (
+          let apart : is_in (own above ∷ []) c ≡ false =
+          ap (is_in (own above ∷ [])) (sym at)
+          ∙ is_in_names l.category l.different (names.WritesProcess above ∷ []) (names.OfJob job.0) in
+          sym (among_jobs parent.chain job.0)
+          ∙ sym (is_in_names l.category l.different (map names.OfJob parent.chain) (names.OfJob job.0))
+          ∙ ap (is_in (jobs_of parent)) at ∙ not_outside above parent c there parts.1 apart in (
             names.OfJob job.0,
             at,
             inl (n ∷ above, p, is, knows_inside p job.0 inside),
@@ -202,7 +233,8 @@ module _ (accounts : Accounts) (s : State) (f : Flat) (l : ObjectsMatch accounts
           knows_inside : (p : Process) (job : ProcName) → has p.chain job ≡ true → (has p.chain job || has p.held job) ≡ true
           knows_inside p job e = ap (λ b. b || has p.held job) e
 
-  job_named : (me : ProcName) (c : ℕ) (purpose : Purpose) → has_three (outer_label s first me) c ≡ true → job_by s first c me ≡ Some purpose → Named c purpose
+  job_named : (me : ProcName) (c : ℕ) (purpose : Purpose) → has_three (outer_label s first me) c ≡ true
+      → job_by s first c me ≡ Some purpose → Named c purpose
   job_named [] c purpose inside e = absurd (none-some purpose e)
   job_named (n ∷ above) c purpose inside e = elim (tested (has_three (outer_label s first above) c) _ _ purpose e) [
     | inl none ↦ absurd (none-some purpose none.1)
@@ -248,31 +280,51 @@ module _ (accounts : Accounts) (s : State) (f : Flat) (l : ObjectsMatch accounts
   reads_named c i is le = by (nat_le i (length accounts.users)) refl
     where
       by : (b : Bool) → nat_le i (length accounts.users) ≡ b → Named c (Reads i)
-      by true small =
-          (names.ReadsUser i, l.as_made (names.ReadsUser i) c (ap (λ b. cond b (Some (2 + 2 * i)) None) small ∙ ap Some (sym is)), grind (arith, nat_tests, small), sym (ap (λ b. if b then names.ReadsUser i else names.ReadsGroup (i - length accounts.users)) small))
+      by true small = (
+        names.ReadsUser i,
+        l.as_made (names.ReadsUser i) c
+            (ap (λ b. cond b (Some (2 + 2 * i)) None) small ∙ ap Some (sym is)),
+        grind (arith, nat_tests, small),
+        sym (ap (λ b. if b then names.ReadsUser i else names.ReadsGroup (i - length accounts.users)) small),
+      )
       by false big =
           let k = i - length accounts.users in
           let above : length accounts.users < i = grind (arith, nat_tests, big) in
           let low : 1 ≤ k = omega (arith, above) in
           let high : k ≤ length accounts.groups = omega (arith, above, le) in
           let test : (nat_le 1 k && nat_le k (length accounts.groups)) ≡ true = grind (arith, nat_tests, low, high) in
-          let value : 2 + 2 * length accounts.users + 2 * k ≡ c = omega (arith, above, is) in
-          (names.ReadsGroup k, l.as_made (names.ReadsGroup k) c (ap (λ b. cond b (Some (2 + 2 * length accounts.users + 2 * k)) None) test ∙ ap Some value), (low, high), sym (ap (λ b. if b then names.ReadsUser i else names.ReadsGroup k) big))
+          let value : 2 + 2 * length accounts.users + 2 * k ≡ c = omega (arith, above, is) in (
+            names.ReadsGroup k,
+            l.as_made (names.ReadsGroup k) c
+                (ap (λ b. cond b (Some (2 + 2 * length accounts.users + 2 * k)) None) test ∙ ap Some value),
+            (low, high),
+            sym (ap (λ b. if b then names.ReadsUser i else names.ReadsGroup k) big),
+          )
 
   writes_named : (c i : ℕ) → c ≡ 3 + 2 * i → i ≤ most → Named c (Writes i)
   writes_named c i is le = by (nat_le i (length accounts.users)) refl
     where
       by : (b : Bool) → nat_le i (length accounts.users) ≡ b → Named c (Writes i)
-      by true small =
-          (names.WritesUser i, l.as_made (names.WritesUser i) c (ap (λ b. cond b (Some (3 + 2 * i)) None) small ∙ ap Some (sym is)), grind (arith, nat_tests, small), sym (ap (λ b. if b then names.WritesUser i else names.WritesGroup (i - length accounts.users)) small))
+      by true small = (
+        names.WritesUser i,
+        l.as_made (names.WritesUser i) c
+            (ap (λ b. cond b (Some (3 + 2 * i)) None) small ∙ ap Some (sym is)),
+        grind (arith, nat_tests, small),
+        sym (ap (λ b. if b then names.WritesUser i else names.WritesGroup (i - length accounts.users)) small),
+      )
       by false big =
           let k = i - length accounts.users in
           let above : length accounts.users < i = grind (arith, nat_tests, big) in
           let low : 1 ≤ k = omega (arith, above) in
           let high : k ≤ length accounts.groups = omega (arith, above, le) in
           let test : (nat_le 1 k && nat_le k (length accounts.groups)) ≡ true = grind (arith, nat_tests, low, high) in
-          let value : 3 + 2 * length accounts.users + 2 * k ≡ c = omega (arith, above, is) in
-          (names.WritesGroup k, l.as_made (names.WritesGroup k) c (ap (λ b. cond b (Some (3 + 2 * length accounts.users + 2 * k)) None) test ∙ ap Some value), (low, high), sym (ap (λ b. if b then names.WritesUser i else names.WritesGroup k) big))
+          let value : 3 + 2 * length accounts.users + 2 * k ≡ c = omega (arith, above, is) in (
+            names.WritesGroup k,
+            l.as_made (names.WritesGroup k) c
+                (ap (λ b. cond b (Some (3 + 2 * length accounts.users + 2 * k)) None) test ∙ ap Some value),
+            (low, high),
+            sym (ap (λ b. if b then names.WritesUser i else names.WritesGroup k) big),
+          )
 
   pair_named : (c : ℕ) (purpose : Purpose) → 2 ≤ c → c < 4 + 2 * most → pair_purpose c ≡ purpose → Named c purpose
   pair_named c purpose low high e = subst (Named c) e (by ((c % 2) == 0) refl)
@@ -296,7 +348,8 @@ module _ (accounts : Accounts) (s : State) (f : Flat) (l : ObjectsMatch accounts
     | inr more ↦ elim (tested (nat_le 2 c && nat_lt c (4 + 2 * declared (without_passwords accounts))) _ _ purpose more.1) [
       | inl pair ↦
           let bounds = both (nat_le 2 c) (nat_lt c (4 + 2 * declared (without_passwords accounts))) pair.0 in
-          pair_named c purpose (grind (arith, nat_tests, bounds.0)) (subst (λ n. c < 4 + 2 * n) same_count (grind (arith, nat_tests, bounds.1))) (same_Some _ _ pair.1)
+          pair_named c purpose (grind (arith, nat_tests, bounds.0))
+          (subst (λ n. c < 4 + 2 * n) same_count (grind (arith, nat_tests, bounds.1))) (same_Some _ _ pair.1)
       | inr none ↦ absurd (none-some purpose none.1)
     ]
   ]

@@ -1,5 +1,6 @@
 -- In a state that represents a flat state what an object is said to be is what it is.
-use Rattle.std.proofs.Common.{◌≡◌, ◌≢◌, ℕ, ◌+◌, ◌*◌, ◌-◌, ◌/◌, ◌%◌, ◌<◌, ◌≤◌, ◌==◌, Bool, true, false, ◌&&◌, ◌||◌, cond, [], ◌∷◌, length, Option, None, Some, refl, sym, ap, ◌∙◌, subst, inl, inr, if◌then◌else◌, arith}
+use Rattle.std.proofs.Common.{◌≡◌, ◌≢◌, ℕ, ◌+◌, ◌*◌, ◌-◌, ◌/◌, ◌%◌, ◌<◌, ◌≤◌, ◌==◌, Bool, true, false, ◌&&◌, ◌||◌, cond, [], ◌∷◌, length, Option}
+use Rattle.std.proofs.Common.{None, Some, refl, sym, ap, ◌∙◌, subst, inl, inr, if◌then◌else◌, arith}
 use Rattle.std.specs.Prelude.{not, nat_le, nat_lt, is_some, option_map, option_and_then}
 use Rattle.std.proofs.lemmas.Bool.{true≢false}
 use Rattle.std.proofs.lemmas.Bool.Decides.{nat_tests}
@@ -36,7 +37,8 @@ use Rattle.histar_refinement.proofs.StatusFound.{numbered_home, numbered_status,
 use Rattle.histar_readout.proofs.TreeMatched.{led_to_directory, led_to_file}
 use Rattle.histar_run_explain.specs.declared.location.Location.{Location}
 use Rattle.histar_run_explain.specs.declared.location.Location.TheVariants.{Password, Gate, Users}
-use Rattle.histar_run_explain.specs.Location.{users_own, left_location, listing_in, target_at, is_target, path_up, is_inside, is_part, process_up, at_path, of_process}
+use Rattle.histar_run_explain.specs.Location.{users_own, left_location, listing_in, target_at, is_target, path_up, is_inside, is_part, process_up}
+use Rattle.histar_run_explain.specs.Location.{at_path, of_process}
 use Rattle.histar_run_explain.specs.Laws.{IsLeft, IsPartOf, StandsAs, LocationsAreRight}
 use Rattle.histar_run_explain.proofs.Parts.{either_there, step_there, tested, both, one_of}
 
@@ -97,9 +99,13 @@ module _ (accounts : Accounts) (s : State) (f : Flat) (l : ObjectsMatch accounts
   -- where an entry leads, both of its numbers are those of the path
   abbrev IsAt : Path → Target → Type 0
   IsAt d (targets.File o) = l.naming.number (address_of d) ≡ Some o
-  IsAt d (targets.Directory c g) = (l.naming.number (address_of d) ≡ Some c) × (l.naming.number (Listing ∷ address_of d) ≡ Some g) × (is_dir_at f d ≡ true)
+  IsAt d (targets.Directory c g) =
+      (l.naming.number (address_of d) ≡ Some c) × (l.naming.number (Listing ∷ address_of d) ≡ Some g)
+      × (is_dir_at f d ≡ true)
 
-  entry_is : (q : Path) (class : Class) (content : Content) (target : Target) → get f.files q ≡ Some (record { class = class; content = content }) → target_for l.naming.number (q, record { class = class; content = content }) ≡ Some target → IsAt q target
+  entry_is : (q : Path) (class : Class) (content : Content) (target : Target)
+      → get f.files q ≡ Some (record { class = class; content = content })
+      → target_for l.naming.number (q, record { class = class; content = content }) ≡ Some target → IsAt q target
   entry_is q class Dir target at leads =
       let led = led_to_directory (l.naming.number (address_of q)) (l.naming.number (Listing ∷ address_of q)) target leads in
       subst (IsAt q) led.2 (led.3, led.4, ap (λ (o : Option Node). is_some_and o is_dir) at)
@@ -109,22 +115,39 @@ module _ (accounts : Accounts) (s : State) (f : Flat) (l : ObjectsMatch accounts
 
   target_is : (d : Path) (target : Target) → target_at s roots d ≡ Some target → IsAt d target
   target_is [] target e =
-      subst (IsAt []) (same_Some _ target e) (l.as_booted (Slash ∷ []) _ refl, l.as_booted (Listing ∷ Slash ∷ []) _ refl, ap (λ (o : Option Node). is_some_and o is_dir) (root_is_dir accounts s f l).1)
+      subst (IsAt []) (same_Some _ target e) (
+        l.as_booted (Slash ∷ []) _ refl,
+        l.as_booted (Listing ∷ Slash ∷ []) _ refl,
+        ap
+            (λ (o : Option Node). is_some_and o is_dir) (root_is_dir accounts s f l).1,
+      )
   target_is (name ∷ d) target e = by (target_is d) above.0 above.1 later.0 later.1 later.2
     where
-      above : (t : Target) × (target_at s roots d ≡ Some t) × (option_and_then (λ (listing : ℕ). found_in (bytes_in (s.objects listing)) name) (listing_in t) ≡ Some target)
-      above = step_there (λ (t : Target). option_and_then (λ (listing : ℕ). found_in (bytes_in (s.objects listing)) name) (listing_in t)) (target_at s roots d) target e
+      above : (t : Target) × (target_at s roots d ≡ Some t)
+          × (option_and_then (λ (listing : ℕ). found_in (bytes_in (s.objects listing)) name) (listing_in t)
+          ≡ Some target)
+      above =
+          step_there (λ (t : Target).
+          option_and_then (λ (listing : ℕ). found_in (bytes_in (s.objects listing)) name) (listing_in t))
+          (target_at s roots d) target e
 
       later : (g : ℕ) × (listing_in above.0 ≡ Some g) × (found_in (bytes_in (s.objects g)) name ≡ Some target)
       later = step_there (λ (listing : ℕ). found_in (bytes_in (s.objects listing)) name) (listing_in above.0) target above.2
 
-      found : (g : ℕ) → is_dir_at f d ≡ true → l.naming.number (Listing ∷ address_of d) ≡ Some g → found_in (bytes_in (s.objects g)) name ≡ Some target → IsAt (name ∷ d) target
+      found : (g : ℕ) → is_dir_at f d ≡ true → l.naming.number (Listing ∷ address_of d) ≡ Some g
+          → found_in (bytes_in (s.objects g)) name ≡ Some target → IsAt (name ∷ d) target
       found g dir at looked =
-          let listed = sym (found_in_directory (bytes_in (s.objects g)) (directory_of f.files l.naming.number d) name (holds_directory accounts s f l d g dir at)) ∙ looked in
-          let entry = step_there (λ (there : Node). target_for l.naming.number (name ∷ d, there)) (get f.files (name ∷ d)) target (sym (get_directory f.files l.naming.number d name) ∙ listed) in
+          let listed =
+          sym (found_in_directory (bytes_in (s.objects g)) (directory_of f.files l.naming.number d) name
+          (holds_directory accounts s f l d g dir at)) ∙ looked in
+          let entry =
+          step_there (λ (there : Node). target_for l.naming.number (name ∷ d, there)) (get f.files (name ∷ d))
+          target (sym (get_directory f.files l.naming.number d name) ∙ listed) in
           entry_is (name ∷ d) entry.0.class entry.0.content target entry.1 entry.2
 
-      by : ((t : Target) → target_at s roots d ≡ Some t → IsAt d t) → (t : Target) → target_at s roots d ≡ Some t → (g : ℕ) → listing_in t ≡ Some g → found_in (bytes_in (s.objects g)) name ≡ Some target → IsAt (name ∷ d) target
+      by : ((t : Target) → target_at s roots d ≡ Some t → IsAt d t) → (t : Target) → target_at s roots d ≡ Some t
+          → (g : ℕ) → listing_in t ≡ Some g → found_in (bytes_in (s.objects g)) name ≡ Some target
+          → IsAt (name ∷ d) target
       by led (targets.File o) at g lists looked = absurd (none-some g lists)
       by led (targets.Directory c h) at g lists looked =
           let parent = led (targets.Directory c h) at in
@@ -150,7 +173,9 @@ module _ (accounts : Accounts) (s : State) (f : Flat) (l : ObjectsMatch accounts
     | inr none ↦ absurd (none-some path none.1)
   ]
   path_is q (name ∷ d) path e = elim (tested (is_target q (target_at s roots (name ∷ d))) _ _ path e) [
-    | inl here ↦ subst (λ (p : Path). StandsFor accounts s f l p q) (same_Some _ _ here.1) (target_agrees q (name ∷ d) (target_at s roots (name ∷ d)) refl here.0)
+    | inl here ↦
+        subst (λ (p : Path). StandsFor accounts s f l p q) (same_Some _ _ here.1)
+        (target_agrees q (name ∷ d) (target_at s roots (name ∷ d)) refl here.0)
     | inr above ↦ path_is q d path above.1
   ]
 
@@ -162,10 +187,13 @@ module _ (accounts : Accounts) (s : State) (f : Flat) (l : ObjectsMatch accounts
   abbrev there_is : ProcName → Where
   there_is me = where_is accounts s f l me
 
-  inside_is : (me : ProcName) (p : Process) (q : ℕ) → f.processes me ≡ Some p → is_inside q (Some (status_by f.processes l.naming.number me p)) ≡ true → IsPartOf accounts s f l me q
+  inside_is : (me : ProcName) (p : Process) (q : ℕ) → f.processes me ≡ Some p
+      → is_inside q (Some (status_by f.processes l.naming.number me p)) ≡ true → IsPartOf accounts s f l me q
   inside_is me p q here e = by p.exited refl
     where
-      halves : (not (is_some p.exited) ≡ true) × ((q == or_zero (l.naming.number (Inside ∷ home_address me)) || q == or_zero (l.naming.number (Runner ∷ Inside ∷ home_address me))) ≡ true)
+      halves : (not (is_some p.exited) ≡ true)
+          × ((q == or_zero (l.naming.number (Inside ∷ home_address me))
+          || q == or_zero (l.naming.number (Runner ∷ Inside ∷ home_address me))) ≡ true)
       halves = both (not (is_some p.exited)) _ e
 
       by : (x : Option ℕ) → p.exited ≡ x → IsPartOf accounts s f l me q
@@ -208,22 +236,27 @@ module _ (accounts : Accounts) (s : State) (f : Flat) (l : ObjectsMatch accounts
 
   -- ---- what an object is
 
-  at_path_is : (q : ℕ) (o : Option Path) (location : Location) → ((path : Path) → o ≡ Some path → StandsFor accounts s f l path q) → at_path o ≡ Some location → Agrees q location
+  at_path_is : (q : ℕ) (o : Option Path) (location : Location)
+      → ((path : Path) → o ≡ Some path → StandsFor accounts s f l path q) → at_path o ≡ Some location
+      → Agrees q location
   at_path_is q None location is e = absurd (none-some location e)
   at_path_is q (Some path) location is e = subst (Agrees q) (same_Some _ location e) (is path refl)
 
-  of_process_is : (q : ℕ) (o : Option ProcName) (location : Location) → ((me : ProcName) → o ≡ Some me → IsPartOf accounts s f l me q) → of_process o ≡ Some location → Agrees q location
+  of_process_is : (q : ℕ) (o : Option ProcName) (location : Location)
+      → ((me : ProcName) → o ≡ Some me → IsPartOf accounts s f l me q) → of_process o ≡ Some location
+      → Agrees q location
   of_process_is q None location is e = absurd (none-some location e)
   of_process_is q (Some me) location is e = subst (Agrees q) (same_Some _ location e) (is me refl)
 
 pub locations_are_right : LocationsAreRight
-locations_are_right accounts s f l clue q location e = elim (either_there (left_location (length (without_passwords accounts).users) q) _ location e) [
-  | inl left ↦ left_is accounts s f l q location (ap (λ n. left_location n q) (sym (length-map accounts.users without_password)) ∙ left)
-  | inr more ↦ elim (either_there (at_path (path_up s (roots_of (length accounts.users)) q clue.path)) _ location more) [
-    | inl at ↦ at_path_is accounts s f l q _ location (path_is accounts s f l q clue.path) at
-    | inr rest ↦ elim (either_there (of_process (process_up s (roots_of (length accounts.users)).home q clue.caller)) _ location rest) [
-      | inl own ↦ of_process_is accounts s f l q _ location (process_is accounts s f l q clue.caller) own
-      | inr named ↦ of_process_is accounts s f l q _ location (process_is accounts s f l q clue.named) named
+locations_are_right accounts s f l clue q location e =
+    elim (either_there (left_location (length (without_passwords accounts).users) q) _ location e) [
+      | inl left ↦ left_is accounts s f l q location (ap (λ n. left_location n q) (sym (length-map accounts.users without_password)) ∙ left)
+      | inr more ↦ elim (either_there (at_path (path_up s (roots_of (length accounts.users)) q clue.path)) _ location more) [
+        | inl at ↦ at_path_is accounts s f l q _ location (path_is accounts s f l q clue.path) at
+        | inr rest ↦ elim (either_there (of_process (process_up s (roots_of (length accounts.users)).home q clue.caller)) _ location rest) [
+          | inl own ↦ of_process_is accounts s f l q _ location (process_is accounts s f l q clue.caller) own
+          | inr named ↦ of_process_is accounts s f l q _ location (process_is accounts s f l q clue.named) named
+        ]
+      ]
     ]
-  ]
-]

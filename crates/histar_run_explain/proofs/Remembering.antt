@@ -4,7 +4,8 @@ use Rattle.std.proofs.lemmas.List.{length-append}
 
 module _ {A : Type 0} (x : A) where
   -- one is put behind, and one fewer is left
-  pub one_noted : (xs : List A) (n : ℕ) → length xs < n → (xs ++ x ∷ []) ++ replicate (n - length (xs ++ x ∷ [])) x ≡ xs ++ replicate (n - length xs) x
+  pub one_noted : (xs : List A) (n : ℕ) → length xs < n
+      → (xs ++ x ∷ []) ++ replicate (n - length (xs ++ x ∷ [])) x ≡ xs ++ replicate (n - length xs) x
   one_noted xs n lt =
       let left : n - length xs ≡ suc (n - length (xs ++ x ∷ [])) = omega (arith, lt, length-append xs (x ∷ [])) in
       append_assoc xs (x ∷ []) (replicate (n - length (xs ++ x ∷ [])) x) ∙ sym (ap (λ k. xs ++ replicate k x) left)

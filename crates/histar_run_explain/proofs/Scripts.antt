@@ -40,7 +40,8 @@ use Rattle.histar_run_explain.specs.Run.{births_of, words_of, ExplainsRows, Expl
 use Rattle.histar_run_explain.proofs.Turns.{answers_calls}
 
 -- what the lines have done, from a machine that shows a flat state on
-record IsExplainedSession (accounts : Accounts) (m : MachineModel) (f : Flat) (births : Births) (calls : List CallLine) (text : List ℕ) (end : MachineModel) : Type 0 where
+record IsExplainedSession (accounts : Accounts) (m : MachineModel) (f : Flat) (births : Births) (calls : List CallLine)
+    (text : List ℕ) (end : MachineModel) : Type 0 where
   entries : List TraceEntry
   trace : end.kernel.trace ≡ m.kernel.trace ++ entries
   refinements : ExplainsRows accounts (state m.kernel) f births calls entries text (state end.kernel)
@@ -50,15 +51,23 @@ module _ (accounts : Accounts) (m mid : MachineModel) (g : Flat) (asked : CallLi
   words_shown : (births : Births) (entries : List TraceEntry) (lines : List ℕ) (one : ExplainsLine m mid asked births lines) → one.entries ≡ entries
       → ExplainsEntries (words_of accounts (state mid.kernel) asked births) (state m.kernel) entries lines (state mid.kernel)
   words_shown births entries lines one same =
-      subst (λ (roots : Roots). ExplainsEntries (words_at (without_passwords accounts) roots (state mid.kernel) (clue_of asked.process asked.call) births) (state m.kernel) entries lines (state mid.kernel)) shows.roots
-      (subst (λ (users : Accounts). ExplainsEntries (words_at users mid.roots (state mid.kernel) (clue_of asked.process asked.call) births) (state m.kernel) entries lines (state mid.kernel)) shows.users
-      (subst (λ (es : List TraceEntry). ExplainsEntries (words_at mid.users mid.roots (state mid.kernel) (clue_of asked.process asked.call) births) (state m.kernel) es lines (state mid.kernel)) same one.explained))
+      subst (λ (roots : Roots).
+      ExplainsEntries (words_at (without_passwords accounts) roots (state mid.kernel) (clue_of asked.process asked.call)
+      births) (state m.kernel) entries lines (state mid.kernel)) shows.roots
+      (subst (λ (users : Accounts).
+      ExplainsEntries (words_at users mid.roots (state mid.kernel) (clue_of asked.process asked.call) births)
+      (state m.kernel) entries lines (state mid.kernel)) shows.users
+      (subst (λ (es : List TraceEntry). ExplainsEntries
+      (words_at mid.users mid.roots (state mid.kernel) (clue_of asked.process asked.call) births)
+      (state m.kernel) es lines (state mid.kernel)) same one.explained))
 
   -- and so is what is known of births
   births_shown : (births : Births) → births_by mid asked births ≡ births_of accounts (state mid.kernel) asked births
   births_shown births = ap (λ (roots : Roots). births_after (state mid.kernel) roots asked.process births) shows.roots
 
-accounts_explained : (accounts : Accounts) (m : MachineModel) (f : Flat) (births : Births) (answers : List RepliedCall) (text : List ℕ) (end : MachineModel) (born : Births) → ExplainsInTurn m births answers text end born → Shows accounts m f
+accounts_explained : (accounts : Accounts) (m : MachineModel) (f : Flat) (births : Births) (answers : List RepliedCall)
+    (text : List ℕ) (end : MachineModel) (born : Births) → ExplainsInTurn m births answers text end born
+    → Shows accounts m f
     → AreScriptable (calls_of answers) → IsExplainedSession accounts m f births (calls_of answers) text end
 accounts_explained accounts m f births [] text end born h shows can = record {
   entries = [];
@@ -83,20 +92,35 @@ accounts_explained accounts m f births (a ∷ answers) text end born h shows can
         refl,
         h.5,
         line.refined,
-        subst (λ (b : Births). ExplainsEntries (words_of accounts (state h.0.kernel) a.call b) (state m.kernel) line.entries h.1 (state h.0.kernel)) known
+        subst (λ (b : Births).
+            ExplainsEntries (words_of accounts (state h.0.kernel) a.call b) (state m.kernel) line.entries h.1
+            (state h.0.kernel)) known
             (words_shown accounts m h.0 g a.call line.shows (births_by h.0 a.call births) line.entries h.1 h.4 same),
-        subst (λ (b : Births). ExplainsRows accounts (state h.0.kernel) g b (calls_of answers) later.entries h.2 (state end.kernel)) known later.refinements,
+        subst (λ (b : Births).
+            ExplainsRows accounts (state h.0.kernel) g b (calls_of answers) later.entries h.2 (state end.kernel))
+            known later.refinements,
       );
     }
 
 -- explained rows are rows
-refinements_explained : (accounts : Accounts) (s : State) (f : Flat) (births : Births) (calls : List CallLine) (entries : List TraceEntry) (text : List ℕ) (end : State) → ExplainsRows accounts s f births calls entries text end → SimulatesLines accounts s f calls entries end
+refinements_explained : (accounts : Accounts) (s : State) (f : Flat) (births : Births) (calls : List CallLine)
+    (entries : List TraceEntry) (text : List ℕ) (end : State) → ExplainsRows accounts s f births calls entries text end
+    → SimulatesLines accounts s f calls entries end
 refinements_explained accounts s f births [] entries text end h = (h.0, h.2)
-refinements_explained accounts s f births (asked ∷ more) entries text end h =
-    (h.0, h.1, h.2, h.5, h.7, refinements_explained accounts h.2 (flat_after accounts f asked.process asked.call) (births_of accounts h.2 asked births) more h.1 h.4 end h.9)
+refinements_explained accounts s f births (asked ∷ more) entries text end h = (
+  h.0,
+  h.1,
+  h.2,
+  h.5,
+  h.7,
+  refinements_explained accounts h.2 (flat_after accounts f asked.process asked.call)
+      (births_of accounts h.2 asked births) more h.1 h.4 end h.9,
+)
 
-module _ (script : ScriptModel) (declared : IsDeclared script.accounts) (can : AreScriptable script.calls) (start : MachineModel) (starts : IsStart script.accounts start) where
-  module _ (old replied : Option (List ℕ)) (end : MachineModel) (text : List ℕ) (born : Births) (all : ExplainsCalls start end old replied script.calls text born) where
+module _ (script : ScriptModel) (declared : IsDeclared script.accounts) (can : AreScriptable script.calls)
+    (start : MachineModel) (starts : IsStart script.accounts start) where
+  module _ (old replied : Option (List ℕ)) (end : MachineModel) (text : List ℕ) (born : Births)
+      (all : ExplainsCalls start end old replied script.calls text born) where
     abbrev answered : AnswersCalls start end old replied script.calls
     answered = answers_calls start end old replied script.calls text born all
 
@@ -104,12 +128,20 @@ module _ (script : ScriptModel) (declared : IsDeclared script.accounts) (can : A
     trace_explained : ExplainsTrace script end.kernel.trace text
     trace_explained =
         let these : AreScriptable (calls_of all.answers) = subst AreScriptable (sym all.each) can in
-        let explained = accounts_explained script.accounts start (boot script.accounts) [] all.answers text end born all.in_turn (start_shows script.accounts declared start starts) these in
-        let refinements : ExplainsRows script.accounts (state start.kernel) (boot script.accounts) [] script.calls explained.entries text (state end.kernel) =
-        subst (λ (calls : List CallLine). ExplainsRows script.accounts (state start.kernel) (boot script.accounts) [] calls explained.entries text (state end.kernel)) all.each explained.refinements in
-        let of_lines = refinements_explained script.accounts (state start.kernel) (boot script.accounts) [] script.calls explained.entries text (state end.kernel) refinements in
+        let explained =
+        accounts_explained script.accounts start (boot script.accounts) [] all.answers text end born all.in_turn
+        (start_shows script.accounts declared start starts) these in
+        let refinements : ExplainsRows script.accounts (state start.kernel) (boot script.accounts) [] script.calls
+        explained.entries text (state end.kernel) =
+        subst (λ (calls : List CallLine).
+        ExplainsRows script.accounts (state start.kernel) (boot script.accounts) [] calls explained.entries text
+        (state end.kernel)) all.each explained.refinements in
+        let of_lines =
+        refinements_explained script.accounts (state start.kernel) (boot script.accounts) [] script.calls
+        explained.entries text (state end.kernel) refinements in
         let of_boot = boot_trace script.accounts start starts.booted in
-        let parts : end.kernel.trace ≡ of_boot.entries ++ explained.entries = explained.trace ∙ ap (λ (es : List TraceEntry). es ++ explained.entries) of_boot.trace in
+        let parts : end.kernel.trace ≡ of_boot.entries ++ explained.entries =
+        explained.trace ∙ ap (λ (es : List TraceEntry). es ++ explained.entries) of_boot.trace in
         record {
           recorded = record {
             of_boot = of_boot.entries;
@@ -118,12 +150,15 @@ module _ (script : ScriptModel) (declared : IsDeclared script.accounts) (can : A
             start = state start.kernel;
             boot_run = of_boot.run;
             boot_own = of_boot.own;
-            boot_represents = subst (λ (s : State). Represents script.accounts s (boot script.accounts)) (sym starts.state) (start_is_matched script.accounts declared);
+            boot_represents =
+                subst (λ (s : State). Represents script.accounts s (boot script.accounts)) (sym starts.state)
+                (start_is_matched script.accounts declared);
             end = state end.kernel;
             refinements = of_lines;
             run = subst (λ (es : List TraceEntry). IsRun empty_state es (state end.kernel)) (sym parts)
                 (run_after empty_state (state start.kernel) (state end.kernel) of_boot.entries explained.entries of_boot.run
-                (refinements_run script.accounts (state start.kernel) (boot script.accounts) script.calls explained.entries (state end.kernel) of_lines));
+                (refinements_run script.accounts (state start.kernel) (boot script.accounts) script.calls
+                explained.entries (state end.kernel) of_lines));
           };
           refinements = refinements;
         }
@@ -136,11 +171,13 @@ module _ (script : ScriptModel) (declared : IsDeclared script.accounts) (can : A
       -- what stands behind the replies was written too
       run_written : (mid : Option (List ℕ)) → AppendsEnding options end replied mid → Appends old mid run_text
       run_written mid ending =
-          subst (Appends old mid) (whole_is calls_refine script declared can start starts options old replied end answered ending.0 ending.1 end.kernel.trace refl)
+          subst (Appends old mid) (whole_is calls_refine script declared can start starts options old replied end answered ending.0 ending.1
+          end.kernel.trace refl)
           (Appends-trans old replied mid (answers_text all.answers) ending.0 all.written ending.2)
 
       -- and then the explanations
-      pub all_explained : (mid new : Option (List ℕ)) → AppendsEnding options end replied mid → Appends mid new text → ExplainsAs (Appends old new) options script
+      pub all_explained : (mid new : Option (List ℕ)) → AppendsEnding options end replied mid → Appends mid new text
+          → ExplainsAs (Appends old new) options script
       all_explained mid new ending written = record {
         trace = end.kernel.trace;
         explanations = text;
@@ -149,12 +186,15 @@ module _ (script : ScriptModel) (declared : IsDeclared script.accounts) (can : A
       }
 
       -- or a beginning of them
-      pub front_explained : (mid new : Option (List ℕ)) → AppendsEnding options end replied mid → AppendsFront mid new text → ExplainsAs (AppendsFront old new) options script
+      pub front_explained : (mid new : Option (List ℕ)) → AppendsEnding options end replied mid
+          → AppendsFront mid new text → ExplainsAs (AppendsFront old new) options script
       front_explained mid new ending begun = record {
         trace = end.kernel.trace;
         explanations = text;
         explains = trace_explained;
-        written = subst (AppendsFront old new) (ap (λ (l : List ℕ). run_text ++ l) (append-nil text)) (front_after old mid new run_text text [] (run_written mid ending) begun);
+        written =
+            subst (AppendsFront old new) (ap (λ (l : List ℕ). run_text ++ l) (append-nil text))
+            (front_after old mid new run_text text [] (run_written mid ending) begun);
       }
 
       -- or a beginning of what stands behind the replies
@@ -165,10 +205,13 @@ module _ (script : ScriptModel) (declared : IsDeclared script.accounts) (can : A
         explains = trace_explained;
         written = longer_front calls_refine script declared can start starts options old new run_text text
             (subst (AppendsFront old new)
-            (ap (λ (l : List ℕ). answers_text all.answers ++ l) (append-nil begun.0) ∙ whole_is calls_refine script declared can start starts options old replied end answered begun.0 begun.1 end.kernel.trace refl)
+            (ap (λ (l : List ℕ). answers_text all.answers ++ l) (append-nil begun.0)
+            ∙ whole_is calls_refine script declared can start starts options old replied end answered begun.0
+            begun.1 end.kernel.trace refl)
             (front_after old replied new (answers_text all.answers) begun.0 [] all.written begun.2));
       }
 
   -- the first lines were answered
-  pub replies_begun : (options : Options) (old new : Option (List ℕ)) → BeginsAnswers start old new script.calls → AppendsFront old new (meaning_text options script)
+  pub replies_begun : (options : Options) (old new : Option (List ℕ)) → BeginsAnswers start old new script.calls
+      → AppendsFront old new (meaning_text options script)
   replies_begun options old new begun = answers_begin calls_refine script declared can start starts options old new begun

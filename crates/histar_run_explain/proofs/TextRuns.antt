@@ -1,5 +1,6 @@
 -- What `explain_script` says, put together from what its parts say.
-use Rattle.std.proofs.Common.{◌≡◌, ℕ, ◌<◌, true, false, ltb, List, ◌++◌, length, Option, Some, None, Result, Ok, Err, refl, sym, ap, subst, ◌∙◌, arith, rules, tests, append-nil, inl, inr}
+use Rattle.std.proofs.Common.{◌≡◌, ℕ, ◌<◌, true, false, ltb, List, ◌++◌, length, Option, Some, None, Result, Ok, Err, refl, sym, ap, subst, ◌∙◌}
+use Rattle.std.proofs.Common.{arith, rules, tests, append-nil, inl, inr}
 use Rattle.std.specs.Prelude.{IfErr, IfSome, MatchResult, OnErr, OnOk, is_ok}
 use Rattle.std.specs.Io.KnownBytes.{Appends, Keeps}
 use Rattle.std.proofs.lemmas.Bool.{cases_lt, false≢true}
@@ -76,7 +77,11 @@ module _ (options : Options) where
 
   -- a text in which reading finds a fault
   pub faulty_text : (text : List ℕ) (w : Option (List ℕ)) (f : Fault) → Gives (Err f) (script_of text) → ExplainsText options text w w (Err f)
-  faulty_text text w f given = record { faults = script_fault_agrees f (script_of text) given; writes = script_fault_writes f w (script_of text) given }
+  faulty_text text w f given =
+      record {
+        faults = script_fault_agrees f (script_of text) given;
+        writes = script_fault_writes f w (script_of text) given;
+      }
 
   -- a text for which memory ran out before anything was written
   pub unwritten_text : (text : List ℕ) (w : Option (List ℕ)) → ExplainsText options text w w (Err OutOfMemory)
@@ -84,7 +89,8 @@ module _ (options : Options) where
 
   -- ---- a script whose machine was booted
 
-  module _ (text : List ℕ) (script : ScriptModel) (given : script_of text ≡ Ok script) (accounts : Accounts) (accounts_is : accounts ≡ script.accounts) (calls : List CallLine) (calls_are : calls ≡ script.calls)
+  module _ (text : List ℕ) (script : ScriptModel) (given : script_of text ≡ Ok script) (accounts : Accounts)
+      (accounts_is : accounts ≡ script.accounts) (calls : List CallLine) (calls_are : calls ≡ script.calls)
       (start : MachineModel) (starts : IsStart accounts start) where
     started : IsStart script.accounts start
     started = subst (λ (s : Accounts). IsStart s start) accounts_is starts
@@ -94,7 +100,8 @@ module _ (options : Options) where
     start_traced = booted_traced accounts start.kernel starts.booted
 
     -- a beginning was written
-    begins : (f : Fault) (old new : Option (List ℕ)) → IsOutputFault f → BeginsExplained options old new (script_of text) → ExplainsText options text old new (Err f)
+    begins : (f : Fault) (old new : Option (List ℕ)) → IsOutputFault f
+        → BeginsExplained options old new (script_of text) → ExplainsText options text old new (Err f)
     begins (BadScript n) old new h b = absurd h
     begins TooLong old new h b = absurd h
     begins OutOfMemory old new h b = record { faults = tt; writes = inr b }
@@ -102,56 +109,96 @@ module _ (options : Options) where
     begins WriteFailed old new h b = record { faults = ap is_ok given; writes = b }
 
     -- the first lines were answered
-    pub begun_replies : (f : Fault) (old new : Option (List ℕ)) → IsOutputFault f → BeginsAnswers start old new calls → ExplainsText options text old new (Err f)
+    pub begun_replies : (f : Fault) (old new : Option (List ℕ)) → IsOutputFault f → BeginsAnswers start old new calls
+        → ExplainsText options text old new (Err f)
     begun_replies f old new h b =
         let says = script_says text script given in
         let these = subst (λ (cs : List CallLine). BeginsAnswers start old new cs) calls_are b in
-        begins f old new h (record { script = script; is_read = given; begun = inl (replies_begun script says.0 says.1 start started options old new these) })
+        begins f old new h (record {
+          script = script;
+          is_read = given;
+          begun = inl (replies_begun script says.0 says.1 start started options old new these);
+        })
 
-    module _ (old replied : Option (List ℕ)) (end : MachineModel) (lines : List ℕ) (born : Births) (all : ExplainsCalls start end old replied calls lines born) where
+    module _ (old replied : Option (List ℕ)) (end : MachineModel) (lines : List ℕ) (born : Births)
+        (all : ExplainsCalls start end old replied calls lines born) where
       all_lines : ExplainsCalls start end old replied script.calls lines born
       all_lines = subst (λ (cs : List CallLine). ExplainsCalls start end old replied cs lines born) calls_are all
 
       -- all lines were, so the machine has a tree
       pub has_tree : HasTree end
-      has_tree = tree_at_last calls_refine text script given start end started calls calls_are old replied (answers_calls start end old replied calls lines born all)
+      has_tree =
+          tree_at_last calls_refine text script given start end started calls calls_are old replied
+          (answers_calls start end old replied calls lines born all)
 
       -- and a beginning of what stands behind the replies was written
-      pub begun_ending : (f : Fault) (new : Option (List ℕ)) → IsOutputFault f → BeginsTheEnding options end replied new → ExplainsText options text old new (Err f)
+      pub begun_ending : (f : Fault) (new : Option (List ℕ)) → IsOutputFault f → BeginsTheEnding options end replied new
+          → ExplainsText options text old new (Err f)
       begun_ending f new h b =
           let says = script_says text script given in
-          begins f old new h (record { script = script; is_read = given; begun = inr (ending_begun script says.0 says.1 start started old replied end lines born all_lines options new b) })
+          begins f old new h (record {
+            script = script;
+            is_read = given;
+            begun = inr (ending_begun script says.0 says.1 start started old replied end lines born all_lines
+                options new b);
+          })
 
       -- or all that, and a beginning of the explanations
-      pub begun_explanations : (f : Fault) (mid new : Option (List ℕ)) → IsOutputFault f → AppendsEnding options end replied mid → AppendsFront mid new lines → ExplainsText options text old new (Err f)
+      pub begun_explanations : (f : Fault) (mid new : Option (List ℕ)) → IsOutputFault f
+          → AppendsEnding options end replied mid → AppendsFront mid new lines
+          → ExplainsText options text old new (Err f)
       begun_explanations f mid new h ending b =
           let says = script_says text script given in
-          begins f old new h (record { script = script; is_read = given; begun = inr (front_explained script says.0 says.1 start started old replied end lines born all_lines options mid new ending b) })
+          begins f old new h (record {
+            script = script;
+            is_read = given;
+            begun = inr (front_explained script says.0 says.1 start started old replied end lines born all_lines
+                options mid new ending b);
+          })
 
       -- or all of them
-      pub explained_text : (mid new : Option (List ℕ)) → AppendsEnding options end replied mid → Appends mid new lines → ExplainsText options text old new (Ok tt)
+      pub explained_text : (mid new : Option (List ℕ)) → AppendsEnding options end replied mid → Appends mid new lines
+          → ExplainsText options text old new (Ok tt)
       explained_text mid new ending written =
           let says = script_says text script given in
-          record { faults = ap is_ok given; writes = record { script = script; is_read = given; explained = all_explained script says.0 says.1 start started old replied end lines born all_lines options mid new ending written } }
+          record {
+            faults = ap is_ok given;
+            writes = record {
+              script = script;
+              is_read = given;
+              explained = all_explained script says.0 says.1 start started old replied end lines born
+                  all_lines options mid new ending written;
+            };
+          }
 
       -- so it is, whatever writing the explanations answers
-      pub last_written : (mid new : Option (List ℕ)) (bytes : List ℕ) → bytes ≡ lines → (r : Answer) → AppendsEnding options end replied mid → OnOk r (Appends mid new bytes) → OnErr r (AppendsFront mid new bytes) → IfErr r IsOutputFault → ExplainsText options text old new r
+      pub last_written : (mid new : Option (List ℕ)) (bytes : List ℕ) → bytes ≡ lines → (r : Answer)
+          → AppendsEnding options end replied mid → OnOk r (Appends mid new bytes)
+          → OnErr r (AppendsFront mid new bytes) → IfErr r IsOutputFault → ExplainsText options text old new r
       last_written mid new bytes same (Ok done) ending a b h = explained_text mid new ending (subst (Appends mid new) same a)
       last_written mid new bytes same (Err f) ending a b h = begun_explanations f mid new h ending (subst (AppendsFront mid new) same b)
 
   -- ---- an input that is taken
 
   -- an error of the input stops the reading
-  pub stops_reading : (e : InputError) (left rest w : Option (List ℕ)) → TakesSome left rest → RunsInput (ExplainsText options) left rest w w (Err (input_fault e))
+  pub stops_reading : (e : InputError) (left rest w : Option (List ℕ)) → TakesSome left rest
+      → RunsInput (ExplainsText options) left rest w w (Err (input_fault e))
   stops_reading input.OutOfMemory left rest w takes = inl (record { takes = takes; keeps = Keeps-refl w })
   stops_reading input.ReadFailed left rest w takes = record { takes = takes; keeps = Keeps-refl w }
 
   -- what was taken is run
-  pub runs_taken : (left rest old new : Option (List ℕ)) (taken text : List ℕ) (result : Answer) → TakesAll left rest taken → text ≡ taken → ExplainsText options text old new result → is_read_failed result ≡ false → RunsInput (ExplainsText options) left rest old new result
+  pub runs_taken : (left rest old new : Option (List ℕ)) (taken text : List ℕ) (result : Answer)
+      → TakesAll left rest taken → text ≡ taken → ExplainsText options text old new result
+      → is_read_failed result ≡ false → RunsInput (ExplainsText options) left rest old new result
   runs_taken left rest old new taken text result takes same runs no_read_failed =
-      at_result result (record { taken = taken; takes = takes; runs = subst (λ (t : List ℕ). ExplainsText options t old new result) same runs }) no_read_failed
+      at_result result (record {
+        taken = taken;
+        takes = takes;
+        runs = subst (λ (t : List ℕ). ExplainsText options t old new result) same runs;
+      }) no_read_failed
     where
-      at_result : (r : Answer) → RunsTaken (ExplainsText options) left rest old new r → is_read_failed r ≡ false → RunsInput (ExplainsText options) left rest old new r
+      at_result : (r : Answer) → RunsTaken (ExplainsText options) left rest old new r → is_read_failed r ≡ false
+          → RunsInput (ExplainsText options) left rest old new r
       at_result (Ok done) h none = h
       at_result (Err (BadScript n)) h none = h
       at_result (Err TooLong) h none = h
@@ -173,28 +220,40 @@ module _ (options : Options) where
       ]
 
   -- what was run is the script of the whole input
-  same_run : (input taken : List ℕ) (old new : Option (List ℕ)) (result : Answer) → script_of taken ≡ script_of input → ExplainsText options taken old new result → ExplainsText options input old new result
+  same_run : (input taken : List ℕ) (old new : Option (List ℕ)) (result : Answer) → script_of taken ≡ script_of input
+      → ExplainsText options taken old new result → ExplainsText options input old new result
   same_run input taken old new result same runs = record {
     faults = subst (λ (read : Result ScriptModel Fault). AgreesWith read result) same runs.faults;
-    writes = subst (λ (read : Result ScriptModel Fault). MatchResult result (λ _. ExplainsScript options old new read) (ExplainsAtFault options old new read)) same runs.writes;
+    writes =
+        subst (λ (read : Result ScriptModel Fault).
+        MatchResult result (λ _. ExplainsScript options old new read) (ExplainsAtFault options old new read)) same
+        runs.writes;
   }
 
   -- a known input that was taken was run
-  taken_known : (left rest old new : Option (List ℕ)) (result : Answer) → RunsTaken (ExplainsText options) left rest old new result → IfSome left (λ input. ExplainsText options input old new result)
+  taken_known : (left rest old new : Option (List ℕ)) (result : Answer)
+      → RunsTaken (ExplainsText options) left rest old new result
+      → IfSome left (λ input. ExplainsText options input old new result)
   taken_known None rest old new result h = tt
   taken_known (Some input) rest old new result h = same_run input h.taken old new result (same_script input rest h.taken h.takes) h.runs
 
   -- a known input of which some was taken was run as far as that
-  stopped_known : (left rest old new : Option (List ℕ)) (result : Answer) → ((input : List ℕ) → Keeps old new → ExplainsText options input old new result) → StopsReading left rest old new → IfSome left (λ input. ExplainsText options input old new result)
+  stopped_known : (left rest old new : Option (List ℕ)) (result : Answer)
+      → ((input : List ℕ) → Keeps old new → ExplainsText options input old new result) → StopsReading left rest old new
+      → IfSome left (λ input. ExplainsText options input old new result)
   stopped_known None rest old new result runs h = tt
   stopped_known (Some input) rest old new result runs h = runs input h.keeps
 
   -- a known input was run
-  pub input_known : (left rest old new : Option (List ℕ)) (result : Answer) → RunsInput (ExplainsText options) left rest old new result → IfSome left (λ input. ExplainsText options input old new result)
+  pub input_known : (left rest old new : Option (List ℕ)) (result : Answer)
+      → RunsInput (ExplainsText options) left rest old new result
+      → IfSome left (λ input. ExplainsText options input old new result)
   input_known left rest old new (Ok done) h = taken_known left rest old new (Ok done) h
   input_known left rest old new (Err (BadScript n)) h = taken_known left rest old new (Err (BadScript n)) h
   input_known left rest old new (Err TooLong) h = taken_known left rest old new (Err TooLong) h
-  input_known left rest old new (Err OutOfMemory) (inl h) = stopped_known left rest old new (Err OutOfMemory) (λ text keeps. record { faults = tt; writes = inl keeps }) h
+  input_known left rest old new (Err OutOfMemory) (inl h) =
+      stopped_known left rest old new (Err OutOfMemory) (λ text keeps. record { faults = tt; writes = inl keeps }) h
   input_known left rest old new (Err OutOfMemory) (inr h) = taken_known left rest old new (Err OutOfMemory) h
-  input_known left rest old new (Err ReadFailed) h = stopped_known left rest old new (Err ReadFailed) (λ text keeps. record { faults = tt; writes = keeps }) h
+  input_known left rest old new (Err ReadFailed) h =
+      stopped_known left rest old new (Err ReadFailed) (λ text keeps. record { faults = tt; writes = keeps }) h
   input_known left rest old new (Err WriteFailed) h = taken_known left rest old new (Err WriteFailed) h

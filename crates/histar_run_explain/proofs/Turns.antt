@@ -1,5 +1,6 @@
 -- A machine answers call lines in turn, and each is explained.
-use Rattle.std.proofs.Common.{◌≡◌, ℕ, ◌≤◌, Bool, true, false, List, [], ◌∷◌, ◌++◌, length, drop, Option, None, Some, Result, Ok, refl, sym, ap, ◌∙◌, subst, append-nil, append_assoc, arith}
+use Rattle.std.proofs.Common.{◌≡◌, ℕ, ◌≤◌, Bool, true, false, List, [], ◌∷◌, ◌++◌, length, drop, Option, None, Some, Result, Ok, refl, sym, ap, ◌∙◌}
+use Rattle.std.proofs.Common.{subst, append-nil, append_assoc, arith}
 use Rattle.std.proofs.lemmas.List.{length-append}
 use Rattle.std.proofs.lemmas.Grind.{flat_map-append}
 use Rattle.std.proofs.KnownBytes.{Appends-trans, Appends-nil}
@@ -38,11 +39,17 @@ dropped (e ∷ front) back = dropped front back
 -- ---- the entries of a line
 
 -- a line that is answered has a run, which is the new end of the trace
-line_goes : (old new : MachineModel) (line : ℕ) (me : ProcName) (call : UnixCall) (reply : Reply) → AnswersLine old new line me call (Ok reply) → GoesBy old.kernel new.kernel
+line_goes : (old new : MachineModel) (line : ℕ) (me : ProcName) (call : UnixCall) (reply : Reply)
+    → AnswersLine old new line me call (Ok reply) → GoesBy old.kernel new.kernel
 line_goes old new line me call reply h = by old.is_stopped h
   where
     found : (o : Option Caller) → AnswersFound o old new line me call (Ok reply) → GoesBy old.kernel new.kernel
-    found None k = record { entries = []; trace = ap (λ (m : MachineModel). m.kernel.trace) k.1 ∙ sym (append-nil old.kernel.trace); run = ap (λ (m : MachineModel). state m.kernel) k.1 }
+    found None k =
+        record {
+          entries = [];
+          trace = ap (λ (m : MachineModel). m.kernel.trace) k.1 ∙ sym (append-nil old.kernel.trace);
+          run = ap (λ (m : MachineModel). state m.kernel) k.1;
+        }
     found (Some caller) k =
         let goes = by_program (program_of old.users old.roots me caller call) (on_line line old.kernel) new.kernel caller.thread (Ok reply) k.made in
         record { entries = goes.entries; trace = goes.trace; run = goes.run }
@@ -51,7 +58,8 @@ line_goes old new line me call reply h = by old.is_stopped h
     by true k = absurd cc
     by false k = found (caller_at (state old.kernel) old.roots.home me) k
 
-module _ (old new : MachineModel) (a b : Option (List ℕ)) (asked : CallLine) (one : AnswersCall old new a b asked) (trace : List TraceEntry) (same : trace ≡ new.kernel.trace) where
+module _ (old new : MachineModel) (a b : Option (List ℕ)) (asked : CallLine) (one : AnswersCall old new a b asked)
+    (trace : List TraceEntry) (same : trace ≡ new.kernel.trace) where
   goes : GoesBy old.kernel new.kernel
   goes = line_goes old new asked.line asked.process asked.call one.reply one.answered
 
@@ -65,7 +73,10 @@ module _ (old new : MachineModel) (a b : Option (List ℕ)) (asked : CallLine) (
 
   module _ (n : ℕ) (is : n ≡ length old.kernel.trace) (first : State) (at : first ≡ state old.kernel) where
     run_on : IsRun first (drop n trace) (state new.kernel)
-    run_on = subst (λ (s : State). IsRun s (drop n trace) (state new.kernel)) (sym at) (subst (λ (es : List TraceEntry). IsRun (state old.kernel) es (state new.kernel)) (sym (new_end n is)) goes.run)
+    run_on =
+        subst (λ (s : State). IsRun s (drop n trace) (state new.kernel)) (sym at)
+        (subst (λ (es : List TraceEntry). IsRun (state old.kernel) es (state new.kernel)) (sym (new_end n is))
+        goes.run)
 
     pub runs_on : IsRunFrom first (drop n trace)
     runs_on = (state new.kernel, run_on)
@@ -75,7 +86,9 @@ module _ (old new : MachineModel) (a b : Option (List ℕ)) (asked : CallLine) (
     same_end last ends = ends (state new.kernel) run_on
 
     -- and its explanations are those of the line
-    line_explained : (last : State) (births : Births) (lines : List ℕ) → EndsAsRun first (drop n trace) last → ExplainsEntries (words_after new asked births) first (drop n trace) lines last → ExplainsCall old new a b asked births lines
+    line_explained : (last : State) (births : Births) (lines : List ℕ) → EndsAsRun first (drop n trace) last
+        → ExplainsEntries (words_after new asked births) first (drop n trace) lines last
+        → ExplainsCall old new a b asked births lines
     line_explained last births lines ends explained = record {
       answered = one;
       explained = record {
@@ -88,10 +101,14 @@ module _ (old new : MachineModel) (a b : Option (List ℕ)) (asked : CallLine) (
     }
 
     -- also where the words are by what the line names
-    pub line_said : (last : State) (clue : Clue) (births : Births) (lines : List ℕ) → clue ≡ clue_of asked.process asked.call → EndsAsRun first (drop n trace) last
-        → ExplainsEntries (words_at new.users new.roots (state new.kernel) clue births) first (drop n trace) lines last → ExplainsCall old new a b asked births lines
+    pub line_said : (last : State) (clue : Clue) (births : Births) (lines : List ℕ)
+        → clue ≡ clue_of asked.process asked.call → EndsAsRun first (drop n trace) last
+        → ExplainsEntries (words_at new.users new.roots (state new.kernel) clue births) first (drop n trace) lines last
+        → ExplainsCall old new a b asked births lines
     line_said last clue births lines named ends explained =
-        line_explained last births lines ends (subst (λ (x : Clue). ExplainsEntries (words_at new.users new.roots (state new.kernel) x births) first (drop n trace) lines last) named explained)
+        line_explained last births lines ends (subst (λ (x : Clue).
+        ExplainsEntries (words_at new.users new.roots (state new.kernel) x births) first (drop n trace)
+        lines last) named explained)
 
 -- a line that was answered has begun to be
 pub line_begins : (old new : MachineModel) (a b : Option (List ℕ)) (asked : CallLine) → AnswersCall old new a b asked → BeginsAnswer old new a b asked
@@ -99,17 +116,22 @@ line_begins old new a b asked one = record { outcome = Ok one.reply; answered = 
 
 -- the same entries are explained, and end so
 module _ (words : Words) (s last : State) (es fs : List TraceEntry) (same : es ≡ fs) where
-  pub entries_are : {X E : Type 0} (r : Result X E) (old new : List ℕ) → OnOk r (AddsEntries words s es last old new) → OnOk r (AddsEntries words s fs last old new)
+  pub entries_are : {X E : Type 0} (r : Result X E) (old new : List ℕ) → OnOk r (AddsEntries words s es last old new)
+      → OnOk r (AddsEntries words s fs last old new)
   entries_are r old new h = subst (λ (l : List TraceEntry). OnOk r (AddsEntries words s l last old new)) same h
 
-pub ends_are : {X E : Type 0} (r : Result X E) (s last : State) (es fs : List TraceEntry) → es ≡ fs → OnOk r (EndsAsRun s es last) → OnOk r (EndsAsRun s fs last)
+pub ends_are : {X E : Type 0} (r : Result X E) (s last : State) (es fs : List TraceEntry) → es ≡ fs
+    → OnOk r (EndsAsRun s es last) → OnOk r (EndsAsRun s fs last)
 ends_are r s last es fs same h = subst (λ (l : List TraceEntry). OnOk r (EndsAsRun s l last)) same h
 
 -- ---- boot
 
-module _ (k : KernelModel) (traced : IsTraced k) (first : State) (empty : first ≡ empty_state) (trace : List TraceEntry) (same : trace ≡ k.trace) where
+module _ (k : KernelModel) (traced : IsTraced k) (first : State) (empty : first ≡ empty_state) (trace : List TraceEntry)
+    (same : trace ≡ k.trace) where
   boot_run : IsRun first trace (state k)
-  boot_run = subst (λ (s : State). IsRun s trace (state k)) (sym empty) (subst (λ (es : List TraceEntry). IsRun empty_state es (state k)) (sym same) traced)
+  boot_run =
+      subst (λ (s : State). IsRun s trace (state k)) (sym empty)
+      (subst (λ (es : List TraceEntry). IsRun empty_state es (state k)) (sym same) traced)
 
   -- the trace of boot is a run from the empty kernel
   pub boot_runs : IsRunFrom first trace
@@ -122,25 +144,38 @@ module _ (k : KernelModel) (traced : IsTraced k) (first : State) (empty : first 
 -- ---- lines in turn
 
 -- a machine that explains in turn answers in turn
-pub answers_in_turn : (m : MachineModel) (births : Births) (answers : List RepliedCall) (text : List ℕ) (end : MachineModel) (born : Births) → ExplainsInTurn m births answers text end born → AnswersInTurn m answers end
+pub answers_in_turn : (m : MachineModel) (births : Births) (answers : List RepliedCall) (text : List ℕ)
+    (end : MachineModel) (born : Births) → ExplainsInTurn m births answers text end born → AnswersInTurn m answers end
 answers_in_turn m births [] text end born h = h.1
 answers_in_turn m births (a ∷ answers) text end born h = (h.0, h.3, answers_in_turn h.0 (births_by h.0 a.call births) answers h.2 end born h.6)
 
-abbrev pub answers_calls : (m end : MachineModel) (a b : Option (List ℕ)) (calls : List CallLine) (text : List ℕ) (born : Births) → ExplainsCalls m end a b calls text born → AnswersCalls m end a b calls
-answers_calls m end a b calls text born h = record { answers = h.answers; each = h.each; in_turn = answers_in_turn m [] h.answers text end born h.in_turn; written = h.written }
+abbrev pub answers_calls : (m end : MachineModel) (a b : Option (List ℕ)) (calls : List CallLine) (text : List ℕ)
+    (born : Births) → ExplainsCalls m end a b calls text born → AnswersCalls m end a b calls
+answers_calls m end a b calls text born h =
+    record {
+      answers = h.answers;
+      each = h.each;
+      in_turn = answers_in_turn m [] h.answers text end born h.in_turn;
+      written = h.written;
+    }
 
 -- no line
 pub explains_none : (m : MachineModel) (a : Option (List ℕ)) → ExplainsCalls m m a a [] [] []
 explains_none m a = record { answers = []; each = refl; in_turn = (refl, refl, refl); written = Appends-nil a }
 
-module _ (mid last : MachineModel) (born : Births) (a : RepliedCall) (lines : List ℕ) (answered : AnswersLine mid last a.call.line a.call.process a.call.call (Ok a.reply)) (explained : ExplainsLine mid last a.call (births_by last a.call born) lines) where
-  turn_more : (first : MachineModel) (births : Births) (answers : List RepliedCall) (text : List ℕ) → ExplainsInTurn first births answers text mid born → ExplainsInTurn first births (answers ++ a ∷ []) (text ++ lines) last (births_by last a.call born)
+module _ (mid last : MachineModel) (born : Births) (a : RepliedCall) (lines : List ℕ)
+    (answered : AnswersLine mid last a.call.line a.call.process a.call.call (Ok a.reply))
+    (explained : ExplainsLine mid last a.call (births_by last a.call born) lines) where
+  turn_more : (first : MachineModel) (births : Births) (answers : List RepliedCall) (text : List ℕ)
+      → ExplainsInTurn first births answers text mid born
+      → ExplainsInTurn first births (answers ++ a ∷ []) (text ++ lines) last (births_by last a.call born)
   turn_more first births [] text done = (
     last,
     lines,
     [],
     subst (λ (m : MachineModel). AnswersLine m last a.call.line a.call.process a.call.call (Ok a.reply)) done.1 answered,
-    subst (λ (m : MachineModel). ExplainsLine m last a.call (births_by last a.call births) lines) done.1 (subst (λ (b : Births). ExplainsLine mid last a.call (births_by last a.call b) lines) done.2 explained),
+    subst (λ (m : MachineModel). ExplainsLine m last a.call (births_by last a.call births) lines) done.1
+        (subst (λ (b : Births). ExplainsLine mid last a.call (births_by last a.call b) lines) done.2 explained),
     ap (λ (l : List ℕ). l ++ lines) done.0 ∙ sym (append-nil lines),
     (refl, refl, ap (births_by last a.call) done.2),
   )
@@ -159,14 +194,21 @@ text_more : (answers : List RepliedCall) (a : RepliedCall) → answers_text (ans
 text_more answers a = flat_map-append answer_text answers (a ∷ []) ∙ ap (λ (l : List ℕ). answers_text answers ++ l) (append-nil (answer_text a))
 
 -- one line more
-module _ (first mid last : MachineModel) (a b c : Option (List ℕ)) (calls : List CallLine) (call : CallLine) (text lines : List ℕ) (old new : Births) where
-  pub explains_more : ExplainsCalls first mid a b calls text old → new ≡ births_by last call old → ExplainsCall mid last b c call new lines → ExplainsCalls first last a c (calls ++ call ∷ []) (text ++ lines) new
+module _ (first mid last : MachineModel) (a b c : Option (List ℕ)) (calls : List CallLine) (call : CallLine)
+    (text lines : List ℕ) (old new : Births) where
+  pub explains_more : ExplainsCalls first mid a b calls text old → new ≡ births_by last call old
+      → ExplainsCall mid last b c call new lines → ExplainsCalls first last a c (calls ++ call ∷ []) (text ++ lines) new
   explains_more done is one =
       let next : RepliedCall = record { call = call; reply = one.answered.reply } in
       let explained = subst (λ (births : Births). ExplainsLine mid last call births lines) is one.explained in
       record {
         answers = done.answers ++ next ∷ [];
         each = calls_more done.answers next ∙ ap (λ (l : List CallLine). l ++ call ∷ []) done.each;
-        in_turn = subst (λ (births : Births). ExplainsInTurn first [] (done.answers ++ next ∷ []) (text ++ lines) last births) (sym is) (turn_more mid last old next lines one.answered.answered explained first [] done.answers text done.in_turn);
-        written = subst (Appends a c) (sym (text_more done.answers next)) (Appends-trans a b c (answers_text done.answers) (answer_text next) done.written one.answered.written);
+        in_turn =
+            subst (λ (births : Births). ExplainsInTurn first [] (done.answers ++ next ∷ []) (text ++ lines) last births)
+            (sym is) (turn_more mid last old next lines one.answered.answered explained first [] done.answers text
+            done.in_turn);
+        written =
+            subst (Appends a c) (sym (text_more done.answers next))
+            (Appends-trans a b c (answers_text done.answers) (answer_text next) done.written one.answered.written);
       }

@@ -5,7 +5,8 @@ ghost use Rattle.histar_flat.specs.Words.{most_numbers};
 ghost use Rattle.histar_flat.specs.Accounts.{most_groups, most_users};
 ghost use Rattle.histar_login.specs.Start.{declared};
 ghost use Rattle.histar_syscall.specs.KernelModel.{state};
-ghost use Rattle.histar_run_explain.specs.Purposes.{boot_purpose, has_three, has_zero, inner_label, job_by, outer_label, pair_purpose, purpose_born, purpose_by, purpose_of, purpose_up};
+ghost use Rattle.histar_run_explain.specs.Purposes.{boot_purpose, has_three, has_zero, inner_label, job_by, outer_label};
+ghost use Rattle.histar_run_explain.specs.Purposes.{pair_purpose, purpose_born, purpose_by, purpose_of, purpose_up};
 
 use crate::clues::Clue;
 use crate::homes::{home_at, name_of};

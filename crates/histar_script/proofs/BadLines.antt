@@ -1,5 +1,6 @@
 -- A first bad line by the grammar is the one that reading answers, and each text is a script or has one.
-use Rattle.std.proofs.Common.{◌≡◌, ℕ, ◌+◌, ◌-◌, ◌<◌, ◌≤◌, ◌⊎◌, Bool, true, false, cond, eqb, List, [], ◌∷◌, length, take, Option, Some, None, Result, Ok, Err, refl, sym, ap, subst, ◌∙◌, inl, inr, arith}
+use Rattle.std.proofs.Common.{◌≡◌, ℕ, ◌+◌, ◌-◌, ◌<◌, ◌≤◌, ◌⊎◌, Bool, true, false, cond, eqb, List, [], ◌∷◌, length, take, Option, Some, None, Result}
+use Rattle.std.proofs.Common.{Ok, Err, refl, sym, ap, subst, ◌∙◌, inl, inr, arith}
 use Rattle.std.proofs.lemmas.Bool.{cases_lt}
 use Rattle.std.proofs.lemmas.List.{length-take-le, take-take, take_all}
 use Rattle.histar_script.specs.declared.fault.Fault.{Fault}
@@ -21,7 +22,8 @@ ended_so true n s = inr (n, refl)
 ended_so false n s = inl (s, refl)
 
 -- and so is what follows a line
-after_so : (n : ℕ) (rest : ScriptModel → Result ScriptModel Fault) (o : Option ScriptModel) → ((m : ScriptModel) → IsAnswered (rest m)) → IsAnswered (after n rest o)
+after_so : (n : ℕ) (rest : ScriptModel → Result ScriptModel Fault) (o : Option ScriptModel)
+    → ((m : ScriptModel) → IsAnswered (rest m)) → IsAnswered (after n rest o)
 after_so n rest None later = inr (n, refl)
 after_so n rest (Some m) later = later m
 
@@ -37,7 +39,8 @@ unfolding reading
 answered text = lines_so nothing_read 0 (lines_of text)
 
 -- lines that are taken without a user are bad after their last
-userless : (s : ScriptModel) (n : ℕ) (lines : List (List ℕ)) (t : ScriptModel) → TakesLines s n lines t → t.accounts.users ≡ [] → with_lines s n lines ≡ Err (BadScript (n + length lines + 1))
+userless : (s : ScriptModel) (n : ℕ) (lines : List (List ℕ)) (t : ScriptModel) → TakesLines s n lines t
+    → t.accounts.users ≡ [] → with_lines s n lines ≡ Err (BadScript (n + length lines + 1))
 unfolding with_lines
 userless s n [] t taken none =
     let here : s.accounts.users ≡ [] = ap (λ (x : ScriptModel). x.accounts.users) (sym taken) ∙ none in
@@ -57,7 +60,9 @@ not_before text n m later sooner lt =
     let whole : length front ≡ n - 1 = length-take-le (n - 1) (lines_of text) (omega arith) in
     let begun : take (n - 1) (lines_of later.some.0) ≡ front = subst (λ (k : ℕ). take k (lines_of later.some.0) ≡ front) whole later.some.2 in
     let le : m ≤ n - 1 = omega arith in
-    let same : take m (lines_of later.some.0) ≡ take m (lines_of text) = sym (take-take m (n - 1) (lines_of later.some.0) le) ∙ ap (take m) begun ∙ take-take m (n - 1) (lines_of text) le in
+    let same : take m (lines_of later.some.0) ≡ take m (lines_of text) =
+    sym (take-take m (n - 1) (lines_of later.some.0) le) ∙ ap (take m) begun
+    ∙ take-take m (n - 1) (lines_of text) le in
     sooner.none (omega arith) later.some.0 later.some.1 same later.some.3
 
 -- a text has one first bad line at most

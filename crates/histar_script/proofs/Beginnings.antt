@@ -1,5 +1,6 @@
 -- Some script begins with lines that are right.
-use Rattle.std.proofs.Common.{◌≡◌, ◌≢◌, ℕ, ◌+◌, ◌<◌, Bool, true, false, not, eqb, leb, List, [], ◌∷◌, ◌++◌, length, take, codes, refl, sym, ap, subst, ◌∙◌, inl, inr, arith, append_assoc, append-nil, length-append}
+use Rattle.std.proofs.Common.{◌≡◌, ◌≢◌, ℕ, ◌+◌, ◌<◌, Bool, true, false, not, eqb, leb, List, [], ◌∷◌, ◌++◌, length, take, codes, refl, sym, ap, subst}
+use Rattle.std.proofs.Common.{◌∙◌, inl, inr, arith, append_assoc, append-nil, length-append}
 use Rattle.std.specs.List.{list_all, flat_map, AllByRecursion}
 use Rattle.std.proofs.lemmas.Bool.{false≢true, cases_lt, eqb-true, and_parts, not-true}
 use Rattle.std.proofs.lemmas.List.Elements.{All-nil}
@@ -38,7 +39,8 @@ line_back (b ∷ bs) rest h =
 lines_back : (lines : List (List ℕ)) (rest : List ℕ) → AllByRecursion IsOneLine lines → lines_of (with_ends lines ++ rest) ≡ lines ++ lines_of rest
 lines_back [] rest h = refl
 lines_back (line ∷ lines) rest h =
-    ap lines_of (simp append_assoc) ∙ line_back line (with_ends lines ++ rest) h.0 ∙ ap (λ (ls : List (List ℕ)). line ∷ ls) (lines_back lines rest h.1)
+    ap lines_of (simp append_assoc) ∙ line_back line (with_ends lines ++ rest) h.0
+    ∙ ap (λ (ls : List (List ℕ)). line ∷ ls) (lines_back lines rest h.1)
 
 -- a printable byte ends no line
 plain_is_no_end : (b : ℕ) → is_plain_byte b ≡ true → is_no_end b ≡ true
@@ -46,7 +48,9 @@ plain_is_no_end b h = no_end (eqb b 10) refl
   where
     no_end : (t : Bool) → eqb b 10 ≡ t → not (eqb b 10) ≡ true
     no_end false e = rw e refl
-    no_end true e = let same : b ≡ 10 = eqb-true b 10 e in let bad : is_plain_byte 10 ≡ true = subst (λ (x : ℕ). is_plain_byte x ≡ true) same h in absurd (false≢true bad)
+    no_end true e =
+        let same : b ≡ 10 = eqb-true b 10 e in let bad : is_plain_byte 10
+        ≡ true = subst (λ (x : ℕ). is_plain_byte x ≡ true) same h in absurd (false≢true bad)
 
 -- printable bytes are one line
 plain_bytes : (line : List ℕ) → list_all is_plain_byte line ≡ true → IsOneLine line
@@ -65,8 +69,16 @@ taken_are_lines s k [] t h = tt
 taken_are_lines s k (line ∷ lines) t h = (said_is_one_line line h.1.0 h.1.1, taken_are_lines h.0 (k + 1) lines t h.2)
 
 -- one more line is taken after the others
-pub takes_on : (s : ScriptModel) (k n : ℕ) (lines : List (List ℕ)) (t : ScriptModel) (line : List ℕ) (u : ScriptModel) → TakesLines s k lines t → n ≡ k + length lines + 1 → Takes t n line u → TakesLines s k (lines ++ line ∷ []) u
-takes_on s k n [] t line u h is next = let number : n ≡ k + 1 = omega arith in (u, subst (λ (x : ℕ). Takes s x line u) number (subst (λ (x : ScriptModel). Takes x n line u) h next), refl)
+pub takes_on : (s : ScriptModel) (k n : ℕ) (lines : List (List ℕ)) (t : ScriptModel) (line : List ℕ) (u : ScriptModel)
+    → TakesLines s k lines t → n ≡ k + length lines + 1 → Takes t n line u → TakesLines s k (lines ++ line ∷ []) u
+takes_on s k n [] t line u h is next =
+    let number : n
+    ≡ k
+    + 1 = omega arith in (
+      u,
+      subst (λ (x : ℕ). Takes s x line u) number (subst (λ (x : ScriptModel). Takes x n line u) h next),
+      refl,
+    )
 takes_on s k n (first ∷ lines) t line u h is next = (h.0, h.1, takes_on h.0 (k + 1) n lines t line u h.2 (omega arith) next)
 
 -- where there is no user, there is no call and no group
@@ -85,8 +97,15 @@ no_members users g none is =
 -- an item that adds no user adds no call and no group where there is no user
 still : (s t : ScriptModel) (n : ℕ) (i : Item) → IsBlank s → Adds s n i t → IsBlank t
 still s t n items.Comment here added = subst IsBlank (sym added) here
-still s t n (items.User u) here added = λ none. (ap (λ (x : ScriptModel). x.calls) added.4 ∙ added.0, ap (λ (x : ScriptModel). x.accounts.groups) added.4 ∙ added.1)
-still s t n (items.Group g) here added = λ none. absurd (no_members s.accounts.users g (sym (ap (λ (x : ScriptModel). x.accounts.users) added.5) ∙ none) added.4)
+still s t n (items.User u) here added =
+    λ none. (
+      ap (λ (x : ScriptModel). x.calls) added.4 ∙ added.0,
+      ap (λ (x : ScriptModel). x.accounts.groups) added.4
+          ∙ added.1,
+    )
+still s t n (items.Group g) here added =
+    λ none.
+    absurd (no_members s.accounts.users g (sym (ap (λ (x : ScriptModel). x.accounts.users) added.5) ∙ none) added.4)
 still s t n (items.Call p c) here added = λ e.
     let none : s.accounts.users ≡ [] = sym (ap (λ (x : ScriptModel). x.accounts.users) added.2) ∙ e in
     let some : 0 < length s.accounts.users = added.0 in
@@ -132,19 +151,27 @@ no_lines_left = refl
 -- where there is no user yet, the user line makes a script
 begun_without : (lines : List (List ℕ)) (t : ScriptModel) → TakesLines nothing_read 0 lines t → t.accounts.users ≡ [] → BeginsSome lines
 begun_without lines t h none =
-    let is : lines_of (with_ends lines ++ user_line) ≡ lines ++ user_line ∷ [] = lines_back lines user_line (taken_are_lines nothing_read 0 lines t h) ∙ ap (λ (l : List (List ℕ)). lines ++ l) user_line_alone in
+    let is : lines_of (with_ends lines ++ user_line) ≡ lines ++ user_line ∷ [] =
+    lines_back lines user_line (taken_are_lines nothing_read 0 lines t h)
+    ∙ ap (λ (l : List (List ℕ)). lines ++ l) user_line_alone in
     let next = takes_user t (length lines + 1) none (stays_blank nothing_read 0 lines t (λ _. (refl, refl)) h) in
     let all = takes_on nothing_read 0 (length lines + 1) lines t user_line (with_a t) h (omega arith) next in (
       with_ends lines ++ user_line,
       with_a t,
       ap (take (length lines)) is ∙ take_at lines (user_line ∷ []) (length lines) refl,
-      (subst (λ (l : List (List ℕ)). TakesLines nothing_read 0 l (with_a t)) (sym is) all, omega (arith, length-append t.accounts.users (user_a ∷ []))),
+      (
+        subst (λ (l : List (List ℕ)). TakesLines nothing_read 0 l (with_a t)) (sym is) all,
+        omega
+            (arith, length-append t.accounts.users (user_a ∷ [])),
+      ),
     )
 
 -- where there is a user, the lines are a script
 begun_with : (lines : List (List ℕ)) (t : ScriptModel) → TakesLines nothing_read 0 lines t → 0 < length t.accounts.users → BeginsSome lines
 begun_with lines t h some =
-    let is : lines_of (with_ends lines ++ []) ≡ lines ++ [] = lines_back lines [] (taken_are_lines nothing_read 0 lines t h) ∙ ap (λ (l : List (List ℕ)). lines ++ l) no_lines_left in (
+    let is : lines_of (with_ends lines ++ []) ≡ lines ++ [] =
+    lines_back lines [] (taken_are_lines nothing_read 0 lines t h)
+    ∙ ap (λ (l : List (List ℕ)). lines ++ l) no_lines_left in (
       with_ends lines ++ [],
       t,
       ap (take (length lines)) is ∙ take_at lines [] (length lines) refl,

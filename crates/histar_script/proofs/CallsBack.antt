@@ -41,7 +41,8 @@ user_takes text u e =
     )
 
 -- and the other way
-pub user_again : (name password : List ℕ) → is_user_name name ≡ true → is_password password ≡ true → user_of (name space password) ≡ Some (made_user name password)
+pub user_again : (name password : List ℕ) → is_user_name name ≡ true → is_password password ≡ true
+    → user_of (name space password) ≡ Some (made_user name password)
 unfolding user_of
 user_again name password h k = rw (split_name name password (user_name_is_name name h), h, k) refl
 

@@ -1,5 +1,6 @@
 -- Which line is the first bad one.
-use Rattle.std.proofs.Common.{◌≡◌, ℕ, zero, suc, ◌+◌, ◌-◌, ◌<◌, ◌≤◌, eqb, List, [], ◌∷◌, length, take, Option, Some, None, Result, Ok, Err, refl, sym, ap, ◌∙◌, inl, inr, arith}
+use Rattle.std.proofs.Common.{◌≡◌, ℕ, zero, suc, ◌+◌, ◌-◌, ◌<◌, ◌≤◌, eqb, List, [], ◌∷◌, length, take, Option, Some, None, Result, Ok, Err, refl, sym}
+use Rattle.std.proofs.Common.{ap, ◌∙◌, inl, inr, arith}
 use Rattle.histar_flat.proofs.Options.{either_chosen}
 use Rattle.histar_script.specs.declared.fault.Fault.{Fault}
 use Rattle.histar_script.specs.declared.fault.Fault.TheVariants.{BadScript}
@@ -24,7 +25,9 @@ same_line : (n k : ℕ) → failed n ≡ failed k → n ≡ k
 same_line n k e = cc
 
 -- a bad line is after the lines before it, by one more line
-bad_step : (s : ScriptModel) (k n : ℕ) (lines : List (List ℕ)) (o : Option ScriptModel) → after (k + 1) (λ m. with_lines m (k + 1) lines) o ≡ failed n → ((m : ScriptModel) → with_lines m (k + 1) lines ≡ failed n → k + 1 < n) → k < n
+bad_step : (s : ScriptModel) (k n : ℕ) (lines : List (List ℕ)) (o : Option ScriptModel)
+    → after (k + 1) (λ m. with_lines m (k + 1) lines) o ≡ failed n
+    → ((m : ScriptModel) → with_lines m (k + 1) lines ≡ failed n → k + 1 < n) → k < n
 bad_step s k n lines None e later = let same : k + 1 ≡ n = same_line (k + 1) n e in omega arith
 bad_step s k n lines (Some m) e later = omega (arith, later m e)
 
@@ -32,11 +35,14 @@ bad_step s k n lines (Some m) e later = omega (arith, later m e)
 pub later_bad : (s : ScriptModel) (k : ℕ) (lines : List (List ℕ)) (n : ℕ) → with_lines s k lines ≡ failed n → k < n
 unfolding with_lines
 later_bad s k [] n e =
-    elim (either_chosen (eqb (length s.accounts.users) 0) (failed (k + 1)) (Ok s) (failed n) e) [ inl h ↦ let same : k + 1 ≡ n = same_line (k + 1) n h.1 in omega arith | inr h ↦ absurd cc ]
+    elim (either_chosen (eqb (length s.accounts.users) 0) (failed (k + 1)) (Ok s) (failed n) e)
+    [ inl h ↦ let same : k + 1 ≡ n = same_line (k + 1) n h.1 in omega arith | inr h ↦ absurd cc ]
 later_bad s k (line ∷ lines) n e = bad_step s k n lines (with_line s (k + 1) line) e (λ m h. later_bad m (k + 1) lines n h)
 
 -- what begins with the same lines as a text whose line n is bad is no script
-no_script : (s : ScriptModel) (k : ℕ) (lines others : List (List ℕ)) (n j : ℕ) (t : ScriptModel) → with_lines s k lines ≡ failed n → n ≡ k + j → j ≤ length lines → take j others ≡ take j lines → with_lines s k others ≡ Ok t → ⊥
+no_script : (s : ScriptModel) (k : ℕ) (lines others : List (List ℕ)) (n j : ℕ) (t : ScriptModel)
+    → with_lines s k lines ≡ failed n → n ≡ k + j → j ≤ length lines → take j others ≡ take j lines
+    → with_lines s k others ≡ Ok t → ⊥
 unfolding with_lines
 no_script s k [] others n j t bad is le same ok = let late = later_bad s k [] n bad in omega arith
 no_script s k (line ∷ lines) others n zero t bad is le same ok = let late = later_bad s k (line ∷ lines) n bad in omega arith
@@ -53,26 +59,38 @@ no_script s k (line ∷ lines) (other ∷ others) n (suc j) t bad is le same ok 
 pub begins_none : (text : List ℕ) (n : ℕ) → reading text ≡ Err (BadScript n) → n ≤ length (lines_of text) → BeginsNone text n
 unfolding reading
 begins_none text n bad le other script same is =
-    no_script nothing_read 0 (lines_of text) (lines_of other) n n script bad (omega arith) le same (lines_again nothing_read 0 (lines_of other) script is.0 is.1)
+    no_script nothing_read 0 (lines_of text) (lines_of other) n n script bad (omega arith) le same
+    (lines_again nothing_read 0 (lines_of other) script is.0 is.1)
 
 -- the lines before a bad line are right, by one more line
-before_step : (s : ScriptModel) (k : ℕ) (line : List ℕ) (lines : List (List ℕ)) (n j : ℕ) (o : Option ScriptModel) → with_line s (k + 1) line ≡ o → after (k + 1) (λ m. with_lines m (k + 1) lines) o ≡ failed n → n ≡ k + suc (suc j)
-    → ((m : ScriptModel) → with_lines m (k + 1) lines ≡ failed n → (t : ScriptModel) × TakesLines m (k + 1) (take j lines) t × (length lines ≤ j → t.accounts.users ≡ []) × (j ≤ length lines))
-    → (t : ScriptModel) × TakesLines s k (take (suc j) (line ∷ lines)) t × (length (line ∷ lines) ≤ suc j → t.accounts.users ≡ []) × (suc j ≤ length (line ∷ lines))
+before_step : (s : ScriptModel) (k : ℕ) (line : List ℕ) (lines : List (List ℕ)) (n j : ℕ) (o : Option ScriptModel)
+    → with_line s (k + 1) line ≡ o → after (k + 1) (λ m. with_lines m (k + 1) lines) o ≡ failed n → n ≡ k + suc (suc j)
+    → ((m : ScriptModel) → with_lines m (k + 1) lines ≡ failed n
+    → (t : ScriptModel) × TakesLines m (k + 1) (take j lines) t × (length lines ≤ j → t.accounts.users ≡ [])
+    × (j ≤ length lines))
+    → (t : ScriptModel) × TakesLines s k (take (suc j) (line ∷ lines)) t
+    × (length (line ∷ lines) ≤ suc j → t.accounts.users ≡ []) × (suc j ≤ length (line ∷ lines))
 before_step s k line lines n j None met bad is later = let same : k + 1 ≡ n = same_line (k + 1) n bad in absurd (omega arith)
 before_step s k line lines n j (Some m) met bad is later =
     let r = later m bad in
     (r.0, (m, line_takes s (k + 1) line m met, r.1), (λ le. r.2 (omega arith)), omega (arith, r.3))
 
 -- the lines before a bad line are right
-before_bad : (s : ScriptModel) (k : ℕ) (lines : List (List ℕ)) (n j : ℕ) → with_lines s k lines ≡ failed n → n ≡ k + suc j → (t : ScriptModel) × TakesLines s k (take j lines) t × (length lines ≤ j → t.accounts.users ≡ []) × (j ≤ length lines)
+before_bad : (s : ScriptModel) (k : ℕ) (lines : List (List ℕ)) (n j : ℕ) → with_lines s k lines ≡ failed n
+    → n ≡ k + suc j
+    → (t : ScriptModel) × TakesLines s k (take j lines) t × (length lines ≤ j → t.accounts.users ≡ [])
+    × (j ≤ length lines)
 unfolding with_lines
 before_bad s k [] n zero bad is =
-    elim (either_chosen (eqb (length s.accounts.users) 0) (failed (k + 1)) (Ok s) (failed n) bad) [ inl h ↦ (s, refl, (λ _. none_left s.accounts.users h.0), omega arith) | inr h ↦ absurd cc ]
+    elim (either_chosen (eqb (length s.accounts.users) 0) (failed (k + 1)) (Ok s) (failed n) bad)
+    [ inl h ↦ (s, refl, (λ _. none_left s.accounts.users h.0), omega arith) | inr h ↦ absurd cc ]
 before_bad s k [] n (suc j) bad is =
-    elim (either_chosen (eqb (length s.accounts.users) 0) (failed (k + 1)) (Ok s) (failed n) bad) [ inl h ↦ let same : k + 1 ≡ n = same_line (k + 1) n h.1 in absurd (omega arith) | inr h ↦ absurd cc ]
+    elim (either_chosen (eqb (length s.accounts.users) 0) (failed (k + 1)) (Ok s) (failed n) bad)
+    [ inl h ↦ let same : k + 1 ≡ n = same_line (k + 1) n h.1 in absurd (omega arith) | inr h ↦ absurd cc ]
 before_bad s k (line ∷ lines) n zero bad is = (s, refl, (λ le. absurd (omega arith)), omega arith)
-before_bad s k (line ∷ lines) n (suc j) bad is = before_step s k line lines n j (with_line s (k + 1) line) refl bad is (λ m h. before_bad m (k + 1) lines n j h (omega arith))
+before_bad s k (line ∷ lines) n (suc j) bad is =
+    before_step s k line lines n j (with_line s (k + 1) line) refl bad is
+    (λ m h. before_bad m (k + 1) lines n j h (omega arith))
 
 -- a line that is found bad is the first bad one
 pub first_bad : (text : List ℕ) (n : ℕ) → reading text ≡ Err (BadScript n) → IsFirstBad text n

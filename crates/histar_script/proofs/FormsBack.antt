@@ -1,5 +1,6 @@
 -- What a form of calls makes of a text is spelled by it, and a text that it spells makes the call.
-use Rattle.std.proofs.Common.{rules, ◌≡◌, ◌⊎◌, ℕ, zero, suc, ◌<◌, Bool, true, false, not, cond, ◌&&◌, List, [], ◌∷◌, ◌++◌, length, get_or, Option, Some, None, refl, sym, ap, subst, ◌∙◌, inl, inr, arith}
+use Rattle.std.proofs.Common.{rules, ◌≡◌, ◌⊎◌, ℕ, zero, suc, ◌<◌, Bool, true, false, not, cond, ◌&&◌, List, [], ◌∷◌, ◌++◌, length, get_or, Option}
+use Rattle.std.proofs.Common.{Some, None, refl, sym, ap, subst, ◌∙◌, inl, inr, arith}
 use Rattle.std.specs.List.{Any, AllByRecursion, list_all}
 use Rattle.std.specs.Option.{option_map}
 use Rattle.std.specs.Str.{bytes_eq}
@@ -11,7 +12,8 @@ use Rattle.histar_flat.proofs.Options.{bind_some, either_chosen}
 use Rattle.histar_flat.proofs.SplitLemmas.{lacks, split_before, split_alone}
 use Rattle.histar_script.specs.Lines.{split_word, ◌space◌}
 use Rattle.histar_flat.specs.Calls.{IsCall}
-use Rattle.histar_script.specs.CallForms.{Argument, Value, Spells, CallForm, alone, one, two, writing_calls, reading_calls, entry_calls, process_calls, call_forms}
+use Rattle.histar_script.specs.CallForms.{Argument, Value, Spells, CallForm, alone, one, two, writing_calls, reading_calls, entry_calls}
+use Rattle.histar_script.specs.CallForms.{process_calls, call_forms}
 use Rattle.histar_script.specs.Reading.{◌>>=◌, value_of, two_values_of, form_word, call_by, call_among}
 use Rattle.histar_script.specs.Grammar.{SpellsCall, IsCallText}
 use Rattle.histar_script.specs.Laws.{Makes, EachCallHasForm}

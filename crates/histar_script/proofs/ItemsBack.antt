@@ -109,7 +109,9 @@ abbrev item_by : List ℕ × Option (List ℕ) → Option Item
 item_by w = w.1 >>= line_by w.0
 
 -- a call line that is spelled is read
-call_line_again : (process : ProcName) (rest : List ℕ) (c : UnixCall) → is_plain (process_text process space rest) ≡ true → is_process process ≡ true → IsCallText rest c → item_of (process_text process space rest) ≡ Some (items.Call process c)
+call_line_again : (process : ProcName) (rest : List ℕ) (c : UnixCall)
+    → is_plain (process_text process space rest) ≡ true → is_process process ≡ true → IsCallText rest c
+    → item_of (process_text process space rest) ≡ Some (items.Call process c)
 unfolding words_item
 call_line_again process rest c plain named said =
     let begins = process_begins process in
@@ -124,10 +126,16 @@ call_line_again process rest c plain named said =
 words_again : (line : List ℕ) (i : Item) → is_plain line ≡ true → SaysInWords line i → item_of line ≡ Some i
 unfolding item_of words_item split_at_first
 words_again line items.Comment plain h = ap item_of h.1 ∙ rw (ap is_plain (sym h.1) ∙ plain) refl
-words_again line (items.User u) plain h = ap item_of h.spelled ∙ rw (ap is_plain (sym h.spelled) ∙ plain, user_again u.name u.password h.name h.password) refl
+words_again line (items.User u) plain h =
+    ap item_of h.spelled ∙ rw (ap is_plain (sym h.spelled) ∙ plain, user_again u.name u.password h.name h.password) refl
 words_again line (items.Group g) plain h =
     ap item_of h.spelled
-    ∙ rw (ap is_plain (sym h.spelled) ∙ plain, group_again g.name g.members h.name (list_all-from_AllPass is_user_name g.members h.members) h.some h.few) refl
+    ∙ rw (
+      ap is_plain (sym h.spelled)
+          ∙ plain,
+      group_again g.name g.members h.name (list_all-from_AllPass is_user_name g.members h.members)
+          h.some h.few,
+    ) refl
 words_again line (items.Call process c) plain h = ap item_of h.1 ∙ call_line_again process h.0 c (ap is_plain (sym h.1) ∙ plain) h.2 h.3
 
 -- and the other way

@@ -55,7 +55,9 @@ no_groups accounts none = record {
 }
 
 -- one group more, of a new name and with users as its members
-one_more : (accounts : Accounts) (g : Group) → AreGroups accounts → length accounts.groups < 8 → IsNamedGroup g → IsNoUser accounts.users g.name → All (λ h. h.name ≢ g.name) accounts.groups → IsMembership accounts.users g → AreGroups (with_group accounts g)
+one_more : (accounts : Accounts) (g : Group) → AreGroups accounts → length accounts.groups < 8 → IsNamedGroup g
+    → IsNoUser accounts.users g.name → All (λ h. h.name ≢ g.name) accounts.groups → IsMembership accounts.users g
+    → AreGroups (with_group accounts g)
 one_more accounts g k room named no_user new members = record {
   few = omega (arith, room, length-append accounts.groups (g ∷ []));
   named = All-push IsNamedGroup accounts.groups g k.named named;

@@ -35,37 +35,61 @@ module _ (job : ProcName) where
 
   -- a call of the job more leaves what is left as it was
   call_goes : (calls : List CallLine) (c : CallLine) → under_process job c.process ≡ true → without job (calls ++ c ∷ []) ≡ without job calls
-  call_goes calls c own = filter-append (λ x. not (under_process job x.process)) calls (c ∷ []) ∙ ap (λ (t : Bool). without job calls ++ (cond (not t) (c ∷ []) [])) own ∙ append-nil (without job calls)
+  call_goes calls c own =
+      filter-append (λ x. not (under_process job x.process)) calls (c ∷ [])
+      ∙ ap (λ (t : Bool). without job calls ++ (cond (not t) (c ∷ []) [])) own ∙ append-nil (without job calls)
 
   -- another call more is one more
-  call_stays : (calls : List CallLine) (c : CallLine) → under_process job c.process ≡ false → without job (calls ++ c ∷ []) ≡ without job calls ++ c ∷ []
-  call_stays calls c other = filter-append (λ x. not (under_process job x.process)) calls (c ∷ []) ∙ ap (λ (t : Bool). without job calls ++ (cond (not t) (c ∷ []) [])) other
+  call_stays : (calls : List CallLine) (c : CallLine) → under_process job c.process ≡ false
+      → without job (calls ++ c ∷ []) ≡ without job calls ++ c ∷ []
+  call_stays calls c other =
+      filter-append (λ x. not (under_process job x.process)) calls (c ∷ [])
+      ∙ ap (λ (t : Bool). without job calls ++ (cond (not t) (c ∷ []) [])) other
 
   -- what stays is taken as it was
-  stays : (old mid : ScriptModel) (n : ℕ) (line : List ℕ) (item : Item) → Says line item → is_job_item job (Some item) ≡ false → Adds (left old) n item (left mid) → Takes (left old) n (line_without job line) (left mid)
-  stays old mid n line item says other adds = subst (λ (l : List ℕ). Takes (left old) n l (left mid)) (sym (line_stays line item says other)) (item, says, adds)
+  stays : (old mid : ScriptModel) (n : ℕ) (line : List ℕ) (item : Item) → Says line item
+      → is_job_item job (Some item) ≡ false → Adds (left old) n item (left mid)
+      → Takes (left old) n (line_without job line) (left mid)
+  stays old mid n line item says other adds =
+      subst (λ (l : List ℕ). Takes (left old) n l (left mid)) (sym (line_stays line item says other)) (item, says, adds)
 
   -- a call line that is taken is taken as it is left
-  call_taken : (old mid : ScriptModel) (n : ℕ) (line : List ℕ) (p : ProcName) (c : UnixCall) → Says line (items.Call p c) → Adds old n (items.Call p c) mid → (b : Bool) → under_process job p ≡ b → Takes (left old) n (line_without job line) (left mid)
+  call_taken : (old mid : ScriptModel) (n : ℕ) (line : List ℕ) (p : ProcName) (c : UnixCall)
+      → Says line (items.Call p c) → Adds old n (items.Call p c) mid → (b : Bool) → under_process job p ≡ b
+      → Takes (left old) n (line_without job line) (left mid)
   call_taken old mid n line p c says adds true own =
-      let same : left mid ≡ left old = ap left adds.2 ∙ ap (λ (calls : List CallLine). record { accounts = old.accounts; calls = calls }) (call_goes old.calls (record { line = n; process = p; call = c }) own) in
+      let same : left mid ≡ left old =
+      ap left adds.2
+      ∙ ap (λ (calls : List CallLine). record { accounts = old.accounts; calls = calls })
+      (call_goes old.calls (record { line = n; process = p; call = c }) own) in
       subst (λ (l : List ℕ). Takes (left old) n l (left mid)) (sym (line_goes line (items.Call p c) says own)) (items.Comment, hash, same)
   call_taken old mid n line p c says adds false other =
-      let more = ap left adds.2 ∙ ap (λ (calls : List CallLine). record { accounts = old.accounts; calls = calls }) (call_stays old.calls (record { line = n; process = p; call = c }) other) in
+      let more =
+      ap left adds.2
+      ∙ ap (λ (calls : List CallLine). record { accounts = old.accounts; calls = calls })
+      (call_stays old.calls (record { line = n; process = p; call = c }) other) in
       stays old mid n line (items.Call p c) says other (adds.0, adds.1, more)
 
   -- a line that is taken is taken as it is left
   taken : (old mid : ScriptModel) (n : ℕ) (line : List ℕ) → Takes old n line mid → Takes (left old) n (line_without job line) (left mid)
   taken old mid n line (items.Comment, says, adds) = stays old mid n line items.Comment says refl (ap left adds)
-  taken old mid n line (items.User u, says, adds) = stays old mid n line (items.User u) says refl (ap (without job) adds.0, adds.1, adds.2, adds.3, ap left adds.4)
-  taken old mid n line (items.Group g, says, adds) = stays old mid n line (items.Group g) says refl (ap (without job) adds.0, adds.1, adds.2, adds.3, adds.4, ap left adds.5)
+  taken old mid n line (items.User u, says, adds) =
+      stays old mid n line (items.User u) says refl (ap (without job) adds.0, adds.1, adds.2, adds.3, ap left adds.4)
+  taken old mid n line (items.Group g, says, adds) =
+      stays old mid n line (items.Group g) says refl
+      (ap (without job) adds.0, adds.1, adds.2, adds.3, adds.4, ap left adds.5)
   taken old mid n line (items.Call p c, says, adds) = call_taken old mid n line p c says adds (under_process job p) refl
 
   -- and so are all lines
-  all_taken : (old new : ScriptModel) (n : ℕ) (lines : List (List ℕ)) → TakesLines old n lines new → TakesLines (left old) n (map (line_without job) lines) (left new)
+  all_taken : (old new : ScriptModel) (n : ℕ) (lines : List (List ℕ)) → TakesLines old n lines new
+      → TakesLines (left old) n (map (line_without job) lines) (left new)
   all_taken old new n [] e = ap left e
   all_taken old new n (line ∷ lines) (mid, takes, rest) = (left mid, taken old mid (n + 1) line takes, all_taken mid new (n + 1) lines rest)
 
 -- so the script of these lines is what is left
 pub comments_leave_out : CommentsLeaveOut
-comments_leave_out job text other s is same = (subst (λ (lines : List (List ℕ)). TakesLines nothing_read 0 lines (without_job job s)) (sym same) (all_taken job nothing_read s 0 (lines_of text) is.0), is.1)
+comments_leave_out job text other s is same = (
+  subst (λ (lines : List (List ℕ)). TakesLines nothing_read 0 lines (without_job job s)) (sym same)
+      (all_taken job nothing_read s 0 (lines_of text) is.0),
+  is.1,
+)

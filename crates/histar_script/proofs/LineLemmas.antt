@@ -5,7 +5,8 @@ use Rattle.histar_script.specs.Lines.{lines_of}
 use Rattle.histar_flat.proofs.SplitLemmas.{head_fails, tail_nowhere}
 
 -- the first line ends at the first byte 10
-pub lines_at : (text : List ℕ) (k : ℕ) → k < length text → Nowhere (Passes (is_byte 10) text) 0 k → Passes (is_byte 10) text k → lines_of text ≡ take k text ∷ lines_of (drop (suc k) text)
+pub lines_at : (text : List ℕ) (k : ℕ) → k < length text → Nowhere (Passes (is_byte 10) text) 0 k
+    → Passes (is_byte 10) text k → lines_of text ≡ take k text ∷ lines_of (drop (suc k) text)
 unfolding lines_of
 lines_at [] k lt none here = absurd (omega arith)
 lines_at (b ∷ bs) zero lt none here = rw here refl
@@ -18,7 +19,11 @@ unfolding lines_of
 lines_whole [] lt none = absurd (omega arith)
 lines_whole (b ∷ []) lt none = rw (head_fails 10 b [] 1 (omega arith) none) refl
 lines_whole (b ∷ c ∷ bs) lt none =
-    rw (head_fails 10 b (c ∷ bs) (suc (length (c ∷ bs))) (omega arith) none, lines_whole (c ∷ bs) (omega arith) (tail_nowhere 10 b (c ∷ bs) (length (c ∷ bs)) none)) refl
+    rw (
+      head_fails 10 b (c ∷ bs) (suc (length (c ∷ bs))) (omega arith) none,
+      lines_whole (c ∷ bs) (omega arith)
+          (tail_nowhere 10 b (c ∷ bs) (length (c ∷ bs)) none),
+    ) refl
 
 -- a text without bytes has no line to count
 pub lines-empty : (text : List ℕ) → length text ≡ 0 → length (lines_of text) ≡ 0

@@ -20,7 +20,8 @@ abbrev pub is_named : {X : Type 0} → (X → Name) → Name → List X → Bool
 is_named name_of name xs = list_any (λ x. bytes_eq (name_of x) name) xs
 
 -- no element has the name, one after another
-others_by_recursion : {X : Type 0} (name_of : X → Name) (name : Name) (xs : List X) → is_named name_of name xs ≡ false → AllByRecursion (λ x. name_of x ≢ name) xs
+others_by_recursion : {X : Type 0} (name_of : X → Name) (name : Name) (xs : List X) → is_named name_of name xs ≡ false
+    → AllByRecursion (λ x. name_of x ≢ name) xs
 others_by_recursion name_of name [] h = tt
 others_by_recursion name_of name (x ∷ xs) h =
     let p = or_parts (bytes_eq (name_of x) name) (is_named name_of name xs) h in
@@ -31,10 +32,12 @@ pub all_others : {X : Type 0} (name_of : X → Name) (name : Name) (xs : List X)
 all_others name_of name xs h = All-from_recursion (λ x. name_of x ≢ name) xs (others_by_recursion name_of name xs h)
 
 -- and the other way, one after another
-unnamed_by_recursion : {X : Type 0} (name_of : X → Name) (name : Name) (xs : List X) → AllByRecursion (λ x. name_of x ≢ name) xs → is_named name_of name xs ≡ false
+unnamed_by_recursion : {X : Type 0} (name_of : X → Name) (name : Name) (xs : List X)
+    → AllByRecursion (λ x. name_of x ≢ name) xs → is_named name_of name xs ≡ false
 unnamed_by_recursion name_of name [] h = refl
 unnamed_by_recursion name_of name (x ∷ xs) h =
-    let first : bytes_eq (name_of x) name ≡ false = false_from_ne_true (bytes_eq (name_of x) name) (λ e. h.0 ((bytes_eq-Decides (name_of x) name).0 e)) in
+    let first : bytes_eq (name_of x) name ≡ false =
+    false_from_ne_true (bytes_eq (name_of x) name) (λ e. h.0 ((bytes_eq-Decides (name_of x) name).0 e)) in
     rw (first, unnamed_by_recursion name_of name xs h.1) refl
 
 -- and the other way

@@ -13,7 +13,9 @@ abbrev parts_with : Bool → ℕ → List ℕ → Parts → Parts
 parts_with t b bs w = cond t ([], Some bs) (b ∷ w.0, w.1)
 
 -- the parts make up the text, by one more byte
-parts_step : (a b : ℕ) (bs rest : List ℕ) (w : Parts) (t : Bool) → eqb b a ≡ t → (w.1 ≡ Some rest → bs ≡ w.0 ++ a ∷ rest) → (parts_with t b bs w).1 ≡ Some rest → b ∷ bs ≡ (parts_with t b bs w).0 ++ a ∷ rest
+parts_step : (a b : ℕ) (bs rest : List ℕ) (w : Parts) (t : Bool) → eqb b a ≡ t
+    → (w.1 ≡ Some rest → bs ≡ w.0 ++ a ∷ rest) → (parts_with t b bs w).1 ≡ Some rest
+    → b ∷ bs ≡ (parts_with t b bs w).0 ++ a ∷ rest
 parts_step a b bs rest w true is later e = let same : b ≡ a = eqb-true b a is in let tail : bs ≡ rest = cc in rw (same, tail) refl
 parts_step a b bs rest w false is later e = ap (λ (l : List ℕ). b ∷ l) (later e)
 

@@ -1,5 +1,6 @@
 -- Paths are read from the texts that spell them, and from no others.
-use Rattle.std.proofs.Common.{◌≡◌, ℕ, zero, suc, ◌+◌, ◌-◌, ◌<◌, ◌≤◌, true, not, eqb, leb, List, [], ◌∷◌, ◌++◌, length, Option, Some, None, codes, refl, sym, ap, subst, ◌∙◌, inl, inr, arith, append_assoc, length-append}
+use Rattle.std.proofs.Common.{◌≡◌, ℕ, zero, suc, ◌+◌, ◌-◌, ◌<◌, ◌≤◌, true, not, eqb, leb, List, [], ◌∷◌, ◌++◌, length, Option, Some, None, codes}
+use Rattle.std.proofs.Common.{refl, sym, ap, subst, ◌∙◌, inl, inr, arith, append_assoc, length-append}
 use Rattle.std.specs.List.{list_all}
 use Rattle.std.proofs.lemmas.List.Folds.{list_all-append}
 use Rattle.std.proofs.lemmas.Bool.{eqb-true, and_parts, leb-true, le-leb}
@@ -15,15 +16,20 @@ use Rattle.histar_script.proofs.WordsBack.{name_lacks_space, name_lacks_slash, n
 
 -- a path that is found below a directory
 abbrev IsFound : Path → ℕ → List ℕ → Path → Type 0
-IsFound directory most bs path = (names_text directory ++ slash ∷ bs ≡ path_text path) × (list_all is_name path ≡ true) × (length path ≤ length directory + most)
+IsFound directory most bs path =
+    (names_text directory ++ slash ∷ bs ≡ path_text path) × (list_all is_name path ≡ true)
+    × (length path ≤ length directory + most)
 
 -- the text of an entry is that of its directory, a slash and its name
 entry_text : (directory : Path) (name : List ℕ) → names_text (name ∷ directory) ≡ names_text directory ++ slash ∷ name
 entry_text directory name = append_assoc (names_text directory) (codes "/") name
 
 -- a name with a slash before it, behind a directory
-with_name : (directory : Path) (name rest : List ℕ) → names_text directory ++ slash ∷ (name ++ slash ∷ rest) ≡ names_text (name ∷ directory) ++ slash ∷ rest
-with_name directory name rest = sym (ap (λ (l : List ℕ). l ++ slash ∷ rest) (entry_text directory name) ∙ append_assoc (names_text directory) (slash ∷ name) (slash ∷ rest))
+with_name : (directory : Path) (name rest : List ℕ)
+    → names_text directory ++ slash ∷ (name ++ slash ∷ rest) ≡ names_text (name ∷ directory) ++ slash ∷ rest
+with_name directory name rest =
+    sym (ap (λ (l : List ℕ). l ++ slash ∷ rest) (entry_text directory name)
+    ∙ append_assoc (names_text directory) (slash ∷ name) (slash ∷ rest))
 
 -- the name that stands before the first slash
 abbrev first_name : List ℕ → Name
@@ -34,10 +40,16 @@ abbrev rest_from : ℕ → Path → Name → Option (List ℕ) → Option Path
 rest_from most directory name rest = elim rest [ None ↦ Some (name ∷ directory) | Some names ↦ path_from most (name ∷ directory) names ]
 
 -- a name, and what follows it
-found_step : (most : ℕ) (directory : Path) (bs : List ℕ) (path : Path) (after : Option (List ℕ)) → list_all is_name directory ≡ true → is_name (first_name bs) ≡ true → (split_at_first slash bs).1 ≡ after → ((rest : List ℕ) → list_all is_name (first_name bs ∷ directory) ≡ true → path_from most (first_name bs ∷ directory) rest ≡ Some path → IsFound (first_name bs ∷ directory) most rest path) → rest_from most directory (first_name bs) after ≡ Some path → IsFound directory (suc most) bs path
+found_step : (most : ℕ) (directory : Path) (bs : List ℕ) (path : Path) (after : Option (List ℕ))
+    → list_all is_name directory ≡ true → is_name (first_name bs) ≡ true → (split_at_first slash bs).1 ≡ after
+    → ((rest : List ℕ) → list_all is_name (first_name bs ∷ directory) ≡ true
+    → path_from most (first_name bs ∷ directory) rest ≡ Some path
+    → IsFound (first_name bs ∷ directory) most rest path)
+    → rest_from most directory (first_name bs) after ≡ Some path → IsFound directory (suc most) bs path
 found_step most directory bs path None right name end later e =
     let same : first_name bs ∷ directory ≡ path = cc in
-    let spelled : names_text directory ++ slash ∷ bs ≡ names_text directory ++ slash ∷ first_name bs = ap (λ l. names_text directory ++ slash ∷ l) (split_part slash bs end) in
+    let spelled : names_text directory ++ slash ∷ bs ≡ names_text directory ++ slash ∷ first_name bs =
+    ap (λ l. names_text directory ++ slash ∷ l) (split_part slash bs end) in
     let named : list_all is_name (first_name bs ∷ directory) ≡ true = rw (name, right) refl in
     subst (IsFound directory (suc most) bs) same (spelled ∙ sym (entry_text directory (first_name bs)), named, omega arith)
 found_step most directory bs path (Some rest) right name on later e =
@@ -47,7 +59,8 @@ found_step most directory bs path (Some rest) right name on later e =
     (spelled ∙ below.0, below.1, omega (arith, below.2))
 
 -- names that are read are spelled so
-found : (most : ℕ) (directory : Path) (bs : List ℕ) (path : Path) → list_all is_name directory ≡ true → path_from most directory bs ≡ Some path → IsFound directory most bs path
+found : (most : ℕ) (directory : Path) (bs : List ℕ) (path : Path) → list_all is_name directory ≡ true
+    → path_from most directory bs ≡ Some path → IsFound directory most bs path
 unfolding path_from
 found zero directory bs path right e = absurd cc
 found (suc most) directory bs path right e =
@@ -86,7 +99,8 @@ joined_text [] rest = refl
 joined_text (n ∷ d) rest = joined_text d (n ++ slash ∷ rest) ∙ with_name d n rest
 
 -- names are read up to the last of a directory
-read_on : (directory : Path) (most : ℕ) (rest : List ℕ) → list_all is_name directory ≡ true → path_from (length directory + most) [] (joined directory rest) ≡ path_from most directory rest
+read_on : (directory : Path) (most : ℕ) (rest : List ℕ) → list_all is_name directory ≡ true
+    → path_from (length directory + most) [] (joined directory rest) ≡ path_from most directory rest
 unfolding path_from
 read_on [] most rest right = let all : length {A = Name} [] + most ≡ most = omega arith in ap (λ k. path_from k [] rest) all
 read_on (n ∷ d) most rest right =
@@ -114,7 +128,8 @@ names_again name directory h =
     let names = and_parts (is_name name) (list_all is_name directory) parts.1 in
     let short : length (name ∷ directory) ≤ 8 = leb-true (length (name ∷ directory)) most_names parts.0 in
     let text : slash ∷ joined directory name ≡ path_text (name ∷ directory) = joined_text directory name ∙ sym (entry_text directory name) in
-    let long : length (slash ∷ joined directory name) ≡ length (names_text directory) + length (slash ∷ name) = ap length (joined_text directory name) ∙ length-append (names_text directory) (slash ∷ name) in
+    let long : length (slash ∷ joined directory name) ≡ length (names_text directory) + length (slash ∷ name) =
+    ap length (joined_text directory name) ∙ length-append (names_text directory) (slash ∷ name) in
     let some : 0 < length (joined directory name) = omega (arith, long, name_has_bytes name names.0) in
     let most : 8 ≡ length directory + suc (7 - length directory) = omega (arith, short) in
     ap path_of (sym text)
@@ -135,7 +150,8 @@ names_lack_space : (path : Path) → list_all is_name path ≡ true → lacks 32
 names_lack_space [] h = refl
 names_lack_space (n ∷ d) h =
     let p = and_parts (is_name n) (list_all is_name d) h in
-    ap (lacks 32) (entry_text d n) ∙ list_all-append (λ b. not (eqb b 32)) (names_text d) (slash ∷ n) ∙ rw (names_lack_space d p.1, name_lacks_space n p.0) refl
+    ap (lacks 32) (entry_text d n) ∙ list_all-append (λ b. not (eqb b 32)) (names_text d) (slash ∷ n)
+    ∙ rw (names_lack_space d p.1, name_lacks_space n p.0) refl
 
 -- a path has no space
 pub path_lacks_space : (path : Path) → list_all is_name path ≡ true → lacks 32 (path_text path) ≡ true

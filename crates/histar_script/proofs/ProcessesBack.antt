@@ -1,5 +1,6 @@
 -- Names of processes are read from the texts that spell them, and from no others.
-use Rattle.std.proofs.Common.{◌≡◌, ℕ, zero, suc, ◌+◌, ◌-◌, ◌≤◌, true, not, cond, eqb, leb, List, [], ◌∷◌, ◌++◌, length, Option, Some, None, codes, refl, sym, ap, subst, ◌∙◌, inl, inr, arith, append_assoc, append-nil}
+use Rattle.std.proofs.Common.{◌≡◌, ℕ, zero, suc, ◌+◌, ◌-◌, ◌≤◌, true, not, cond, eqb, leb, List, [], ◌∷◌, ◌++◌, length, Option, Some, None, codes}
+use Rattle.std.proofs.Common.{refl, sym, ap, subst, ◌∙◌, inl, inr, arith, append_assoc, append-nil}
 use Rattle.std.specs.List.{list_all}
 use Rattle.std.specs.Str.{bytes_eq}
 use Rattle.std.specs.Fmt.{decimal}
@@ -44,18 +45,24 @@ split_dot word (Some rest) h = split_before dot word rest h
 
 -- a process that is found below another one
 abbrev IsFound : ProcName → ℕ → Option (List ℕ) → ProcName → Type 0
-IsFound above most after process = (process_text above ++ after_dot after ≡ process_text process) × (list_all is_child_number process ≡ true) × (length process ≤ length above + most)
+IsFound above most after process =
+    (process_text above ++ after_dot after ≡ process_text process) × (list_all is_child_number process ≡ true)
+    × (length process ≤ length above + most)
 
 -- where nothing follows, the process itself is found
-found_itself : (most : ℕ) (above process : ProcName) → list_all is_child_number above ≡ true → process_from most above None ≡ Some process → IsFound above most None process
+found_itself : (most : ℕ) (above process : ProcName) → list_all is_child_number above ≡ true
+    → process_from most above None ≡ Some process → IsFound above most None process
 found_itself most above process right e =
     let made : Some above ≡ Some process = sym (no_more most above) ∙ e in
     let same : above ≡ process = cc in
     subst (IsFound above most None) same (append-nil (process_text above), right, omega arith)
 
 -- a number, and what follows it
-found_step : (most : ℕ) (above : ProcName) (bs : List ℕ) (process : ProcName) (number : Option ℕ) → list_all is_child_number above ≡ true → number_of is_child_number (split_at_first dot bs).0 ≡ number
-    → ((n : ℕ) → list_all is_child_number (n ∷ above) ≡ true → process_from most (n ∷ above) (split_at_first dot bs).1 ≡ Some process → IsFound (n ∷ above) most (split_at_first dot bs).1 process)
+found_step : (most : ℕ) (above : ProcName) (bs : List ℕ) (process : ProcName) (number : Option ℕ)
+    → list_all is_child_number above ≡ true → number_of is_child_number (split_at_first dot bs).0 ≡ number
+    → ((n : ℕ) → list_all is_child_number (n ∷ above) ≡ true
+    → process_from most (n ∷ above) (split_at_first dot bs).1 ≡ Some process
+    → IsFound (n ∷ above) most (split_at_first dot bs).1 process)
     → next_from most above number (split_at_first dot bs).1 ≡ Some process → IsFound above (suc most) (Some bs) process
 found_step most above bs process None right is later e = absurd cc
 found_step most above bs process (Some n) right is later e =
@@ -68,15 +75,19 @@ found_step most above bs process (Some n) right is later e =
     (spelled ∙ below.0, below.1, omega (arith, below.2))
 
 -- numbers that are read are spelled so
-found : (most : ℕ) (above : ProcName) (after : Option (List ℕ)) (process : ProcName) → list_all is_child_number above ≡ true → process_from most above after ≡ Some process → IsFound above most after process
+found : (most : ℕ) (above : ProcName) (after : Option (List ℕ)) (process : ProcName)
+    → list_all is_child_number above ≡ true → process_from most above after ≡ Some process
+    → IsFound above most after process
 found zero above None process right e = found_itself zero above process right e
 found zero above (Some bs) process right e = let none : None ≡ Some process = sym (too_many above bs) ∙ e in absurd cc
 found (suc most) above None process right e = found_itself (suc most) above process right e
 found (suc most) above (Some bs) process right e =
-    found_step most above bs process (number_of is_child_number (split_at_first dot bs).0) right refl (λ n. found most (n ∷ above) (split_at_first dot bs).1 process) (sym (from_first most above bs) ∙ e)
+    found_step most above bs process (number_of is_child_number (split_at_first dot bs).0) right refl
+    (λ n. found most (n ∷ above) (split_at_first dot bs).1 process) (sym (from_first most above bs) ∙ e)
 
 -- a process that is read is spelled so
-pub process_takes : (text : List ℕ) (process : ProcName) → process_of text ≡ Some process → (text ≡ process_text process) × (is_process process ≡ true)
+pub process_takes : (text : List ℕ) (process : ProcName) → process_of text ≡ Some process
+    → (text ≡ process_text process) × (is_process process ≡ true)
 process_takes text process e =
     let w = split_at_first dot text in
     elim (either_chosen (bytes_eq w.0 (codes "0")) (process_from most_numbers [] w.1) None (Some process) e) [
@@ -104,7 +115,8 @@ number_digits : (n : ℕ) → is_child_number n ≡ true → list_all is_digit (
 number_digits n h = decimal_digits n (child_number_small n h)
 
 -- numbers are read up to the last of a process
-read_on : (process : ProcName) (most : ℕ) (after : Option (List ℕ)) → list_all is_child_number process ≡ true → process_from (length process + most) [] (joined process after) ≡ process_from most process after
+read_on : (process : ProcName) (most : ℕ) (after : Option (List ℕ)) → list_all is_child_number process ≡ true
+    → process_from (length process + most) [] (joined process after) ≡ process_from most process after
 read_on [] most after right = let all : length {A = ℕ} [] + most ≡ most = omega arith in ap (λ k. process_from k [] after) all
 read_on (n ∷ p) most after right =
     let h = and_parts (is_child_number n) (list_all is_child_number p) right in
@@ -112,7 +124,8 @@ read_on (n ∷ p) most after right =
     let left : length (n ∷ p) + most ≡ length p + suc most = omega arith in
     let less : suc most - 1 ≡ most = omega arith in
     let split = split_dot (decimal n) after (bytes_lack is_digit dot (decimal n) refl (number_digits n h.0)) in
-    let is : number_of is_child_number (split_at_first dot text).0 ≡ Some n = ap (λ w. number_of is_child_number w.0) split ∙ number_again is_child_number n (child_number_small n h.0) h.0 in
+    let is : number_of is_child_number (split_at_first dot text).0 ≡ Some n =
+    ap (λ w. number_of is_child_number w.0) split ∙ number_again is_child_number n (child_number_small n h.0) h.0 in
     ap (λ k. process_from k [] (joined p (Some text))) left
     ∙ read_on p (suc most) (Some text) h.1
     ∙ next_number (suc most) p text n (omega arith) is
@@ -150,7 +163,8 @@ process_lacks_space (n ∷ p) h =
     ∙ rw (process_lacks_space p parts.1, bytes_lack is_digit 32 (decimal n) refl (number_digits n parts.0)) refl
 
 -- a process ends at the space after it
-pub split_process : (process : ProcName) (rest : List ℕ) → is_process process ≡ true → split_word (process_text process space rest) ≡ (process_text process, Some rest)
+pub split_process : (process : ProcName) (rest : List ℕ) → is_process process ≡ true
+    → split_word (process_text process space rest) ≡ (process_text process, Some rest)
 split_process process rest h =
     let numbers = and_parts (leb (length process) most_numbers) (list_all is_child_number process) h in
     split_before 32 (process_text process) rest (process_lacks_space process numbers.1)

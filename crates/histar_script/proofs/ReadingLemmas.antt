@@ -8,6 +8,8 @@ use Rattle.histar_script.specs.Reading.{with_lines}
 use Rattle.histar_script.proofs.LineLemmas.{no_lines}
 
 -- after the last line
-pub at_end : (s : ScriptModel) (n : ℕ) (rest : List ℕ) (total : Result ScriptModel Fault) → length rest ≡ 0 → with_lines s n (lines_of rest) ≡ total → total ≡ cond (eqb (length s.accounts.users) 0) (Err (BadScript (n + 1))) (Ok s)
+pub at_end : (s : ScriptModel) (n : ℕ) (rest : List ℕ) (total : Result ScriptModel Fault) → length rest ≡ 0
+    → with_lines s n (lines_of rest) ≡ total
+    → total ≡ cond (eqb (length s.accounts.users) 0) (Err (BadScript (n + 1))) (Ok s)
 unfolding with_lines
 at_end s n rest total none so_far = sym so_far ∙ ap (with_lines s n) (no_lines rest none)

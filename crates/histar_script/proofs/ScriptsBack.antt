@@ -1,5 +1,6 @@
 -- Lines are taken by reading as by the grammar, one after another.
-use Rattle.std.proofs.Common.{◌≡◌, ℕ, ◌+◌, ◌<◌, Bool, true, false, not, cond, eqb, ltb, ◌&&◌, List, [], ◌∷◌, ◌++◌, length, Option, Some, None, Result, Ok, Err, refl, sym, ap, subst, ◌∙◌}
+use Rattle.std.proofs.Common.{◌≡◌, ℕ, ◌+◌, ◌<◌, Bool, true, false, not, cond, eqb, ltb, ◌&&◌, List, [], ◌∷◌, ◌++◌, length, Option, Some, None, Result}
+use Rattle.std.proofs.Common.{Ok, Err, refl, sym, ap, subst, ◌∙◌}
 use Rattle.std.proofs.lemmas.Option.{cond_some}
 use Rattle.std.proofs.lemmas.Bool.{ltb-true, lt-ltb, and_parts, not-true}
 use Rattle.histar_flat.specs.declared.calls.User.{User}
@@ -11,15 +12,23 @@ use Rattle.histar_script.specs.declared.items.Item.{Item}
 use Rattle.histar_script.specs.declared.items.Item.TheVariants as items
 use Rattle.histar_script.specs.Lines.{lines_of}
 use Rattle.histar_script.specs.Script.{ScriptModel, IsMembership, nothing_read, is_declared_call}
-use Rattle.histar_script.specs.Reading.{item_of, has_user, is_empty, takes_user, are_users, are_distinct, is_new_name, takes_group, takes_call, with_item, with_line, with_lines, reading}
+use Rattle.histar_script.specs.Reading.{item_of, has_user, is_empty, takes_user, are_users, are_distinct, is_new_name, takes_group, takes_call}
+use Rattle.histar_script.specs.Reading.{with_item, with_line, with_lines, reading}
 use Rattle.histar_script.specs.Grammar.{IsGroupText, Says, Adds, Takes, TakesLines, IsScript}
 use Rattle.histar_script.proofs.Chains.{none_left, some_left, not_empty}
 use Rattle.histar_script.proofs.ItemsBack.{item_takes, item_again, spells_group}
 use Rattle.histar_script.proofs.Naming.{all_others, not_named, all_users, users_again, all_distinct, passes_distinct}
 
 -- a group that is taken has users as its members
-has_members : (line : List ℕ) (users : List User) (g : Group) → IsGroupText line g → are_users users g.members ≡ true → are_distinct g.members ≡ true → IsMembership users g
-has_members line users g is known apart = record { some = is.some; few = is.few; declared = all_users users g.members known; distinct = all_distinct g.members apart }
+has_members : (line : List ℕ) (users : List User) (g : Group) → IsGroupText line g → are_users users g.members ≡ true
+    → are_distinct g.members ≡ true → IsMembership users g
+has_members line users g is known apart =
+    record {
+      some = is.some;
+      few = is.few;
+      declared = all_users users g.members known;
+      distinct = all_distinct g.members apart;
+    }
 
 -- an item that is taken adds to what was read
 adds : (s : ScriptModel) (n : ℕ) (line : List ℕ) (i : Item) (t : ScriptModel) → Says line i → with_item s n i ≡ Some t → Adds s n i t
@@ -41,7 +50,9 @@ adds s n line (items.Group g) t said e =
     let c = cond_some (takes_group s g) (record { accounts = with_group s.accounts g; calls = s.calls }) t e in
     let users = s.accounts.users in
     let groups = s.accounts.groups in
-    let p = and_parts (is_empty s.calls && ltb (length groups) most_groups && is_new_name s.accounts g.name && are_users users g.members) (are_distinct g.members) c.0 in
+    let p =
+    and_parts (is_empty s.calls && ltb (length groups) most_groups && is_new_name s.accounts g.name
+    && are_users users g.members) (are_distinct g.members) c.0 in
     let q = and_parts (is_empty s.calls && ltb (length groups) most_groups && is_new_name s.accounts g.name) (are_users users g.members) p.0 in
     let r = and_parts (is_empty s.calls && ltb (length groups) most_groups) (is_new_name s.accounts g.name) q.0 in
     let f = and_parts (is_empty s.calls) (ltb (length groups) most_groups) r.0 in
@@ -72,7 +83,15 @@ adds_again s n (items.Group g) t h =
     let room : ltb (length s.accounts.groups) most_groups ≡ true = lt-ltb (length s.accounts.groups) most_groups h.1 in
     let no_user : has_user s.accounts.users g.name ≡ false = not_named (λ (v : User). v.name) g.name s.accounts.users h.2 in
     let no_group : is_group s.accounts g.name ≡ false = not_named (λ (v : Group). v.name) g.name s.accounts.groups h.3 in
-    rw (no_call, room, no_user, no_group, users_again s.accounts.users g.members h.4.declared, passes_distinct g.members h.4.distinct) (ap (λ (x : ScriptModel). Some x) (sym h.5))
+    rw (
+      no_call,
+      room,
+      no_user,
+      no_group,
+      users_again s.accounts.users g.members h.4.declared,
+      passes_distinct
+          g.members h.4.distinct,
+    ) (ap (λ (x : ScriptModel). Some x) (sym h.5))
 adds_again s n (items.Call p c) t h = rw (not_empty s.accounts.users h.0, h.1) (ap (λ (x : ScriptModel). Some x) (sym h.2))
 
 -- a line that is taken
@@ -93,7 +112,8 @@ abbrev pub after : ℕ → (ScriptModel → Result ScriptModel Fault) → Option
 after n rest o = elim o [ None ↦ Err (BadScript n) | Some t ↦ rest t ]
 
 -- a chain that ends with a script took the line
-pub taken : (o : Option ScriptModel) (n : ℕ) (rest : ScriptModel → Result ScriptModel Fault) (t : ScriptModel) → after n rest o ≡ Ok t → (m : ScriptModel) × (o ≡ Some m) × (rest m ≡ Ok t)
+pub taken : (o : Option ScriptModel) (n : ℕ) (rest : ScriptModel → Result ScriptModel Fault) (t : ScriptModel)
+    → after n rest o ≡ Ok t → (m : ScriptModel) × (o ≡ Some m) × (rest m ≡ Ok t)
 taken None n rest t e = absurd cc
 taken (Some m) n rest t e = (m, refl, e)
 
@@ -103,7 +123,8 @@ ended true f s t e = absurd cc
 ended false f s t e = (refl, cc)
 
 -- lines that are read are taken
-pub lines_take : (s : ScriptModel) (n : ℕ) (lines : List (List ℕ)) (t : ScriptModel) → with_lines s n lines ≡ Ok t → TakesLines s n lines t × (0 < length t.accounts.users)
+pub lines_take : (s : ScriptModel) (n : ℕ) (lines : List (List ℕ)) (t : ScriptModel) → with_lines s n lines ≡ Ok t
+    → TakesLines s n lines t × (0 < length t.accounts.users)
 unfolding with_lines
 lines_take s n [] t e =
     let g = ended (eqb (length s.accounts.users) 0) (BadScript (n + 1)) s t e in
@@ -114,12 +135,16 @@ lines_take s n (line ∷ lines) t e =
     ((a.0, line_takes s (n + 1) line a.0 a.1, b.0), b.1)
 
 -- lines that are taken are read
-pub lines_again : (s : ScriptModel) (n : ℕ) (lines : List (List ℕ)) (t : ScriptModel) → TakesLines s n lines t → 0 < length t.accounts.users → with_lines s n lines ≡ Ok t
+pub lines_again : (s : ScriptModel) (n : ℕ) (lines : List (List ℕ)) (t : ScriptModel) → TakesLines s n lines t
+    → 0 < length t.accounts.users → with_lines s n lines ≡ Ok t
 unfolding with_lines
 lines_again s n [] t h some =
-    let some_here : eqb (length s.accounts.users) 0 ≡ false = not_empty s.accounts.users (subst (λ (x : ScriptModel). 0 < length x.accounts.users) h some) in
+    let some_here : eqb (length s.accounts.users) 0 ≡ false =
+    not_empty s.accounts.users (subst (λ (x : ScriptModel). 0 < length x.accounts.users) h some) in
     rw some_here (ap (λ (x : ScriptModel). Ok x) (sym h))
-lines_again s n (line ∷ lines) t h some = ap (after (n + 1) (λ m. with_lines m (n + 1) lines)) (line_again s (n + 1) line h.0 h.1) ∙ lines_again h.0 (n + 1) lines t h.2 some
+lines_again s n (line ∷ lines) t h some =
+    ap (after (n + 1) (λ m. with_lines m (n + 1) lines)) (line_again s (n + 1) line h.0 h.1)
+    ∙ lines_again h.0 (n + 1) lines t h.2 some
 
 -- a text that is read is a script
 pub found_from : (text : List ℕ) (script : ScriptModel) → reading text ≡ Ok script → IsScript text script

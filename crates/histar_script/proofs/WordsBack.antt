@@ -1,5 +1,6 @@
 -- Words are read from the texts that spell them, and from no others.
-use Rattle.std.proofs.Common.{◌≡◌, ℕ, ◌<◌, Bool, true, false, not, cond, eqb, ltb, leb, ◌&&◌, List, [], ◌∷◌, ◌++◌, length, Some, None, codes, refl, sym, ap, subst, ◌∙◌, inl, inr}
+use Rattle.std.proofs.Common.{◌≡◌, ℕ, ◌<◌, Bool, true, false, not, cond, eqb, ltb, leb, ◌&&◌, List, [], ◌∷◌, ◌++◌, length, Some, None, codes, refl}
+use Rattle.std.proofs.Common.{sym, ap, subst, ◌∙◌, inl, inr}
 use Rattle.std.proofs.lemmas.Option.{cond_some}
 use Rattle.std.specs.List.{list_all}
 use Rattle.std.specs.Str.{bytes_eq}
@@ -58,7 +59,8 @@ split_name name rest h = split_before 32 name rest (name_lacks_space name h)
 pub user_name_is_name : (name : List ℕ) → is_user_name name ≡ true → is_name name ≡ true
 unfolding is_user_name
 user_name_is_name name h =
-    (and_parts (is_name name) (begins_with_letter name) (and_parts (is_name name && begins_with_letter name) (not (bytes_eq name (codes "nobody"))) h).0).0
+    (and_parts (is_name name) (begins_with_letter name)
+    (and_parts (is_name name && begins_with_letter name) (not (bytes_eq name (codes "nobody"))) h).0).0
 
 -- the same bytes
 pub same_bytes : (xs ys : List ℕ) → bytes_eq xs ys ≡ true → xs ≡ ys
@@ -89,15 +91,18 @@ group_mode_takes text mode e =
 -- a mode that is read is spelled so, and a line can name it
 pub mode_takes : (text : List ℕ) (mode : Mode) → mode_of text ≡ Some mode → (text ≡ mode_text mode) × (is_line_mode mode ≡ true)
 mode_takes text mode e =
-    elim (either_chosen (bytes_eq text (codes "private")) (Some Private) (cond (bytes_eq text (codes "readable")) (Some Readable) (cond (bytes_eq text (codes "open")) (Some Open) (group_mode_of text))) (Some mode) e) [
+    elim (either_chosen (bytes_eq text (codes "private")) (Some Private) (cond (bytes_eq text (codes "readable")) (Some Readable)
+    (cond (bytes_eq text (codes "open")) (Some Open) (group_mode_of text))) (Some mode) e) [
       | inl h ↦ let same : Private ≡ mode = cc in subst (IsSpelled text) same (same_bytes text (codes "private") h.0, refl)
-      | inr h ↦ elim (either_chosen (bytes_eq text (codes "readable")) (Some Readable) (cond (bytes_eq text (codes "open")) (Some Open) (group_mode_of text)) (Some mode) h.1) [
-        | inl k ↦ let same : Readable ≡ mode = cc in subst (IsSpelled text) same (same_bytes text (codes "readable") k.0, refl)
-        | inr k ↦ elim (either_chosen (bytes_eq text (codes "open")) (Some Open) (group_mode_of text) (Some mode) k.1) [
-          | inl o ↦ let same : Open ≡ mode = cc in subst (IsSpelled text) same (same_bytes text (codes "open") o.0, refl)
-          | inr o ↦ group_mode_takes text mode o.1
-        ]
-      ]
+      | inr h ↦
+          elim (either_chosen (bytes_eq text (codes "readable")) (Some Readable)
+          (cond (bytes_eq text (codes "open")) (Some Open) (group_mode_of text)) (Some mode) h.1) [
+            | inl k ↦ let same : Readable ≡ mode = cc in subst (IsSpelled text) same (same_bytes text (codes "readable") k.0, refl)
+            | inr k ↦ elim (either_chosen (bytes_eq text (codes "open")) (Some Open) (group_mode_of text) (Some mode) k.1) [
+              | inl o ↦ let same : Open ≡ mode = cc in subst (IsSpelled text) same (same_bytes text (codes "open") o.0, refl)
+              | inr o ↦ group_mode_takes text mode o.1
+            ]
+          ]
     ]
 
 -- and a mode that is spelled is read, where a line can name it

@@ -3,7 +3,8 @@ use Rattle.std.specs.Prelude.{◌≡◌, ℕ, ◌≤◌, IsTrue, List, [], ◌�
 use Rattle.std.specs.Fmt.{decimal}
 use Rattle.histar_flat.specs.declared.calls.Mode.{Mode}
 use Rattle.histar_flat.specs.declared.calls.UnixCall.{UnixCall}
-use Rattle.histar_flat.specs.declared.calls.UnixCall.TheVariants.{Create, Mkdir, Write, Append, Read, List as ListCall, Stat, Unlink, Rmdir, Rmtree, Rename, Spawn, Exit, Status, Kill, Whoami, Login, Wrap}
+use Rattle.histar_flat.specs.declared.calls.UnixCall.TheVariants.{Create, Mkdir, Write, Append, Read, List as ListCall, Stat, Unlink, Rmdir, Rmtree}
+use Rattle.histar_flat.specs.declared.calls.UnixCall.TheVariants.{Rename, Spawn, Exit, Status, Kill, Whoami, Login, Wrap}
 use Rattle.histar_flat.specs.Words.{Name, Password, Path, ProcName, greatest_status, is_name, is_password, is_path, is_process}
 use Rattle.histar_flat.specs.Modes.{is_line_mode}
 use Rattle.histar_flat.specs.Texts.{path_text, process_text, mode_text}

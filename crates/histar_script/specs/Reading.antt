@@ -1,5 +1,6 @@
 -- Reading a script from its first line to its last, up to the first bad line.
-use Rattle.std.specs.Prelude.{ℕ, zero, suc, ◌+◌, Bool, true, not, ◌&&◌, List, [], ◌∷◌, ◌++◌, length, codes, Option, Some, None, Result, Ok, Err, option_and_then, option_map, nat_lt, nat_le, ◌==◌, if◌then◌else◌}
+use Rattle.std.specs.Prelude.{ℕ, zero, suc, ◌+◌, Bool, true, not, ◌&&◌, List, [], ◌∷◌, ◌++◌, length, codes, Option, Some, None, Result, Ok, Err}
+use Rattle.std.specs.Prelude.{option_and_then, option_map, nat_lt, nat_le, ◌==◌, if◌then◌else◌}
 use Rattle.std.specs.List.{list_any, list_all}
 use Rattle.std.specs.Str.{bytes_eq}
 use Rattle.histar_flat.specs.declared.calls.User.{User}
@@ -12,7 +13,8 @@ use Rattle.histar_script.specs.declared.fault.Fault.TheVariants.{BadScript, TooL
 use Rattle.histar_script.specs.declared.items.Item.{Item}
 use Rattle.histar_script.specs.declared.items.Item.TheVariants as items
 use Rattle.histar_script.specs.Lines.{lines_of, is_too_long, is_plain, split_word}
-use Rattle.histar_script.specs.CallForms.{Argument, a_path, a_mode, any_bytes, a_name, a_password, a_process, a_number, Value, CallForm, alone, one, two, call_forms}
+use Rattle.histar_script.specs.CallForms.{Argument, a_path, a_mode, any_bytes, a_name, a_password, a_process, a_number, Value, CallForm, alone, one}
+use Rattle.histar_script.specs.CallForms.{two, call_forms}
 use Rattle.histar_script.specs.Script.{ScriptModel, nothing_read, is_declared_call}
 
 -- with what is there, go on
@@ -132,7 +134,9 @@ is_empty xs = length xs == 0
 
 -- a line that declares this user may stand here
 abbrev pub takes_user : ScriptModel → User → Bool
-takes_user s u = is_empty s.accounts.groups && is_empty s.calls && nat_lt (length s.accounts.users) most_users && not (has_user s.accounts.users u.name)
+takes_user s u =
+    is_empty s.accounts.groups && is_empty s.calls && nat_lt (length s.accounts.users) most_users
+    && not (has_user s.accounts.users u.name)
 
 -- each name is a user's
 abbrev pub are_users : List User → List Name → Bool
@@ -149,7 +153,9 @@ is_new_name accounts name = not (has_user accounts.users name) && not (is_group 
 
 -- a line that declares this group may stand here
 abbrev pub takes_group : ScriptModel → Group → Bool
-takes_group s g = is_empty s.calls && nat_lt (length s.accounts.groups) most_groups && is_new_name s.accounts g.name && are_users s.accounts.users g.members && are_distinct g.members
+takes_group s g =
+    is_empty s.calls && nat_lt (length s.accounts.groups) most_groups && is_new_name s.accounts g.name
+    && are_users s.accounts.users g.members && are_distinct g.members
 
 -- a line with this call may stand here
 abbrev pub takes_call : ScriptModel → UnixCall → Bool
@@ -160,7 +166,10 @@ unfoldable pub with_item : ScriptModel → ℕ → Item → Option ScriptModel
 with_item s n items.Comment = Some s
 with_item s n (items.User u) = if takes_user s u then Some (record { accounts = with_user s.accounts u; calls = s.calls }) else None
 with_item s n (items.Group g) = if takes_group s g then Some (record { accounts = with_group s.accounts g; calls = s.calls }) else None
-with_item s n (items.Call p c) = if takes_call s c then Some (record { accounts = s.accounts; calls = s.calls ++ (record { line = n; process = p; call = c }) ∷ [] }) else None
+with_item s n (items.Call p c) =
+    if takes_call s c then Some
+    (record { accounts = s.accounts; calls = s.calls ++ (record { line = n; process = p; call = c }) ∷ [] }) else
+    None
 
 -- what is read after line n
 unfoldable pub with_line : ScriptModel → ℕ → List ℕ → Option ScriptModel

@@ -2,7 +2,8 @@
 //! copied, so memory may run out.
 ghost use Rattle.std.specs.Prelude.{◌≡◌, ◌++◌, Some, IfOk};
 ghost use Rattle.std.specs.Option.{option_copied};
-ghost use Rattle.histar_script.specs.CallForms.{a_path, a_mode, any_bytes, a_name, a_password, writing_calls, reading_calls, entry_calls, process_calls};
+ghost use Rattle.histar_script.specs.CallForms.{a_path, a_mode, any_bytes, a_name, a_password, writing_calls, reading_calls};
+ghost use Rattle.histar_script.specs.CallForms.{entry_calls, process_calls};
 ghost use Rattle.histar_script.specs.Reading.{user_of, two_values_of, lone_call_of, call_among, call_of, words_item, item_of};
 
 use crate::groups::read_group;

@@ -21,7 +21,8 @@ use Rattle.histar_noninterference.specs.Comparison.{is_dir_of}
 use Rattle.histar_noninterference.proofs.Kept.{kept_put}
 use Rattle.histar_flat.proofs.Secrecy.{IsAlikeBut, other_bytes_alike}
 use Rattle.histar_secrecy.specs.Roles.{is_bound, is_confined, is_outsider, is_trusted, logs_in_as_reader}
-use Rattle.histar_secrecy.specs.Noninterference.{HasFile, IsReached, ShowsRole, OutsidersCallTheSame, OutsidersLearnNothing, RolesAreShown, no_reader_logs_in, outside_calls, outside_replies, trusted_are_silent}
+use Rattle.histar_secrecy.specs.Noninterference.{HasFile, IsReached, ShowsRole, OutsidersCallTheSame, OutsidersLearnNothing, RolesAreShown}
+use Rattle.histar_secrecy.specs.Noninterference.{no_reader_logs_in, outside_calls, outside_replies, trusted_are_silent}
 use Rattle.histar_secrecy.proofs.Knowing.{AreJobs, jobs_at_end}
 use Rattle.histar_secrecy.proofs.Links.{IsChain, IsLed, IsUntrusted, confined_line, led_after, outside_line}
 use Rattle.histar_secrecy.proofs.Roots.{AreRooted, HasRoot, rooted_at_end}

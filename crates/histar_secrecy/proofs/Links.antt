@@ -70,7 +70,8 @@ module _ {accounts : Accounts} {class : Class} {f : Flat} (begun : IsBegun accou
   }
 
   -- A line of a confined process changes nothing outside a job of readers.
-  pub confined_line : is_confined accounts class f me ≡ true → (us : List Flat) (s t : Flat) → IsLed accounts class f s → IsChain accounts class f s us t
+  pub confined_line : is_confined accounts class f me ≡ true → (us : List Flat) (s t : Flat) → IsLed accounts class f s
+      → IsChain accounts class f s us t
       → (vs : List Flat) × IsChain accounts class f (flat_after accounts s me call) vs t
   confined_line confined us s t h chain = by (running s me) refl
     where
@@ -81,7 +82,8 @@ module _ {accounts : Accounts} {class : Class} {f : Flat} (begun : IsBegun accou
           let job = bound_job h.jobs h.later.root me p there ((h.later.role me p e).confined confined) in
           let known : knows p job.0 ≡ true = ap (λ b. b || has p.held job.0) job.1 in
           let started = h.jobs.started me p job.0 there known in
-          let link : AreLinked accounts class (flat_after accounts s me call) s = job_link s h job.0 (h.jobs.child me p job.0 there known) started job.2
+          let link : AreLinked accounts class (flat_after accounts s me call) s =
+          job_link s h job.0 (h.jobs.child me p job.0 there known) started job.2
           (sym (started.inside me p there) ∙ job.1) in
           subst (λ o. (vs : List Flat) × IsChain accounts class f (flat_by accounts s me o call) vs t) e (s ∷ us, (link, h, chain))
 
@@ -101,7 +103,8 @@ module _ {accounts : Accounts} {class : Class} {f : Flat} (begun : IsBegun accou
     ]
 
     -- where the name is of the job, nothing of this name runs
-    none_runs : (job : ProcName) (s : Flat) → IsLed accounts class f s → IsStarted job s → AreReaders accounts class job s → under_process job me ≡ true
+    none_runs : (job : ProcName) (s : Flat) → IsLed accounts class f s → IsStarted job s
+        → AreReaders accounts class job s → under_process job me ≡ true
         → running s me ≡ None
     none_runs job s h started readers u = by (running s me) refl
       where

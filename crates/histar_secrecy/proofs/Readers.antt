@@ -42,7 +42,9 @@ reads_inside accounts a b class user more h =
 -- what it may read holding none it may read
 pub reads_holding : (accounts : Accounts) (a : Process) (class : Class) → may_read accounts (holding_none a) class ≡ true
     → may_read accounts a class ≡ true
-reads_holding accounts a class h = reads_as accounts (holding_none a) a class refl (λ job c k. ap (λ x. x || has a.held job) (in_chain a.chain job k)) h
+reads_holding accounts a class h =
+    reads_as accounts (holding_none a) a class refl (λ job c k. ap (λ x. x || has a.held job) (in_chain a.chain job k))
+    h
 
 -- the first job of a process that is in some
 pub first_job : (p : Process) → is_free p ≡ false → (job : ProcName) × (has p.chain job ≡ true)

@@ -139,7 +139,8 @@ module _ {accounts : Accounts} {class : Class} {job : ProcName} {s : Flat} (h : 
   }
 
 -- So it is after each line.
-pub readers_after : {accounts : Accounts} {class : Class} {job : ProcName} {s : Flat} → AreReaders accounts class job s → is_given s.processes job ≡ true
+pub readers_after : {accounts : Accounts} {class : Class} {job : ProcName} {s : Flat} → AreReaders accounts class job s
+    → is_given s.processes job ≡ true
     → (me : ProcName) (call : UnixCall) → AreReaders accounts class job (flat_after accounts s me call)
 readers_after {accounts} {class} {job} {s} h given me call =
     by_line accounts s me call (AreReaders accounts class job) h (λ p runs. readers_changes h given me p (runs_is_there (s.processes me) p runs) call)
@@ -317,7 +318,9 @@ module _ (accounts : Accounts) (s : Flat) (h : AreRooted accounts s) (jobs : Are
       chains = λ x y there busy. elim (born_cases s me starter (next_child me p) newborn x y there) [
         | inl t ↦ inr (subst (λ z. HasRoot accounts after (Scratch z.user z.chain)) t.1 new_root)
         | inr v ↦ elim v [
-          | inl t ↦ inl (subst (λ z. HasRoot accounts s (Scratch z.user z.chain)) t.1 (alike_root p starter refl refl me here (ap is_free t.1 ∙ busy)))
+          | inl t ↦
+              inl (subst (λ z. HasRoot accounts s (Scratch z.user z.chain)) t.1
+              (alike_root p starter refl refl me here (ap is_free t.1 ∙ busy)))
           | inr t ↦ inl (h.chains x y t busy)
         ]
       ];
@@ -400,4 +403,5 @@ rooted_at_end accounts calls = go calls (boot accounts) (jobs_at_start accounts)
     go : (calls : List CallLine) (s : Flat) → AreJobs s → AreRooted accounts s → AreRooted accounts (flat_end accounts s calls)
     go [] s jobs h = h
     go (c ∷ calls) s jobs h =
-        go calls (flat_after accounts s c.process c.call) (jobs_after accounts s jobs c.process c.call) (rooted_after accounts s h jobs c.process c.call)
+        go calls (flat_after accounts s c.process c.call) (jobs_after accounts s jobs c.process c.call)
+        (rooted_after accounts s h jobs c.process c.call)

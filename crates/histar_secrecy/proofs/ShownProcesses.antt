@@ -16,7 +16,8 @@ use Rattle.histar_secrecy.specs.Logins.{logged_in}
 use Rattle.histar_secrecy.specs.Roles.{is_bound, is_confined, is_trusted}
 use Rattle.histar_secrecy.specs.Noninterference.{ShowsRole}
 use Rattle.histar_secrecy.specs.Changers.{may_change}
-use Rattle.histar_secrecy.specs.ShownRoles.{AreClassesTo, AreNumbered, IsOfClass, IsShownProcess, ShownIsSo, changes_one, flat_class, job_numbered, class_by_number, of_groups, member_role, role_in, role_of, with_rights}
+use Rattle.histar_secrecy.specs.ShownRoles.{AreClassesTo, AreNumbered, IsOfClass, IsShownProcess, ShownIsSo, changes_one, flat_class, job_numbered}
+use Rattle.histar_secrecy.specs.ShownRoles.{class_by_number, of_groups, member_role, role_in, role_of, with_rights}
 use Rattle.histar_secrecy.proofs.Learning.{roles_are_shown}
 use Rattle.histar_secrecy.proofs.NumberedJobs.{bound_by_number, in_two_steps, named, reads_by_number, writes_by_number}
 use Rattle.histar_secrecy.proofs.Readers.{bound_parts, reads_holding}

@@ -2,7 +2,8 @@
 use Rattle.std.specs.Prelude.{◌≡◌, true, false, List, [], ◌∷◌, ◌++◌, None, Some, codes, filter, map, refl}
 use Rattle.histar_flat.specs.declared.calls.CallLine.{CallLine}
 use Rattle.histar_flat.specs.declared.calls.Mode.TheVariants as modes
-use Rattle.histar_flat.specs.declared.calls.UnixCall.TheVariants.{Create, Read, Write, List as ListCall, Stat, Rmtree, Spawn, Exit, Status, Login, Wrap}
+use Rattle.histar_flat.specs.declared.calls.UnixCall.TheVariants.{Create, Read, Write, List as ListCall, Stat, Rmtree, Spawn, Exit, Status, Login}
+use Rattle.histar_flat.specs.declared.calls.UnixCall.TheVariants.{Wrap}
 use Rattle.histar_flat.specs.declared.replies.Errno.TheVariants.{EACCES}
 use Rattle.histar_flat.specs.declared.replies.Reply.TheVariants.{Data, Entries, Refused, Done}
 use Rattle.histar_flat.specs.Words.{Path}

@@ -39,7 +39,9 @@ writes_it_or_above accounts f p r path u w = by path u
     ]
     by (k ∷ e) u = elim (same_path_found r (k ∷ e)) [
       | inl t ↦ ap (λ b. b || writes_above accounts f p (k ∷ e)) (ap (writes accounts f p) (sym t.1) ∙ w)
-      | inr t ↦ ap (λ b. writes accounts f p (k ∷ e) || b) (by e (sym (ap (λ b. b || under_path r e) t.0) ∙ u)) ∙ or-true (writes accounts f p (k ∷ e))
+      | inr t ↦
+          ap (λ b. writes accounts f p (k ∷ e) || b) (by e (sym (ap (λ b. b || under_path r e) t.0) ∙ u))
+          ∙ or-true (writes accounts f p (k ∷ e))
     ]
 
 -- on the way to the path the one process has no more rights than the other

@@ -1,7 +1,8 @@
 //! On whom it depends that a file stays secret, and as it is. Each law is the contract of a function
 //! that does nothing.
 ghost use Rattle.histar_secrecy.specs.Changers.{OthersChangeNothing};
-ghost use Rattle.histar_secrecy.specs.Noninterference.{BoundWriteForReaders, OutsidersLearnNothing, ProgramsLearnNothing, RolesAreShown, WhatIsWrittenStaysSecret};
+ghost use Rattle.histar_secrecy.specs.Noninterference.{BoundWriteForReaders, OutsidersLearnNothing, ProgramsLearnNothing};
+ghost use Rattle.histar_secrecy.specs.Noninterference.{RolesAreShown, WhatIsWrittenStaysSecret};
 ghost use Rattle.histar_secrecy.specs.ShownRoles.{ShownIsSo};
 
 /// The secret in a file depends on the processes alone that are trusted with it: while these call nothing,

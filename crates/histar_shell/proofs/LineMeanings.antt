@@ -1,5 +1,6 @@
 -- A line ends as the flat state says that the machine represents before it.
-use Rattle.std.proofs.Common.{◌≡◌, ℕ, Bool, true, false, List, [], ◌∷◌, length, Option, None, Some, Result, Ok, Err, refl, sym, ap, ◌∙◌, subst, append-nil}
+use Rattle.std.proofs.Common.{◌≡◌, ℕ, Bool, true, false, List, [], ◌∷◌, length, Option, None, Some, Result, Ok, Err, refl, sym, ap, ◌∙◌, subst}
+use Rattle.std.proofs.Common.{append-nil}
 use Rattle.std.specs.Prelude.{is_some}
 use Rattle.std.specs.List.{AllByRecursion}
 use mathlib.Core.Bool.{true≢false}
@@ -70,7 +71,8 @@ module _ (refinements : CallsRefine) (accounts : Accounts) (old new : MachineMod
 
     -- a call of the process is its row
     made_refined : (k : KernelModel) → state k ≡ state old.kernel → (call : UnixCall) (result : Result Reply Stopped) → IsCall call
-        → Makes accounts (roots_of (length accounts.users)) me caller k new.kernel call result → FollowsRule accounts f me call k new.kernel caller.thread result
+        → Makes accounts (roots_of (length accounts.users)) me caller k new.kernel call result
+        → FollowsRule accounts f me call k new.kernel caller.thread result
     made_refined k same call result can made =
         let there : IsReady accounts (state k) f me caller.thread = subst (λ (s : State). IsReady accounts s f me caller.thread) (sym same) ready in
         let at : caller_at (state k) (roots_of (length accounts.users)).home me ≡ Some caller =
@@ -78,20 +80,28 @@ module _ (refinements : CallsRefine) (accounts : Accounts) (old new : MachineMod
         refinements accounts ok call can me caller k new.kernel f result there at made
 
     -- its program reads no password
-    made_of : (k : KernelModel) (call : UnixCall) (result : Result Reply Stopped) → Makes old.users (roots_of (length accounts.users)) me caller k new.kernel call result → Makes accounts (roots_of (length accounts.users)) me caller k new.kernel call result
+    made_of : (k : KernelModel) (call : UnixCall) (result : Result Reply Stopped)
+        → Makes old.users (roots_of (length accounts.users)) me caller k new.kernel call result
+        → Makes accounts (roots_of (length accounts.users)) me caller k new.kernel call result
     made_of k call result made =
         let roots = roots_of (length accounts.users) in
-        subst (λ (p : Program). Runs p k new.kernel caller.thread result) (ap (λ (users : Accounts). program_of users roots me caller call) shows.users ∙ same_program accounts roots me caller call) made
+        subst (λ (p : Program). Runs p k new.kernel caller.thread result)
+        (ap (λ (users : Accounts). program_of users roots me caller call) shows.users
+        ∙ same_program accounts roots me caller call) made
 
     -- at the places that boot told the machine
     refined_of_made : (line : ℕ) (call : UnixCall) (result : Result Reply Stopped) → IsCall call → HasMade old new line me caller call result
         → FollowsRule accounts f me call (on_line line old.kernel) new.kernel caller.thread result
     refined_of_made line call result can h =
         made_refined (on_line line old.kernel) refl call result can
-        (made_of (on_line line old.kernel) call result (subst (λ (roots : Roots). Makes old.users roots me caller (on_line line old.kernel) new.kernel call result) shows.roots h.made))
+        (made_of (on_line line old.kernel) call result (subst
+        (λ (roots : Roots). Makes old.users roots me caller (on_line line old.kernel) new.kernel call result)
+        shows.roots h.made))
 
     -- the machine after it shows what its kernel represents
-    still_shows : (line : ℕ) (call : UnixCall) (result : Result Reply Stopped) (g : Flat) → HasMade old new line me caller call result → Represents accounts (state new.kernel) g → IsFirstFree g → AreFilesSmall g → AreShallow g
+    still_shows : (line : ℕ) (call : UnixCall) (result : Result Reply Stopped) (g : Flat)
+        → HasMade old new line me caller call result → Represents accounts (state new.kernel) g → IsFirstFree g
+        → AreFilesSmall g → AreShallow g
         → Shows accounts new g
     still_shows line call result g h represented first small shallow = record {
       declared = shows.declared;
@@ -104,12 +114,20 @@ module _ (refinements : CallsRefine) (accounts : Accounts) (old new : MachineMod
     }
 
     -- each raw call is by the process's thread
-    own_thread : (line : ℕ) (entries : List TraceEntry) → AllByRecursion (IsBy line caller.thread) entries → AllByRecursion (λ (e : TraceEntry). (e.line ≡ line) × IsThreadOf accounts (state old.kernel) me e.thread) entries
+    own_thread : (line : ℕ) (entries : List TraceEntry) → AllByRecursion (IsBy line caller.thread) entries
+        → AllByRecursion (λ (e : TraceEntry). (e.line ≡ line) × IsThreadOf accounts (state old.kernel) me e.thread)
+        entries
     own_thread line [] own = tt
-    own_thread line (e ∷ entries) own = ((own.0.0, subst (IsThreadOf accounts (state old.kernel) me) (sym own.0.1) ready.thread), own_thread line entries own.1)
+    own_thread line (e ∷ entries) own = (
+      (own.0.0, subst (IsThreadOf accounts (state old.kernel) me) (sym own.0.1) ready.thread),
+      own_thread line
+          entries own.1,
+    )
 
     -- the call ends as is meant
-    made_ends : (line : ℕ) (call : UnixCall) (result : Result Reply Stopped) → IsCall call → HasMade old new line me caller call result → EndsAsMeant accounts old new f (record { line = line; process = me; call = call }) result
+    made_ends : (line : ℕ) (call : UnixCall) (result : Result Reply Stopped) → IsCall call
+        → HasMade old new line me caller call result
+        → EndsAsMeant accounts old new f (record { line = line; process = me; call = call }) result
     made_ends line call (Ok reply) can h =
         let refined = refined_of_made line call (Ok reply) can h in
         record {
@@ -127,7 +145,8 @@ module _ (refinements : CallsRefine) (accounts : Accounts) (old new : MachineMod
         record { entries = out.entries; trace = out.trace; run = out.run; own = own_thread line out.entries out.own }
 
   -- a line of a process that doesn't run is answered `gone`, and makes no raw call
-  gone_ends : (line : ℕ) (me : ProcName) (call : UnixCall) → running f me ≡ None → EndsAsMeant accounts old old f (record { line = line; process = me; call = call }) (Ok Gone)
+  gone_ends : (line : ℕ) (me : ProcName) (call : UnixCall) → running f me ≡ None
+      → EndsAsMeant accounts old old f (record { line = line; process = me; call = call }) (Ok Gone)
   gone_ends line me call none =
       let still = not_running_is_gone accounts f me call none in
       let is_line : IsLine accounts (state old.kernel) line me Gone [] (state old.kernel) = record {
@@ -156,18 +175,25 @@ module _ (refinements : CallsRefine) (accounts : Accounts) (old new : MachineMod
   lost_is_gone : (me : ProcName) → caller_at (state old.kernel) (roots_of (length accounts.users)).home me ≡ None → running f me ≡ None
   lost_is_gone me lost = none_of (running f me) (sym (caller_there accounts (state old.kernel) f shows.represents.matched me) ∙ ap is_some lost)
 
-  runs_end : (line : ℕ) (me : ProcName) (call : UnixCall) (result : Result Reply Stopped) → IsCall call → AnswersRunning old new line me call result → EndsAsMeant accounts old new f (record { line = line; process = me; call = call }) result
+  runs_end : (line : ℕ) (me : ProcName) (call : UnixCall) (result : Result Reply Stopped) → IsCall call
+      → AnswersRunning old new line me call result
+      → EndsAsMeant accounts old new f (record { line = line; process = me; call = call }) result
   runs_end line me call result can h = by (caller_at (state old.kernel) (roots_of (length accounts.users)).home me) refl
       (subst (λ (roots : Roots). AnswersFound (caller_at (state old.kernel) roots.home me) old new line me call result) shows.roots h)
     where
-      by : (o : Option Caller) → caller_at (state old.kernel) (roots_of (length accounts.users)).home me ≡ o → AnswersFound o old new line me call result → EndsAsMeant accounts old new f (record { line = line; process = me; call = call }) result
+      by : (o : Option Caller) → caller_at (state old.kernel) (roots_of (length accounts.users)).home me ≡ o
+          → AnswersFound o old new line me call result
+          → EndsAsMeant accounts old new f (record { line = line; process = me; call = call }) result
       by None lost k =
           subst (λ (m : MachineModel). EndsAsMeant accounts old m f (record { line = line; process = me; call = call }) result) (sym k.1)
-          (subst (EndsAsMeant accounts old old f (record { line = line; process = me; call = call })) (sym k.0) (gone_ends line me call (lost_is_gone me lost)))
+          (subst (EndsAsMeant accounts old old f (record { line = line; process = me; call = call })) (sym k.0)
+          (gone_ends line me call (lost_is_gone me lost)))
       by (Some caller) found made = made_ends me caller found line call result can made
 
   -- a machine that had stopped makes no raw call
-  stopped_ends : (line : ℕ) (process : ProcName) (call : UnixCall) (result : Result Reply Stopped) → AnswersIf true old new line process call result → EndsAsMeant accounts old new f (record { line = line; process = process; call = call }) result
+  stopped_ends : (line : ℕ) (process : ProcName) (call : UnixCall) (result : Result Reply Stopped)
+      → AnswersIf true old new line process call result
+      → EndsAsMeant accounts old new f (record { line = line; process = process; call = call }) result
   stopped_ends line process call (Ok reply) h = absurd cc
   stopped_ends line process call (Err stopped) h = record {
     entries = [];
@@ -176,14 +202,19 @@ module _ (refinements : CallsRefine) (accounts : Accounts) (old new : MachineMod
     own = tt;
   }
 
-  line_ends : (line : ℕ) (process : ProcName) (call : UnixCall) (result : Result Reply Stopped) → IsCall call → AnswersLine old new line process call result → EndsAsMeant accounts old new f (record { line = line; process = process; call = call }) result
+  line_ends : (line : ℕ) (process : ProcName) (call : UnixCall) (result : Result Reply Stopped) → IsCall call
+      → AnswersLine old new line process call result
+      → EndsAsMeant accounts old new f (record { line = line; process = process; call = call }) result
   line_ends line process call result can h = by old.is_stopped h
     where
-      by : (b : Bool) → AnswersIf b old new line process call result → EndsAsMeant accounts old new f (record { line = line; process = process; call = call }) result
+      by : (b : Bool) → AnswersIf b old new line process call result
+          → EndsAsMeant accounts old new f (record { line = line; process = process; call = call }) result
       by true k = stopped_ends line process call result k
       by false k = runs_end line process call result can k
 
 -- a line follows the meaning
-pub line_follows : (refinements : CallsRefine) (old new : MachineModel) (line : ℕ) (process : ProcName) (call : UnixCall) (result : Result Reply Stopped) → IsCall call
+pub line_follows : (refinements : CallsRefine) (old new : MachineModel) (line : ℕ) (process : ProcName)
+    (call : UnixCall) (result : Result Reply Stopped) → IsCall call
     → AnswersLine old new line process call result → FollowsMeaning old new line process call result
-line_follows refinements old new line process call result can h accounts f shows = line_ends refinements accounts old new f shows line process call result can h
+line_follows refinements old new line process call result can h accounts f shows =
+    line_ends refinements accounts old new f shows line process call result can h

@@ -11,11 +11,17 @@ use Rattle.histar_process.specs.Caller.{caller_at}
 use Rattle.histar_shell.specs.Machine.{MachineModel, HasMade, AnswersFound, AnswersIf, AnswersLine}
 
 -- a process that was found had its call made
-pub had_made : (old new : MachineModel) (line : ℕ) (me : ProcName) (caller : Caller) (call : UnixCall) (result : Result Reply Stopped) → old.is_stopped ≡ false
-    → caller_at (state old.kernel) old.roots.home me ≡ Some caller → HasMade old new line me caller call result → AnswersLine old new line me call result
+pub had_made : (old new : MachineModel) (line : ℕ) (me : ProcName) (caller : Caller) (call : UnixCall)
+    (result : Result Reply Stopped) → old.is_stopped ≡ false
+    → caller_at (state old.kernel) old.roots.home me ≡ Some caller → HasMade old new line me caller call result
+    → AnswersLine old new line me call result
 had_made old new line me caller call result runs found made =
-    subst (λ (b : Bool). AnswersIf b old new line me call result) (sym runs) (subst (λ (o : Option Caller). AnswersFound o old new line me call result) (sym found) made)
+    subst (λ (b : Bool). AnswersIf b old new line me call result) (sym runs)
+    (subst (λ (o : Option Caller). AnswersFound o old new line me call result) (sym found) made)
 
 -- a machine that runs answers `gone` to a process that is not found
-pub gone_line : (m : MachineModel) (line : ℕ) (me : ProcName) (call : UnixCall) → m.is_stopped ≡ false → caller_at (state m.kernel) m.roots.home me ≡ None → AnswersLine m m line me call (Ok Gone)
-gone_line m line me call runs lost = subst (λ (b : Bool). AnswersIf b m m line me call (Ok Gone)) (sym runs) (subst (λ (o : Option Caller). AnswersFound o m m line me call (Ok Gone)) (sym lost) (refl, refl))
+pub gone_line : (m : MachineModel) (line : ℕ) (me : ProcName) (call : UnixCall) → m.is_stopped ≡ false
+    → caller_at (state m.kernel) m.roots.home me ≡ None → AnswersLine m m line me call (Ok Gone)
+gone_line m line me call runs lost =
+    subst (λ (b : Bool). AnswersIf b m m line me call (Ok Gone)) (sym runs)
+    (subst (λ (o : Option Caller). AnswersFound o m m line me call (Ok Gone)) (sym lost) (refl, refl))

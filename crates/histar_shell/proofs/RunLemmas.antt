@@ -1,5 +1,6 @@
 -- What a run says, put together from what its parts say.
-use Rattle.std.proofs.Common.{◌≡◌, ℕ, ◌<◌, true, false, ltb, List, [], ◌++◌, length, Option, Some, None, Result, Ok, Err, refl, sym, ap, subst, ◌∙◌, arith, rules, tests, append-nil, inl, inr}
+use Rattle.std.proofs.Common.{◌≡◌, ℕ, ◌<◌, true, false, ltb, List, [], ◌++◌, length, Option, Some, None, Result, Ok, Err, refl, sym, ap, subst, ◌∙◌}
+use Rattle.std.proofs.Common.{arith, rules, tests, append-nil, inl, inr}
 use Rattle.std.specs.Prelude.{Bool, IfSome, IsOk, is_ok}
 use Rattle.std.specs.Io.KnownBytes.{Keeps}
 use Rattle.std.proofs.lemmas.Bool.{cases_lt, false≢true}
@@ -49,8 +50,11 @@ module _ (options : Options) where
   -- ---- a text that is run
 
   -- its answers are those of its meaning
-  pub runs_text : (refinements : CallsRefine) (text : List ℕ) (old new : Option (List ℕ)) (result : Answer) → AgreesWith (script_of text) result → WritesAnswers options old new (script_of text) result → RunsText options text old new result
-  runs_text refinements text old new result agrees answers = record { faults = agrees; answers = answers; means = meant_run refinements options old new text result answers }
+  pub runs_text : (refinements : CallsRefine) (text : List ℕ) (old new : Option (List ℕ)) (result : Answer)
+      → AgreesWith (script_of text) result → WritesAnswers options old new (script_of text) result
+      → RunsText options text old new result
+  runs_text refinements text old new result agrees answers =
+      record { faults = agrees; answers = answers; means = meant_run refinements options old new text result answers }
 
   -- what reading the script answers is the fault in it, or out of memory
   script_fault_agrees : (f : Fault) (read : Result ScriptModel Fault) → Gives (Err f) read → IsFaultAt read f
@@ -69,8 +73,11 @@ module _ (options : Options) where
   script_fault_writes WriteFailed w read given = absurd given
 
   -- a text in which reading finds a fault
-  pub faulty_text : (refinements : CallsRefine) (text : List ℕ) (w : Option (List ℕ)) (f : Fault) → Gives (Err f) (script_of text) → RunsText options text w w (Err f)
-  faulty_text refinements text w f given = runs_text refinements text w w (Err f) (script_fault_agrees f (script_of text) given) (script_fault_writes f w (script_of text) given)
+  pub faulty_text : (refinements : CallsRefine) (text : List ℕ) (w : Option (List ℕ)) (f : Fault)
+      → Gives (Err f) (script_of text) → RunsText options text w w (Err f)
+  faulty_text refinements text w f given =
+      runs_text refinements text w w (Err f) (script_fault_agrees f (script_of text) given)
+      (script_fault_writes f w (script_of text) given)
 
   -- a text for which no machine was booted
   pub unbooted_text : (refinements : CallsRefine) (text : List ℕ) (w : Option (List ℕ)) → RunsText options text w w (Err OutOfMemory)
@@ -85,7 +92,8 @@ module _ (options : Options) where
   answer_fault_agrees WriteFailed read h right = right
 
   -- and a beginning of the answers was written then
-  answer_fault_writes : (f : Fault) (old new : Option (List ℕ)) (read : Result ScriptModel Fault) → IsOutputFault f → BeginsScript options old new read → WritesAtFault options old new read f
+  answer_fault_writes : (f : Fault) (old new : Option (List ℕ)) (read : Result ScriptModel Fault) → IsOutputFault f
+      → BeginsScript options old new read → WritesAtFault options old new read f
   answer_fault_writes (BadScript n) old new read h begun = absurd h
   answer_fault_writes TooLong old new read h begun = absurd h
   answer_fault_writes OutOfMemory old new read h begun = inr begun
@@ -93,25 +101,49 @@ module _ (options : Options) where
   answer_fault_writes WriteFailed old new read h begun = begun
 
   -- the machine was booted with the users and groups that the script has
-  pub starts_with : (m : MachineModel) (script : ScriptModel) (accounts : Accounts) → accounts ≡ script.accounts → IsStart accounts m → IsStart script.accounts m
+  pub starts_with : (m : MachineModel) (script : ScriptModel) (accounts : Accounts) → accounts ≡ script.accounts
+      → IsStart accounts m → IsStart script.accounts m
   starts_with m script accounts same starts = subst (λ (declared : Accounts). IsStart declared m) same starts
 
   -- a beginning of the calls of the script was answered
-  pub begins_script : (old new : Option (List ℕ)) (script : ScriptModel) (start : MachineModel) (calls : List CallLine) → IsStart script.accounts start → calls ≡ script.calls → BeginsAnswers start old new calls → (read : Result ScriptModel Fault) → read ≡ Ok script → BeginsScript options old new read
-  begins_script old new script start calls starts listed begun read is_read = record { script = script; is_read = is_read; start = start; starts = starts; begun = inl (subst (λ (l : List CallLine). BeginsAnswers start old new l) listed begun) }
+  pub begins_script : (old new : Option (List ℕ)) (script : ScriptModel) (start : MachineModel) (calls : List CallLine)
+      → IsStart script.accounts start → calls ≡ script.calls → BeginsAnswers start old new calls
+      → (read : Result ScriptModel Fault) → read ≡ Ok script → BeginsScript options old new read
+  begins_script old new script start calls starts listed begun read is_read =
+      record {
+        script = script;
+        is_read = is_read;
+        start = start;
+        starts = starts;
+        begun = inl (subst (λ (l : List CallLine). BeginsAnswers start old new l) listed begun);
+      }
 
   -- the calls of the script were answered, and a beginning of what stands behind the replies was written
-  pub begins_ending : (old replied new : Option (List ℕ)) (script : ScriptModel) (start end : MachineModel) (calls : List CallLine) → IsStart script.accounts start → calls ≡ script.calls → AnswersCalls start end old replied calls → BeginsTheEnding options end replied new → (read : Result ScriptModel Fault) → read ≡ Ok script → BeginsScript options old new read
+  pub begins_ending : (old replied new : Option (List ℕ)) (script : ScriptModel) (start end : MachineModel)
+      (calls : List CallLine) → IsStart script.accounts start → calls ≡ script.calls
+      → AnswersCalls start end old replied calls → BeginsTheEnding options end replied new
+      → (read : Result ScriptModel Fault) → read ≡ Ok script → BeginsScript options old new read
   begins_ending old replied new script start end calls starts listed answered begun read is_read = record {
     script = script;
     is_read = is_read;
     start = start;
     starts = starts;
-    begun = inr (record { end = end; replied = replied; answered = subst (λ (l : List CallLine). AnswersCalls start end old replied l) listed answered; ending = begun.0; ends = begun.1; appended = begun.2 });
+    begun =
+        inr (record {
+          end = end;
+          replied = replied;
+          answered = subst (λ (l : List CallLine). AnswersCalls start end old replied l) listed answered;
+          ending = begun.0;
+          ends = begun.1;
+          appended = begun.2;
+        });
   }
 
   -- the calls of the script were answered, what stands behind the replies was written, and the trace is that of the machine at the end
-  pub answers_script : (old replied new : Option (List ℕ)) (script : ScriptModel) (start end : MachineModel) (calls : List CallLine) (trace : List TraceEntry) → IsStart script.accounts start → calls ≡ script.calls → AnswersCalls start end old replied calls → AppendsEnding options end replied new → trace ≡ end.kernel.trace → (read : Result ScriptModel Fault) → read ≡ Ok script
+  pub answers_script : (old replied new : Option (List ℕ)) (script : ScriptModel) (start end : MachineModel)
+      (calls : List CallLine) (trace : List TraceEntry) → IsStart script.accounts start → calls ≡ script.calls
+      → AnswersCalls start end old replied calls → AppendsEnding options end replied new → trace ≡ end.kernel.trace
+      → (read : Result ScriptModel Fault) → read ≡ Ok script
       → AnswersScript options old new read trace
   answers_script old replied new script start end calls trace starts listed answered whole recorded read is_read = record {
     script = script;
@@ -128,18 +160,24 @@ module _ (options : Options) where
   }
 
   -- a text of which a beginning of the calls was answered
-  pub begun_text : (refinements : CallsRefine) (text : List ℕ) (old new : Option (List ℕ)) (f : Fault) (script : ScriptModel) → script_of text ≡ Ok script → IsOutputFault f → BeginsScript options old new (script_of text) → RunsText options text old new (Err f)
+  pub begun_text : (refinements : CallsRefine) (text : List ℕ) (old new : Option (List ℕ)) (f : Fault)
+      (script : ScriptModel) → script_of text ≡ Ok script → IsOutputFault f
+      → BeginsScript options old new (script_of text) → RunsText options text old new (Err f)
   begun_text refinements text old new f script given h begun =
-      runs_text refinements text old new (Err f) (answer_fault_agrees f (script_of text) h (ap is_ok given)) (answer_fault_writes f old new (script_of text) h begun)
+      runs_text refinements text old new (Err f) (answer_fault_agrees f (script_of text) h (ap is_ok given))
+      (answer_fault_writes f old new (script_of text) h begun)
 
   -- a text of which all calls were answered
-  pub answered_text : (refinements : CallsRefine) (text : List ℕ) (old new : Option (List ℕ)) (trace : List TraceEntry) (script : ScriptModel) → script_of text ≡ Ok script → AnswersScript options old new (script_of text) trace → RunsText options text old new (Ok trace)
+  pub answered_text : (refinements : CallsRefine) (text : List ℕ) (old new : Option (List ℕ)) (trace : List TraceEntry)
+      (script : ScriptModel) → script_of text ≡ Ok script → AnswersScript options old new (script_of text) trace
+      → RunsText options text old new (Ok trace)
   answered_text refinements text old new trace script given answers = runs_text refinements text old new (Ok trace) (ap is_ok given) answers
 
   -- ---- an input that is taken
 
   -- an error of the input stops the reading
-  pub stops_reading : (e : InputError) (left rest w : Option (List ℕ)) → TakesSome left rest → RunsInput (RunsText options) left rest w w (Err (input_fault e))
+  pub stops_reading : (e : InputError) (left rest w : Option (List ℕ)) → TakesSome left rest
+      → RunsInput (RunsText options) left rest w w (Err (input_fault e))
   stops_reading input.OutOfMemory left rest w takes = inl (record { takes = takes; keeps = Keeps-refl w })
   stops_reading input.ReadFailed left rest w takes = record { takes = takes; keeps = Keeps-refl w }
 
@@ -148,11 +186,18 @@ module _ (options : Options) where
   gives_up_first left w = stops_reading input.OutOfMemory left left w (record { taken = []; consumed = Consumes-nil left; within = omega arith })
 
   -- what was taken is run
-  pub runs_taken : (left rest old new : Option (List ℕ)) (taken text : List ℕ) (result : Answer) → TakesAll left rest taken → text ≡ taken → RunsText options text old new result → is_read_failed result ≡ false → RunsInput (RunsText options) left rest old new result
+  pub runs_taken : (left rest old new : Option (List ℕ)) (taken text : List ℕ) (result : Answer)
+      → TakesAll left rest taken → text ≡ taken → RunsText options text old new result → is_read_failed result ≡ false
+      → RunsInput (RunsText options) left rest old new result
   runs_taken left rest old new taken text result takes same runs no_read_failed =
-      at_result result (record { taken = taken; takes = takes; runs = subst (λ (t : List ℕ). RunsText options t old new result) same runs }) no_read_failed
+      at_result result (record {
+        taken = taken;
+        takes = takes;
+        runs = subst (λ (t : List ℕ). RunsText options t old new result) same runs;
+      }) no_read_failed
     where
-      at_result : (r : Answer) → RunsTaken (RunsText options) left rest old new r → is_read_failed r ≡ false → RunsInput (RunsText options) left rest old new r
+      at_result : (r : Answer) → RunsTaken (RunsText options) left rest old new r → is_read_failed r ≡ false
+          → RunsInput (RunsText options) left rest old new r
       at_result (Ok trace) h none = h
       at_result (Err (BadScript n)) h none = h
       at_result (Err TooLong) h none = h
@@ -174,7 +219,8 @@ module _ (options : Options) where
       ]
 
   -- what was run is the script of the whole input
-  same_run : (input taken : List ℕ) (old new : Option (List ℕ)) (result : Answer) → script_of taken ≡ script_of input → RunsText options taken old new result → RunsText options input old new result
+  same_run : (input taken : List ℕ) (old new : Option (List ℕ)) (result : Answer) → script_of taken ≡ script_of input
+      → RunsText options taken old new result → RunsText options input old new result
   same_run input taken old new result same runs = record {
     faults = subst (λ (read : Result ScriptModel Fault). AgreesWith read result) same runs.faults;
     answers = subst (λ (read : Result ScriptModel Fault). WritesAnswers options old new read result) same runs.answers;
@@ -182,23 +228,33 @@ module _ (options : Options) where
   }
 
   -- a known input that was taken was run
-  taken_known : (left rest old new : Option (List ℕ)) (result : Answer) → RunsTaken (RunsText options) left rest old new result → IfSome left (λ input. RunsText options input old new result)
+  taken_known : (left rest old new : Option (List ℕ)) (result : Answer)
+      → RunsTaken (RunsText options) left rest old new result
+      → IfSome left (λ input. RunsText options input old new result)
   taken_known None rest old new result h = tt
   taken_known (Some input) rest old new result h = same_run input h.taken old new result (same_script input rest h.taken h.takes) h.runs
 
   -- a known input of which some was taken was run as far as that
-  stopped_known : (left rest old new : Option (List ℕ)) (result : Answer) → ((input : List ℕ) → Keeps old new → RunsText options input old new result) → StopsReading left rest old new → IfSome left (λ input. RunsText options input old new result)
+  stopped_known : (left rest old new : Option (List ℕ)) (result : Answer)
+      → ((input : List ℕ) → Keeps old new → RunsText options input old new result) → StopsReading left rest old new
+      → IfSome left (λ input. RunsText options input old new result)
   stopped_known None rest old new result runs h = tt
   stopped_known (Some input) rest old new result runs h = runs input h.keeps
 
   -- a known input was run
-  pub input_known : (left rest old new : Option (List ℕ)) (result : Answer) → RunsInput (RunsText options) left rest old new result → IfSome left (λ input. RunsText options input old new result)
+  pub input_known : (left rest old new : Option (List ℕ)) (result : Answer)
+      → RunsInput (RunsText options) left rest old new result
+      → IfSome left (λ input. RunsText options input old new result)
   input_known left rest old new (Ok trace) h = taken_known left rest old new (Ok trace) h
   input_known left rest old new (Err (BadScript n)) h = taken_known left rest old new (Err (BadScript n)) h
   input_known left rest old new (Err TooLong) h = taken_known left rest old new (Err TooLong) h
-  input_known left rest old new (Err OutOfMemory) (inl h) = stopped_known left rest old new (Err OutOfMemory) (λ text keeps. record { faults = tt; answers = inl keeps; means = inl keeps }) h
+  input_known left rest old new (Err OutOfMemory) (inl h) =
+      stopped_known left rest old new (Err OutOfMemory)
+      (λ text keeps. record { faults = tt; answers = inl keeps; means = inl keeps }) h
   input_known left rest old new (Err OutOfMemory) (inr h) = taken_known left rest old new (Err OutOfMemory) h
-  input_known left rest old new (Err ReadFailed) h = stopped_known left rest old new (Err ReadFailed) (λ text keeps. record { faults = tt; answers = keeps; means = keeps }) h
+  input_known left rest old new (Err ReadFailed) h =
+      stopped_known left rest old new (Err ReadFailed)
+      (λ text keeps. record { faults = tt; answers = keeps; means = keeps }) h
   input_known left rest old new (Err WriteFailed) h = taken_known left rest old new (Err WriteFailed) h
 
 -- ---- a sink that is left alone

@@ -85,11 +85,13 @@ wrap_by roots name me path directory_label kin_in = do
 -- ---- they read no password
 
 module _ (accounts : Accounts) where
-  same_create : (roots : Roots) (path : Path) (mode : Mode) → create_program (without_passwords accounts) roots path mode ≡ create_program accounts roots path mode
+  same_create : (roots : Roots) (path : Path) (mode : Mode)
+      → create_program (without_passwords accounts) roots path mode ≡ create_program accounts roots path mode
   unfolding create_program
   same_create roots path mode = λ i. create_by roots path (λ own. same_label accounts own mode i)
 
-  same_mkdir : (roots : Roots) (path : Path) (mode : Mode) → mkdir_program (without_passwords accounts) roots path mode ≡ mkdir_program accounts roots path mode
+  same_mkdir : (roots : Roots) (path : Path) (mode : Mode)
+      → mkdir_program (without_passwords accounts) roots path mode ≡ mkdir_program accounts roots path mode
   unfolding mkdir_program
   same_mkdir roots path mode = λ i. mkdir_by roots path (λ own. same_label accounts own mode i)
 
@@ -105,19 +107,26 @@ module _ (accounts : Accounts) where
   unfolding whoami_program
   same_whoami = λ i. whoami_by (λ own. same_user accounts own i)
 
-  same_login : (caller : Caller) (name : Name) (password : List ℕ) → login_program (without_passwords accounts) caller name password ≡ login_program accounts caller name password
-  same_login caller name password = at_place (place_of (without_passwords accounts).users name) ∙ ap (login_at accounts caller name password) (same_place accounts.users name)
+  same_login : (caller : Caller) (name : Name) (password : List ℕ)
+      → login_program (without_passwords accounts) caller name password ≡ login_program accounts caller name password
+  same_login caller name password =
+      at_place (place_of (without_passwords accounts).users name)
+      ∙ ap (login_at accounts caller name password) (same_place accounts.users name)
     where
       at_place : (place : Option ℕ) → login_at (without_passwords accounts) caller name password place ≡ login_at accounts caller name password place
       at_place None = refl
       at_place (Some place) = ap (λ (owners : List ℕ). login_as_program caller (place + 1) owners password) (same_owners accounts (place + 1) name)
 
-  same_wrap : (roots : Roots) (name : ProcName) (me : Home) (path : Path) → wrap_program (without_passwords accounts) roots name me path ≡ wrap_program accounts roots name me path
+  same_wrap : (roots : Roots) (name : ProcName) (me : Home) (path : Path)
+      → wrap_program (without_passwords accounts) roots name me path ≡ wrap_program accounts roots name me path
   unfolding wrap_program
-  same_wrap roots name me path = λ i. wrap_by roots name me path (λ own job. same_directory_label accounts own job i) (λ own job. same_kin_in accounts own job i)
+  same_wrap roots name me path =
+      λ i. wrap_by roots name me path (λ own job. same_directory_label accounts own job i)
+      (λ own job. same_kin_in accounts own job i)
 
   -- so a call has the program that it has by the users with no passwords
-  pub same_program : (roots : Roots) (me : ProcName) (caller : Caller) (call : UnixCall) → program_of (without_passwords accounts) roots me caller call ≡ program_of accounts roots me caller call
+  pub same_program : (roots : Roots) (me : ProcName) (caller : Caller) (call : UnixCall)
+      → program_of (without_passwords accounts) roots me caller call ≡ program_of accounts roots me caller call
   same_program roots me caller (Create path mode) = same_create roots path mode
   same_program roots me caller (Mkdir path mode) = same_mkdir roots path mode
   same_program roots me caller (Stat path) = same_stat roots path

@@ -1,5 +1,6 @@
 -- What is read of the users and groups of a session reads no password.
-use Rattle.std.proofs.Common.{◌≡◌, ◌∙◌, ℕ, zero, suc, ◌+◌, ◌*◌, subst, Bool, false, List, [], ◌∷◌, length, cond, Option, None, Some, refl, sym, ap, if◌then◌else◌}
+use Rattle.std.proofs.Common.{◌≡◌, ◌∙◌, ℕ, zero, suc, ◌+◌, ◌*◌, subst, Bool, false, List, [], ◌∷◌, length, cond, Option, None, Some, refl, sym, ap}
+use Rattle.std.proofs.Common.{if◌then◌else◌}
 use Rattle.std.specs.Prelude.{map, not, nat_lt, option_and_then, option_map}
 use Rattle.std.specs.List.{position_or_len}
 use Rattle.std.specs.FinMap as maps
@@ -21,7 +22,8 @@ use Rattle.histar_layout.specs.ClassLabels.{IsRisingFrom, owned_label, class_lab
 use Rattle.histar_calls.specs.declared.roots.Roots.{Roots}
 use Rattle.histar_layout.specs.Jobs.{jobs_in, is_empty}
 use Rattle.histar_layout.specs.Labelling.{secret_of, written_by}
-use Rattle.histar_layout.specs.Categories.{read_category, write_category, group_owner, owner_of_group, owners_among, owners_of, user_of, file_label, scratch_label, label_made}
+use Rattle.histar_layout.specs.Categories.{read_category, write_category, group_owner, owner_of_group, owners_among, owners_of, user_of, file_label}
+use Rattle.histar_layout.specs.Categories.{scratch_label, label_made}
 use Rattle.histar_layout.specs.ShownClass.{class_at, class_from, class_shown, is_unnamed}
 use Rattle.histar_layout.specs.UserTable.{without_password, without_passwords}
 use Rattle.histar_process.specs.Kin.{categories_of, kin_of, owned_by, user_name}
@@ -45,7 +47,9 @@ same_name (user ∷ users) (suc zero) = refl
 same_name (user ∷ users) (suc (suc i)) = same_name users (suc i)
 
 -- each is found where it was
-found_at : (users : List User) (name : Name) → position_or_len (λ (u : User). bytes_eq u.name name) (map without_password users) ≡ position_or_len (λ (u : User). bytes_eq u.name name) users
+found_at : (users : List User) (name : Name)
+    → position_or_len (λ (u : User). bytes_eq u.name name) (map without_password users)
+    ≡ position_or_len (λ (u : User). bytes_eq u.name name) users
 found_at [] name = refl
 found_at (user ∷ users) name = λ i. cond (not (bytes_eq user.name name)) (1 + found_at users name i) 0
 
@@ -53,10 +57,13 @@ pub same_place : (users : List User) (name : Name) → place_of (map without_pas
 same_place users name = λ i. cond (nat_lt (found_at users name i) (as_many users i)) (Some (found_at users name i)) None
 
 -- the class that a label shows is the same
-class_from_same : (label : Levels) (groups : List Group) (users : List User) (k : ℕ) → class_from label k groups (map without_password users) ≡ class_from label k groups users
+class_from_same : (label : Levels) (groups : List Group) (users : List User) (k : ℕ)
+    → class_from label k groups (map without_password users) ≡ class_from label k groups users
 class_from_same label groups [] k = refl
 class_from_same label groups (user ∷ users) k =
-    ap (λ (rest : Option ShownClass). if is_unnamed label k then rest else class_at user.name (level_of label (read_category k)) (level_of label (write_category k))) (class_from_same label groups users (k + 1))
+    ap (λ (rest : Option ShownClass).
+    if is_unnamed label k then rest else class_at user.name (level_of label (read_category k))
+    (level_of label (write_category k))) (class_from_same label groups users (k + 1))
 
 module _ (accounts : Accounts) where
   -- how many there are
@@ -79,7 +86,9 @@ module _ (accounts : Accounts) where
   same_file_label (modes.Group group) user = λ i. secret_of (read_category (same_owner group i)) (write_category (same_owner group i))
 
   pub same_label : (own : Levels) (mode : Mode) → label_made (without_passwords accounts) own mode ≡ label_made accounts own mode
-  same_label own mode = λ i. if is_empty (jobs_in own) then same_file_label mode (user_of own (count i)) i else scratch_label (user_of own (count i)) (jobs_in own)
+  same_label own mode =
+      λ i. if is_empty (jobs_in own) then same_file_label mode (user_of own (count i)) i else scratch_label
+      (user_of own (count i)) (jobs_in own)
 
   pub same_directory_label : (own : Levels) (job : ℕ) → directory_label (without_passwords accounts) own job ≡ directory_label accounts own job
   same_directory_label own job = λ i. scratch_label (user_of own (count i)) (jobs_with own job)
@@ -93,7 +102,9 @@ module _ (accounts : Accounts) where
   same_owned zero free = refl
   same_owned (suc k) free = λ i. categories_of (owners_among (count i) accounts.groups (suc k) (same_name accounts.users (suc k) i)) free
 
-  pub same_user : (own : Levels) → user_name (without_passwords accounts).users (user_of own (length (without_passwords accounts).users)) ≡ user_name accounts.users (user_of own (length accounts.users))
+  pub same_user : (own : Levels)
+      → user_name (without_passwords accounts).users (user_of own (length (without_passwords accounts).users))
+      ≡ user_name accounts.users (user_of own (length accounts.users))
   same_user own = λ i. same_name accounts.users (user_of own (count i)) i
 
   pub same_kin : (own : Levels) → kin_of (without_passwords accounts) own ≡ kin_of accounts own
@@ -126,7 +137,8 @@ module _ (accounts : Accounts) where
 
   module _ (s : State) where
     -- what stands at a path is of the same class
-    node_still : (q : Path) (target : Target) (node : TreeNode) → IsNodeAt accounts s q target node → IsNodeAt (without_passwords accounts) s q target node
+    node_still : (q : Path) (target : Target) (node : TreeNode) → IsNodeAt accounts s q target node
+        → IsNodeAt (without_passwords accounts) s q target node
     node_still q target node is = record {
       path_is = is.path_is;
       target_is = is.target_is;
@@ -139,18 +151,30 @@ module _ (accounts : Accounts) where
     abbrev IsStill : Listed → Listed → Type 0
     IsStill is_tree still = (q : Path) (target : Target) (tree : List TreeNode) → is_tree q target tree → still q target tree
 
-    listed_still : (is_tree still : Listed) → IsStill is_tree still → (d : Path) (entries : List (Name × Target)) (trees : List TreeNode) → AreListed is_tree d entries trees → AreListed still d entries trees
+    listed_still : (is_tree still : Listed) → IsStill is_tree still
+        → (d : Path) (entries : List (Name × Target)) (trees : List TreeNode) → AreListed is_tree d entries trees
+        → AreListed still d entries trees
     listed_still is_tree still each d [] trees is = is
-    listed_still is_tree still each d (e ∷ entries) trees is = (is.0, is.1, each (e.0 ∷ d) e.1 is.0 is.2, listed_still is_tree still each d entries is.1 is.3, is.4)
+    listed_still is_tree still each d (e ∷ entries) trees is =
+        (is.0, is.1, each (e.0 ∷ d) e.1 is.0 is.2, listed_still is_tree still each d entries is.1 is.3, is.4)
 
-    below_still : (is_tree still : Listed) → IsStill is_tree still → (q : Path) (target : Target) (trees : List TreeNode) → IsBelow is_tree s q target trees → IsBelow still s q target trees
+    below_still : (is_tree still : Listed) → IsStill is_tree still
+        → (q : Path) (target : Target) (trees : List TreeNode) → IsBelow is_tree s q target trees
+        → IsBelow still s q target trees
     below_still is_tree still each q (File file) trees is = is
-    below_still is_tree still each q (Directory container listing) trees is = (is.0, is.1, listed_still is_tree still each q (maps.entries is.0) trees is.2)
+    below_still is_tree still each q (Directory container listing) trees is =
+        (is.0, is.1, listed_still is_tree still each q (maps.entries is.0) trees is.2)
 
     tree_still : (levels : ℕ) → IsStill (IsTreeAt levels accounts s) (IsTreeAt levels (without_passwords accounts) s)
     tree_still zero q target tree is = is
-    tree_still (suc levels) q target tree is =
-        (is.0, is.1, node_still q target is.0 is.2, below_still (IsTreeAt levels accounts s) (IsTreeAt levels (without_passwords accounts) s) (tree_still levels) q target is.1 is.3, is.4)
+    tree_still (suc levels) q target tree is = (
+      is.0,
+      is.1,
+      node_still q target is.0 is.2,
+      below_still (IsTreeAt levels accounts s)
+          (IsTreeAt levels (without_passwords accounts) s) (tree_still levels) q target is.1 is.3,
+      is.4,
+    )
 
     -- the tree of a session is that of its users with no passwords
     pub tree_unproved : (roots : Roots) (tree : List TreeNode) → IsTreeOf accounts s roots tree → IsTreeOf (without_passwords accounts) s roots tree

@@ -1,5 +1,6 @@
 -- No path has more names than can be named, after each line that a script can have.
-use Rattle.std.proofs.Common.{◌≡◌, ℕ, ◌≤◌, Bool, true, false, List, [], ◌∷◌, cond, None, Some, Option, arith, inl, inr, ◌≢◌, refl, sym, ap, ◌∙◌, subst, length}
+use Rattle.std.proofs.Common.{◌≡◌, ℕ, ◌≤◌, Bool, true, false, List, [], ◌∷◌, cond, None, Some, Option, arith, inl, inr, ◌≢◌, refl, sym, ap, ◌∙◌}
+use Rattle.std.proofs.Common.{subst, length}
 use Rattle.std.specs.Prelude.{not, nat_le, ◌&&◌, IsTrue}
 use Rattle.std.specs.List.{list_all}
 use Rattle.std.proofs.lemmas.Bool.Decides.{nat_tests}
@@ -11,7 +12,8 @@ use Rattle.histar_flat.specs.Accounts.{Accounts}
 use Rattle.histar_flat.specs.Files.{get, empty}
 use Rattle.histar_flat.specs.Classes.{Class, Process}
 use Rattle.histar_flat.specs.Classes.Class.{Readable}
-use Rattle.histar_flat.specs.FlatState.{Flat, Node, Content, is_some_and, bytes_at, is_there, into, writes, moved, with_node, with_renamed, without_below}
+use Rattle.histar_flat.specs.FlatState.{Flat, Node, Content, is_some_and, bytes_at, is_there, into, writes, moved, with_node, with_renamed}
+use Rattle.histar_flat.specs.FlatState.{without_below}
 use Rattle.histar_flat.specs.FlatState.Content.{Dir, File}
 use Rattle.histar_flat.specs.Effects.{Effect, apply}
 use Rattle.histar_flat.specs.Effects.Effect.{Makes, Stores, Removes, Renames, Wraps}
@@ -59,29 +61,36 @@ module _ (f : Flat) (shallow : AreShallow f) where
       by false e = absurd (true≢false (sym e))
 
   -- and so is what has another path
-  shallow_renamed : (n k : Name) (d : Path) → n ≢ k → ((r : Path) → under_path (k ∷ d) r ≡ true → get f.files r ≡ None) → AreShallow (with_renamed f (n ∷ d) (k ∷ d))
-  shallow_renamed n k d apart free r at = by (under_path (n ∷ d) r) (ap (λ o. is_some_and o (λ x. true)) (sym (get_renamed n k d apart f.files free r)) ∙ at)
+  shallow_renamed : (n k : Name) (d : Path) → n ≢ k → ((r : Path) → under_path (k ∷ d) r ≡ true → get f.files r ≡ None)
+      → AreShallow (with_renamed f (n ∷ d) (k ∷ d))
+  shallow_renamed n k d apart free r at =
+      by (under_path (n ∷ d) r)
+      (ap (λ o. is_some_and o (λ x. true)) (sym (get_renamed n k d apart f.files free r)) ∙ at)
     where
       by : (b : Bool) → is_some_and (cond b None (get f.files (moved (k ∷ d) (n ∷ d) r))) (λ x. true) ≡ true → length r ≤ most_names
       by true e = absurd (true≢false (sym e))
       by false e = subst (λ (l : ℕ). l ≤ most_names) (same_length (k ∷ d) (n ∷ d) refl r) (shallow (moved (k ∷ d) (n ∷ d) r) e)
 
-  module _ (accounts : Accounts) (me : ProcName) (below : (top : Path) → get f.files top ≡ None → (r : Path) → under_path top r ≡ true → get f.files r ≡ None) where
-    -- an effect that has its warrant, of a call that a line can make
-    shallow_effect : (p : Process) (q : Path) (effect : Effect) → Warrant accounts f me p q effect → CanBeNamed q effect → AreShallow (apply accounts f me p q effect)
-    shallow_effect p q (Makes content mode) may can = shallow_put q _ (content) (short_path q can)
-    shallow_effect p q (Stores new) may can = shallow_put q _ (File (new (bytes_at f q))) (short_path q can)
-    shallow_effect p q Removes may can = shallow_cut q
-    shallow_effect p [] (Renames k) may can = absurd (true≢false (sym may.0))
-    shallow_effect p (n ∷ d) (Renames k) may can = shallow_renamed n k d (another_name f n k d may.1 may.2) (below (k ∷ d) may.2)
-    shallow_effect p q Wraps may can = shallow_put q _ Dir (short_path q can)
-    shallow_effect p q _ may can = shallow
+  module _ (accounts : Accounts) (me : ProcName)
+      (below : (top : Path) → get f.files top ≡ None → (r : Path) → under_path top r ≡ true → get f.files r ≡ None)
+    where
+      -- an effect that has its warrant, of a call that a line can make
+      shallow_effect : (p : Process) (q : Path) (effect : Effect) → Warrant accounts f me p q effect → CanBeNamed q effect
+          → AreShallow (apply accounts f me p q effect)
+      shallow_effect p q (Makes content mode) may can = shallow_put q _ (content) (short_path q can)
+      shallow_effect p q (Stores new) may can = shallow_put q _ (File (new (bytes_at f q))) (short_path q can)
+      shallow_effect p q Removes may can = shallow_cut q
+      shallow_effect p [] (Renames k) may can = absurd (true≢false (sym may.0))
+      shallow_effect p (n ∷ d) (Renames k) may can = shallow_renamed n k d (another_name f n k d may.1 may.2) (below (k ∷ d) may.2)
+      shallow_effect p q Wraps may can = shallow_put q _ Dir (short_path q can)
+      shallow_effect p q _ may can = shallow
 
-    -- and so after each line
-    pub shallow_after : (call : UnixCall) → IsCall call → AreShallow (flat_after accounts f me call)
-    shallow_after call can = by_rule accounts f me call AreShallow shallow (λ p there may. shallow_effect p (path_of call) (rule call).effect may can)
+      -- and so after each line
+      pub shallow_after : (call : UnixCall) → IsCall call → AreShallow (flat_after accounts f me call)
+      shallow_after call can = by_rule accounts f me call AreShallow shallow (λ p there may. shallow_effect p (path_of call) (rule call).effect may can)
 
 -- at the start there is `/` alone
 pub shallow_at_start : (accounts : Accounts) → AreShallow (boot accounts)
 shallow_at_start accounts =
-    shallow_put (record { files = empty; processes = (boot accounts).processes }) (λ q at. absurd (true≢false (sym at))) [] (Readable (first_user accounts.users)) Dir (omega arith)
+    shallow_put (record { files = empty; processes = (boot accounts).processes }) (λ q at. absurd (true≢false (sym at)))
+    [] (Readable (first_user accounts.users)) Dir (omega arith)

@@ -38,7 +38,9 @@ module _ (accounts : Accounts) (m : MachineModel) (f : Flat) (shows : Shows acco
 
   -- each tree that it has is told as the flat state is
   pub same_lines : (tree : List TreeNode) → IsTreeIn m tree → lines_at (state m.kernel) tree ≡ flat_lines f
-  same_lines tree is = ap (lines_at (state m.kernel)) (states_have_one_tree m.users (state m.kernel) m.roots tree has_tree.tree is tree_here) ∙ has_tree.lines
+  same_lines tree is =
+      ap (lines_at (state m.kernel))
+      (states_have_one_tree m.users (state m.kernel) m.roots tree has_tree.tree is tree_here) ∙ has_tree.lines
 
   -- so where the tree is asked for, the text that tells it is that of the flat state
   pub tree_asked : (b : Bool) (text : List ℕ) → IsAsked b (PrintsTree m) text → text ≡ (if b then tree_text (flat_lines f) else [])

@@ -34,7 +34,9 @@ by_nothing old new same = record { entries = []; trace = same.trace ∙ sym (app
 by_call : (old mid new : KernelModel) (t : ℕ) (call : RawCall) (d : Option Denied) → Called old mid t call d → GoesBy mid new → GoesBy old new
 by_call old mid new t call d called later = record {
   entries = entry_of old.line t call d ∷ later.entries;
-  trace = later.trace ∙ ap (λ (es : List TraceEntry). es ++ later.entries) called.trace ∙ append_assoc old.trace (entry_of old.line t call d ∷ []) later.entries;
+  trace =
+      later.trace ∙ ap (λ (es : List TraceEntry). es ++ later.entries) called.trace
+      ∙ append_assoc old.trace (entry_of old.line t call d ∷ []) later.entries;
   run = (state mid, called.outcome, called.state, later.run);
 }
 
@@ -63,7 +65,10 @@ by_program p old new t (Ok reply) runs = completed p old new t reply runs
 by_program p old new t (Err stopped) runs = begun p old new t runs
 
 -- so the trace stays a run from the empty kernel
-pub traced_on : (accounts : Accounts) (roots : Roots) (me : ProcName) (caller : Caller) (old new : KernelModel) (call : UnixCall) (result : Result Reply Stopped) → IsTraced old → Makes accounts roots me caller old new call result → IsTraced new
+pub traced_on : (accounts : Accounts) (roots : Roots) (me : ProcName) (caller : Caller) (old new : KernelModel)
+    (call : UnixCall) (result : Result Reply Stopped) → IsTraced old
+    → Makes accounts roots me caller old new call result → IsTraced new
 traced_on accounts roots me caller old new call result traced made =
     let goes = by_program _ old new caller.thread result made in
-    subst (λ (es : List TraceEntry). IsRun empty_state es (state new)) (sym goes.trace) (run_after empty_state (state old) (state new) old.trace goes.entries traced goes.run)
+    subst (λ (es : List TraceEntry). IsRun empty_state es (state new)) (sym goes.trace)
+    (run_after empty_state (state old) (state new) old.trace goes.entries traced goes.run)

@@ -1,5 +1,6 @@
 -- The users and the groups of a script are those of a session, and its calls are calls that a line can make.
-use Rattle.std.proofs.Common.{◌≡◌, ◌≢◌, ℕ, ◌+◌, ◌<◌, get_or, Bool, true, false, ◌&&◌, List, [], ◌∷◌, ◌++◌, length, cond, None, Some, Result, Ok, Err, refl, sym, ap, ◌∙◌, subst, inl, inr, if◌then◌else◌, arith}
+use Rattle.std.proofs.Common.{◌≡◌, ◌≢◌, ℕ, ◌+◌, ◌<◌, get_or, Bool, true, false, ◌&&◌, List, [], ◌∷◌, ◌++◌, length, cond, None, Some, Result, Ok, Err}
+use Rattle.std.proofs.Common.{refl, sym, ap, ◌∙◌, subst, inl, inr, if◌then◌else◌, arith}
 use Rattle.std.specs.Prelude.{IsTrue, All, AllPairs, is_some, not, nat_lt, option_map, slice_get}
 use Rattle.std.specs.List.{AllByRecursion, position_or_len}
 use Rattle.std.specs.Str.{bytes_eq}
@@ -43,12 +44,14 @@ unfolding is_user_name
 is_not_nobody name h = not-true (bytes_eq name nobody) (last_passes (is_name name) (begins_with_letter name) (not (bytes_eq name nobody)) h)
 
 -- so no user of a script is the first with the name
-none_first : (users : List User) → All (λ (u : User). IsTrue (is_user_name u.name)) users → position_or_len (λ (u : User). bytes_eq u.name nobody) users ≡ length users
+none_first : (users : List User) → All (λ (u : User). IsTrue (is_user_name u.name)) users
+    → position_or_len (λ (u : User). bytes_eq u.name nobody) users ≡ length users
 none_first [] named = refl
 none_first (u ∷ users) named =
     let later = none_first users (All-tail (λ (v : User). IsTrue (is_user_name v.name)) u users named) in
     let next : 1 + position_or_len (λ (v : User). bytes_eq v.name nobody) users ≡ length (u ∷ users) = omega (arith, later) in
-    ap (λ (b : Bool). cond (not b) (1 + position_or_len (λ (v : User). bytes_eq v.name nobody) users) 0) (is_not_nobody u.name (All-head (λ (v : User). IsTrue (is_user_name v.name)) u users named)) ∙ next
+    ap (λ (b : Bool). cond (not b) (1 + position_or_len (λ (v : User). bytes_eq v.name nobody) users) 0)
+    (is_not_nobody u.name (All-head (λ (v : User). IsTrue (is_user_name v.name)) u users named)) ∙ next
 
 -- and nobody has no number
 nobody_unnumbered : (accounts : Accounts) → IsUserList accounts.users → user_number accounts nobody ≡ None
@@ -59,13 +62,15 @@ nobody_unnumbered accounts h =
     ∙ ap (λ (b : Bool). option_map (λ (place : ℕ). place + 1) (cond b (Some (length users)) None)) outside
 
 -- groups of a script that have one name are one
-one_group : (groups : List Group) → AllPairs (λ (g h : Group). g.name ≢ h.name) groups → (i j : ℕ) (g h : Group) → slice_get groups i ≡ Some g → slice_get groups j ≡ Some h → i < j → g.name ≢ h.name
+one_group : (groups : List Group) → AllPairs (λ (g h : Group). g.name ≢ h.name) groups → (i j : ℕ) (g h : Group)
+    → slice_get groups i ≡ Some g → slice_get groups j ≡ Some h → i < j → g.name ≢ h.name
 one_group groups distinct i j g h at_i at_j lt same =
     let first : get_or groups i g ≡ g = get_or_from_slice_get groups i g g at_i in
     let second : get_or groups j g ≡ h = get_or_from_slice_get groups j h g at_j in
     distinct i j g lt (slice_get_within groups j h at_j) (ap (λ (x : Group). x.name) first ∙ same ∙ ap (λ (x : Group). x.name) (sym second))
 
-groups_apart : (accounts : Accounts) → AreGroups accounts → (i j : ℕ) (g h : Group) → slice_get accounts.groups i ≡ Some g → slice_get accounts.groups j ≡ Some h → same g.name h.name ≡ true → i ≡ j
+groups_apart : (accounts : Accounts) → AreGroups accounts → (i j : ℕ) (g h : Group)
+    → slice_get accounts.groups i ≡ Some g → slice_get accounts.groups j ≡ Some h → same g.name h.name ≡ true → i ≡ j
 groups_apart accounts are i j g h at_i at_j alike = elim (cases_lt i j) [
   | inl less ↦ absurd (one_group accounts.groups are.distinct i j g h at_i at_j less (equal_names g.name h.name alike))
   | inr most ↦ elim (cases_lt j i) [
@@ -75,12 +80,15 @@ groups_apart accounts are i j g h at_i at_j alike = elim (cases_lt i j) [
 ]
 
 -- a member of a group of a script is a user
-member_declared : (accounts : Accounts) → AreGroups accounts → (name group : Name) → is_member accounts name group ≡ true → is_some (user_number accounts name) ≡ true
+member_declared : (accounts : Accounts) → AreGroups accounts → (name group : Name)
+    → is_member accounts name group ≡ true → is_some (user_number accounts name) ≡ true
 member_declared accounts are name group member =
     let found = from_members accounts.groups name group member in
     let i = found.0 in
     let g = found.1 in
-    let of_group : IsMembership accounts.users g = subst (IsMembership accounts.users) (get_or_from_slice_get accounts.groups i g g found.2) (are.members i g (slice_get_within accounts.groups i g found.2)) in
+    let of_group : IsMembership accounts.users g =
+    subst (IsMembership accounts.users) (get_or_from_slice_get accounts.groups i g g found.2)
+    (are.members i g (slice_get_within accounts.groups i g found.2)) in
     let among = Any-from_list_any (same name) g.members found.4 in
     let user : IsUserOf accounts.users among.1 = subst (IsUserOf accounts.users) among.3 (of_group.declared among.0 among.1 among.2) in
     has_a_number accounts name user.0 user.1 (slice_get-get_or accounts.users user.0 user.1 user.2 ∙ ap Some user.3)
@@ -109,20 +117,24 @@ said_scriptable line process c (inl h) = absurd cc
 said_scriptable line process c (inr h) = spelled_is_call h.1.0 c h.1.3
 
 -- an item that is added
-item_scriptable : (s : ScriptModel) (n : ℕ) (line : List ℕ) (i : Item) (t : ScriptModel) → AreScriptable s.calls → Says line i → Adds s n i t → AreScriptable t.calls
+item_scriptable : (s : ScriptModel) (n : ℕ) (line : List ℕ) (i : Item) (t : ScriptModel) → AreScriptable s.calls
+    → Says line i → Adds s n i t → AreScriptable t.calls
 item_scriptable s n line items.Comment t h said added = subst (λ (r : ScriptModel). AreScriptable r.calls) (sym added) h
 item_scriptable s n line (items.User u) t h said added = subst (λ (r : ScriptModel). AreScriptable r.calls) (sym added.4) h
 item_scriptable s n line (items.Group g) t h said added = subst (λ (r : ScriptModel). AreScriptable r.calls) (sym added.5) h
 item_scriptable s n line (items.Call p c) t h said added =
-    subst (λ (r : ScriptModel). AreScriptable r.calls) (sym added.2) (more_scriptable s.calls (record { line = n; process = p; call = c }) h (said_scriptable line p c said))
+    subst (λ (r : ScriptModel). AreScriptable r.calls) (sym added.2)
+    (more_scriptable s.calls (record { line = n; process = p; call = c }) h (said_scriptable line p c said))
 
 -- all lines
-lines_scriptable : (s : ScriptModel) (n : ℕ) (lines : List (List ℕ)) (t : ScriptModel) → TakesLines s n lines t → AreScriptable s.calls → AreScriptable t.calls
+lines_scriptable : (s : ScriptModel) (n : ℕ) (lines : List (List ℕ)) (t : ScriptModel) → TakesLines s n lines t
+    → AreScriptable s.calls → AreScriptable t.calls
 lines_scriptable s n [] t h k = subst (λ (r : ScriptModel). AreScriptable r.calls) (sym h) k
 lines_scriptable s n (line ∷ lines) t h k = lines_scriptable h.0 (n + 1) lines t h.2 (item_scriptable s (n + 1) line h.1.0 h.0 k h.1.1 h.1.2)
 
 -- what was read of a text that is not too long is a script
-script_is : (long : Bool) (fault : Result ScriptModel Fault) (text : List ℕ) (script : ScriptModel) → (if long then fault else reading text) ≡ Ok script → ((r : ScriptModel) → fault ≡ Ok r → ⊥) → IsScript text script
+script_is : (long : Bool) (fault : Result ScriptModel Fault) (text : List ℕ) (script : ScriptModel)
+    → (if long then fault else reading text) ≡ Ok script → ((r : ScriptModel) → fault ≡ Ok r → ⊥) → IsScript text script
 script_is true fault text script e never = absurd (never script e)
 script_is false fault text script e never = found_from text script e
 

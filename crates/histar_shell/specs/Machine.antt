@@ -2,7 +2,8 @@
 use Rattle.std.specs.Prelude.{◌≡◌, ℕ, Bool, true, false, length, Option, None, Some, Result, Ok, IsErr, is_err, refl}
 use Rattle.std.specs.Coded.{Coded, code_by, coded×, coded_bool}
 use Rattle.histar_flat.specs.declared.calls.UnixCall.{UnixCall}
-use Rattle.histar_flat.specs.declared.calls.UnixCall.TheVariants.{Create, Mkdir, Write, Append, Read, List as ListCall, Stat, Unlink, Rmdir, Rmtree, Rename, Spawn, Exit, Status, Kill, Whoami, Login, Wrap}
+use Rattle.histar_flat.specs.declared.calls.UnixCall.TheVariants.{Create, Mkdir, Write, Append, Read, List as ListCall, Stat, Unlink, Rmdir, Rmtree}
+use Rattle.histar_flat.specs.declared.calls.UnixCall.TheVariants.{Rename, Spawn, Exit, Status, Kill, Whoami, Login, Wrap}
 use Rattle.histar_flat.specs.declared.replies.Reply.{Reply}
 use Rattle.histar_flat.specs.declared.replies.Reply.TheVariants.{Gone}
 use Rattle.histar_flat.specs.Accounts.{Accounts}
@@ -49,7 +50,11 @@ pub record MachineModel : Type 0 where
 
 -- stored as the tuple of its parts
 abbrev pub coded_machine_model : Coded MachineModel
-coded_machine_model = code_by (KernelModel × (Roots × (Accounts × Bool))) (coded× coded_kernel_model (coded× where_is.the_row.coded (coded× sessions.the_row.coded coded_bool))) (λ m. (m.kernel, (m.roots, (m.users, m.is_stopped)))) (λ p. record { kernel = p.0; roots = p.1.0; users = p.1.1.0; is_stopped = p.1.1.1 }) (λ _. refl)
+coded_machine_model =
+    code_by (KernelModel × (Roots × (Accounts × Bool)))
+    (coded× coded_kernel_model (coded× where_is.the_row.coded (coded× sessions.the_row.coded coded_bool)))
+    (λ m. (m.kernel, (m.roots, (m.users, m.is_stopped))))
+    (λ p. record { kernel = p.0; roots = p.1.0; users = p.1.1.0; is_stopped = p.1.1.1 }) (λ _. refl)
 
 -- the trace of the kernel is a run from the empty kernel to its state
 abbrev pub IsTraced : KernelModel → Type 0
@@ -96,7 +101,8 @@ Makes accounts roots me caller old new call result = Runs (program_of accounts r
 
 -- The call was made by the thread of the process on the line that was begun; the machine has the places, the users and the groups that
 -- it had, and has stopped where the call ended without an answer.
-pub record HasMade (old new : MachineModel) (line : ℕ) (me : ProcName) (caller : Caller) (call : UnixCall) (result : Result Reply Stopped) : Type 0 where
+pub record HasMade (old new : MachineModel) (line : ℕ) (me : ProcName) (caller : Caller) (call : UnixCall)
+    (result : Result Reply Stopped) : Type 0 where
   pub made : Makes old.users old.roots me caller (on_line line old.kernel) new.kernel call result
   pub roots : new.roots ≡ old.roots
   pub users : new.users ≡ old.users

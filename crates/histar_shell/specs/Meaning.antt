@@ -82,7 +82,8 @@ EndsAsMeant accounts old new f asked (Err stopped) = StopsAsMeant accounts old n
 -- Whatever flat state the machine represents before the line, of whatever users and groups whose names it has, the line ends as that says.
 abbrev pub FollowsMeaning : MachineModel → MachineModel → ℕ → ProcName → UnixCall → Result Reply Stopped → Type 0
 FollowsMeaning old new line process call result =
-    (accounts : Accounts) (f : Flat) → Shows accounts old f → EndsAsMeant accounts old new f (record { line = line; process = process; call = call }) result
+    (accounts : Accounts) (f : Flat) → Shows accounts old f
+    → EndsAsMeant accounts old new f (record { line = line; process = process; call = call }) result
 
 -- a machine represents the flat start
 abbrev pub ShowsStart : Accounts → MachineModel → Type 0

@@ -12,14 +12,18 @@ use Rattle.histar_sim.specs.Laws.{AppendRefines}
 use Rattle.histar_sim.proofs.Files.{WritesFile, slash_is_no_file, writing_step}
 
 -- the file has the new bytes behind its old ones then
-append_writes : (accounts : Accounts) (f : Flat) (me : ProcName) (p : Process) (q : Path) (bytes : List ℕ) → WritesFile accounts f me p q (calls.Append q bytes) (bytes_at f q ++ bytes)
-append_writes accounts f me p q bytes = record { reaches = record { refuses = refl; reads = λ s reply entries walk. walk }; changes = refl; answers = refl }
+append_writes : (accounts : Accounts) (f : Flat) (me : ProcName) (p : Process) (q : Path) (bytes : List ℕ)
+    → WritesFile accounts f me p q (calls.Append q bytes) (bytes_at f q ++ bytes)
+append_writes accounts f me p q bytes =
+    record { reaches = record { refuses = refl; reads = λ s reply entries walk. walk }; changes = refl; answers = refl }
 
 -- an append does what its flat rule says
 pub append_refines : AppendRefines
 unfolding append_program
 append_refines accounts ok [] bytes me old new f t result ready run =
-    slash_is_no_file accounts old new f me t ready (calls.Append [] bytes) result _ (append_writes accounts f me ready.caller.process [] bytes).reaches _ run
+    slash_is_no_file accounts old new f me t ready (calls.Append [] bytes) result _
+    (append_writes accounts f me ready.caller.process [] bytes).reaches _ run
 append_refines accounts ok (m ∷ d) bytes me old new f t result ready run =
-    writing_step accounts ok old new f me t ready m d (calls.Append (m ∷ d) bytes) result most_bytes bytes (bytes_at f (m ∷ d) ++ bytes) (append_writes accounts f me ready.caller.process (m ∷ d) bytes)
+    writing_step accounts ok old new f me t ready m d (calls.Append (m ∷ d) bytes) result most_bytes bytes
+    (bytes_at f (m ∷ d) ++ bytes) (append_writes accounts f me ready.caller.process (m ∷ d) bytes)
     (λ few. ap (λ (xs : List ℕ). xs ++ bytes) (take_all most_bytes (bytes_at f (m ∷ d)) few)) run

@@ -17,7 +17,8 @@ use Rattle.histar_refinement.proofs.RawChecks.{object, caller_passes, making_che
 use Rattle.histar_sim.proofs.BirthObjects.{IsHolder, holder_stays, holder_made, Around, around_added, thread_written, thread_relabelled}
 
 -- a category is made unless there is no number for it
-pub category_said : (s : State) (T : ℕ) (own own_clearance : Levels) → s.objects T ≡ object own (Thread own_clearance) → check s T MakeCategory ≡ unless (nat_lt s.next_category greatest) TooBig
+pub category_said : (s : State) (T : ℕ) (own own_clearance : Levels) → s.objects T ≡ object own (Thread own_clearance)
+    → check s T MakeCategory ≡ unless (nat_lt s.next_category greatest) TooBig
 category_said s T own own_clearance thread = λ i. caller_passes s T own own_clearance thread i orelse unless (nat_lt s.next_category greatest) TooBig
 
 -- A thread may hand this label in, and modify what has it.
@@ -47,21 +48,24 @@ pub record IsTaken (own own_clearance label clearance : Levels) (next : ℕ) : T
 
 module _ (s : State) (T : ℕ) (own own_clearance : Levels) (thread : s.objects T ≡ object own (Thread own_clearance)) where
   -- objects are made in a container that the thread modifies
-  module _ (d : ℕ) (above : Levels) (holder : IsHolder above (s.objects d)) (under : is_below own above ≡ true) (seen : is_below_raised above own ≡ true) where
+  module _ (d : ℕ) (above : Levels) (holder : IsHolder above (s.objects d)) (under : is_below own above ≡ true)
+      (seen : is_below_raised above own ≡ true) where
     making_passes : no_making s T d ≡ unless true Modify
     making_passes = making_check s T own own_clearance thread d above holder.0 holder.1 seen ∙ (λ i. unless (under i && seen i) Modify)
 
     ranged : (label : Levels) → IsModified own own_clearance label s.next_category → in_range (s.objects T) label ≡ true
     ranged label is = ap (λ (x : Found). in_range x label) thread ∙ and_from _ _ is.above is.below
 
-    pub container_said : (label : Levels) → IsModified own own_clearance label s.next_category → check s T (MakeContainer d label) ≡ unless (has_number s) TooBig
+    pub container_said : (label : Levels) → IsModified own own_clearance label s.next_category
+        → check s T (MakeContainer d label) ≡ unless (has_number s) TooBig
     container_said label is = λ i. making_passes i
         orelse unless (ranged label is i) Range
         orelse unless (is.made i) Range
         orelse unless (not (is.plain i)) Range
         orelse unless (has_number s) TooBig
 
-    pub segment_said : (label : Levels) → IsModified own own_clearance label s.next_category → (bytes : List ℕ) → fits_segment (length bytes) ≡ true → check s T (MakeSegment d label bytes) ≡ unless (has_number s) TooBig
+    pub segment_said : (label : Levels) → IsModified own own_clearance label s.next_category → (bytes : List ℕ)
+        → fits_segment (length bytes) ≡ true → check s T (MakeSegment d label bytes) ≡ unless (has_number s) TooBig
     segment_said label is bytes few = λ i. making_passes i
         orelse unless (ranged label is i) Range
         orelse unless (is.made i) Range
@@ -69,7 +73,8 @@ module _ (s : State) (T : ℕ) (own own_clearance : Levels) (thread : s.objects 
         orelse unless (few i) TooBig
         orelse unless (has_number s) TooBig
 
-    pub thread_said : (label clearance : Levels) → IsLesser own own_clearance label clearance s.next_category → check s T (MakeThread d label clearance) ≡ unless (has_number s) TooBig
+    pub thread_said : (label clearance : Levels) → IsLesser own own_clearance label clearance s.next_category
+        → check s T (MakeThread d label clearance) ≡ unless (has_number s) TooBig
     thread_said label clearance is = λ i. making_passes i
         orelse unless ((ap (λ (x : Found). in_span x label clearance) thread ∙ (λ j. is.above j && is.below j && is.within j)) i) Range
         orelse unless (is.made i) Range
@@ -77,13 +82,16 @@ module _ (s : State) (T : ℕ) (own own_clearance : Levels) (thread : s.objects 
         orelse unless (has_number s) TooBig
 
   -- labels are taken
-  pub label_said : (label clearance : Levels) → IsTaken own own_clearance label clearance s.next_category → check s T (SetLabel label) ≡ unless true Range
+  pub label_said : (label clearance : Levels) → IsTaken own own_clearance label clearance s.next_category
+      → check s T (SetLabel label) ≡ unless true Range
   label_said label clearance is = λ i. unless (is_thread (thread i)) NoThread
       orelse unless ((ap (λ (x : Found). in_range x label) thread ∙ and_from _ _ is.above is.below) i) Range
       orelse unless (is.made i) Range
 
 -- and then the clearance
-pub clearance_said : (s : State) (T : ℕ) (own own_clearance label clearance : Levels) → s.objects T ≡ object label (Thread own_clearance) → IsTaken own own_clearance label clearance s.next_category → check s T (SetClearance clearance) ≡ unless true Range
+pub clearance_said : (s : State) (T : ℕ) (own own_clearance label clearance : Levels)
+    → s.objects T ≡ object label (Thread own_clearance) → IsTaken own own_clearance label clearance s.next_category
+    → check s T (SetClearance clearance) ≡ unless true Range
 clearance_said s T own own_clearance label clearance thread is = λ i. unless (is_thread (thread i)) NoThread
     orelse unless ((ap (λ (x : Found). may_clear x clearance) thread ∙ and_from _ _ is.capped is.within) i) Range
     orelse unless (is.cleared i) Range
@@ -119,8 +127,11 @@ module _ (T C S : ℕ) (grown grown_clearance home : Levels) (held : List ℕ) (
   abbrev pub with_own_label : State
   with_own_label = with_changed with_child T (with_label own)
 
-  module _ (under : is_below grown home ≡ true) (seen : is_below_raised home grown ≡ true) (outer_is : IsModified grown grown_clearance outer u.next_category) (inner_is : IsModified grown grown_clearance inner u.next_category)
-      (lesser : IsLesser grown grown_clearance label clearance u.next_category) (taken : IsTaken grown grown_clearance own own_clearance u.next_category) where
+  module _ (under : is_below grown home ≡ true) (seen : is_below_raised home grown ≡ true)
+      (outer_is : IsModified grown grown_clearance outer u.next_category)
+      (inner_is : IsModified grown grown_clearance inner u.next_category)
+      (lesser : IsLesser grown grown_clearance label clearance u.next_category)
+      (taken : IsTaken grown grown_clearance own own_clearance u.next_category) where
     around_first : Around T C S grown grown_clearance home held with_container
     around_first = around_added T C S grown grown_clearance home held u around C container
 
@@ -137,10 +148,14 @@ module _ (T C S : ℕ) (grown grown_clearance home : Levels) (held : List ℕ) (
     make_container_said = container_said u T grown grown_clearance around.thread C home (around.home.0, around.home.1) under seen outer outer_is
 
     pub make_internal_said : check with_container T (MakeContainer u.next_object inner) ≡ unless (has_number with_container) TooBig
-    make_internal_said = container_said with_container T grown grown_clearance around_first.thread u.next_object outer (holder_made u C outer) outer_is.above outer_is.seen inner inner_is
+    make_internal_said =
+        container_said with_container T grown grown_clearance around_first.thread u.next_object outer
+        (holder_made u C outer) outer_is.above outer_is.seen inner inner_is
 
     pub make_thread_said : check with_internal T (MakeThread (u.next_object + 1) label clearance) ≡ unless (has_number with_internal) TooBig
-    make_thread_said = thread_said with_internal T grown grown_clearance around_second.thread (u.next_object + 1) inner (holder_made with_container u.next_object inner) inner_is.above inner_is.seen label clearance lesser
+    make_thread_said =
+        thread_said with_internal T grown grown_clearance around_second.thread (u.next_object + 1) inner
+        (holder_made with_container u.next_object inner) inner_is.above inner_is.seen label clearance lesser
 
     container_second : IsHolder outer (with_internal.objects u.next_object)
     container_second = holder_stays with_container u.next_object internal u.next_object outer (omega arith) (holder_made u C outer)
@@ -148,17 +163,25 @@ module _ (T C S : ℕ) (grown grown_clearance home : Levels) (held : List ℕ) (
     container_third : IsHolder outer (with_thread.objects u.next_object)
     container_third = holder_stays with_internal (u.next_object + 1) (thread_of label clearance) u.next_object outer (omega arith) container_second
 
-    pub make_segment_said : fits_segment (length child_bytes) ≡ true → check with_thread T (MakeSegment u.next_object outer child_bytes) ≡ unless (has_number with_thread) TooBig
-    make_segment_said few = segment_said with_thread T grown grown_clearance around_third.thread u.next_object outer container_third outer_is.above outer_is.seen outer outer_is child_bytes few
+    pub make_segment_said : fits_segment (length child_bytes) ≡ true
+        → check with_thread T (MakeSegment u.next_object outer child_bytes) ≡ unless (has_number with_thread) TooBig
+    make_segment_said few =
+        segment_said with_thread T grown grown_clearance around_third.thread u.next_object outer container_third
+        outer_is.above outer_is.seen outer outer_is child_bytes few
 
     pub write_said : fits_segment (min 0 (length held) + length own_bytes) ≡ true → check with_segment T (Write C S 0 own_bytes) ≡ None
     write_said few =
-        write_check with_segment T grown grown_clearance around_fourth.thread C home around_fourth.home.0 around_fourth.home.1 seen S around_fourth.home.2 home held around_fourth.segment 0 own_bytes
+        write_check with_segment T grown grown_clearance around_fourth.thread C home around_fourth.home.0
+        around_fourth.home.1 seen S around_fourth.home.2 home held around_fourth.segment 0 own_bytes
         ∙ (λ i. unless (under i && seen i) Modify orelse unless (few i) TooBig)
 
     pub set_label_said : check with_child T (SetLabel own) ≡ None
-    set_label_said = label_said with_child T grown grown_clearance (thread_written T C S grown grown_clearance home held with_segment around_fourth own_bytes) own own_clearance taken
+    set_label_said =
+        label_said with_child T grown grown_clearance
+        (thread_written T C S grown grown_clearance home held with_segment around_fourth own_bytes) own
+        own_clearance taken
 
     pub set_clearance_said : check with_own_label T (SetClearance own_clearance) ≡ None
     set_clearance_said = clearance_said with_own_label T grown grown_clearance own own_clearance
-        (thread_relabelled with_child T grown grown_clearance own (thread_written T C S grown grown_clearance home held with_segment around_fourth own_bytes)) taken
+        (thread_relabelled with_child T grown grown_clearance own
+        (thread_written T C S grown grown_clearance home held with_segment around_fourth own_bytes)) taken

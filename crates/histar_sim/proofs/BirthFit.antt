@@ -39,13 +39,17 @@ use Rattle.histar_refinement.proofs.Uses.{rights_used}
 use Rattle.histar_refinement.proofs.OwnLabels.{own_user_is, name_of_number}
 use Rattle.histar_refinement.proofs.JobLabels.{jobs_are, none_if_free}
 use Rattle.histar_sim.proofs.BirthChecks.{IsModified, IsLesser}
-use Rattle.histar_sim.proofs.BirthRights.{chain_used, chain_free, names, owner, owner_clearance, around_before, around_owner, home_modified, outer_modified, inner_modified, thread_lesser, own_taken}
+use Rattle.histar_sim.proofs.BirthRights.{chain_used, chain_free, names, owner, owner_clearance, around_before, around_owner, home_modified}
+use Rattle.histar_sim.proofs.BirthRights.{outer_modified, inner_modified, thread_lesser, own_taken}
 use Rattle.histar_sim.proofs.BirthRun.{IsFit, spawned}
 use Rattle.histar_sim.proofs.ChildBytes.{started_fits, grown_fits, few_listed, child_bytes_are, own_bytes_are}
 use Rattle.histar_sim.proofs.ChildLabels.{outer_is, inner_is, label_is, clearance_is}
 
-module _ (accounts : Accounts) (ok : AreAccounts accounts) (s : State) (f : Flat) (represents : Represents accounts s f) (me : ProcName) (p : Process) (here : f.processes me ≡ Some p) (runs : p.exited ≡ None) (room : p.born < 64)
-    (C S : ℕ) (at_home : represents.matched.naming.number (home_address me) ≡ Some C) (at_status : represents.matched.naming.number (Status ∷ home_address me) ≡ Some S) (T : ℕ) (at_thread : represents.matched.naming.number (Runner ∷ Inside ∷ home_address me) ≡ Some T) where
+module _ (accounts : Accounts) (ok : AreAccounts accounts) (s : State) (f : Flat) (represents : Represents accounts s f)
+    (me : ProcName) (p : Process) (here : f.processes me ≡ Some p) (runs : p.exited ≡ None) (room : p.born < 64)
+    (C S : ℕ) (at_home : represents.matched.naming.number (home_address me) ≡ Some C)
+    (at_status : represents.matched.naming.number (Status ∷ home_address me) ≡ Some S) (T : ℕ)
+    (at_thread : represents.matched.naming.number (Runner ∷ Inside ∷ home_address me) ≡ Some T) where
   abbrev own : Levels
   own = rights_label represents.matched.category (thread_rights accounts me p)
 
@@ -71,7 +75,12 @@ module _ (accounts : Accounts) (ok : AreAccounts accounts) (s : State) (f : Flat
 
   -- what was used has its number still
   kept : (c : CategoryName) → IsUsed accounts f c → then_names c ≡ represents.matched.category c
-  kept c used = keeps accounts s f represents.matched me p here runs room p.chain (chain_used accounts s f represents.matched me p here runs room C S at_home at_status) (represents.matched.processes me p here).chain (chain_free accounts s f represents.matched me p here runs room C S at_home at_status) C S at_home at_status c used
+  kept c used =
+      keeps accounts s f represents.matched me p here runs room p.chain
+      (chain_used accounts s f represents.matched me p here runs room C S at_home at_status)
+      (represents.matched.processes me p here).chain
+      (chain_free accounts s f represents.matched me p here runs room C S at_home at_status) C S at_home at_status c
+      used
 
   -- so have boot's categories
   as_made : (c : CategoryName) (q : ℕ) → boot_category accounts c ≡ Some q → then_names c ≡ q
@@ -93,10 +102,18 @@ module _ (accounts : Accounts) (ok : AreAccounts accounts) (s : State) (f : Flat
   named = name_of_number accounts p.user ((represents.matched.processes me p here).someone runs)
 
   reads_is : then_names (ReadsProcess ((p.born + 1) ∷ me)) ≡ s.next_category
-  reads_is = reads_number accounts s f represents.matched me p here runs room p.chain (chain_used accounts s f represents.matched me p here runs room C S at_home at_status) (represents.matched.processes me p here).chain (chain_free accounts s f represents.matched me p here runs room C S at_home at_status) C S at_home at_status
+  reads_is =
+      reads_number accounts s f represents.matched me p here runs room p.chain
+      (chain_used accounts s f represents.matched me p here runs room C S at_home at_status)
+      (represents.matched.processes me p here).chain
+      (chain_free accounts s f represents.matched me p here runs room C S at_home at_status) C S at_home at_status
 
   writes_is : then_names (WritesProcess ((p.born + 1) ∷ me)) ≡ s.next_category + 1
-  writes_is = writes_number accounts s f represents.matched me p here runs room p.chain (chain_used accounts s f represents.matched me p here runs room C S at_home at_status) (represents.matched.processes me p here).chain (chain_free accounts s f represents.matched me p here runs room C S at_home at_status) C S at_home at_status
+  writes_is =
+      writes_number accounts s f represents.matched me p here runs room p.chain
+      (chain_used accounts s f represents.matched me p here runs room C S at_home at_status)
+      (represents.matched.processes me p here).chain
+      (chain_free accounts s f represents.matched me p here runs room C S at_home at_status) C S at_home at_status
 
   -- so the labels that are handed in are the child's
   abbrev child : ProcName
@@ -106,16 +123,24 @@ module _ (accounts : Accounts) (ok : AreAccounts accounts) (s : State) (f : Flat
   newborn = record { user = p.user; chain = p.chain; held = []; exited = None; born = 0 }
 
   outer_same : outer_label kin (s.next_category + 1) ≡ guard_label then_names (process_guard child newborn)
-  outer_same = outer_is accounts then_names p as_made named kin alike owned_revealed ((p.born + 1) ∷ me) s.next_category (s.next_category + 1) reads_is writes_is
+  outer_same =
+      outer_is accounts then_names p as_made named kin alike owned_revealed ((p.born + 1) ∷ me) s.next_category
+      (s.next_category + 1) reads_is writes_is
 
   inner_same : inner_label kin s.next_category (s.next_category + 1) ≡ guard_label then_names (inside_guard child newborn)
-  inner_same = inner_is accounts then_names p as_made named kin alike owned_revealed ((p.born + 1) ∷ me) s.next_category (s.next_category + 1) reads_is writes_is
+  inner_same =
+      inner_is accounts then_names p as_made named kin alike owned_revealed ((p.born + 1) ∷ me) s.next_category
+      (s.next_category + 1) reads_is writes_is
 
   label_same : thread_label kin s.next_category (s.next_category + 1) ≡ rights_label then_names (thread_rights accounts child newborn)
-  label_same = label_is accounts then_names p as_made named kin alike owned_revealed ((p.born + 1) ∷ me) s.next_category (s.next_category + 1) reads_is writes_is
+  label_same =
+      label_is accounts then_names p as_made named kin alike owned_revealed ((p.born + 1) ∷ me) s.next_category
+      (s.next_category + 1) reads_is writes_is
 
   clearance_same : thread_clearance kin s.next_category (s.next_category + 1) ≡ rights_clearance then_names (thread_rights accounts child newborn)
-  clearance_same = clearance_is accounts then_names p as_made named kin alike owned_revealed ((p.born + 1) ∷ me) s.next_category (s.next_category + 1) reads_is writes_is
+  clearance_same =
+      clearance_is accounts then_names p as_made named kin alike owned_revealed ((p.born + 1) ∷ me) s.next_category
+      (s.next_category + 1) reads_is writes_is
 
   abbrev grown : Levels
   grown = owner accounts s f represents.matched me p here runs room C S at_home at_status
@@ -124,8 +149,11 @@ module _ (accounts : Accounts) (ok : AreAccounts accounts) (s : State) (f : Flat
   grown_clearance = owner_clearance accounts s f represents.matched me p here runs room C S at_home at_status
 
   -- What the birth needs is there.
-  pub fit : IsFit s T (record { container = C; segment = S }) (status_by f.processes represents.matched.naming.number me p) (kin_of accounts (rights_label represents.matched.category (thread_rights accounts me p)))
-      (rights_label represents.matched.category (thread_rights accounts me p)) (rights_clearance represents.matched.category (thread_rights accounts me p))
+  pub fit : IsFit s T (record { container = C; segment = S })
+      (status_by f.processes represents.matched.naming.number me p)
+      (kin_of accounts (rights_label represents.matched.category (thread_rights accounts me p)))
+      (rights_label represents.matched.category (thread_rights accounts me p))
+      (rights_clearance represents.matched.category (thread_rights accounts me p))
   fit = record {
     thread = (around_before accounts s f represents.matched me p here runs C S at_home at_status T at_thread).thread;
     owner = grown;
@@ -135,12 +163,22 @@ module _ (accounts : Accounts) (ok : AreAccounts accounts) (s : State) (f : Flat
     around = around_owner accounts s f represents.matched me p here runs room C S at_home at_status T at_thread;
     under = (home_modified accounts s f represents.matched me p here runs room C S at_home at_status).0;
     seen = (home_modified accounts s f represents.matched me p here runs room C S at_home at_status).1;
-    outer = subst (λ (x : Levels). IsModified grown grown_clearance x (s.next_category + 1 + 1)) (sym outer_same) (outer_modified accounts s f represents.matched me p here runs room C S at_home at_status);
-    inner = subst (λ (x : Levels). IsModified grown grown_clearance x (s.next_category + 1 + 1)) (sym inner_same) (inner_modified accounts s f represents.matched me p here runs room C S at_home at_status);
-    lesser = subst (λ (x : Levels × Levels). IsLesser grown grown_clearance x.0 x.1 (s.next_category + 1 + 1)) (λ i. (sym label_same i, sym clearance_same i)) (thread_lesser accounts s f represents.matched me p here runs room C S at_home at_status);
+    outer =
+        subst (λ (x : Levels). IsModified grown grown_clearance x (s.next_category + 1 + 1)) (sym outer_same)
+        (outer_modified accounts s f represents.matched me p here runs room C S at_home at_status);
+    inner =
+        subst (λ (x : Levels). IsModified grown grown_clearance x (s.next_category + 1 + 1)) (sym inner_same)
+        (inner_modified accounts s f represents.matched me p here runs room C S at_home at_status);
+    lesser =
+        subst (λ (x : Levels × Levels). IsLesser grown grown_clearance x.0 x.1 (s.next_category + 1 + 1))
+        (λ i. (sym label_same i, sym clearance_same i))
+        (thread_lesser accounts s f represents.matched me p here runs room C S at_home at_status);
     taken = own_taken accounts s f represents.matched me p here runs room C S at_home at_status;
     child_few = started_fits (s.next_object + 1) (s.next_object + 1 + 1);
-    own_few = grown_fits (process_bytes f.processes represents.matched.naming.number me p) s.next_object (s.next_object + 1 + 1 + 1) status (let listed = few_listed f.processes represents.matched.naming.number me p in omega (arith, listed, room));
+    own_few =
+        grown_fits (process_bytes f.processes represents.matched.naming.number me p) s.next_object
+        (s.next_object + 1 + 1 + 1) status
+        (let listed = few_listed f.processes represents.matched.naming.number me p in omega (arith, listed, room));
   }
 
   -- the state after it is the one that represents the flat state with the child
@@ -153,12 +191,24 @@ module _ (accounts : Accounts) (ok : AreAccounts accounts) (s : State) (f : Flat
         (record { label = outer_same i; kind = Container set.empty })
         (record { label = inner_same i; kind = Container set.empty })
         (thread_of (label_same i) (clearance_same i))
-        (record { label = outer_same i; kind = Segment (child_bytes_are accounts s f represents.matched me p here runs room p.chain (chain_used accounts s f represents.matched me p here runs room C S at_home at_status) (represents.matched.processes me p here).chain (chain_free accounts s f represents.matched me p here runs room C S at_home at_status) C S at_home at_status i) })
+        (record {
+          label = outer_same i;
+          kind = Segment (child_bytes_are accounts s f represents.matched me p here runs room p.chain
+              (chain_used accounts s f represents.matched me p here runs room C S at_home at_status)
+              (represents.matched.processes me p here).chain
+              (chain_free accounts s f represents.matched me p here runs room C S at_home at_status) C S
+              at_home at_status i);
+        })
         (own_bytes_are accounts s f represents.matched me p here runs room p.chain (chain_used accounts s f represents.matched me p here runs room C S at_home at_status) (represents.matched.processes me p here).chain (chain_free accounts s f represents.matched me p here runs room C S at_home at_status) C S at_home at_status i)) own clearance
 
     -- The flat state with the child is represented then.
     pub spawned_matched : Represents accounts
-        (spawned s T (record { container = C; segment = S }) (status_by f.processes represents.matched.naming.number me p) (kin_of accounts (rights_label represents.matched.category (thread_rights accounts me p)))
-        (rights_label represents.matched.category (thread_rights accounts me p)) (rights_clearance represents.matched.category (thread_rights accounts me p)))
+        (spawned s T (record { container = C; segment = S })
+        (status_by f.processes represents.matched.naming.number me p)
+        (kin_of accounts (rights_label represents.matched.category (thread_rights accounts me p)))
+        (rights_label represents.matched.category (thread_rights accounts me p))
+        (rights_clearance represents.matched.category (thread_rights accounts me p)))
         (flat.with_child f me p p.chain)
-    spawned_matched = subst (λ (x : State). Represents accounts x (flat.with_child f me p p.chain)) (sym spawned_is) (represents_spawned accounts s f represents me p here runs room C S T at_home at_status at_thread few)
+    spawned_matched =
+        subst (λ (x : State). Represents accounts x (flat.with_child f me p p.chain)) (sym spawned_is)
+        (represents_spawned accounts s f represents me p here runs room C S T at_home at_status at_thread few)

@@ -27,8 +27,10 @@ use Rattle.histar_refinement.proofs.AmongNames.{each_head, each_append}
 use Rattle.histar_refinement.proofs.Growing.{RightsHave, IsOld, new_number, made_label, made_clearance, same_rights_label, same_rights_clearance}
 use Rattle.histar_refinement.proofs.Moving.{number_below, at_number, bare_is}
 use Rattle.histar_refinement.proofs.Roots.{asked_status}
-use Rattle.histar_refinement.proofs.Ranges.{grown, own_modified, outer_above, outer_below, outer_seen, inner_above, inner_below, inner_seen, thread_above, thread_below, clearance_below, label_again, clearance_again}
-use Rattle.histar_refinement.proofs.Spawning.{after, no_child, with_reads, different_reads, category, different, keeps_first, keeps, made_then, at_child, at_me}
+use Rattle.histar_refinement.proofs.Ranges.{grown, own_modified, outer_above, outer_below, outer_seen, inner_above, inner_below, inner_seen}
+use Rattle.histar_refinement.proofs.Ranges.{thread_above, thread_below, clearance_below, label_again, clearance_again}
+use Rattle.histar_refinement.proofs.Spawning.{after, no_child, with_reads, different_reads, category, different, keeps_first, keeps, made_then}
+use Rattle.histar_refinement.proofs.Spawning.{at_child, at_me}
 use Rattle.histar_refinement.proofs.Agreeing.{home_found, thread_found, step_linked}
 use Rattle.histar_refinement.proofs.Steps.{step_tests_equality}
 use Rattle.histar_refinement.proofs.Tested.{AreMade, guard_made, rights_made, clearance_made, guard_owns_nothing}
@@ -36,8 +38,11 @@ use Rattle.histar_refinement.proofs.Uses.{process_used, inside_used, rights_used
 use Rattle.histar_sim.proofs.BirthObjects.{Around, around_category}
 use Rattle.histar_sim.proofs.BirthChecks.{IsModified, IsLesser, IsTaken}
 
-module _ (accounts : Accounts) (s : State) (f : Flat) (l : ObjectsMatch accounts s f) (me : ProcName) (p : Process) (here : f.processes me ≡ Some p) (runs : p.exited ≡ None)
-    (C S : ℕ) (at_home : l.naming.number (home_address me) ≡ Some C) (at_status : l.naming.number (Status ∷ home_address me) ≡ Some S) (T : ℕ) (at_thread : l.naming.number (Runner ∷ Inside ∷ home_address me) ≡ Some T) where
+module _ (accounts : Accounts) (s : State) (f : Flat) (l : ObjectsMatch accounts s f) (me : ProcName) (p : Process)
+    (here : f.processes me ≡ Some p) (runs : p.exited ≡ None)
+    (C S : ℕ) (at_home : l.naming.number (home_address me) ≡ Some C)
+    (at_status : l.naming.number (Status ∷ home_address me) ≡ Some S) (T : ℕ)
+    (at_thread : l.naming.number (Runner ∷ Inside ∷ home_address me) ≡ Some T) where
   abbrev held : List ℕ
   held = process_bytes f.processes l.naming.number me p
 
@@ -45,19 +50,36 @@ module _ (accounts : Accounts) (s : State) (f : Flat) (l : ObjectsMatch accounts
   old_label = guard_label l.category (process_guard me p)
 
   -- the thread, its container and its process segment in it
-  pub around_before : Around T C S (rights_label l.category (thread_rights accounts me p)) (rights_clearance l.category (thread_rights accounts me p)) (guard_label l.category (process_guard me p)) (process_bytes f.processes l.naming.number me p) s
+  pub around_before : Around T C S (rights_label l.category (thread_rights accounts me p))
+      (rights_clearance l.category (thread_rights accounts me p)) (guard_label l.category (process_guard me p))
+      (process_bytes f.processes l.naming.number me p) s
   around_before = let home = home_found accounts s f l me p here C at_home in record {
     thread = thread_found accounts s f l me p here runs T at_thread;
-    home = (home.0, home.1, sym (ap (λ (o : Found). set.contains (links_in o) S) home.1) ∙ step_linked accounts s f l Status (home_address me) C S at_home at_status);
+    home = (
+      home.0,
+      home.1,
+      sym (ap (λ (o : Found). set.contains (links_in o) S) home.1)
+          ∙ step_linked accounts s f l Status (home_address me) C S at_home at_status,
+    );
     segment = bare_is (s.objects S) (record { label = old_label; kind = Segment held }) refl
-        (at_number same_step step_tests_equality s l.naming (expected accounts l.category f l.naming.number) l.agrees (Status ∷ home_address me) S at_status
-        ∙ asked_status accounts l.category f l.naming.number me ∙ ap (λ o. status_object accounts l.category (bytes_for accounts l.category f l.naming.number me o) me o) here);
-    thread_below = number_below same_step step_tests_equality s l.naming (expected accounts l.category f l.naming.number) l.agrees (Runner ∷ Inside ∷ home_address me) T at_thread;
-    home_below = number_below same_step step_tests_equality s l.naming (expected accounts l.category f l.naming.number) l.agrees (home_address me) C at_home;
-    segment_below = number_below same_step step_tests_equality s l.naming (expected accounts l.category f l.naming.number) l.agrees (Status ∷ home_address me) S at_status;
+        (at_number same_step step_tests_equality s l.naming (expected accounts l.category f l.naming.number) l.agrees
+        (Status ∷ home_address me) S at_status
+        ∙ asked_status accounts l.category f l.naming.number me
+        ∙ ap (λ o. status_object accounts l.category (bytes_for accounts l.category f l.naming.number me o) me o)
+        here);
+    thread_below =
+        number_below same_step step_tests_equality s l.naming (expected accounts l.category f l.naming.number) l.agrees
+        (Runner ∷ Inside ∷ home_address me) T at_thread;
+    home_below =
+        number_below same_step step_tests_equality s l.naming (expected accounts l.category f l.naming.number) l.agrees
+        (home_address me) C at_home;
+    segment_below =
+        number_below same_step step_tests_equality s l.naming (expected accounts l.category f l.naming.number) l.agrees
+        (Status ∷ home_address me) S at_status;
   }
 
-module _ (accounts : Accounts) (s : State) (f : Flat) (l : ObjectsMatch accounts s f) (me : ProcName) (p : Process) (here : f.processes me ≡ Some p) (runs : p.exited ≡ None) (room : p.born < 64)
+module _ (accounts : Accounts) (s : State) (f : Flat) (l : ObjectsMatch accounts s f) (me : ProcName) (p : Process)
+    (here : f.processes me ≡ Some p) (runs : p.exited ≡ None) (room : p.born < 64)
     (C S : ℕ) (at_home : l.naming.number (home_address me) ≡ Some C) (at_status : l.naming.number (Status ∷ home_address me) ≡ Some S) where
   -- the child is in the jobs of its parent
   pub chain_used : (job : ProcName) → has p.chain job ≡ true → IsUsed accounts f (OfJob job)
@@ -109,10 +131,18 @@ module _ (accounts : Accounts) (s : State) (f : Flat) (l : ObjectsMatch accounts
   used = rights_used accounts f me p here
 
   not_reads : (c : CategoryName) → IsUsed accounts f c → c ≢ ReadsProcess child
-  not_reads c is e = let there : is_some (f.processes child) ≡ true = subst (IsUsed accounts f) e is in true≢false (sym there ∙ ap is_some (no_child accounts s f l me p here runs room p.chain chain_used (l.processes me p here).chain chain_free C S at_home at_status))
+  not_reads c is e =
+      let there : is_some (f.processes child)
+      ≡ true = subst (IsUsed accounts f) e is in true≢false (sym there
+      ∙ ap is_some (no_child accounts s f l me p here runs room p.chain chain_used (l.processes me p here).chain
+      chain_free C S at_home at_status))
 
   not_writes : (c : CategoryName) → IsUsed accounts f c → c ≢ WritesProcess child
-  not_writes c is e = let there : is_some (f.processes child) ≡ true = subst (IsUsed accounts f) e is in true≢false (sym there ∙ ap is_some (no_child accounts s f l me p here runs room p.chain chain_used (l.processes me p here).chain chain_free C S at_home at_status))
+  not_writes c is e =
+      let there : is_some (f.processes child)
+      ≡ true = subst (IsUsed accounts f) e is in true≢false (sym there
+      ∙ ap is_some (no_child accounts s f l me p here runs room p.chain chain_used (l.processes me p here).chain
+      chain_free C S at_home at_status))
 
   -- a name that was used is old, for the one category and for the other
   abbrev IsOldFirst : CategoryName → Type 0
@@ -126,7 +156,9 @@ module _ (accounts : Accounts) (s : State) (f : Flat) (l : ObjectsMatch accounts
 
   old_second : (c : CategoryName) → IsUsed accounts f c → IsOldSecond c
   old_second c is =
-      let same = keeps_first accounts s f l me p here runs room p.chain chain_used (l.processes me p here).chain chain_free C S at_home at_status c is in
+      let same =
+      keeps_first accounts s f l me p here runs room p.chain chain_used (l.processes me p here).chain chain_free C S
+      at_home at_status c is in
       let made = l.made c is in
       (not_writes c is, (omega (arith, same, made.0), omega (arith, same, made.1)))
 
@@ -157,42 +189,79 @@ module _ (accounts : Accounts) (s : State) (f : Flat) (l : ObjectsMatch accounts
 
   module _ (T : ℕ) (at_thread : l.naming.number (Runner ∷ Inside ∷ home_address me) ≡ Some T) where
     -- once both categories are made
-    pub around_owner : Around T C S owner owner_clearance (guard_label names (process_guard me p)) (process_bytes f.processes l.naming.number me p) (with_category (with_category s T) T)
+    pub around_owner : Around T C S owner owner_clearance (guard_label names (process_guard me p))
+        (process_bytes f.processes l.naming.number me p) (with_category (with_category s T) T)
     around_owner =
-        let one = around_category T C S (rights_label l.category mine) (rights_clearance l.category mine) (guard_label l.category (process_guard me p)) (process_bytes f.processes l.naming.number me p) s (around_before accounts s f l me p here runs C S at_home at_status T at_thread) in
-        let two = around_category T C S (with_level (rights_label l.category mine) next Star) (with_level (rights_clearance l.category mine) next L3) (guard_label l.category (process_guard me p)) (process_bytes f.processes l.naming.number me p) (with_category s T) one in
-        subst (λ (x : Levels × Levels × Levels). Around T C S x.0 x.1 x.2 (process_bytes f.processes l.naming.number me p) (with_category (with_category s T) T))
-        (λ i. (label_grown i, clearance_grown i, keep_process_label accounts f l.category names (keeps accounts s f l me p here runs room p.chain chain_used (l.processes me p here).chain chain_free C S at_home at_status) me p here i)) two
+        let one =
+        around_category T C S (rights_label l.category mine) (rights_clearance l.category mine)
+        (guard_label l.category (process_guard me p)) (process_bytes f.processes l.naming.number me p) s
+        (around_before accounts s f l me p here runs C S at_home at_status T at_thread) in
+        let two =
+        around_category T C S (with_level (rights_label l.category mine) next Star)
+        (with_level (rights_clearance l.category mine) next L3) (guard_label l.category (process_guard me p))
+        (process_bytes f.processes l.naming.number me p) (with_category s T) one in
+        subst (λ (x : Levels × Levels × Levels). Around T C S x.0 x.1 x.2 (process_bytes f.processes l.naming.number me p)
+        (with_category (with_category s T) T))
+        (λ i. (
+          label_grown i,
+          clearance_grown i,
+          keep_process_label accounts f l.category names
+              (keeps accounts s f l me p here runs room p.chain chain_used (l.processes me p here).chain
+              chain_free C S at_home at_status) me p here i,
+        )) two
 
   -- ---- what it may do
 
   made : (c : CategoryName) → IsUsed accounts then_flat c → IsMade (next + 1 + 1) (names c)
-  made c is = let two : next + 2 ≡ next + 1 + 1 = omega arith in subst (λ (n : ℕ). IsMade n (names c)) two (made_then accounts s f l me p here runs room p.chain chain_used (l.processes me p here).chain chain_free C S at_home at_status c is)
+  made c is =
+      let two : next + 2
+      ≡ next + 1
+      + 1 = omega arith in subst (λ (n : ℕ). IsMade n (names c)) two (made_then accounts s f l me p here runs
+      room p.chain chain_used (l.processes me p here).chain chain_free C S at_home at_status c is)
 
   -- it modifies its own container and process segment
-  pub home_modified : (is_below owner (guard_label names (process_guard me p)) ≡ true) × (is_below_raised (guard_label names (process_guard me p)) owner ≡ true)
+  pub home_modified : (is_below owner (guard_label names (process_guard me p)) ≡ true)
+      × (is_below_raised (guard_label names (process_guard me p)) owner ≡ true)
   home_modified = own_modified accounts names apart me p child
 
   -- it makes the child's container and process segment, and its internal container
-  pub outer_modified : IsModified owner owner_clearance (guard_label names (process_guard ((p.born + 1) ∷ me) (record { user = p.user; chain = p.chain; held = []; exited = None; born = 0 }))) (s.next_category + 1 + 1)
+  pub outer_modified : IsModified owner owner_clearance (guard_label names (process_guard ((p.born + 1) ∷ me)
+      (record { user = p.user; chain = p.chain; held = []; exited = None; born = 0 })))
+      (s.next_category + 1 + 1)
   outer_modified =
-      let these = process_used accounts then_flat child (record { user = p.user; chain = p.chain; held = []; exited = None; born = 0 }) (at_child accounts s f l me p here runs room p.chain chain_used (l.processes me p here).chain chain_free C S at_home at_status) in
+      let these =
+      process_used accounts then_flat child
+      (record { user = p.user; chain = p.chain; held = []; exited = None; born = 0 })
+      (at_child accounts s f l me p here runs room p.chain chain_used (l.processes me p here).chain chain_free
+      C S at_home at_status) in
       record {
         above = outer_above accounts names apart me p child;
         below = outer_below accounts names apart me p child;
         seen = outer_seen accounts names apart me p child;
-        made = guard_made (next + 1 + 1) names (process_guard child (record { user = p.user; chain = p.chain; held = []; exited = None; born = 0 })) (λ c e. made c (these.0 c e)) (λ c e. made c (these.1 c e));
+        made =
+            guard_made (next + 1 + 1) names
+            (process_guard child (record { user = p.user; chain = p.chain; held = []; exited = None; born = 0 }))
+            (λ c e. made c (these.0 c e)) (λ c e. made c (these.1 c e));
         plain = guard_owns_nothing names (process_guard child (record { user = p.user; chain = p.chain; held = []; exited = None; born = 0 }));
       }
 
-  pub inner_modified : IsModified owner owner_clearance (guard_label names (inside_guard ((p.born + 1) ∷ me) (record { user = p.user; chain = p.chain; held = []; exited = None; born = 0 }))) (s.next_category + 1 + 1)
+  pub inner_modified : IsModified owner owner_clearance (guard_label names (inside_guard ((p.born + 1) ∷ me)
+      (record { user = p.user; chain = p.chain; held = []; exited = None; born = 0 })))
+      (s.next_category + 1 + 1)
   inner_modified =
-      let these = inside_used accounts then_flat child (record { user = p.user; chain = p.chain; held = []; exited = None; born = 0 }) (at_child accounts s f l me p here runs room p.chain chain_used (l.processes me p here).chain chain_free C S at_home at_status) in
+      let these =
+      inside_used accounts then_flat child
+      (record { user = p.user; chain = p.chain; held = []; exited = None; born = 0 })
+      (at_child accounts s f l me p here runs room p.chain chain_used (l.processes me p here).chain chain_free
+      C S at_home at_status) in
       record {
         above = inner_above accounts names apart me p child;
         below = inner_below accounts names apart me p child;
         seen = inner_seen accounts names apart me p child;
-        made = guard_made (next + 1 + 1) names (inside_guard child (record { user = p.user; chain = p.chain; held = []; exited = None; born = 0 })) (λ c e. made c (these.0 c e)) (λ c e. made c (these.1 c e));
+        made =
+            guard_made (next + 1 + 1) names
+            (inside_guard child (record { user = p.user; chain = p.chain; held = []; exited = None; born = 0 }))
+            (λ c e. made c (these.0 c e)) (λ c e. made c (these.1 c e));
         plain = guard_owns_nothing names (inside_guard child (record { user = p.user; chain = p.chain; held = []; exited = None; born = 0 }));
       }
 
@@ -200,10 +269,18 @@ module _ (accounts : Accounts) (s : State) (f : Flat) (l : ObjectsMatch accounts
   rights_are_made r has = each_append (λ c. IsMade (next + 1 + 1) (names c)) r.owned r.tainted (λ c e. made c (has.0 c e)) (λ c e. made c (has.1 c e))
 
   -- and its thread
-  pub thread_lesser : IsLesser owner owner_clearance (rights_label names (thread_rights accounts ((p.born + 1) ∷ me) (record { user = p.user; chain = p.chain; held = []; exited = None; born = 0 }))) (rights_clearance names (thread_rights accounts ((p.born + 1) ∷ me) (record { user = p.user; chain = p.chain; held = []; exited = None; born = 0 }))) (s.next_category + 1 + 1)
+  pub thread_lesser : IsLesser owner owner_clearance (rights_label names (thread_rights accounts ((p.born + 1) ∷ me)
+      (record { user = p.user; chain = p.chain; held = []; exited = None; born = 0 })))
+      (rights_clearance names (thread_rights accounts ((p.born + 1) ∷ me)
+      (record { user = p.user; chain = p.chain; held = []; exited = None; born = 0 })))
+      (s.next_category + 1 + 1)
   thread_lesser =
       let childs : Rights = thread_rights accounts child (record { user = p.user; chain = p.chain; held = []; exited = None; born = 0 }) in
-      let these = rights_used accounts then_flat child (record { user = p.user; chain = p.chain; held = []; exited = None; born = 0 }) (at_child accounts s f l me p here runs room p.chain chain_used (l.processes me p here).chain chain_free C S at_home at_status) in
+      let these =
+      rights_used accounts then_flat child
+      (record { user = p.user; chain = p.chain; held = []; exited = None; born = 0 })
+      (at_child accounts s f l me p here runs room p.chain chain_used (l.processes me p here).chain chain_free
+      C S at_home at_status) in
       record {
         above = thread_above accounts names apart me p child;
         below = thread_below accounts names apart me p child;
@@ -215,7 +292,11 @@ module _ (accounts : Accounts) (s : State) (f : Flat) (l : ObjectsMatch accounts
   -- it may have its own labels again
   taken_then : IsTaken owner owner_clearance (rights_label names mine) (rights_clearance names mine) (next + 1 + 1)
   taken_then =
-      let these : RightsHave (IsUsed accounts then_flat) mine = rights_used accounts then_flat me (record { user = p.user; chain = p.chain; held = p.held; exited = p.exited; born = p.born + 1 }) (at_me accounts s f l me p here runs room p.chain chain_used (l.processes me p here).chain chain_free C S at_home at_status) in
+      let these : RightsHave (IsUsed accounts then_flat) mine =
+      rights_used accounts then_flat me
+      (record { user = p.user; chain = p.chain; held = p.held; exited = p.exited; born = p.born + 1 })
+      (at_me accounts s f l me p here runs room p.chain chain_used (l.processes me p here).chain chain_free C
+      S at_home at_status) in
       record {
         above = (label_again accounts names apart me p child).0;
         below = (label_again accounts names apart me p child).1;
@@ -225,8 +306,13 @@ module _ (accounts : Accounts) (s : State) (f : Flat) (l : ObjectsMatch accounts
         cleared = clearance_made (next + 1 + 1) names (mine.owned ++ mine.tainted) (rights_are_made mine these);
       }
 
-  pub own_taken : IsTaken owner owner_clearance (rights_label l.category (thread_rights accounts me p)) (rights_clearance l.category (thread_rights accounts me p)) (s.next_category + 1 + 1)
+  pub own_taken : IsTaken owner owner_clearance (rights_label l.category (thread_rights accounts me p))
+      (rights_clearance l.category (thread_rights accounts me p)) (s.next_category + 1 + 1)
   own_taken =
       let kept = keeps accounts s f l me p here runs room p.chain chain_used (l.processes me p here).chain chain_free C S at_home at_status in
       subst (λ (x : Levels × Levels). IsTaken owner owner_clearance x.0 x.1 (next + 1 + 1))
-      (λ i. (same_rights_label l.category names mine (λ c e. kept c (used.0 c e), λ c e. kept c (used.1 c e)) i, same_rights_clearance l.category names mine (λ c e. kept c (used.0 c e), λ c e. kept c (used.1 c e)) i)) taken_then
+      (λ i. (
+        same_rights_label l.category names mine (λ c e. kept c (used.0 c e), λ c e. kept c (used.1 c e)) i,
+        same_rights_clearance l.category names mine (λ c e. kept c (used.0 c e), λ c e. kept c (used.1 c e)) i,
+      ))
+      taken_then

@@ -57,7 +57,8 @@ pub record IsFit (s : State) (t : ℕ) (home : Home) (status : ProcessStatus) (k
   pub seen : is_below_raised label owner ≡ true
   pub outer : IsModified owner owner_clearance (outer_label kin (s.next_category + 1)) (s.next_category + 1 + 1)
   pub inner : IsModified owner owner_clearance (inner_label kin s.next_category (s.next_category + 1)) (s.next_category + 1 + 1)
-  pub lesser : IsLesser owner owner_clearance (thread_label kin s.next_category (s.next_category + 1)) (thread_clearance kin s.next_category (s.next_category + 1)) (s.next_category + 1 + 1)
+  pub lesser : IsLesser owner owner_clearance (thread_label kin s.next_category (s.next_category + 1))
+      (thread_clearance kin s.next_category (s.next_category + 1)) (s.next_category + 1 + 1)
   pub taken : IsTaken owner owner_clearance own own_clearance (s.next_category + 1 + 1)
   pub child_few : fits_segment (length (status_bytes (started (s.next_object + 1) (s.next_object + 1 + 1)))) ≡ true
   pub own_few : fits_segment (min 0 (length held) + length (status_bytes (with_child_listed s.next_object (s.next_object + 1 + 1 + 1) status))) ≡ true
@@ -72,8 +73,10 @@ spawned s t home status kin own own_clearance =
     (record { label = outer_label kin (s.next_category + 1); kind = Segment (status_bytes (started (s.next_object + 1) (s.next_object + 1 + 1))) })
     (status_bytes (with_child_listed s.next_object (s.next_object + 1 + 1 + 1) status))) own own_clearance
 
-module _ (accounts : Accounts) (f : Flat) (me : ProcName) (caller : IsRunning f me) (call : UnixCall) (old new : KernelModel) (t : ℕ) (named : IsThreadOf accounts (state old) me t) (result : Result Reply Stopped)
-    (s : State) (home : Home) (status : ProcessStatus) (kin : Kin) (own own_clearance : Levels) (fit : IsFit s t home status kin own own_clearance) (reply : Reply) (wanted : List RawCall) where
+module _ (accounts : Accounts) (f : Flat) (me : ProcName) (caller : IsRunning f me) (call : UnixCall)
+    (old new : KernelModel) (t : ℕ) (named : IsThreadOf accounts (state old) me t) (result : Result Reply Stopped)
+    (s : State) (home : Home) (status : ProcessStatus) (kin : Kin) (own own_clearance : Levels)
+    (fit : IsFit s t home status kin own own_clearance) (reply : Reply) (wanted : List RawCall) where
   abbrev Refined : Type 0
   Refined = Goal accounts f me caller call old new t named result
 
@@ -162,87 +165,145 @@ module _ (accounts : Accounts) (f : Flat) (me : ProcName) (caller : IsRunning f 
 
   -- what comes after all of them
   abbrev pub Ends : Type 0
-  Ends = (calls : List RawCall) (later : KernelModel) → AreAmong wanted (entries_of old.line t (all_granted calls)) → Chain old t (all_granted calls) later → state later ≡ spawned s t home status kin own own_clearance → s.next_object + 3 < greatest → Runs (Answers reply) later new t result → Goal accounts f me caller call old new t named result
+  Ends =
+      (calls : List RawCall) (later : KernelModel) → AreAmong wanted (entries_of old.line t (all_granted calls))
+      → Chain old t (all_granted calls) later → state later ≡ spawned s t home status kin own own_clearance
+      → s.next_object + 3 < greatest → Runs (Answers reply) later new t result
+      → Goal accounts f me caller call old new t named result
 
   module _ (ends : Ends) where
-    clearance_set : s.next_object + 3 < greatest → (calls : List RawCall) (mid : KernelModel) → AreKept calls → Chain old t (all_granted calls) mid → state mid ≡ eighth → Runs after_label mid new t result → Refined
+    clearance_set : s.next_object + 3 < greatest → (calls : List RawCall) (mid : KernelModel) → AreKept calls
+        → Chain old t (all_granted calls) mid → state mid ≡ eighth → Runs after_label mid new t result → Refined
     clearance_set few calls mid kept chain at runs =
         granted_step accounts f me caller call old new t named result calls mid chain (SetClearance own_clearance) (λ _. Answers reply)
-        (ap (λ (x : State). check x t (SetClearance own_clearance)) at ∙ checks.set_clearance_said t home.container home.segment fit.owner fit.owner_clearance fit.label fit.held u fit.around outer inner label clearance own own_clearance child_bytes own_bytes fit.under fit.seen fit.outer fit.inner fit.lesser fit.taken) runs
-        (λ later done called right longer goes. ends (calls ++ SetClearance own_clearance ∷ []) later (kept_then calls (SetClearance own_clearance) kept) longer (called.state ∙ ap (λ (x : State). with_changed x t (with_clearance own_clearance)) at) few goes)
+        (ap (λ (x : State). check x t (SetClearance own_clearance)) at
+        ∙ checks.set_clearance_said t home.container home.segment fit.owner fit.owner_clearance fit.label
+        fit.held u fit.around outer inner label clearance own own_clearance child_bytes own_bytes fit.under
+        fit.seen fit.outer fit.inner fit.lesser fit.taken) runs
+        (λ later done called right longer goes.
+        ends (calls ++ SetClearance own_clearance ∷ []) later (kept_then calls (SetClearance own_clearance) kept)
+        longer (called.state ∙ ap (λ (x : State). with_changed x t (with_clearance own_clearance)) at) few goes)
 
-    label_set : s.next_object + 3 < greatest → (calls : List RawCall) (mid : KernelModel) → AreKept calls → Chain old t (all_granted calls) mid → state mid ≡ seventh → Runs after_write mid new t result → Refined
+    label_set : s.next_object + 3 < greatest → (calls : List RawCall) (mid : KernelModel) → AreKept calls
+        → Chain old t (all_granted calls) mid → state mid ≡ seventh → Runs after_write mid new t result → Refined
     label_set few calls mid kept chain at runs =
         granted_step accounts f me caller call old new t named result calls mid chain (SetLabel own) (λ _. after_label)
-        (ap (λ (x : State). check x t (SetLabel own)) at ∙ checks.set_label_said t home.container home.segment fit.owner fit.owner_clearance fit.label fit.held u fit.around outer inner label clearance own own_clearance child_bytes own_bytes fit.under fit.seen fit.outer fit.inner fit.lesser fit.taken) runs
-        (λ later done called right longer goes. clearance_set few (calls ++ SetLabel own ∷ []) later (kept_then calls (SetLabel own) kept) longer (called.state ∙ ap (λ (x : State). with_changed x t (with_label own)) at) goes)
+        (ap (λ (x : State). check x t (SetLabel own)) at
+        ∙ checks.set_label_said t home.container home.segment fit.owner fit.owner_clearance fit.label fit.held u
+        fit.around outer inner label clearance own own_clearance child_bytes own_bytes fit.under fit.seen
+        fit.outer fit.inner fit.lesser fit.taken) runs
+        (λ later done called right longer goes.
+        clearance_set few (calls ++ SetLabel own ∷ []) later (kept_then calls (SetLabel own) kept) longer
+        (called.state ∙ ap (λ (x : State). with_changed x t (with_label own)) at) goes)
 
-    segment_written : s.next_object + 3 < greatest → (calls : List RawCall) (mid : KernelModel) → AreKept calls → Chain old t (all_granted calls) mid → state mid ≡ sixth → Runs (after_segment m (m + 1 + 1 + 1)) mid new t result → Refined
+    segment_written : s.next_object + 3 < greatest → (calls : List RawCall) (mid : KernelModel) → AreKept calls
+        → Chain old t (all_granted calls) mid → state mid ≡ sixth
+        → Runs (after_segment m (m + 1 + 1 + 1)) mid new t result → Refined
     segment_written few calls mid kept chain at runs =
         let next : RawCall = Write home.container home.segment 0 own_bytes in
         granted_step accounts f me caller call old new t named result calls mid chain next (λ _. after_write)
-        (ap (λ (x : State). check x t next) at ∙ checks.write_said t home.container home.segment fit.owner fit.owner_clearance fit.label fit.held u fit.around outer inner label clearance own own_clearance child_bytes own_bytes fit.under fit.seen fit.outer fit.inner fit.lesser fit.taken fit.own_few) runs
-        (λ later done called right longer goes. label_set few (calls ++ next ∷ []) later (kept_then calls next kept) longer (called.state ∙ ap (λ (x : State). with_segment_bytes x home.segment own_bytes) at) goes)
+        (ap (λ (x : State). check x t next) at
+        ∙ checks.write_said t home.container home.segment fit.owner fit.owner_clearance fit.label fit.held u
+        fit.around outer inner label clearance own own_clearance child_bytes own_bytes fit.under fit.seen
+        fit.outer fit.inner fit.lesser fit.taken fit.own_few) runs
+        (λ later done called right longer goes.
+        label_set few (calls ++ next ∷ []) later (kept_then calls next kept) longer
+        (called.state ∙ ap (λ (x : State). with_segment_bytes x home.segment own_bytes) at) goes)
 
-    segment_made : (calls : List RawCall) (mid : KernelModel) → AreKept calls → Chain old t (all_granted calls) mid → state mid ≡ fifth → Runs (after_thread write m (m + 1) (m + 1 + 1)) mid new t result → Refined
+    segment_made : (calls : List RawCall) (mid : KernelModel) → AreKept calls → Chain old t (all_granted calls) mid
+        → state mid ≡ fifth → Runs (after_thread write m (m + 1) (m + 1 + 1)) mid new t result → Refined
     segment_made calls mid kept chain at runs =
         let next : RawCall = MakeSegment m outer child_bytes in
         numbered_step accounts f me caller call old new t named result calls mid chain next (after_segment m) refl
-        (subst (λ (x : State). check x t next ≡ unless (has_number x) TooBig) (sym at) (checks.make_segment_said t home.container home.segment fit.owner fit.owner_clearance fit.label fit.held u fit.around outer inner label clearance own own_clearance child_bytes own_bytes fit.under fit.seen fit.outer fit.inner fit.lesser fit.taken fit.child_few)) runs
+        (subst (λ (x : State). check x t next ≡ unless (has_number x) TooBig) (sym at)
+        (checks.make_segment_said t home.container home.segment fit.owner fit.owner_clearance fit.label fit.held
+        u fit.around outer inner label clearance own own_clearance child_bytes own_bytes fit.under fit.seen
+        fit.outer fit.inner fit.lesser fit.taken fit.child_few)) runs
         (λ more later number called right longer goes.
         let few = ltb-true (m + 1 + 1 + 1) greatest (sym (ap has_number at) ∙ more) in
-        segment_written (omega (arith, few)) (calls ++ next ∷ []) later (kept_then calls next kept) longer (called.state ∙ ap (λ (x : State). with_object x m (record { label = outer; kind = Segment child_bytes })) at)
+        segment_written (omega (arith, few)) (calls ++ next ∷ []) later (kept_then calls next kept) longer
+        (called.state
+        ∙ ap (λ (x : State). with_object x m (record { label = outer; kind = Segment child_bytes })) at)
         (subst (λ (q : ℕ). Runs (after_segment m q) later new t result) (right ∙ ap (λ (x : State). x.next_object) at) goes))
 
-    thread_made : (calls : List RawCall) (mid : KernelModel) → AreKept calls → Chain old t (all_granted calls) mid → state mid ≡ fourth → Runs (after_internal read write m (m + 1)) mid new t result → Refined
+    thread_made : (calls : List RawCall) (mid : KernelModel) → AreKept calls → Chain old t (all_granted calls) mid
+        → state mid ≡ fourth → Runs (after_internal read write m (m + 1)) mid new t result → Refined
     thread_made calls mid kept chain at runs =
         let next : RawCall = MakeThread (m + 1) label clearance in
         numbered_step accounts f me caller call old new t named result calls mid chain next (after_thread write m (m + 1)) refl
-        (subst (λ (x : State). check x t next ≡ unless (has_number x) TooBig) (sym at) (checks.make_thread_said t home.container home.segment fit.owner fit.owner_clearance fit.label fit.held u fit.around outer inner label clearance own own_clearance child_bytes own_bytes fit.under fit.seen fit.outer fit.inner fit.lesser fit.taken)) runs
+        (subst (λ (x : State). check x t next ≡ unless (has_number x) TooBig) (sym at)
+        (checks.make_thread_said t home.container home.segment fit.owner fit.owner_clearance fit.label fit.held
+        u fit.around outer inner label clearance own own_clearance child_bytes own_bytes fit.under fit.seen
+        fit.outer fit.inner fit.lesser fit.taken)) runs
         (λ more later number called right longer goes.
-        segment_made (calls ++ next ∷ []) later (kept_then calls next kept) longer (called.state ∙ ap (λ (x : State). with_object x (m + 1) (thread_of label clearance)) at)
+        segment_made (calls ++ next ∷ []) later (kept_then calls next kept) longer
+        (called.state ∙ ap (λ (x : State). with_object x (m + 1) (thread_of label clearance)) at)
         (subst (λ (q : ℕ). Runs (after_thread write m (m + 1) q) later new t result) (right ∙ ap (λ (x : State). x.next_object) at) goes))
 
-    internal_made : (calls : List RawCall) (mid : KernelModel) → AreKept calls → Chain old t (all_granted calls) mid → state mid ≡ third → Runs (after_container read write m) mid new t result → Refined
+    internal_made : (calls : List RawCall) (mid : KernelModel) → AreKept calls → Chain old t (all_granted calls) mid
+        → state mid ≡ third → Runs (after_container read write m) mid new t result → Refined
     internal_made calls mid kept chain at runs =
         let next : RawCall = MakeContainer m inner in
         numbered_step accounts f me caller call old new t named result calls mid chain next (after_internal read write m) refl
-        (subst (λ (x : State). check x t next ≡ unless (has_number x) TooBig) (sym at) (checks.make_internal_said t home.container home.segment fit.owner fit.owner_clearance fit.label fit.held u fit.around outer inner label clearance own own_clearance child_bytes own_bytes fit.under fit.seen fit.outer fit.inner fit.lesser fit.taken)) runs
+        (subst (λ (x : State). check x t next ≡ unless (has_number x) TooBig) (sym at)
+        (checks.make_internal_said t home.container home.segment fit.owner fit.owner_clearance fit.label
+        fit.held u fit.around outer inner label clearance own own_clearance child_bytes own_bytes fit.under
+        fit.seen fit.outer fit.inner fit.lesser fit.taken)) runs
         (λ more later number called right longer goes.
-        thread_made (calls ++ next ∷ []) later (kept_then calls next kept) longer (called.state ∙ ap (λ (x : State). with_object x m (record { label = inner; kind = Container set.empty })) at)
+        thread_made (calls ++ next ∷ []) later (kept_then calls next kept) longer
+        (called.state
+        ∙ ap (λ (x : State). with_object x m (record { label = inner; kind = Container set.empty })) at)
         (subst (λ (q : ℕ). Runs (after_internal read write m q) later new t result) (right ∙ ap (λ (x : State). x.next_object) at) goes))
 
-    container_made : (calls : List RawCall) (mid : KernelModel) → AreKept calls → Chain old t (all_granted calls) mid → state mid ≡ u → Runs (after_categories read write) mid new t result → Refined
+    container_made : (calls : List RawCall) (mid : KernelModel) → AreKept calls → Chain old t (all_granted calls) mid
+        → state mid ≡ u → Runs (after_categories read write) mid new t result → Refined
     container_made calls mid kept chain at runs =
         let next : RawCall = MakeContainer home.container outer in
         numbered_step accounts f me caller call old new t named result calls mid chain next (after_container read write) refl
-        (subst (λ (x : State). check x t next ≡ unless (has_number x) TooBig) (sym at) (checks.make_container_said t home.container home.segment fit.owner fit.owner_clearance fit.label fit.held u fit.around outer inner label clearance own own_clearance child_bytes own_bytes fit.under fit.seen fit.outer fit.inner fit.lesser fit.taken)) runs
+        (subst (λ (x : State). check x t next ≡ unless (has_number x) TooBig) (sym at)
+        (checks.make_container_said t home.container home.segment fit.owner fit.owner_clearance fit.label
+        fit.held u fit.around outer inner label clearance own own_clearance child_bytes own_bytes fit.under
+        fit.seen fit.outer fit.inner fit.lesser fit.taken)) runs
         (λ more later number called right longer goes.
-        internal_made (calls ++ next ∷ []) later (kept_then calls next kept) longer (called.state ∙ ap (λ (x : State). with_object x home.container (record { label = outer; kind = Container set.empty })) at)
+        internal_made (calls ++ next ∷ []) later (kept_then calls next kept) longer
+        (called.state
+        ∙ ap (λ (x : State).
+        with_object x home.container (record { label = outer; kind = Container set.empty })) at)
         (subst (λ (q : ℕ). Runs (after_container read write q) later new t result) (right ∙ ap (λ (x : State). x.next_object) at) goes))
 
     -- the thread with the first category
     thread_then : (with_category s t).objects t ≡ object (with_level own s.next_category Star) (Thread (with_level own_clearance s.next_category L3))
     thread_then = changed_here s.objects t (with_star_at s.next_category) ∙ ap (option_map (with_star_at s.next_category)) fit.thread
 
-    write_made : (calls : List RawCall) (mid : KernelModel) → AreKept calls → Chain old t (all_granted calls) mid → state mid ≡ with_category s t → Runs (after_category read) mid new t result → Refined
+    write_made : (calls : List RawCall) (mid : KernelModel) → AreKept calls → Chain old t (all_granted calls) mid
+        → state mid ≡ with_category s t → Runs (after_category read) mid new t result → Refined
     write_made calls mid kept chain at runs =
         category_step accounts f me caller call old new t named result calls mid chain MakeCategory (after_categories read) refl
-        (subst (λ (x : State). check x t MakeCategory ≡ unless (has_category x) TooBig) (sym at) (category_said (with_category s t) t (with_level own s.next_category Star) (with_level own_clearance s.next_category L3) thread_then)) runs
+        (subst (λ (x : State). check x t MakeCategory ≡ unless (has_category x) TooBig) (sym at)
+        (category_said (with_category s t) t (with_level own s.next_category Star)
+        (with_level own_clearance s.next_category L3) thread_then)) runs
         (λ later number called right longer goes.
-        container_made (calls ++ MakeCategory ∷ []) later (kept_then calls MakeCategory kept) longer (called.state ∙ ap (λ (x : State). with_category x t) at)
+        container_made (calls ++ MakeCategory ∷ []) later (kept_then calls MakeCategory kept) longer
+        (called.state ∙ ap (λ (x : State). with_category x t) at)
         (subst (λ (q : ℕ). Runs (after_categories read q) later new t result) (right ∙ ap (λ (x : State). x.next_category) at) goes))
 
-    read_made : (calls : List RawCall) (mid : KernelModel) → AreKept calls → Chain old t (all_granted calls) mid → state mid ≡ s → Runs (ask MakeCategory after_category) mid new t result → Refined
+    read_made : (calls : List RawCall) (mid : KernelModel) → AreKept calls → Chain old t (all_granted calls) mid
+        → state mid ≡ s → Runs (ask MakeCategory after_category) mid new t result → Refined
     read_made calls mid kept chain at runs =
         category_step accounts f me caller call old new t named result calls mid chain MakeCategory after_category refl
-        (subst (λ (x : State). check x t MakeCategory ≡ unless (has_category x) TooBig) (sym at) (category_said s t own own_clearance fit.thread)) runs
+        (subst (λ (x : State). check x t MakeCategory ≡ unless (has_category x) TooBig) (sym at)
+        (category_said s t own own_clearance fit.thread)) runs
         (λ later number called right longer goes.
-        write_made (calls ++ MakeCategory ∷ []) later (kept_then calls MakeCategory kept) longer (called.state ∙ ap (λ (x : State). with_category x t) at)
+        write_made (calls ++ MakeCategory ∷ []) later (kept_then calls MakeCategory kept) longer
+        (called.state ∙ ap (λ (x : State). with_category x t) at)
         (subst (λ (q : ℕ). Runs (after_category q) later new t result) (right ∙ ap (λ (x : State). x.next_category) at) goes))
 
     -- The birth, and the thread's own labels again.
-    pub birth_made : (calls : List RawCall) (mid : KernelModel) → AreAmong wanted (entries_of old.line t (all_granted calls)) → Chain old t (all_granted calls) mid → state mid ≡ s
-        → Runs (birth home status kin (λ _. ask (SetLabel own) (λ _. ask (SetClearance own_clearance) (λ _. Answers reply)))) mid new t result → Refined
+    pub birth_made : (calls : List RawCall) (mid : KernelModel)
+        → AreAmong wanted (entries_of old.line t (all_granted calls)) → Chain old t (all_granted calls) mid
+        → state mid ≡ s
+        → Runs (birth home status kin
+        (λ _. ask (SetLabel own) (λ _. ask (SetClearance own_clearance) (λ _. Answers reply)))) mid new t result
+        → Refined
     unfolding birth
     birth_made calls mid kept chain at runs = read_made calls mid kept chain at runs

@@ -19,27 +19,45 @@ use Rattle.histar_sim.specs.Simulation.{IsRunning, has_category}
 use Rattle.histar_sim.proofs.Chains.{all_granted, Chain}
 use Rattle.histar_sim.proofs.Steps.{Goal, granted_step, exhausted_step, exhausted_category_step}
 
-module _ (accounts : Accounts) (f : Flat) (me : ProcName) (caller : IsRunning f me) (call : UnixCall) (old new : KernelModel) (t : ℕ) (named : IsThreadOf accounts (state old) me t) (result : Result Reply Stopped) where
+module _ (accounts : Accounts) (f : Flat) (me : ProcName) (caller : IsRunning f me) (call : UnixCall)
+    (old new : KernelModel) (t : ℕ) (named : IsThreadOf accounts (state old) me t) (result : Result Reply Stopped) where
   abbrev Refined : Type 0
   Refined = Goal accounts f me caller call old new t named result
 
   -- what comes after a raw call that was granted
   abbrev GoesOn : List RawCall → KernelModel → (next : RawCall) → (AnswerOf next → Program) → Type 0
-  GoesOn calls mid next rest = (later : KernelModel) (answer : AnswerOf next) → Called mid later t next None → IsAnswer (state mid) t next answer → Chain old t (all_granted (calls ++ next ∷ [])) later → Runs (rest answer) later new t result → Refined
+  GoesOn calls mid next rest =
+      (later : KernelModel) (answer : AnswerOf next) → Called mid later t next None → IsAnswer (state mid) t next answer
+      → Chain old t (all_granted (calls ++ next ∷ [])) later → Runs (rest answer) later new t result → Refined
 
-  module _ (calls : List RawCall) (mid : KernelModel) (so_far : Chain old t (all_granted calls) mid) (next : RawCall) (rest : AnswerOf next → Program) (unrevealed : errno_for next TooBig ≡ None) where
+  module _ (calls : List RawCall) (mid : KernelModel) (so_far : Chain old t (all_granted calls) mid) (next : RawCall)
+      (rest : AnswerOf next → Program) (unrevealed : errno_for next TooBig ≡ None) where
     -- a raw call that is granted unless there is no number for a new object
-    numbered_by : (b : Bool) → has_number (state mid) ≡ b → check (state mid) t next ≡ unless (has_number (state mid)) TooBig → Runs (ask next rest) mid new t result → (has_number (state mid) ≡ true → GoesOn calls mid next rest) → Refined
-    numbered_by false is said runs go_on = exhausted_step accounts f me caller call old new t named result calls mid so_far next rest (said ∙ ap (λ (b : Bool). unless b TooBig) is) unrevealed is runs
-    numbered_by true is said runs go_on = granted_step accounts f me caller call old new t named result calls mid so_far next rest (said ∙ ap (λ (b : Bool). unless b TooBig) is) runs (go_on is)
+    numbered_by : (b : Bool) → has_number (state mid) ≡ b
+        → check (state mid) t next ≡ unless (has_number (state mid)) TooBig → Runs (ask next rest) mid new t result
+        → (has_number (state mid) ≡ true → GoesOn calls mid next rest) → Refined
+    numbered_by false is said runs go_on =
+        exhausted_step accounts f me caller call old new t named result calls mid so_far next rest
+        (said ∙ ap (λ (b : Bool). unless b TooBig) is) unrevealed is runs
+    numbered_by true is said runs go_on =
+        granted_step accounts f me caller call old new t named result calls mid so_far next rest
+        (said ∙ ap (λ (b : Bool). unless b TooBig) is) runs (go_on is)
 
-    pub numbered_step : check (state mid) t next ≡ unless (has_number (state mid)) TooBig → Runs (ask next rest) mid new t result → (has_number (state mid) ≡ true → GoesOn calls mid next rest) → Refined
+    pub numbered_step : check (state mid) t next ≡ unless (has_number (state mid)) TooBig
+        → Runs (ask next rest) mid new t result → (has_number (state mid) ≡ true → GoesOn calls mid next rest) → Refined
     numbered_step said runs go_on = numbered_by (has_number (state mid)) refl said runs go_on
 
     -- or for a new category
-    category_by : (b : Bool) → has_category (state mid) ≡ b → check (state mid) t next ≡ unless (has_category (state mid)) TooBig → Runs (ask next rest) mid new t result → GoesOn calls mid next rest → Refined
-    category_by false is said runs go_on = exhausted_category_step accounts f me caller call old new t named result calls mid so_far next rest (said ∙ ap (λ (b : Bool). unless b TooBig) is) unrevealed is runs
-    category_by true is said runs go_on = granted_step accounts f me caller call old new t named result calls mid so_far next rest (said ∙ ap (λ (b : Bool). unless b TooBig) is) runs go_on
+    category_by : (b : Bool) → has_category (state mid) ≡ b
+        → check (state mid) t next ≡ unless (has_category (state mid)) TooBig → Runs (ask next rest) mid new t result
+        → GoesOn calls mid next rest → Refined
+    category_by false is said runs go_on =
+        exhausted_category_step accounts f me caller call old new t named result calls mid so_far next rest
+        (said ∙ ap (λ (b : Bool). unless b TooBig) is) unrevealed is runs
+    category_by true is said runs go_on =
+        granted_step accounts f me caller call old new t named result calls mid so_far next rest
+        (said ∙ ap (λ (b : Bool). unless b TooBig) is) runs go_on
 
-    pub category_step : check (state mid) t next ≡ unless (has_category (state mid)) TooBig → Runs (ask next rest) mid new t result → GoesOn calls mid next rest → Refined
+    pub category_step : check (state mid) t next ≡ unless (has_category (state mid)) TooBig
+        → Runs (ask next rest) mid new t result → GoesOn calls mid next rest → Refined
     category_step said runs go_on = category_by (has_category (state mid)) refl said runs go_on

@@ -57,7 +57,9 @@ module _ (s : State) (entries : List TraceEntry) where
   backed_revealed r backed bytes e = absurd cc
 
 -- a reply that tells a refusal is EACCES exactly where the refusal is by label, and EPERM exactly where it is by range
-revealed_by : (denied : Denied) → (is_label_refusal (Some denied) ≡ is_some_and (write_errno_of denied) is_access) × (is_range_refusal (Some denied) ≡ is_some_and (write_errno_of denied) is_permission)
+revealed_by : (denied : Denied)
+    → (is_label_refusal (Some denied) ≡ is_some_and (write_errno_of denied) is_access)
+    × (is_range_refusal (Some denied) ≡ is_some_and (write_errno_of denied) is_permission)
 revealed_by Observe = (refl, refl)
 revealed_by denied = (refl, refl)
 
@@ -83,33 +85,44 @@ module _ (line t : ℕ) where
   after_granted r call entries a = record { access = a.access; permission = a.permission; denials = (tt, a.denials); once = a.once }
 
   -- granted raw calls agree with a reply that is neither EACCES nor EPERM
-  granted_agree : (r : Reply) → (is_no_access r ≡ false) × (is_no_permission r ≡ false) → (calls : List RawCall) → Agrees r (entries_of line t (all_granted calls))
+  granted_agree : (r : Reply) → (is_no_access r ≡ false) × (is_no_permission r ≡ false) → (calls : List RawCall)
+      → Agrees r (entries_of line t (all_granted calls))
   granted_agree r plain [] = record { access = sym plain.0; permission = sym plain.1; denials = tt; once = tt }
   granted_agree r plain (call ∷ calls) = after_granted r call (entries_of line t (all_granted calls)) (granted_agree r plain calls)
 
   -- granted raw calls are refused neither by label nor by range, and no reply has a denial of them to tell
   none_refused : (r : Reply) (calls : List RawCall)
-      → (some_label_refusal (entries_of line t (all_granted calls)) ≡ false) × (some_range_refusal (entries_of line t (all_granted calls)) ≡ false) × AllByRecursion (λ (e : TraceEntry). IsReplyOfDenial r e.denied) (entries_of line t (all_granted calls))
+      → (some_label_refusal (entries_of line t (all_granted calls)) ≡ false)
+      × (some_range_refusal (entries_of line t (all_granted calls)) ≡ false)
+      × AllByRecursion (λ (e : TraceEntry). IsReplyOfDenial r e.denied) (entries_of line t (all_granted calls))
   none_refused r [] = (refl, refl, tt)
   none_refused r (call ∷ calls) = let later = none_refused r calls in (later.0, later.1, (tt, later.2))
 
   -- granted raw calls, then one that was refused, then some that give the thread labels: they agree with what the refusal is told as
-  refused_agree : (last : RawCall) (denied : Denied) (errno : Errno) → write_errno_of denied ≡ Some errno → (restoring : List RawCall) → AllByRecursion (λ (c : RawCall). sets_labels c ≡ true) restoring
+  refused_agree : (last : RawCall) (denied : Denied) (errno : Errno) → write_errno_of denied ≡ Some errno
+      → (restoring : List RawCall) → AllByRecursion (λ (c : RawCall). sets_labels c ≡ true) restoring
       → (calls : List RawCall) → Agrees (Refused errno) (entries_of line t (all_granted calls ++ (last, Some denied) ∷ all_granted restoring))
   refused_agree last denied errno revealed restoring sets [] =
       let none = none_refused (Refused errno) restoring in
       record {
-        access = ap (λ (b : Bool). is_label_refusal (Some denied) || b) none.0 ∙ or-false (is_label_refusal (Some denied)) ∙ (revealed_by denied).0 ∙ ap (λ (o : Option Errno). is_some_and o is_access) revealed;
-        permission = ap (λ (b : Bool). is_range_refusal (Some denied) || b) none.1 ∙ or-false (is_range_refusal (Some denied)) ∙ (revealed_by denied).1 ∙ ap (λ (o : Option Errno). is_some_and o is_permission) revealed;
+        access =
+            ap (λ (b : Bool). is_label_refusal (Some denied) || b) none.0 ∙ or-false (is_label_refusal (Some denied))
+            ∙ (revealed_by denied).0 ∙ ap (λ (o : Option Errno). is_some_and o is_access) revealed;
+        permission =
+            ap (λ (b : Bool). is_range_refusal (Some denied) || b) none.1 ∙ or-false (is_range_refusal (Some denied))
+            ∙ (revealed_by denied).1 ∙ ap (λ (o : Option Errno). is_some_and o is_permission) revealed;
         denials = (ap (option_map Refused) revealed, none.2);
         once = all_restoring t line restoring sets;
       }
   refused_agree last denied errno revealed restoring sets (call ∷ calls) =
-      after_granted (Refused errno) call (entries_of line t (all_granted calls ++ (last, Some denied) ∷ all_granted restoring)) (refused_agree last denied errno revealed restoring sets calls)
+      after_granted (Refused errno) call
+      (entries_of line t (all_granted calls ++ (last, Some denied) ∷ all_granted restoring))
+      (refused_agree last denied errno revealed restoring sets calls)
 
 -- granted raw calls, and behind them a read that is granted too: what it tells is what the segment held then
 pub read_last : (old mid : KernelModel) (t : ℕ) (calls : List RawCall) → Chain old t (all_granted calls) mid → (container segment : ℕ)
-    → EndsWithRead (state old) (entries_of old.line t (all_granted calls ++ (Read container segment, None) ∷ [])) (bytes_in ((state mid).objects segment))
+    → EndsWithRead (state old) (entries_of old.line t (all_granted calls ++ (Read container segment, None) ∷ []))
+    (bytes_in ((state mid).objects segment))
 read_last old mid t calls chain container segment = record {
   front = entries_of old.line t (all_granted calls);
   last = entry_of old.line t (Read container segment) None;
@@ -120,20 +133,32 @@ read_last old mid t calls chain container segment = record {
   answers = refl;
 }
 
-module _ (accounts : Accounts) (f : Flat) (me : ProcName) (caller : IsRunning f me) (call : UnixCall) (old new : KernelModel) (t : ℕ) (named : IsThreadOf accounts (state old) me t) where
+module _ (accounts : Accounts) (f : Flat) (me : ProcName) (caller : IsRunning f me) (call : UnixCall)
+    (old new : KernelModel) (t : ℕ) (named : IsThreadOf accounts (state old) me t) where
   -- the process runs
   runs : running f me ≡ Some caller.process
-  runs = ap if_running caller.agrees ∙ ap (λ (x : Option ℕ). elim x as (λ _. Option Process) [ None ↦ Some caller.process | Some n ↦ None ]) caller.runs
+  runs =
+      ap if_running caller.agrees
+      ∙ ap (λ (x : Option ℕ). elim x as (λ _. Option Process) [ None ↦ Some caller.process | Some n ↦ None ])
+      caller.runs
 
   -- so its call is answered by its flat rule, and the state after it is the rule's too
-  pub reply_is : (refusal : Option Errno) → refused accounts f me caller.process call ≡ refusal → reply_to accounts f me call ≡ reply_or refusal (flat.answer f me caller.process call)
-  reply_is refusal e = ap (λ (r : Option Process). reply_by accounts f me r call) runs ∙ ap (λ (r : Option Errno). reply_or r (flat.answer f me caller.process call)) e
+  pub reply_is : (refusal : Option Errno) → refused accounts f me caller.process call ≡ refusal
+      → reply_to accounts f me call ≡ reply_or refusal (flat.answer f me caller.process call)
+  reply_is refusal e =
+      ap (λ (r : Option Process). reply_by accounts f me r call) runs
+      ∙ ap (λ (r : Option Errno). reply_or r (flat.answer f me caller.process call)) e
 
-  after_is : (refusal : Option Errno) → refused accounts f me caller.process call ≡ refusal → flat_after accounts f me call ≡ flat_or refusal f (changed accounts f me caller.process call)
-  after_is refusal e = ap (λ (r : Option Process). flat_by accounts f me r call) runs ∙ ap (λ (r : Option Errno). flat_or r f (changed accounts f me caller.process call)) e
+  after_is : (refusal : Option Errno) → refused accounts f me caller.process call ≡ refusal
+      → flat_after accounts f me call ≡ flat_or refusal f (changed accounts f me caller.process call)
+  after_is refusal e =
+      ap (λ (r : Option Process). flat_by accounts f me r call) runs
+      ∙ ap (λ (r : Option Errno). flat_or r f (changed accounts f me caller.process call)) e
 
   -- a chain that was broken off before that reply ends without one
-  pub chain_unanswered : (steps : List Step) → Chain old t steps new → IsBrokenOff (reply_to accounts f me call) (state old) (entries_of old.line t steps) (state new) → IsUnanswered accounts f me call old new t
+  pub chain_unanswered : (steps : List Step) → Chain old t steps new
+      → IsBrokenOff (reply_to accounts f me call) (state old) (entries_of old.line t steps) (state new)
+      → IsUnanswered accounts f me call old new t
   chain_unanswered steps chain run =
       let part = chain_run t old new steps chain in
       record {
@@ -153,14 +178,20 @@ module _ (accounts : Accounts) (f : Flat) (me : ProcName) (caller : IsRunning f 
   allowed = flat.answer f me caller.process call
 
   -- each entry is of the line's thread
-  all_own : (line : ℕ) (steps : List Step) → AllByRecursion (λ (e : TraceEntry). (e.line ≡ line) × IsThreadOf accounts (state old) me e.thread) (entries_of line t steps)
+  all_own : (line : ℕ) (steps : List Step)
+      → AllByRecursion (λ (e : TraceEntry). (e.line ≡ line) × IsThreadOf accounts (state old) me e.thread)
+      (entries_of line t steps)
   all_own line [] = tt
   all_own line (s ∷ steps) = ((refl, named), all_own line steps)
 
   -- where the raw calls agree with the reply of the flat rules, and the state represents the flat state after the call, a call is answered so
-  agreed_refined : (steps : List Step) → Chain old t steps new → (refusal : Option Errno) → refused accounts f me caller.process call ≡ refusal → (r : Reply) → reply_or refusal allowed ≡ r
-      → Agrees r (entries_of old.line t steps) → ((bytes : List ℕ) → r ≡ Data bytes → EndsWithRead (state old) (entries_of old.line t steps) bytes) → ReadsAmong steps r → r ≢ Gone
-      → Represents accounts (state new) (flat_or refusal f (changed accounts f me caller.process call)) → FollowsRule accounts f me call old new t (Ok r)
+  agreed_refined : (steps : List Step) → Chain old t steps new → (refusal : Option Errno)
+      → refused accounts f me caller.process call ≡ refusal → (r : Reply) → reply_or refusal allowed ≡ r
+      → Agrees r (entries_of old.line t steps)
+      → ((bytes : List ℕ) → r ≡ Data bytes → EndsWithRead (state old) (entries_of old.line t steps) bytes)
+      → ReadsAmong steps r → r ≢ Gone
+      → Represents accounts (state new) (flat_or refusal f (changed accounts f me caller.process call))
+      → FollowsRule accounts f me call old new t (Ok r)
   agreed_refined steps chain refusal is r r_is reply_agrees revealed reads lives represents =
       let part = chain_run t old new steps chain in
       let reply = reply_is refusal is ∙ r_is in
@@ -191,32 +222,46 @@ module _ (accounts : Accounts) (f : Flat) (me : ProcName) (caller : IsRunning f 
       )
 
   -- where every raw call was granted, a call that the flat rules allow is answered what they answer
-  pub granted_refined : (calls : List RawCall) → Chain old t (all_granted calls) new → refused accounts f me caller.process call ≡ None → IsBacked (state old) (entries_of old.line t (all_granted calls)) allowed → ReadsAmong (all_granted calls) allowed
+  pub granted_refined : (calls : List RawCall) → Chain old t (all_granted calls) new
+      → refused accounts f me caller.process call ≡ None
+      → IsBacked (state old) (entries_of old.line t (all_granted calls)) allowed
+      → ReadsAmong (all_granted calls) allowed
       → Represents accounts (state new) (changed accounts f me caller.process call) → FollowsRule accounts f me call old new t (Ok allowed)
   granted_refined calls chain is backed reads represents =
       let entries = entries_of old.line t (all_granted calls) in
-      agreed_refined (all_granted calls) chain None is allowed refl (granted_agree old.line t allowed (backed_plain (state old) entries allowed backed) calls)
+      agreed_refined (all_granted calls) chain None is allowed refl
+      (granted_agree old.line t allowed (backed_plain (state old) entries allowed backed) calls)
       (backed_revealed (state old) entries allowed backed) reads (backed_runs (state old) entries allowed backed) represents
 
   -- Where one raw call was refused and those behind it give the thread labels, a call that the flat rules refuse as that refusal is told is
   -- answered so, if the state still represents the flat state.
-  pub given_back_refined : (calls : List RawCall) (last : RawCall) (denied : Denied) (restoring : List RawCall) → AllByRecursion (λ (c : RawCall). sets_labels c ≡ true) restoring
-      → Chain old t (all_granted calls ++ (last, Some denied) ∷ all_granted restoring) new → (errno : Errno) → write_errno_of denied ≡ Some errno → refused accounts f me caller.process call ≡ Some errno
-      → ReadsAmong (all_granted calls ++ (last, Some denied) ∷ all_granted restoring) (Refused errno) → Represents accounts (state new) f → FollowsRule accounts f me call old new t (Ok (Refused errno))
+  pub given_back_refined : (calls : List RawCall) (last : RawCall) (denied : Denied) (restoring : List RawCall)
+      → AllByRecursion (λ (c : RawCall). sets_labels c ≡ true) restoring
+      → Chain old t (all_granted calls ++ (last, Some denied) ∷ all_granted restoring) new → (errno : Errno)
+      → write_errno_of denied ≡ Some errno → refused accounts f me caller.process call ≡ Some errno
+      → ReadsAmong (all_granted calls ++ (last, Some denied) ∷ all_granted restoring) (Refused errno)
+      → Represents accounts (state new) f → FollowsRule accounts f me call old new t (Ok (Refused errno))
   given_back_refined calls last denied restoring sets chain errno revealed is reads represents =
-      agreed_refined (all_granted calls ++ (last, Some denied) ∷ all_granted restoring) chain (Some errno) is (Refused errno) refl (refused_agree old.line t last denied errno revealed restoring sets calls) (λ bytes e. absurd cc) reads (λ e. absurd cc) represents
+      agreed_refined (all_granted calls ++ (last, Some denied) ∷ all_granted restoring) chain (Some errno) is
+      (Refused errno) refl (refused_agree old.line t last denied errno revealed restoring sets calls)
+      (λ bytes e. absurd cc) reads (λ e. absurd cc) represents
 
   module _ (stays : state new ≡ state old) (represents : Represents accounts (state old) f) where
     still : Represents accounts (state new) f
     still = subst (λ (s : State). Represents accounts s f) (sym stays) represents
 
     -- where every raw call was granted and nothing has changed, a call that the flat rules refuse is answered their errno, if it is neither EACCES nor EPERM
-    pub unchanged_refined : (calls : List RawCall) → Chain old t (all_granted calls) new → (errno : Errno) → is_access errno ≡ false → is_permission errno ≡ false → refused accounts f me caller.process call ≡ Some errno
+    pub unchanged_refined : (calls : List RawCall) → Chain old t (all_granted calls) new → (errno : Errno)
+        → is_access errno ≡ false → is_permission errno ≡ false → refused accounts f me caller.process call ≡ Some errno
         → ReadsAmong (all_granted calls) (Refused errno) → FollowsRule accounts f me call old new t (Ok (Refused errno))
     unchanged_refined calls chain errno no_access no_permission is reads =
-        agreed_refined (all_granted calls) chain (Some errno) is (Refused errno) refl (granted_agree old.line t (Refused errno) (no_access, no_permission) calls) (λ bytes e. absurd cc) reads (λ e. absurd cc) still
+        agreed_refined (all_granted calls) chain (Some errno) is (Refused errno) refl
+        (granted_agree old.line t (Refused errno) (no_access, no_permission) calls) (λ bytes e. absurd cc) reads
+        (λ e. absurd cc) still
 
     -- where the last raw call was refused, the others granted and nothing has changed, a call that the flat rules refuse as that refusal is told is answered so
     pub refused_refined : (calls : List RawCall) (last : RawCall) (denied : Denied) → Chain old t (all_granted calls ++ (last, Some denied) ∷ []) new
-        → (errno : Errno) → write_errno_of denied ≡ Some errno → refused accounts f me caller.process call ≡ Some errno → ReadsAmong (all_granted calls ++ (last, Some denied) ∷ []) (Refused errno) → FollowsRule accounts f me call old new t (Ok (Refused errno))
+        → (errno : Errno) → write_errno_of denied ≡ Some errno → refused accounts f me caller.process call ≡ Some errno
+        → ReadsAmong (all_granted calls ++ (last, Some denied) ∷ []) (Refused errno)
+        → FollowsRule accounts f me call old new t (Ok (Refused errno))
     refused_refined calls last denied chain errno revealed is reads = given_back_refined calls last denied [] tt chain errno revealed is reads still

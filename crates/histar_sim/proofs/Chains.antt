@@ -48,8 +48,17 @@ module _ (t : ℕ) where
       let later = chain_run chain.0 new steps chain.2 in
       let same_line : entries_of chain.0.line t steps ≡ entries_of old.line t steps = ap (λ (l : ℕ). entries_of l t steps) called.line in
       record {
-        trace = later.trace ∙ ap (λ (es : List TraceEntry). es ++ entries_of chain.0.line t steps) called.trace ∙ append_assoc old.trace (entry_of old.line t s.0 s.1 ∷ []) (entries_of chain.0.line t steps) ∙ ap (λ (es : List TraceEntry). old.trace ++ entry_of old.line t s.0 s.1 ∷ es) same_line;
-        run = (state chain.0, called.outcome, called.state, subst (λ (es : List TraceEntry). IsRun (state chain.0) es (state new)) same_line later.run);
+        trace =
+            later.trace ∙ ap (λ (es : List TraceEntry). es ++ entries_of chain.0.line t steps) called.trace
+            ∙ append_assoc old.trace (entry_of old.line t s.0 s.1 ∷ []) (entries_of chain.0.line t steps)
+            ∙ ap (λ (es : List TraceEntry). old.trace ++ entry_of old.line t s.0 s.1 ∷ es) same_line;
+        run = (
+          state chain.0,
+          called.outcome,
+          called.state,
+          subst
+              (λ (es : List TraceEntry). IsRun (state chain.0) es (state new)) same_line later.run,
+        );
         line = later.line ∙ called.line;
       }
 
@@ -59,7 +68,8 @@ module _ (t : ℕ) where
   chain_own line (s ∷ steps) = ((refl, refl), chain_own line steps)
 
   -- entries of granted calls that give the thread labels
-  pub all_restoring : (line : ℕ) (calls : List RawCall) → AllByRecursion (λ (c : RawCall). sets_labels c ≡ true) calls → AllByRecursion IsRestoring (entries_of line t (all_granted calls))
+  pub all_restoring : (line : ℕ) (calls : List RawCall) → AllByRecursion (λ (c : RawCall). sets_labels c ≡ true) calls
+      → AllByRecursion IsRestoring (entries_of line t (all_granted calls))
   all_restoring line [] sets = tt
   all_restoring line (call ∷ calls) sets = ((refl, sets.0), all_restoring line calls sets.1)
 
@@ -69,39 +79,67 @@ module _ (t : ℕ) where
   chain_from old mid new (s ∷ steps) same later = (later.0, call_after old mid later.0 t s.0 s.1 same later.1, later.2)
 
   -- a chain behind another
-  pub chain_after : (old mid new : KernelModel) (steps more : List Step) → Chain old t steps mid → Chain mid t more new → Chain old t (steps ++ more) new
+  pub chain_after : (old mid new : KernelModel) (steps more : List Step) → Chain old t steps mid → Chain mid t more new
+      → Chain old t (steps ++ more) new
   chain_after old mid new [] more same later = chain_from old mid new more same later
   chain_after old mid new (s ∷ steps) more chain later = (chain.0, chain.1, chain_after chain.0 mid new steps more chain.2 later)
 
   -- where no raw call was refused the entries are a run of granted calls
-  pub granted_run : (old new : KernelModel) (calls : List RawCall) → Made old new t calls None → (steps : List Step) × Chain old t steps new × (steps ≡ all_granted calls)
+  pub granted_run : (old new : KernelModel) (calls : List RawCall) → Made old new t calls None
+      → (steps : List Step) × Chain old t steps new × (steps ≡ all_granted calls)
   granted_run old new [] made = ([], made.0, refl)
-  granted_run old new (call ∷ calls) made = (elim made.1 as (λ (x : Option Denied). Called old made.0 t call x → GoesOn x call (Made made.0 new t calls None) made.0 new None
+  granted_run old new (call ∷ calls) made =
+      (elim made.1 as (λ (x : Option Denied). Called old made.0 t call x → GoesOn x call (Made made.0 new t calls None) made.0 new None
       → (steps : List Step) × Chain old t steps new × (steps ≡ all_granted (call ∷ calls))) [
-        | None ↦ λ called others. let later = granted_run made.0 new calls others in ((call, None) ∷ later.0, (made.0, called, later.1), ap (λ (l : List Step). (call, None) ∷ l) later.2)
+        | None ↦
+            λ called others. let later = granted_run made.0 new calls others in
+            ((call, None) ∷ later.0, (made.0, called, later.1), ap (λ (l : List Step). (call, None) ∷ l) later.2)
         | Some denied ↦ λ called others. absurd cc
       ]) made.2 made.3
 
   module _ (reply : Reply) where
     -- a run of granted calls may be broken off
-    pub granted_broken_off : (old new : KernelModel) (line : ℕ) (calls : List RawCall) → Chain old t (all_granted calls) new → IsBrokenOff reply (state old) (entries_of line t (all_granted calls)) (state new)
+    pub granted_broken_off : (old new : KernelModel) (line : ℕ) (calls : List RawCall)
+        → Chain old t (all_granted calls) new
+        → IsBrokenOff reply (state old) (entries_of line t (all_granted calls)) (state new)
     granted_broken_off old new line [] same = same.state
-    granted_broken_off old new line (call ∷ calls) chain = (state chain.0, chain.1.outcome, chain.1.state, tt, granted_broken_off chain.0 new line calls chain.2)
+    granted_broken_off old new line (call ∷ calls) chain =
+        (state chain.0, chain.1.outcome, chain.1.state, tt, granted_broken_off chain.0 new line calls chain.2)
 
     -- and so may one whose last raw call was refused since the next object or the next category has no number
-    pub exhausted_broken_off : (old mid new : KernelModel) (line : ℕ) (calls : List RawCall) (last : RawCall) → Chain old t (all_granted calls) mid → Chain mid t ((last, Some TooBig) ∷ []) new → (has_number (state mid) ≡ false) ⊎ (has_category (state mid) ≡ false)
+    pub exhausted_broken_off : (old mid new : KernelModel) (line : ℕ) (calls : List RawCall) (last : RawCall)
+        → Chain old t (all_granted calls) mid → Chain mid t ((last, Some TooBig) ∷ []) new
+        → (has_number (state mid) ≡ false) ⊎ (has_category (state mid) ≡ false)
         → IsBrokenOff reply (state old) (entries_of line t (all_granted calls ++ (last, Some TooBig) ∷ [])) (state new)
     exhausted_broken_off old mid new line [] last same later greatest =
-        let end = chain_from old mid new ((last, Some TooBig) ∷ []) same later in
-        (state end.0, end.1.outcome, end.1.state, inl (subst (λ (s : State). (has_number s ≡ false) ⊎ (has_category s ≡ false)) same.state greatest), end.2.state)
-    exhausted_broken_off old mid new line (call ∷ calls) last chain later greatest = (state chain.0, chain.1.outcome, chain.1.state, tt, exhausted_broken_off chain.0 mid new line calls last chain.2 later greatest)
+        let end = chain_from old mid new ((last, Some TooBig) ∷ []) same later in (
+          state end.0,
+          end.1.outcome,
+          end.1.state,
+          inl
+              (subst (λ (s : State). (has_number s ≡ false) ⊎ (has_category s ≡ false)) same.state greatest),
+          end.2.state,
+        )
+    exhausted_broken_off old mid new line (call ∷ calls) last chain later greatest = (
+      state chain.0,
+      chain.1.outcome,
+      chain.1.state,
+      tt,
+      exhausted_broken_off chain.0 mid new line calls last
+          chain.2 later greatest,
+    )
 
     -- and one whose last raw calls give the thread labels, behind one whose denial the reply tells
     pub refused_broken_off : (old new : KernelModel) (line : ℕ) (calls : List RawCall) (last : RawCall) (denied : Denied) (restoring : List RawCall)
         → IsReplyOfDenial reply (Some denied) → AllByRecursion (λ (c : RawCall). sets_labels c ≡ true) restoring
         → Chain old t (all_granted calls ++ (last, Some denied) ∷ all_granted restoring) new
         → IsBrokenOff reply (state old) (entries_of line t (all_granted calls ++ (last, Some denied) ∷ all_granted restoring)) (state new)
-    refused_broken_off old new line [] last denied restoring revealed sets chain =
-        (state chain.0, chain.1.outcome, chain.1.state, inr (revealed, all_restoring line restoring sets), granted_broken_off chain.0 new line restoring chain.2)
+    refused_broken_off old new line [] last denied restoring revealed sets chain = (
+      state chain.0,
+      chain.1.outcome,
+      chain.1.state,
+      inr (revealed, all_restoring line restoring sets),
+      granted_broken_off chain.0 new line restoring chain.2,
+    )
     refused_broken_off old new line (call ∷ calls) last denied restoring revealed sets chain =
         (state chain.0, chain.1.outcome, chain.1.state, tt, refused_broken_off chain.0 new line calls last denied restoring revealed sets chain.2)

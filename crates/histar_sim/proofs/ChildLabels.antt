@@ -17,35 +17,55 @@ use Rattle.histar_refinement.proofs.Levelled.{same_guarded, same_owning, same_cl
 use Rattle.histar_refinement.proofs.OwnLabels.{owned_numbers}
 use Rattle.histar_layout.proofs.Members.{is_in, is_in-append}
 
-module _ (accounts : Accounts) (category : Categories) (p : Process) (as_made : (c : CategoryName) (q : ℕ) → boot_category accounts c ≡ Some q → category c ≡ q) (named : user_name accounts.users (or_zero (user_number accounts p.user)) ≡ p.user) where
+module _ (accounts : Accounts) (category : Categories) (p : Process)
+    (as_made : (c : CategoryName) (q : ℕ) → boot_category accounts c ≡ Some q → category c ≡ q)
+    (named : user_name accounts.users (or_zero (user_number accounts p.user)) ≡ p.user) where
   abbrev newborn : Process
   newborn = record { user = p.user; chain = p.chain; held = []; exited = None; born = 0 }
 
   -- what it gets from its parent are its jobs, and what it owns as its user
-  module _ (kin : Kin) (alike : (q : ℕ) → is_in kin.jobs q ≡ is_in (map category (map OfJob p.chain)) q) (revealed : kin.owned ≡ owned_by accounts (or_zero (user_number accounts p.user)) (is_free p)) where
+  module _ (kin : Kin) (alike : (q : ℕ) → is_in kin.jobs q ≡ is_in (map category (map OfJob p.chain)) q)
+      (revealed : kin.owned ≡ owned_by accounts (or_zero (user_number accounts p.user)) (is_free p)) where
     kin_owned : kin.owned ≡ map category (owned_as accounts newborn (user_number accounts p.user) ++ [])
-    kin_owned = revealed ∙ sym (ap (map category) (append-nil (owned_as accounts newborn (user_number accounts p.user))) ∙ owned_numbers accounts category as_made newborn named)
+    kin_owned =
+        revealed
+        ∙ sym (ap (map category) (append-nil (owned_as accounts newborn (user_number accounts p.user)))
+        ∙ owned_numbers accounts category as_made newborn named)
 
     module _ (child : ProcName) (r w : ℕ) (reads : category (ReadsProcess child) ≡ r) (writes : category (WritesProcess child) ≡ w) where
-      pub outer_is : outer_label kin w ≡ guard_label category (process_guard child (record { user = p.user; chain = p.chain; held = []; exited = None; born = 0 }))
-      outer_is = same_guarded (kin.jobs) (w ∷ []) (map category (map OfJob p.chain)) (w ∷ []) alike (λ q. refl) ∙ (λ i. guarded_by (map category (map OfJob p.chain)) (sym writes i ∷ []))
+      pub outer_is : outer_label kin w
+          ≡ guard_label category
+          (process_guard child (record { user = p.user; chain = p.chain; held = []; exited = None; born = 0 }))
+      outer_is =
+          same_guarded (kin.jobs) (w ∷ []) (map category (map OfJob p.chain)) (w ∷ []) alike (λ q. refl)
+          ∙ (λ i. guarded_by (map category (map OfJob p.chain)) (sym writes i ∷ []))
 
-      pub inner_is : inner_label kin r w ≡ guard_label category (inside_guard child (record { user = p.user; chain = p.chain; held = []; exited = None; born = 0 }))
+      pub inner_is : inner_label kin r w
+          ≡ guard_label category
+          (inside_guard child (record { user = p.user; chain = p.chain; held = []; exited = None; born = 0 }))
       inner_is =
           same_guarded (r ∷ kin.jobs) (w ∷ []) (r ∷ map category (map OfJob p.chain)) (w ∷ []) (λ q i. q == r || alike q i) (λ q. refl)
           ∙ (λ i. guarded_by (sym reads i ∷ map category (map OfJob p.chain)) (sym writes i ∷ []))
 
-      pub label_is : thread_label kin r w ≡ rights_label category (thread_rights accounts child (record { user = p.user; chain = p.chain; held = []; exited = None; born = 0 }))
+      pub label_is : thread_label kin r w
+          ≡ rights_label category (thread_rights accounts child
+          (record { user = p.user; chain = p.chain; held = []; exited = None; born = 0 }))
       label_is =
           same_owning (r ∷ w ∷ kin.owned) (kin.jobs) (r ∷ w ∷ kin.owned) (map category (map OfJob p.chain)) (λ q. refl) alike
           ∙ (λ i. owner_label (sym reads i ∷ sym writes i ∷ kin_owned i) (map category (map OfJob p.chain)))
 
       -- what is owned before the jobs
       before_jobs : (owned : List ℕ) (q : ℕ) → is_in (owned ++ kin.jobs) q ≡ is_in (owned ++ map category (map OfJob p.chain)) q
-      before_jobs owned q = is_in-append owned (kin.jobs) q ∙ ap (λ b. is_in owned q || b) (alike q) ∙ sym (is_in-append owned (map category (map OfJob p.chain)) q)
+      before_jobs owned q =
+          is_in-append owned (kin.jobs) q ∙ ap (λ b. is_in owned q || b) (alike q)
+          ∙ sym (is_in-append owned (map category (map OfJob p.chain)) q)
 
-      pub clearance_is : thread_clearance kin r w ≡ rights_clearance category (thread_rights accounts child (record { user = p.user; chain = p.chain; held = []; exited = None; born = 0 }))
+      pub clearance_is : thread_clearance kin r w
+          ≡ rights_clearance category (thread_rights accounts child
+          (record { user = p.user; chain = p.chain; held = []; exited = None; born = 0 }))
       clearance_is =
           same_cleared (r ∷ w ∷ (kin.owned ++ kin.jobs)) (r ∷ w ∷ (kin.owned ++ map category (map OfJob p.chain))) (before_jobs (r ∷ w ∷ kin.owned))
           ∙ (λ i. cleared_at (sym reads i ∷ sym writes i ∷ (kin_owned i ++ map category (map OfJob p.chain))))
-          ∙ (λ i. cleared_at (category (ReadsProcess child) ∷ category (WritesProcess child) ∷ sym (map-append category (owned_as accounts newborn (user_number accounts p.user) ++ []) (map OfJob p.chain)) i))
+          ∙ (λ i. cleared_at (category (ReadsProcess child) ∷ category (WritesProcess child)
+          ∷ sym (map-append category (owned_as accounts newborn (user_number accounts p.user) ++ [])
+          (map OfJob p.chain)) i))

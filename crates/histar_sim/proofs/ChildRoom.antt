@@ -58,7 +58,8 @@ pub record NeedsChild (accounts : Accounts) (f : Flat) (me : ProcName) (p : Proc
   pub reads : (steps : List Step) (line t : ℕ) (s : State) → HasReadsByCall accounts s f p call (Refused EAGAIN) (entries_of line t steps)
 
 module _ (accounts : Accounts) (me : ProcName) (caller : Caller) (old new : KernelModel) (f : Flat) (result : Result Reply Stopped)
-    (ready : IsReady accounts (state old) f me caller.thread) (found : caller_at (state old) (roots_of (length accounts.users)).home me ≡ Some caller) where
+    (ready : IsReady accounts (state old) f me caller.thread)
+    (found : caller_at (state old) (roots_of (length accounts.users)).home me ≡ Some caller) where
   abbrev t : ℕ
   t = caller.thread
 
@@ -103,7 +104,9 @@ module _ (accounts : Accounts) (me : ProcName) (caller : Caller) (old new : Kern
 
   -- what stands there
   pub around : Around t caller.home.container caller.home.segment own_of own_clearance_of home_label held (state old)
-  around = around_before accounts (state old) f l me p ready.caller.agrees ready.caller.runs caller.home.container caller.home.segment at_home at_status t at_thread
+  around =
+      around_before accounts (state old) f l me p ready.caller.agrees ready.caller.runs caller.home.container
+      caller.home.segment at_home at_status t at_thread
 
   -- it sees its own container
   seen : is_below_raised home_label own_of ≡ true
@@ -114,12 +117,17 @@ module _ (accounts : Accounts) (me : ProcName) (caller : Caller) (old new : Kern
 
   read_said : check (state old) t reads ≡ None
   read_said =
-      read_check (state old) t own_of own_clearance_of around.thread caller.home.container home_label around.home.0 around.home.1 seen caller.home.segment around.home.2 home_label held around.segment
+      read_check (state old) t own_of own_clearance_of around.thread caller.home.container home_label around.home.0
+      around.home.1 seen caller.home.segment around.home.2 home_label held around.segment
       ∙ ap (λ (b : Bool). unless b Observe) seen
 
   -- the thread asks for its own labels
-  pub own_label_step : (call : UnixCall) (calls : List RawCall) (mid : KernelModel) → Chain old t (all_granted calls) mid → state mid ≡ state old → (rest : Levels × Levels → Program) → Runs (ask OwnLabel rest) mid new t result
-      → ((after : KernelModel) → Chain old t (all_granted (calls ++ OwnLabel ∷ [])) after → state after ≡ state old → Runs (rest (own_of, own_clearance_of)) after new t result → Goal accounts f me ready.caller call old new t ready.thread result)
+  pub own_label_step : (call : UnixCall) (calls : List RawCall) (mid : KernelModel)
+      → Chain old t (all_granted calls) mid → state mid ≡ state old → (rest : Levels × Levels → Program)
+      → Runs (ask OwnLabel rest) mid new t result
+      → ((after : KernelModel) → Chain old t (all_granted (calls ++ OwnLabel ∷ [])) after → state after ≡ state old
+      → Runs (rest (own_of, own_clearance_of)) after new t result
+      → Goal accounts f me ready.caller call old new t ready.thread result)
       → Goal accounts f me ready.caller call old new t ready.thread result
   own_label_step call calls mid chain stays rest runs go_on =
       granted_step accounts f me ready.caller call old new t ready.thread result calls mid chain OwnLabel rest
@@ -127,7 +135,8 @@ module _ (accounts : Accounts) (me : ProcName) (caller : Caller) (old new : Kern
       (λ after revealed called reveals longer goes.
       let label = reveals.0 ∙ ap (λ (s : State). label_there (s.objects t)) stays ∙ ap label_there around.thread in
       let clearance = reveals.1 ∙ ap (λ (s : State). clearance_there (s.objects t)) stays ∙ ap clearance_there around.thread in
-      let revealed_is : revealed ≡ (own_of, own_clearance_of) = λ i. (same_Some revealed.0 own_of label i, same_Some revealed.1 own_clearance_of clearance i) in
+      let revealed_is : revealed ≡ (own_of, own_clearance_of) =
+      λ i. (same_Some revealed.0 own_of label i, same_Some revealed.1 own_clearance_of clearance i) in
       go_on after longer (called.state ∙ stays) (subst (λ (x : Levels × Levels). Runs (rest x) after new t result) revealed_is goes))
 
   module _ (call : UnixCall) (behind : Option Errno) (needs : NeedsChild accounts f me p call behind) (rest : ProcessStatus → Program) where
@@ -136,10 +145,14 @@ module _ (accounts : Accounts) (me : ProcName) (caller : Caller) (old new : Kern
 
     -- the call goes on with room for a child
     abbrev pub GoesOn : Type 0
-    GoesOn = nat_lt (length me) most_numbers ≡ true → nat_lt p.born most_children ≡ true → (mid : KernelModel) → Chain old t (all_granted (reads ∷ [])) mid → state mid ≡ state old → Runs (rest status_of) mid new t result → Refined
+    GoesOn =
+        nat_lt (length me) most_numbers ≡ true → nat_lt p.born most_children ≡ true → (mid : KernelModel)
+        → Chain old t (all_granted (reads ∷ [])) mid → state mid ≡ state old
+        → Runs (rest status_of) mid new t result → Refined
 
     -- what the flat rules refuse
-    refused_is : (born long : Bool) → nat_lt p.born most_children ≡ born → nat_lt (length me) most_numbers ≡ long → refused accounts f me p call ≡ ((unless born EAGAIN orelse unless long EAGAIN) orelse behind)
+    refused_is : (born long : Bool) → nat_lt p.born most_children ≡ born → nat_lt (length me) most_numbers ≡ long
+        → refused accounts f me p call ≡ ((unless born EAGAIN orelse unless long EAGAIN) orelse behind)
     refused_is born long is_born is_long = needs.refuses ∙ λ i. (unless (is_born i) EAGAIN orelse unless (is_long i) EAGAIN) orelse behind
 
     -- one refusal of two that are the same is the refusal
@@ -151,9 +164,13 @@ module _ (accounts : Accounts) (me : ProcName) (caller : Caller) (old new : Kern
     with_status revealed = given (must_have_room (nat_lt revealed.born most_children)) (λ _. rest revealed)
 
     -- the process has 64 children, or there is room
-    by_born : (b : Bool) → nat_lt p.born most_children ≡ b → nat_lt (length me) most_numbers ≡ true → (mid : KernelModel) → Chain old t (all_granted (reads ∷ [])) mid → state mid ≡ state old → Runs (given (must_have_room b) (λ _. rest status_of)) mid new t result → GoesOn → Refined
+    by_born : (b : Bool) → nat_lt p.born most_children ≡ b → nat_lt (length me) most_numbers ≡ true
+        → (mid : KernelModel) → Chain old t (all_granted (reads ∷ [])) mid → state mid ≡ state old
+        → Runs (given (must_have_room b) (λ _. rest status_of)) mid new t result → GoesOn → Refined
     by_born false is long mid chain stays runs go_on =
-        refused_at_once accounts f me ready.caller call old new t ready.thread result (reads ∷ []) mid chain stays ready.represents EAGAIN (refused_is false true is long) refl refl (needs.reads (all_granted (reads ∷ [])) old.line t (state old)) runs
+        refused_at_once accounts f me ready.caller call old new t ready.thread result (reads ∷ []) mid chain stays
+        ready.represents EAGAIN (refused_is false true is long) refl refl
+        (needs.reads (all_granted (reads ∷ [])) old.line t (state old)) runs
     by_born true is long mid chain stays runs go_on = go_on long is mid chain stays runs
 
     -- its own segment is read
@@ -168,11 +185,13 @@ module _ (accounts : Accounts) (me : ProcName) (caller : Caller) (old new : Kern
         (subst (λ (o : Option ProcessStatus). Runs (if_there with_status o) later new t result) (ap status_in right ∙ status_revealed) goes) go_on)
 
     -- the name has 8 numbers, or there is room
-    by_length : (b : Bool) → nat_lt (length me) most_numbers ≡ b → Runs (given (must_have_room b) (λ _. read_status caller.home with_status)) old new t result → GoesOn → Refined
+    by_length : (b : Bool) → nat_lt (length me) most_numbers ≡ b
+        → Runs (given (must_have_room b) (λ _. read_status caller.home with_status)) old new t result → GoesOn → Refined
     unfolding read_status
     by_length false is runs go_on =
         refused_at_once accounts f me ready.caller call old new t ready.thread result [] old (same_kernel old) refl ready.represents EAGAIN
-        (refused_is (nat_lt p.born most_children) false refl is ∙ either_again (nat_lt p.born most_children)) refl refl (needs.reads [] old.line t (state old)) runs
+        (refused_is (nat_lt p.born most_children) false refl is ∙ either_again (nat_lt p.born most_children)) refl refl
+        (needs.reads [] old.line t (state old)) runs
     by_length true is runs go_on = read is runs go_on
 
     -- There is room for a child, or the call is refused.

@@ -36,14 +36,17 @@ use Rattle.histar_refinement.specs.Addresses.{address_of}
 use Rattle.histar_refinement.proofs.Creating.{matched_created}
 use Rattle.histar_sim.specs.Simulation.{IsReady}
 use Rattle.histar_sim.specs.Laws.{CreateRefines}
-use Rattle.histar_sim.proofs.FoundObjects.{container, listing, directory_agrees, directory_class, container_numbered, listing_numbered, below, listing_still, segment_made}
+use Rattle.histar_sim.proofs.FoundObjects.{container, listing, directory_agrees, directory_class, container_numbered, listing_numbered, below}
+use Rattle.histar_sim.proofs.FoundObjects.{listing_still, segment_made}
 use Rattle.histar_sim.proofs.FoundRoom.{slash_agrees, the_room}
 use Rattle.histar_sim.proofs.MadeEntries.{MakesEntry, asked, among_asked, GoesOn, entry_step, entry_written}
 use Rattle.histar_sim.proofs.NewEntries.{last_name}
 
 -- a create makes an empty file
-create_makes : (accounts : Accounts) (f : Flat) (me : ProcName) (p : Process) (q : Path) (mode : Mode) → MakesEntry accounts f me p q mode (File []) (calls.Create q mode)
-create_makes accounts f me p q mode = record { needs = record { refuses = refl; reads = λ s reply entries walk. walk }; changes = refl; answers = refl }
+create_makes : (accounts : Accounts) (f : Flat) (me : ProcName) (p : Process) (q : Path) (mode : Mode)
+    → MakesEntry accounts f me p q mode (File []) (calls.Create q mode)
+create_makes accounts f me p q mode =
+    record { needs = record { refuses = refl; reads = λ s reply entries walk. walk }; changes = refl; answers = refl }
 
 -- the segment of the file is made, and the directory is written
 abbrev make : ℕ → Levels → RawCall
@@ -52,7 +55,9 @@ make container x = raw.MakeSegment container x []
 abbrev within : Room → Levels → ℕ → Program
 within room x file = write_entries room.place (map.insert room.entries room.name (targets.File file)) (λ _. Answers Done)
 
-module _ (accounts : Accounts) (ok : AreAccounts accounts) (old new : KernelModel) (f : Flat) (me : ProcName) (t : ℕ) (ready : IsReady accounts (state old) f me t) (m : Name) (named : IsTrue (is_name m)) (d : Path) (mode : Mode) (result : Result Reply Stopped) where
+module _ (accounts : Accounts) (ok : AreAccounts accounts) (old new : KernelModel) (f : Flat) (me : ProcName) (t : ℕ)
+    (ready : IsReady accounts (state old) f me t) (m : Name) (named : IsTrue (is_name m)) (d : Path) (mode : Mode)
+    (result : Result Reply Stopped) where
   abbrev call : UnixCall
   call = calls.Create (m ∷ d) mode
 
@@ -67,20 +72,31 @@ module _ (accounts : Accounts) (ok : AreAccounts accounts) (old new : KernelMode
       let at_container = container_numbered accounts ok (state old) f me t ready d open_so_far in
       let low = below accounts ok (state old) f me t ready (address_of d) above at_container in
       let next_below = ltb-true (state old).next_object greatest has in
-      let later = matched_created accounts (state old) f ready.represents.matched d (directory_class accounts ok (state old) f me t ready d open_so_far) (directory_agrees accounts ok (state old) f me t ready d open_so_far) above (listing accounts ok (state old) f me t ready d)
-      at_container (listing_numbered accounts ok (state old) f me t ready d open_so_far) m absent made.class made.fits made.guard made.guarded named (ltb-true (length (entries_in f d)) most_entries room) next_below in
+      let later =
+      matched_created accounts (state old) f ready.represents.matched d
+      (directory_class accounts ok (state old) f me t ready d open_so_far)
+      (directory_agrees accounts ok (state old) f me t ready d open_so_far) above
+      (listing accounts ok (state old) f me t ready d)
+      at_container (listing_numbered accounts ok (state old) f me t ready d open_so_far) m absent made.class made.fits
+      made.guard made.guarded named (ltb-true (length (entries_in f d)) most_entries room) next_below in
       let making : RawCall = make above (guard_label ready.represents.matched.category made.guard) in
       entry_written accounts ok old new f me t ready m d mode (File []) call result makes named open_so_far absent room made is_may
-      (targets.File (state old).next_object) (omega (arith, low), omega (arith, next_below)) (with_object (state old) above file) (listing_still accounts ok (state old) f me t ready d open_so_far file)
+      (targets.File (state old).next_object) (omega (arith, low), omega (arith, next_below))
+      (with_object (state old) above file) (listing_still accounts ok (state old) f me t ready d open_so_far file)
       (asked accounts ok (state old) f me t ready d ++ making ∷ []) (among_asked accounts ok (state old) f me t ready d old.line (making ∷ []))
       linked (called.state ∙ ap (λ (s : State). with_object s above file) stays) chain later.0
-      (subst (λ (q : ℕ). Runs (within (the_room accounts ok (state old) f me t ready d m) (guard_label ready.represents.matched.category made.guard) q) linked new t result) (number_is ∙ ap (λ (s : State). s.next_object) stays) rest)
+      (subst (λ (q : ℕ). Runs (within (the_room accounts ok (state old) f me t ready d m)
+      (guard_label ready.represents.matched.category made.guard) q) linked new t result)
+      (number_is ∙ ap (λ (s : State). s.next_object) stays) rest)
 
 -- a create does what its flat rule says
 pub create_refines : CreateRefines
 unfolding create_program
 create_refines accounts ok [] mode right me old new f t result ready run =
-    slash_agrees accounts old new f me t ready (calls.Create [] mode) result _ (create_makes accounts f me ready.caller.process [] mode).needs [] old refl (same_kernel old) _ run
+    slash_agrees accounts old new f me t ready (calls.Create [] mode) result _
+    (create_makes accounts f me ready.caller.process [] mode).needs [] old refl (same_kernel old) _ run
 create_refines accounts ok (m ∷ d) mode right me old new f t result ready run =
-    entry_step accounts ok old new f me t ready m d mode (File []) (calls.Create (m ∷ d) mode) result (create_makes accounts f me ready.caller.process (m ∷ d) mode) make within
-    (λ open_so_far. segment_made accounts ok (state old) f me t ready d open_so_far) run (goes_on accounts ok old new f me t ready m (last_name m d right) d mode result)
+    entry_step accounts ok old new f me t ready m d mode (File []) (calls.Create (m ∷ d) mode) result
+    (create_makes accounts f me ready.caller.process (m ∷ d) mode) make within
+    (λ open_so_far. segment_made accounts ok (state old) f me t ready d open_so_far) run
+    (goes_on accounts ok old new f me t ready m (last_name m d right) d mode result)

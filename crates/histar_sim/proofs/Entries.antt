@@ -41,7 +41,8 @@ use Rattle.histar_sim.proofs.CallErrors.{ReadsAmong}
 use Rattle.histar_sim.proofs.Steps.{Goal, refused_at_once}
 use Rattle.histar_sim.proofs.Walks.{numbers, place_at, walk_reads, nothing_there, file_there, directory_there, among_granted_all, walk_step}
 
-module _ (accounts : Accounts) (ok : AreAccounts accounts) (s : State) (f : Flat) (me : ProcName) (t : ℕ) (ready : IsReady accounts s f me t) (m : Name) (d : Path) where
+module _ (accounts : Accounts) (ok : AreAccounts accounts) (s : State) (f : Flat) (me : ProcName) (t : ℕ)
+    (ready : IsReady accounts s f me t) (m : Name) (d : Path) where
   -- the object of what stands at the path: a file's segment, or a directory's container
   abbrev pub object_at : ℕ
   object_at = or_zero (numbers accounts ok s f me t ready (address_of (m ∷ d)))
@@ -53,7 +54,13 @@ module _ (accounts : Accounts) (ok : AreAccounts accounts) (s : State) (f : Flat
 
   -- the entry, as it is found in its directory
   abbrev pub entry_of : Content → FoundEntry
-  entry_of content = record { place = place_at accounts ok s f me t ready d; entries = directory_of f.files (numbers accounts ok s f me t ready) d; name = m; target = target_at content }
+  entry_of content =
+      record {
+        place = place_at accounts ok s f me t ready d;
+        entries = directory_of f.files (numbers accounts ok s f me t ready) d;
+        name = m;
+        target = target_at content;
+      }
 
   -- it leads to that object
   pub object_led_to : (content : Content) → object_of (target_at content) ≡ object_at
@@ -62,17 +69,24 @@ module _ (accounts : Accounts) (ok : AreAccounts accounts) (s : State) (f : Flat
 
   module _ (class : Class) where
     -- what stands there has its number
-    pub object_numbered : (content : Content) → get f.files (m ∷ d) ≡ Some (record { class = class; content = content }) → numbers accounts ok s f me t ready (address_of (m ∷ d)) ≡ Some object_at
+    pub object_numbered : (content : Content) → get f.files (m ∷ d) ≡ Some (record { class = class; content = content })
+        → numbers accounts ok s f me t ready (address_of (m ∷ d)) ≡ Some object_at
     object_numbered content at =
-        let found = some_of (numbers accounts ok s f me t ready (address_of (m ∷ d))) (numbered_path accounts s f ready.represents.matched (m ∷ d) (record { class = class; content = content }) at) in
+        let found =
+        some_of (numbers accounts ok s f me t ready (address_of (m ∷ d)))
+        (numbered_path accounts s f ready.represents.matched (m ∷ d)
+        (record { class = class; content = content }) at) in
         found.1 ∙ sym (ap (λ (o : Option ℕ). Some (or_zero o)) found.1)
 
     -- and the directory has its entry
-    pub entry_leads : (content : Content) → get f.files (m ∷ d) ≡ Some (record { class = class; content = content }) → map.get (directory_of f.files (numbers accounts ok s f me t ready) d) m ≡ Some (target_at content)
+    pub entry_leads : (content : Content) → get f.files (m ∷ d) ≡ Some (record { class = class; content = content })
+        → map.get (directory_of f.files (numbers accounts ok s f me t ready) d) m ≡ Some (target_at content)
     entry_leads Dir at = directory_there accounts ok s f me t ready m d class at
     entry_leads (File bytes) at = file_there accounts ok s f me t ready m d class bytes at
 
-module _ (accounts : Accounts) (ok : AreAccounts accounts) (old new : KernelModel) (f : Flat) (me : ProcName) (t : ℕ) (ready : IsReady accounts (state old) f me t) (m : Name) (d : Path) (call : UnixCall) (result : Result Reply Stopped) (later : Option Errno)
+module _ (accounts : Accounts) (ok : AreAccounts accounts) (old new : KernelModel) (f : Flat) (me : ProcName) (t : ℕ)
+    (ready : IsReady accounts (state old) f me t) (m : Name) (d : Path) (call : UnixCall)
+    (result : Result Reply Stopped) (later : Option Errno)
     (split : refused accounts f me ready.caller.process call ≡ (no_entry accounts f ready.caller.process (m ∷ d) orelse later))
     (has_reads : (not (is_some (into accounts f ready.caller.process d)) && is_dir_at f (m ∷ d)) ≡ false → (steps : List Step) (r : Reply)
     → AreAmong (walk_reads accounts ok (state old) f me t ready d) (entries_of old.line t steps) → ReadsAmong accounts f me ready.caller call old new t ready.thread steps r) where
@@ -86,41 +100,65 @@ module _ (accounts : Accounts) (ok : AreAccounts accounts) (old new : KernelMode
   abbrev test : Option Node → Option Errno
   test o = unless (is_some_and o (λ n. true)) ENOENT
 
-  refused_is : (way : Option Errno) (o : Option Node) → into accounts f ready.caller.process d ≡ way → get f.files (m ∷ d) ≡ o → refused accounts f me ready.caller.process call ≡ ((way orelse test o) orelse later)
+  refused_is : (way : Option Errno) (o : Option Node) → into accounts f ready.caller.process d ≡ way
+      → get f.files (m ∷ d) ≡ o → refused accounts f me ready.caller.process call ≡ ((way orelse test o) orelse later)
   refused_is way o is_way is_o = split ∙ (λ i. (is_way i orelse test (is_o i)) orelse later)
 
   -- once the way is open and something stands there, the flat rules refuse what they refuse of the entry
-  pub reached : into accounts f ready.caller.process d ≡ None → (node : Node) → get f.files (m ∷ d) ≡ Some node → refused accounts f me ready.caller.process call ≡ later
+  pub reached : into accounts f ready.caller.process d ≡ None → (node : Node) → get f.files (m ∷ d) ≡ Some node
+      → refused accounts f me ready.caller.process call ≡ later
   reached open_so_far node at = refused_is None (Some node) open_so_far at
 
   module _ (rest : FoundEntry → Program) where
     -- once the entry was looked up
     abbrev at_entry : Option Target → Program
-    at_entry target = given (entry_at target) (λ target. rest (record { place = place_at accounts ok (state old) f me t ready d; entries = directory_of f.files ready.represents.matched.naming.number d; name = m; target = target }))
+    at_entry target =
+        given (entry_at target) (λ target. rest (record {
+          place = place_at accounts ok (state old) f me t ready d;
+          entries = directory_of f.files ready.represents.matched.naming.number d;
+          name = m;
+          target = target;
+        }))
 
     -- the call goes on with the entry
     abbrev pub GoesOn : Type 0
-    GoesOn = into accounts f ready.caller.process d ≡ None → (class : Class) (content : Content) → get f.files (m ∷ d) ≡ Some (record { class = class; content = content })
-        → (mid : KernelModel) → state mid ≡ state old → Chain old t (all_granted walk) mid → Runs (rest (entry_of accounts ok (state old) f me t ready m d content)) mid new t result → Refined
+    GoesOn =
+        into accounts f ready.caller.process d ≡ None → (class : Class) (content : Content)
+        → get f.files (m ∷ d) ≡ Some (record { class = class; content = content })
+        → (mid : KernelModel) → state mid ≡ state old → Chain old t (all_granted walk) mid
+        → Runs (rest (entry_of accounts ok (state old) f me t ready m d content)) mid new t result → Refined
 
-    module _ (go_on : GoesOn) (open_so_far : into accounts f ready.caller.process d ≡ None) (mid : KernelModel) (stays : state mid ≡ state old) (chain : Chain old t (all_granted walk) mid)
+    module _ (go_on : GoesOn) (open_so_far : into accounts f ready.caller.process d ≡ None) (mid : KernelModel)
+        (stays : state mid ≡ state old) (chain : Chain old t (all_granted walk) mid)
         (on : Runs (at_entry (map.get (directory_of f.files ready.represents.matched.naming.number d) m)) mid new t result) where
-      leads : (target : Option Target) → map.get (directory_of f.files ready.represents.matched.naming.number d) m ≡ target → Runs (at_entry target) mid new t result
+      leads : (target : Option Target)
+          → map.get (directory_of f.files ready.represents.matched.naming.number d) m ≡ target
+          → Runs (at_entry target) mid new t result
       leads target is = subst (λ (target : Option Target). Runs (at_entry target) mid new t result) is on
 
       by_agrees : (o : Option Node) → get f.files (m ∷ d) ≡ o → Refined
       by_agrees None is =
           refused_at_once accounts f me ready.caller call old new t ready.thread result walk mid chain stays ready.represents ENOENT
-          (refused_is None None open_so_far is) refl refl (has_reads (λ i. not (is_some (open_so_far i)) && is_some_and (is i) is_dir) (all_granted walk) (Refused ENOENT) (among_granted_all old.line t walk))
+          (refused_is None None open_so_far is) refl refl (has_reads
+          (λ i. not (is_some (open_so_far i)) && is_some_and (is i) is_dir) (all_granted walk) (Refused ENOENT)
+          (among_granted_all old.line t walk))
           (leads None (nothing_there accounts ok (state old) f me t ready m d is))
       by_agrees (Some node) is =
-          go_on open_so_far node.class node.content is mid stays chain (leads (Some (target_at accounts ok (state old) f me t ready m d node.content)) (entry_leads accounts ok (state old) f me t ready m d node.class node.content is))
+          go_on open_so_far node.class node.content is mid stays chain (leads
+          (Some (target_at accounts ok (state old) f me t ready m d node.content))
+          (entry_leads accounts ok (state old) f me t ready m d node.class node.content is))
 
     -- the entry is found, or the call is refused
     pub entry_step : Runs (find_entry (roots_of (length accounts.users)) (m ∷ d) rest) old new t result → GoesOn → Refined
     unfolding find_entry
     entry_step runs go_on =
         walk_step accounts ok old new f me t ready call result d
-        (λ directory. given (entry_at (map.get directory.entries m)) (λ target. rest (record { place = directory.place; entries = directory.entries; name = m; target = target }))) runs
-        (λ errno is steps among. (refused_is (Some errno) (get f.files (m ∷ d)) is refl, has_reads (ap (λ (o : Option Errno). not (is_some o) && is_dir_at f (m ∷ d)) is) steps (Refused errno) among))
+        (λ directory. given (entry_at (map.get directory.entries m)) (λ target.
+        rest (record { place = directory.place; entries = directory.entries; name = m; target = target })))
+        runs
+        (λ errno is steps among. (
+          refused_is (Some errno) (get f.files (m ∷ d)) is refl,
+          has_reads
+              (ap (λ (o : Option Errno). not (is_some o) && is_dir_at f (m ∷ d)) is) steps (Refused errno) among,
+        ))
         (λ open_so_far mid stays chain on. by_agrees go_on open_so_far mid stays chain on (get f.files (m ∷ d)) refl)

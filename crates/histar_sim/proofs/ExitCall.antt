@@ -50,7 +50,9 @@ use Rattle.histar_sim.proofs.FoundProcesses.{at_container, at_segment, container
 use Rattle.histar_sim.proofs.OwnSegment.{status_few, listed_few, segment_apart, thread_no_segment, write_granted, unlink_granted}
 use Rattle.histar_sim.proofs.Searches.{runs_as, status_of, read_of, status_step}
 
-module _ (accounts : Accounts) (ok : AreAccounts accounts) (number : ℕ) (small : number ≤ greatest_status) (old new : KernelModel) (f : Flat) (me : ProcName) (t : ℕ) (ready : IsReady accounts (state old) f me t) (result : Result Reply Stopped) where
+module _ (accounts : Accounts) (ok : AreAccounts accounts) (number : ℕ) (small : number ≤ greatest_status)
+    (old new : KernelModel) (f : Flat) (me : ProcName) (t : ℕ) (ready : IsReady accounts (state old) f me t)
+    (result : Result Reply Stopped) where
   abbrev call : UnixCall
   call = calls.Exit number
 
@@ -77,7 +79,9 @@ module _ (accounts : Accounts) (ok : AreAccounts accounts) (number : ℕ) (small
   o = or_zero (ready.represents.matched.naming.number (Inside ∷ home_address me))
 
   at_inside : l.naming.number (Inside ∷ home_address me) ≡ Some o
-  at_inside = zero_there _ o (l.agrees.tree.held Runner (Inside ∷ home_address me) (numbered_runner accounts (state old) f l me p here ready.caller.runs)) refl
+  at_inside =
+      zero_there _ o (l.agrees.tree.held Runner (Inside ∷ home_address me)
+      (numbered_runner accounts (state old) f l me p here ready.caller.runs)) refl
 
   -- the labels of the thread and of both
   abbrev own : Levels
@@ -134,7 +138,8 @@ module _ (accounts : Accounts) (ok : AreAccounts accounts) (number : ℕ) (small
 
   write_said : check (state old) t writing ≡ None
   write_said =
-      write_granted (state old) t C S own clearance due links held thread_is holder_is segment_is seen may (step_below accounts (state old) f l me p here Status S (at_segment accounts (state old) f l me p here)) bytes
+      write_granted (state old) t C S own clearance due links held thread_is holder_is segment_is seen may
+      (step_below accounts (state old) f l me p here Status S (at_segment accounts (state old) f l me p here)) bytes
       (status_few (once_exited number revealed) (listed_few f.processes l.naming.number me p.born (l.processes me p here).few))
 
   -- the state once it is written
@@ -144,25 +149,37 @@ module _ (accounts : Accounts) (ok : AreAccounts accounts) (number : ℕ) (small
   unlink_said : check exited t unlinking ≡ None
   unlink_said =
       unlink_granted exited t C S own clearance due links bytes
-      (changed_other (state old).objects S (holding bytes) t (thread_no_segment (state old) t C S own clearance due links held thread_is holder_is segment_is) ∙ thread_is)
-      (changed_other (state old).objects S (holding bytes) C (λ e. segment_apart (state old) t C S own clearance due links held thread_is holder_is segment_is (sym e)) ∙ holder_is)
+      (changed_other (state old).objects S (holding bytes) t
+      (thread_no_segment (state old) t C S own clearance due links held thread_is holder_is segment_is)
+      ∙ thread_is)
+      (changed_other (state old).objects S (holding bytes) C
+      (λ e. segment_apart (state old) t C S own clearance due links held thread_is holder_is segment_is (sym e))
+      ∙ holder_is)
       (changed_here (state old).objects S (holding bytes) ∙ ap (option_map (holding bytes)) segment_is)
       seen may o (step_below accounts (state old) f l me p here Inside o at_inside)
 
   -- what is written is what the flat state asks for then
-  written_so : written accounts (state old) f l me p here number small C S o (at_container accounts (state old) f l me p here) (at_segment accounts (state old) f l me p here) at_inside ≡ bytes
-  written_so = written_is accounts (state old) f l me p here number small C S o (at_container accounts (state old) f l me p here) (at_segment accounts (state old) f l me p here) at_inside
+  written_so : written accounts (state old) f l me p here number small C S o
+      (at_container accounts (state old) f l me p here) (at_segment accounts (state old) f l me p here) at_inside
+      ≡ bytes
+  written_so =
+      written_is accounts (state old) f l me p here number small C S o (at_container accounts (state old) f l me p here)
+      (at_segment accounts (state old) f l me p here) at_inside
 
   matched_after : (end : State) → CutsOff exited C o end → Represents accounts end (changed accounts f me p call)
   matched_after end cuts =
-      represents_exited accounts (state old) f l me p here number small C S o (at_container accounts (state old) f l me p here) (at_segment accounts (state old) f l me p here) at_inside end
+      represents_exited accounts (state old) f l me p here number small C S o
+      (at_container accounts (state old) f l me p here) (at_segment accounts (state old) f l me p here) at_inside
+      end
       (subst (λ (b : List ℕ). CutsOff (with_segment_bytes (state old) S b) C o end) (sym written_so) cuts) ready.represents.jobs_given
 
   module _ (mid : KernelModel) (stays : state mid ≡ state old) (chain : Chain old t (all_granted (read ∷ [])) mid) where
     -- the internal container is taken away, and the call is answered
-    unlinked : (later : KernelModel) → state later ≡ exited → Chain old t (all_granted (read ∷ writing ∷ [])) later → Runs call_error later new t result → Refined
+    unlinked : (later : KernelModel) → state later ≡ exited → Chain old t (all_granted (read ∷ writing ∷ [])) later
+        → Runs call_error later new t result → Refined
     unlinked later is so_far on =
-        granted_step accounts f me ready.caller call old new t ready.thread result (read ∷ writing ∷ []) later so_far unlinking (λ _. Answers Done) (ap (λ (s : State). check s t unlinking) is ∙ unlink_said) on
+        granted_step accounts f me ready.caller call old new t ready.thread result (read ∷ writing ∷ []) later so_far
+        unlinking (λ _. Answers Done) (ap (λ (s : State). check s t unlinking) is ∙ unlink_said) on
         (λ end done cut right whole last.
         answered_step accounts f me ready.caller call old new t ready.thread result (read ∷ writing ∷ unlinking ∷ []) end whole Done refl refl tt tt
         (matched_after (state end) (subst (λ (s : State). CutsOff s C o (state end)) is cut.state)) last)
@@ -170,13 +187,16 @@ module _ (accounts : Accounts) (ok : AreAccounts accounts) (number : ℕ) (small
     -- the segment is written
     wrote : Runs (ask writing (λ _. call_error)) mid new t result → Refined
     wrote on =
-        granted_step accounts f me ready.caller call old new t ready.thread result (read ∷ []) mid chain writing (λ _. call_error) (ap (λ (s : State). check s t writing) stays ∙ write_said) on
+        granted_step accounts f me ready.caller call old new t ready.thread result (read ∷ []) mid chain writing
+        (λ _. call_error) (ap (λ (s : State). check s t writing) stays ∙ write_said) on
         (λ later done called right so_far rest. unlinked later (called.state ∙ ap (λ (s : State). with_segment_bytes s S bytes) stays) so_far rest)
 
   exit_is_refined : Runs (exit_program (where_is accounts (state old) f l me) number) old new t result → Refined
   unfolding exit_program
   exit_is_refined run =
-      status_step accounts ok old new f me t ready call result me p here [] old refl (same_kernel old) (λ status. ask (raw.Write C S 0 (status_bytes (once_exited number status))) (λ _. ask (raw.Unlink C status.internal) (λ _. Answers Done))) run
+      status_step accounts ok old new f me t ready call result me p here [] old refl (same_kernel old)
+      (λ status. ask (raw.Write C S 0 (status_bytes (once_exited number status)))
+      (λ _. ask (raw.Unlink C status.internal) (λ _. Answers Done))) run
       (λ unseen. absurd (true≢false (sym sees_itself ∙ unseen)))
       (λ seen mid stays chain on. wrote mid stays chain on)
 
@@ -184,5 +204,7 @@ module _ (accounts : Accounts) (ok : AreAccounts accounts) (number : ℕ) (small
 pub exit_refines : ExitRefines
 exit_refines accounts ok number small me caller old new f result ready found run =
     let is = (caller_found accounts (state old) f ready.represents.matched me caller found).1 in
-    let home_is : where_is accounts (state old) f ready.represents.matched me ≡ caller.home = λ i. record { container = or_zero (is.home i); segment = or_zero (is.segment i) } in
-    exit_is_refined accounts ok number small old new f me caller.thread ready result (subst (λ (home : Home). Runs (exit_program home number) old new caller.thread result) (sym home_is) run)
+    let home_is : where_is accounts (state old) f ready.represents.matched me ≡ caller.home =
+    λ i. record { container = or_zero (is.home i); segment = or_zero (is.segment i) } in
+    exit_is_refined accounts ok number small old new f me caller.thread ready result
+    (subst (λ (home : Home). Runs (exit_program home number) old new caller.thread result) (sym home_is) run)

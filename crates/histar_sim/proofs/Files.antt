@@ -48,20 +48,28 @@ use Rattle.histar_sim.proofs.ReadsByCall.{HasWalk, HasReadsByCall}
 use Rattle.histar_sim.proofs.Chains.{Step, all_granted, entries_of, Chain}
 use Rattle.histar_sim.proofs.CallErrors.{ReadsAmong, IsBacked}
 use Rattle.histar_sim.proofs.Steps.{Goal, refused_at_once, granted_step, refused_step, answered_step}
-use Rattle.histar_sim.proofs.Walks.{numbers, place_at, walk_reads, nothing_there, file_there, directory_there, among_granted_all, has_walk, look_step, among_then, among_also}
+use Rattle.histar_sim.proofs.Walks.{numbers, place_at, walk_reads, nothing_there, file_there, directory_there, among_granted_all, has_walk, look_step}
+use Rattle.histar_sim.proofs.Walks.{among_then, among_also}
 use Rattle.histar_sim.proofs.FoundObjects.{container, segment, file_numbered, holds_bytes, held_there, write_said}
 
 -- What the flat rules say of a call on a file: what they refuse once it is reached, and that the call cannot do without the reads of the walk.
-pub record ReachesFile (accounts : Accounts) (f : Flat) (me : ProcName) (p : Process) (q : Path) (call : UnixCall) (later : Option Errno) : Type 0 where
+pub record ReachesFile (accounts : Accounts) (f : Flat) (me : ProcName) (p : Process) (q : Path) (call : UnixCall)
+    (later : Option Errno) : Type 0 where
   pub refuses : refused accounts f me p call ≡ (no_file accounts f p q orelse later)
-  pub reads : (s : State) (reply : Reply) (entries : List TraceEntry) → HasWalk accounts s f p q entries → HasReadsByCall accounts s f p call reply entries
+  pub reads : (s : State) (reply : Reply) (entries : List TraceEntry) → HasWalk accounts s f p q entries
+      → HasReadsByCall accounts s f p call reply entries
 
 -- a call on `/`, which is no file
-pub slash_is_no_file : (accounts : Accounts) (old new : KernelModel) (f : Flat) (me : ProcName) (t : ℕ) (ready : IsReady accounts (state old) f me t) (call : UnixCall) (result : Result Reply Stopped) (later : Option Errno)
-    → ReachesFile accounts f me ready.caller.process [] call later → (rest : FoundFile → Program) → Runs (find_file (roots_of (length accounts.users)) [] rest) old new t result → Goal accounts f me ready.caller call old new t ready.thread result
+pub slash_is_no_file : (accounts : Accounts) (old new : KernelModel) (f : Flat) (me : ProcName) (t : ℕ)
+    (ready : IsReady accounts (state old) f me t) (call : UnixCall) (result : Result Reply Stopped)
+    (later : Option Errno)
+    → ReachesFile accounts f me ready.caller.process [] call later → (rest : FoundFile → Program)
+    → Runs (find_file (roots_of (length accounts.users)) [] rest) old new t result
+    → Goal accounts f me ready.caller call old new t ready.thread result
 unfolding find_file
 slash_is_no_file accounts old new f me t ready call result later file rest run =
-    refused_at_once accounts f me ready.caller call old new t ready.thread result [] old (same_kernel old) refl ready.represents EISDIR file.refuses refl refl (file.reads (state old) (Refused EISDIR) [] tt) run
+    refused_at_once accounts f me ready.caller call old new t ready.thread result [] old (same_kernel old) refl
+    ready.represents EISDIR file.refuses refl refl (file.reads (state old) (Refused EISDIR) [] tt) run
 
 -- what the flat rules refuse of a file that is written
 abbrev pub refusal : Bool → Bool → Option Errno
@@ -74,12 +82,17 @@ pub record WritesFile (accounts : Accounts) (f : Flat) (me : ProcName) (p : Proc
   pub answers : flat.answer f me p call ≡ Done
 
 -- what is kept of the old bytes counts, and what is written behind it
-kept_length : (keep : ℕ) (held bytes whole : List ℕ) → take keep held ++ bytes ≡ whole → fits_segment (min keep (length held) + length bytes) ≡ nat_le (length whole) most_bytes
+kept_length : (keep : ℕ) (held bytes whole : List ℕ) → take keep held ++ bytes ≡ whole
+    → fits_segment (min keep (length held) + length bytes) ≡ nat_le (length whole) most_bytes
 kept_length keep held bytes whole is =
-    let total : min keep (length held) + length bytes ≡ length whole = ap (λ (k : ℕ). k + length bytes) (sym (length-take keep held)) ∙ sym (length-append (take keep held) bytes) ∙ ap length is in
+    let total : min keep (length held) + length bytes ≡ length whole =
+    ap (λ (k : ℕ). k + length bytes) (sym (length-take keep held)) ∙ sym (length-append (take keep held) bytes)
+    ∙ ap length is in
     ap (λ (k : ℕ). nat_le k most_bytes) total
 
-module _ (accounts : Accounts) (ok : AreAccounts accounts) (old new : KernelModel) (f : Flat) (me : ProcName) (t : ℕ) (ready : IsReady accounts (state old) f me t) (m : Name) (d : Path) (call : UnixCall) (result : Result Reply Stopped) where
+module _ (accounts : Accounts) (ok : AreAccounts accounts) (old new : KernelModel) (f : Flat) (me : ProcName) (t : ℕ)
+    (ready : IsReady accounts (state old) f me t) (m : Name) (d : Path) (call : UnixCall)
+    (result : Result Reply Stopped) where
   abbrev Refined : Type 0
   Refined = Goal accounts f me ready.caller call old new t ready.thread result
 
@@ -91,48 +104,69 @@ module _ (accounts : Accounts) (ok : AreAccounts accounts) (old new : KernelMode
 
   module _ (later : Option Errno) (file : ReachesFile accounts f me p (m ∷ d) call later) where
     -- the reads of the walk are reads that the call cannot do without
-    pub has_reads : (steps : List Step) (reply : Reply) → AreAmong (walk_reads accounts ok (state old) f me t ready d) (entries_of old.line t steps) → ReadsAmong accounts f me ready.caller call old new t ready.thread steps reply
-    has_reads steps reply among = file.reads (state old) reply (entries_of old.line t steps) (has_walk accounts ok (state old) f me t ready m d (entries_of old.line t steps) among)
+    pub has_reads : (steps : List Step) (reply : Reply)
+        → AreAmong (walk_reads accounts ok (state old) f me t ready d) (entries_of old.line t steps)
+        → ReadsAmong accounts f me ready.caller call old new t ready.thread steps reply
+    has_reads steps reply among =
+        file.reads (state old) reply (entries_of old.line t steps)
+        (has_walk accounts ok (state old) f me t ready m d (entries_of old.line t steps) among)
 
     -- the tests of reaching the file in its directory, in their order
     abbrev tests : Option Node → Option Errno
     tests o = unless (is_some_and o (λ n. true)) ENOENT orelse unless (is_some_and o (λ n. not (is_dir n))) EISDIR
 
-    refused_is : (way : Option Errno) (o : Option Node) → into accounts f p d ≡ way → get f.files (m ∷ d) ≡ o → refused accounts f me p call ≡ ((way orelse tests o) orelse later)
+    refused_is : (way : Option Errno) (o : Option Node) → into accounts f p d ≡ way → get f.files (m ∷ d) ≡ o
+        → refused accounts f me p call ≡ ((way orelse tests o) orelse later)
     refused_is way o is_way is_o = file.refuses ∙ (λ i. (is_way i orelse tests (is_o i)) orelse later)
 
     -- once the way is open and a file stands there, the flat rules refuse what they refuse of the file
-    pub reached : into accounts f p d ≡ None → (class : Class) (bytes : List ℕ) → get f.files (m ∷ d) ≡ Some (record { class = class; content = File bytes }) → refused accounts f me p call ≡ later
+    pub reached : into accounts f p d ≡ None → (class : Class) (bytes : List ℕ)
+        → get f.files (m ∷ d) ≡ Some (record { class = class; content = File bytes })
+        → refused accounts f me p call ≡ later
     reached open_so_far class bytes at = refused_is None (Some (record { class = class; content = File bytes })) open_so_far at
 
     module _ (rest : FoundFile → Program) where
       -- the file that was found
       abbrev pub the_file : FoundFile
-      the_file = record { container = (place_at accounts ok (state old) f me t ready d).container; segment = or_zero (numbers accounts ok (state old) f me t ready (address_of (m ∷ d))) }
+      the_file =
+          record {
+            container = (place_at accounts ok (state old) f me t ready d).container;
+            segment = or_zero (numbers accounts ok (state old) f me t ready (address_of (m ∷ d)));
+          }
 
       -- once the entry was looked up
       abbrev at_entry : Option Target → Program
-      at_entry target = given (file_at target) (λ segment. rest (record { container = (place_at accounts ok (state old) f me t ready d).container; segment = segment }))
+      at_entry target =
+          given (file_at target) (λ segment. rest (record
+          { container = (place_at accounts ok (state old) f me t ready d).container; segment = segment }))
 
       -- the call goes on with the file
       abbrev pub GoesOn : Type 0
-      GoesOn = into accounts f p d ≡ None → (class : Class) (bytes : List ℕ) → get f.files (m ∷ d) ≡ Some (record { class = class; content = File bytes })
+      GoesOn =
+          into accounts f p d ≡ None → (class : Class) (bytes : List ℕ)
+          → get f.files (m ∷ d) ≡ Some (record { class = class; content = File bytes })
           → (mid : KernelModel) → state mid ≡ state old → Chain old t (all_granted walk) mid → Runs (rest the_file) mid new t result → Refined
 
-      module _ (go_on : GoesOn) (open_so_far : into accounts f p d ≡ None) (mid : KernelModel) (stays : state mid ≡ state old) (chain : Chain old t (all_granted walk) mid)
+      module _ (go_on : GoesOn) (open_so_far : into accounts f p d ≡ None) (mid : KernelModel)
+          (stays : state mid ≡ state old) (chain : Chain old t (all_granted walk) mid)
           (on : Runs (at_entry (map.get (directory_of f.files ready.represents.matched.naming.number d) m)) mid new t result) where
         among : AreAmong walk (entries_of old.line t (all_granted walk))
         among = among_granted_all old.line t walk
 
-        leads : (target : Option Target) → map.get (directory_of f.files ready.represents.matched.naming.number d) m ≡ target → Runs (at_entry target) mid new t result
+        leads : (target : Option Target)
+            → map.get (directory_of f.files ready.represents.matched.naming.number d) m ≡ target
+            → Runs (at_entry target) mid new t result
         leads target is = subst (λ (target : Option Target). Runs (at_entry target) mid new t result) is on
 
         by_content : (class : Class) (c : Content) → get f.files (m ∷ d) ≡ Some (record { class = class; content = c }) → Refined
         by_content class Dir is =
             refused_at_once accounts f me ready.caller call old new t ready.thread result walk mid chain stays ready.represents EISDIR
-            (refused_is None (Some (record { class = class; content = Dir })) open_so_far is) refl refl (has_reads (all_granted walk) (Refused EISDIR) among)
+            (refused_is None (Some (record { class = class; content = Dir })) open_so_far is) refl refl
+            (has_reads (all_granted walk) (Refused EISDIR) among)
             (leads _ (directory_there accounts ok (state old) f me t ready m d class is))
-        by_content class (File bytes) is = go_on open_so_far class bytes is mid stays chain (leads _ (file_there accounts ok (state old) f me t ready m d class bytes is))
+        by_content class (File bytes) is =
+            go_on open_so_far class bytes is mid stays chain
+            (leads _ (file_there accounts ok (state old) f me t ready m d class bytes is))
 
         by_agrees : (o : Option Node) → get f.files (m ∷ d) ≡ o → Refined
         by_agrees None is =
@@ -144,7 +178,10 @@ module _ (accounts : Accounts) (ok : AreAccounts accounts) (old new : KernelMode
       -- the file is found, or the call is refused
       pub file_step : Runs (find_file (roots_of (length accounts.users)) (m ∷ d) rest) old new t result → GoesOn → Refined
       unfolding find_file
-      file_step runs go_on = look_step accounts ok old new f me t ready call result d m (λ place target. given (file_at target) (λ segment. rest (record { container = place.container; segment = segment }))) runs
+      file_step runs go_on =
+          look_step accounts ok old new f me t ready call result d m (λ place target.
+          given (file_at target) (λ segment. rest (record { container = place.container; segment = segment })))
+          runs
           (λ errno is steps among. (refused_is (Some errno) (get f.files (m ∷ d)) is refl, has_reads steps (Refused errno) among))
           (λ open_so_far mid stays chain on. by_agrees go_on open_so_far mid stays chain on (get f.files (m ∷ d)) refl)
 
@@ -167,30 +204,40 @@ module _ (accounts : Accounts) (ok : AreAccounts accounts) (old new : KernelMode
     fits = nat_le (length whole) most_bytes
 
     -- what is kept of the file's bytes, and the new ones behind it, are the bytes that it has then
-    module _ (kept : take keep (bytes_at f (m ∷ d)) ++ bytes ≡ whole) (open_so_far : into accounts f p d ≡ None) (class : Class) (held : List ℕ) (at : get f.files (m ∷ d) ≡ Some (record { class = class; content = File held }))
+    module _ (kept : take keep (bytes_at f (m ∷ d)) ++ bytes ≡ whole) (open_so_far : into accounts f p d ≡ None)
+        (class : Class) (held : List ℕ)
+        (at : get f.files (m ∷ d) ≡ Some (record { class = class; content = File held }))
         (mid : KernelModel) (stays : state mid ≡ state old) (chain : Chain old t (all_granted walk) mid) where
       refused_by : (is_may is_fits : Bool) → may ≡ is_may → fits ≡ is_fits → refused accounts f me p call ≡ refusal is_may is_fits
       refused_by is_may is_fits e more = reached (refusal may fits) writing.reaches open_so_far class held at ∙ (λ i. refusal (e i) (more i))
 
       -- the kernel's check is the flat rule
-      said_by : (is_may is_fits : Bool) → may ≡ is_may → fits ≡ is_fits → check (state mid) t next ≡ (unless is_may Modify orelse unless is_fits TooBig)
+      said_by : (is_may is_fits : Bool) → may ≡ is_may → fits ≡ is_fits
+          → check (state mid) t next ≡ (unless is_may Modify orelse unless is_fits TooBig)
       said_by is_may is_fits e more =
           ap (λ (s : State). check s t next) stays
           ∙ write_said accounts ok (state old) f me t ready d open_so_far m class held at keep bytes
           ∙ (λ i. unless (e i) Modify orelse unless ((kept_length keep (bytes_at f (m ∷ d)) bytes whole kept ∙ more) i) TooBig)
 
       -- a denial is told
-      denied : (d : Denied) (errno : Errno) → check (state mid) t next ≡ Some d → write_errno_of d ≡ Some errno → refused accounts f me p call ≡ Some errno → Runs (ask next (λ _. Answers Done)) mid new t result → Refined
+      denied : (d : Denied) (errno : Errno) → check (state mid) t next ≡ Some d → write_errno_of d ≡ Some errno
+          → refused accounts f me p call ≡ Some errno → Runs (ask next (λ _. Answers Done)) mid new t result → Refined
       denied d errno fails revealed is on =
-          refused_step accounts f me ready.caller call old new t ready.thread result walk mid chain stays ready.represents errno is next (λ _. Answers Done) d fails revealed
-          (has_reads (refusal may fits) writing.reaches _ _ (among_also old.line t walk walk ((next, Some d) ∷ []) (among_granted_all old.line t walk))) on
+          refused_step accounts f me ready.caller call old new t ready.thread result walk mid chain stays
+          ready.represents errno is next (λ _. Answers Done) d fails revealed
+          (has_reads (refusal may fits) writing.reaches _ _
+          (among_also old.line t walk walk ((next, Some d) ∷ []) (among_granted_all old.line t walk))) on
 
       -- the kernel has the objects of the flat state with the new bytes
       matched_after : Represents accounts (with_segment_bytes (state old) file whole) (changed accounts f me p call)
       matched_after = subst (Represents accounts (with_segment_bytes (state old) file whole)) (sym writing.changes)
-          (represents_overwritten accounts (state old) f ready.represents.matched (m ∷ d) class held whole at file (file_numbered accounts ok (state old) f me t ready d open_so_far m class held at) ready.represents.jobs_given)
+          (represents_overwritten accounts (state old) f ready.represents.matched (m ∷ d) class held whole at file
+          (file_numbered accounts ok (state old) f me t ready d open_so_far m class held at)
+          ready.represents.jobs_given)
 
-      left : (s : State) → s ≡ state old → with_segment_bytes s file (take keep (bytes_in (s.objects file)) ++ bytes) ≡ with_segment_bytes (state old) file whole
+      left : (s : State) → s ≡ state old
+          → with_segment_bytes s file (take keep (bytes_in (s.objects file)) ++ bytes)
+          ≡ with_segment_bytes (state old) file whole
       left s same = let there = held_there accounts ok (state old) f me t ready d open_so_far m class held at in
           (λ i. with_segment_bytes (same i) file (take keep (bytes_in ((same i).objects file)) ++ bytes))
           ∙ (λ i. with_segment_bytes (state old) file (take keep (there i) ++ bytes)) ∙ ap (with_segment_bytes (state old) file) kept
@@ -199,19 +246,25 @@ module _ (accounts : Accounts) (ok : AreAccounts accounts) (old new : KernelMode
       by_right false is_fits e more on = denied Modify EACCES (said_by false is_fits e more) refl (refused_by false is_fits e more) on
       by_right true false e more on = denied TooBig EFBIG (said_by true false e more) refl (refused_by true false e more) on
       by_right true true e more on =
-          granted_step accounts f me ready.caller call old new t ready.thread result walk mid chain next (λ _. Answers Done) (said_by true true e more) on
+          granted_step accounts f me ready.caller call old new t ready.thread result walk mid chain next
+          (λ _. Answers Done) (said_by true true e more) on
           (λ later answer called right longer end.
           let new_state : state later ≡ with_segment_bytes (state old) file whole = called.state ∙ left (state mid) stays in
-          answered_step accounts f me ready.caller call old new t ready.thread result (walk ++ next ∷ []) later longer Done (sym writing.answers) (refused_by true true e more)
+          answered_step accounts f me ready.caller call old new t ready.thread result (walk ++ next ∷ []) later longer
+          Done (sym writing.answers) (refused_by true true e more)
           (subst (λ (r : Reply). IsBacked (state old) (entries_of old.line t (all_granted (walk ++ next ∷ []))) r) (sym writing.answers) tt)
           (has_reads (refusal may fits) writing.reaches _ _ (among_then old.line t walk walk (next ∷ []) (among_granted_all old.line t walk)))
           (subst (λ (s : State). Represents accounts s (changed accounts f me p call)) (sym new_state) matched_after) end)
 
     -- The file is found and written, or the call is refused.
     pub writing_step : (length (bytes_at f (m ∷ d)) ≤ most_bytes → take keep (bytes_at f (m ∷ d)) ++ bytes ≡ whole)
-        → Runs (find_file (roots_of (length accounts.users)) (m ∷ d) (λ found. ask (raw.Write found.container found.segment keep bytes) (λ _. Answers Done))) old new t result → Refined
+        → Runs (find_file (roots_of (length accounts.users)) (m ∷ d)
+        (λ found. ask (raw.Write found.container found.segment keep bytes) (λ _. Answers Done))) old new t
+        result → Refined
     writing_step kept run =
         file_step (refusal may fits) writing.reaches _ run
         (λ open_so_far class held at mid stays chain on.
-        by_right (kept (subst (λ (xs : List ℕ). length xs ≤ most_bytes) (sym (holds_bytes accounts ok (state old) f me t ready d open_so_far m class held at)) (ready.small (m ∷ d) class held at)))
+        by_right (kept (subst (λ (xs : List ℕ). length xs ≤ most_bytes)
+        (sym (holds_bytes accounts ok (state old) f me t ready d open_so_far m class held at))
+        (ready.small (m ∷ d) class held at)))
         open_so_far class held at mid stays chain may fits refl refl on)

@@ -31,7 +31,8 @@ first_free_without f name first q at = by (under_process name []) at
     by false e = first q e
 
 -- and with a child, in whatever jobs
-first_free_child : (f : Flat) (me : ProcName) (p : Process) (chain : List ProcName) → IsFirstFree f → (me ≡ [] → p.chain ≡ []) → IsFirstFree (with_child f me p chain)
+first_free_child : (f : Flat) (me : ProcName) (p : Process) (chain : List ProcName) → IsFirstFree f
+    → (me ≡ [] → p.chain ≡ []) → IsFirstFree (with_child f me p chain)
 first_free_child f me p chain first none = first_free_with f me (record p { born = p.born + 1 }) first none
 
 -- so it is at the start
@@ -39,16 +40,19 @@ pub first_free_at_start : (accounts : Accounts) → IsFirstFree (boot accounts)
 first_free_at_start accounts q at = ap (λ (o : Process). o.chain) (sym (same_Some first_process q at))
 
 -- and after each effect of a process that is in no job where it is process 0
-first_free_effect : (accounts : Accounts) (f : Flat) → IsFirstFree f → (me : ProcName) (p : Process) → (me ≡ [] → p.chain ≡ []) → (q : Path) (effect : Effect) → IsFirstFree (apply accounts f me p q effect)
+first_free_effect : (accounts : Accounts) (f : Flat) → IsFirstFree f → (me : ProcName) (p : Process)
+    → (me ≡ [] → p.chain ≡ []) → (q : Path) (effect : Effect) → IsFirstFree (apply accounts f me p q effect)
 first_free_effect accounts f first me p none q Spawns = first_free_child f me p p.chain first none
 first_free_effect accounts f first me p none q (Exits n) = first_free_with f me (record p { exited = Some n }) first none
 first_free_effect accounts f first me p none q (LogsIn name) = first_free_with f me (record p { user = name; held = [] }) first none
 first_free_effect accounts f first me p none q (Kills name) = first_free_without f name first
 first_free_effect accounts f first me p none q Wraps =
-    first_free_child (with_node f q (Scratch p.user (inner_chain me p)) Dir) me (record p { held = p.held ++ next_child me p ∷ [] }) (inner_chain me p) first none
+    first_free_child (with_node f q (Scratch p.user (inner_chain me p)) Dir) me
+    (record p { held = p.held ++ next_child me p ∷ [] }) (inner_chain me p) first none
 first_free_effect accounts f first me p none q _ = first
 
 -- so it is after each call
-pub first_free_after : (accounts : Accounts) (f : Flat) → IsFirstFree f → (me : ProcName) (call : UnixCall) → IsFirstFree (flat_after accounts f me call)
+pub first_free_after : (accounts : Accounts) (f : Flat) → IsFirstFree f → (me : ProcName) (call : UnixCall)
+    → IsFirstFree (flat_after accounts f me call)
 first_free_after accounts f first me call = by_rule accounts f me call IsFirstFree first
     (λ p there met. first_free_effect accounts f first me p (λ e. first p (ap f.processes (sym e) ∙ there)) (path_of call) (rule call).effect)

@@ -36,7 +36,8 @@ use Rattle.histar_refinement.specs.Processes.{or_zero}
 use Rattle.histar_refinement.proofs.Steps.{step_tests_equality}
 use Rattle.histar_refinement.proofs.Moving.{number_below}
 use Rattle.histar_refinement.proofs.RawChecks.{object}
-use Rattle.histar_refinement.proofs.FileChecks.{read_file_said, write_file_said, make_segment_said, segment_out_of_range, make_container_said, container_out_of_range}
+use Rattle.histar_refinement.proofs.FileChecks.{read_file_said, write_file_said, make_segment_said, segment_out_of_range, make_container_said}
+use Rattle.histar_refinement.proofs.FileChecks.{container_out_of_range}
 use Rattle.histar_refinement.proofs.ListedFiles.{AreKnown}
 use Rattle.histar_refinement.proofs.MakingRanges.{is_made_within}
 use Rattle.histar_layout.proofs.Declared.{equal_tested}
@@ -122,51 +123,85 @@ module _ (accounts : Accounts) (ok : AreAccounts accounts) (s : State) (f : Flat
 
       -- the thread, the container of the directory and its directory segment stand in a state as they did
       abbrev pub HasListing : State → Type 0
-      HasListing later = HasSegment later t container listing label clearance (guard_label ready.represents.matched.category directory_guard.0) (spelling entries)
+      HasListing later =
+          HasSegment later t container listing label clearance
+          (guard_label ready.represents.matched.category directory_guard.0) (spelling entries)
 
       pub has_listing : HasListing s
       has_listing =
-          let holder = container_found accounts s f l d directory_class directory_agrees directory_guard.0 directory_guard.1 container container_numbered in
+          let holder =
+          container_found accounts s f l d directory_class directory_agrees directory_guard.0 directory_guard.1
+          container container_numbered in
           record {
             links = holder.0;
             thread = thread;
             holder = holder.1;
             segment = listing_found accounts s f l d directory_class directory_agrees directory_guard.0 directory_guard.1 listing listing_numbered;
-            linked = sym (ap (λ (o : Found). set.contains (links_in o) listing) holder.1) ∙ step_linked accounts s f l Listing (address_of d) container listing container_numbered listing_numbered;
+            linked =
+                sym (ap (λ (o : Found). set.contains (links_in o) listing) holder.1)
+                ∙ step_linked accounts s f l Listing (address_of d) container listing container_numbered
+                listing_numbered;
           }
 
       -- once an object is added to the directory, and once one more is made in that
       pub listing_still : (o : Object Levels) → HasListing (with_object s container o)
-      listing_still o = still_there s t container listing label clearance (guard_label l.category directory_guard.0) (spelling entries) has_listing thread_below (below (address_of d) container container_numbered) (below (Listing ∷ address_of d) listing listing_numbered) o
+      listing_still o =
+          still_there s t container listing label clearance (guard_label l.category directory_guard.0)
+          (spelling entries) has_listing thread_below (below (address_of d) container container_numbered)
+          (below (Listing ∷ address_of d) listing listing_numbered) o
 
       pub listing_then : (o inner : Object Levels) → HasListing (with_object (with_object s container o) s.next_object inner)
-      listing_then o inner = there_then s t container listing label clearance (guard_label l.category directory_guard.0) (spelling entries) has_listing thread_below (below (address_of d) container container_numbered) (below (Listing ∷ address_of d) listing listing_numbered) o inner
+      listing_then o inner =
+          there_then s t container listing label clearance (guard_label l.category directory_guard.0) (spelling entries)
+          has_listing thread_below (below (address_of d) container container_numbered)
+          (below (Listing ∷ address_of d) listing listing_numbered) o inner
 
       -- in a container that was added to it something may be made, as its label says
-      pub inside_passes : (inner : Levels) → is_below_raised inner label ≡ true → (is_below label inner && is_below_raised inner label) ≡ true → no_making (with_object s container (record { label = inner; kind = Container set.empty })) t s.next_object ≡ None
-      inside_passes inner = making_inside s t container listing label clearance (guard_label l.category directory_guard.0) (spelling entries) has_listing thread_below (below (address_of d) container container_numbered) (below (Listing ∷ address_of d) listing listing_numbered) inner
+      pub inside_passes : (inner : Levels) → is_below_raised inner label ≡ true
+          → (is_below label inner && is_below_raised inner label) ≡ true
+          → no_making (with_object s container (record { label = inner; kind = Container set.empty })) t s.next_object
+          ≡ None
+      inside_passes inner =
+          making_inside s t container listing label clearance (guard_label l.category directory_guard.0)
+          (spelling entries) has_listing thread_below (below (address_of d) container container_numbered)
+          (below (Listing ∷ address_of d) listing listing_numbered) inner
 
       -- A raw call that makes an object in the directory with the label that it is handed: its denials are told, and the kernel refuses a label
       -- out of the thread's range, and else only where the directory may not be written or there is no number for the object.
       pub record MakesObject (make : Levels → RawCall) : Type 0 where
         pub reveals : (x : Levels) (denied : Denied) → errno_for (make x) denied ≡ errno_of denied
-        pub outside : (g : Guard) → is_made_within accounts l.category l.different me p g ≡ false → check s t (make (guard_label l.category g)) ≡ (unless (may_write accounts p directory_class) Modify orelse Some Range)
+        pub outside : (g : Guard) → is_made_within accounts l.category l.different me p g ≡ false
+            → check s t (make (guard_label l.category g))
+            ≡ (unless (may_write accounts p directory_class) Modify orelse Some Range)
         pub within : (class : Class) → AreKnown accounts s f l class → (g : Guard) → class_guard accounts class ≡ Some g
-            → check s t (make (guard_label l.category g)) ≡ (unless (may_write accounts p directory_class) Modify orelse unless (is_made_within accounts l.category l.different me p g) Range orelse unless (has_number s) TooBig)
+            → check s t (make (guard_label l.category g))
+            ≡ (unless (may_write accounts p directory_class) Modify
+            orelse unless (is_made_within accounts l.category l.different me p g) Range
+            orelse unless (has_number s) TooBig)
 
       -- an empty segment is made so, and a container
       pub segment_made : MakesObject (λ x. raw.MakeSegment container x [])
       segment_made = record {
         reveals = λ x denied. refl;
-        outside = λ g out. segment_out_of_range accounts s f l ok me p t (runs accounts ok s f me t ready) d directory_class directory_agrees container listing container_numbered listing_numbered may_look g out [];
-        within = λ class known g is. make_segment_said accounts s f l ok me p t (runs accounts ok s f me t ready) d directory_class directory_agrees container listing container_numbered listing_numbered may_look class known g is;
+        outside =
+            λ g out. segment_out_of_range accounts s f l ok me p t (runs accounts ok s f me t ready) d directory_class
+            directory_agrees container listing container_numbered listing_numbered may_look g out [];
+        within =
+            λ class known g is.
+            make_segment_said accounts s f l ok me p t (runs accounts ok s f me t ready) d directory_class
+            directory_agrees container listing container_numbered listing_numbered may_look class known g is;
       }
 
       pub container_made : MakesObject (λ x. raw.MakeContainer container x)
       container_made = record {
         reveals = λ x denied. refl;
-        outside = λ g out. container_out_of_range accounts s f l ok me p t (runs accounts ok s f me t ready) d directory_class directory_agrees container listing container_numbered listing_numbered may_look g out;
-        within = λ class known g is. make_container_said accounts s f l ok me p t (runs accounts ok s f me t ready) d directory_class directory_agrees container listing container_numbered listing_numbered may_look class known g is;
+        outside =
+            λ g out. container_out_of_range accounts s f l ok me p t (runs accounts ok s f me t ready) d directory_class
+            directory_agrees container listing container_numbered listing_numbered may_look g out;
+        within =
+            λ class known g is.
+            make_container_said accounts s f l ok me p t (runs accounts ok s f me t ready) d directory_class
+            directory_agrees container listing container_numbered listing_numbered may_look class known g is;
       }
 
       -- a file in it
@@ -192,10 +227,16 @@ module _ (accounts : Accounts) (ok : AreAccounts accounts) (s : State) (f : Flat
         -- and is read and written as the flat rules say
         pub read_said : check s t (raw.Read container (segment m)) ≡ unless (reads accounts f p (m ∷ d)) Observe
         read_said =
-            read_file_said accounts s f l ok me p t (runs accounts ok s f me t ready) d directory_class directory_agrees container listing container_numbered listing_numbered may_look m (segment m) file_numbered class held at
+            read_file_said accounts s f l ok me p t (runs accounts ok s f me t ready) d directory_class directory_agrees
+            container listing container_numbered listing_numbered may_look m (segment m) file_numbered class held at
             ∙ sym (ap (λ (b : Bool). unless b Observe) reads_is)
 
-        pub write_said : (keep : ℕ) (bytes : List ℕ) → check s t (raw.Write container (segment m) keep bytes) ≡ (unless (writes accounts f p (m ∷ d)) Modify orelse unless (fits_segment (min keep (length (bytes_at f (m ∷ d))) + length bytes)) TooBig)
+        pub write_said : (keep : ℕ) (bytes : List ℕ)
+            → check s t (raw.Write container (segment m) keep bytes)
+            ≡ (unless (writes accounts f p (m ∷ d)) Modify
+            orelse unless (fits_segment (min keep (length (bytes_at f (m ∷ d))) + length bytes)) TooBig)
         write_said keep bytes =
-            write_file_said accounts s f l ok me p t (runs accounts ok s f me t ready) d directory_class directory_agrees container listing container_numbered listing_numbered may_look m (segment m) file_numbered class held at keep bytes
+            write_file_said accounts s f l ok me p t (runs accounts ok s f me t ready) d directory_class
+            directory_agrees container listing container_numbered listing_numbered may_look m (segment m)
+            file_numbered class held at keep bytes
             ∙ sym (λ i. unless (writes_is i) Modify orelse unless (fits_segment (min keep (length (holds_bytes i)) + length bytes)) TooBig)

@@ -68,19 +68,30 @@ module _ (accounts : Accounts) (s : State) (f : Flat) (l : ObjectsMatch accounts
     abbrev pub due : Levels
     due = guard_label l.category (process_guard name other)
 
-    pub container_found : (links : Links) × (s.objects (where_is accounts s f l name).container ≡ object (guard_label l.category (process_guard name other)) (Container links))
+    pub container_found : (links : Links)
+        × (s.objects (where_is accounts s f l name).container
+        ≡ object (guard_label l.category (process_guard name other)) (Container links))
     container_found = bare_container_is (s.objects container) due
-        (at_number same_step step_tests_equality s l.naming (expected accounts l.category f l.naming.number) l.agrees (home_address name) container at_container
+        (at_number same_step step_tests_equality s l.naming (expected accounts l.category f l.naming.number) l.agrees
+        (home_address name) container at_container
         ∙ asked_home accounts l.category f l.naming.number name ∙ ap (home_object accounts l.category name) here)
 
-    pub segment_found : s.objects (where_is accounts s f l name).segment ≡ object (guard_label l.category (process_guard name other)) (Segment (process_bytes f.processes l.naming.number name other))
+    pub segment_found : s.objects (where_is accounts s f l name).segment
+        ≡ object (guard_label l.category (process_guard name other))
+        (Segment (process_bytes f.processes l.naming.number name other))
     segment_found = bare_is (s.objects segment) (record { label = due; kind = Segment (process_bytes f.processes l.naming.number name other) }) refl
-        (at_number same_step step_tests_equality s l.naming (expected accounts l.category f l.naming.number) l.agrees (Status ∷ home_address name) segment at_segment
-        ∙ asked_status accounts l.category f l.naming.number name ∙ ap (λ (x : Option Process). status_object accounts l.category (bytes_for accounts l.category f l.naming.number name x) name x) here)
+        (at_number same_step step_tests_equality s l.naming (expected accounts l.category f l.naming.number) l.agrees
+        (Status ∷ home_address name) segment at_segment
+        ∙ asked_status accounts l.category f l.naming.number name
+        ∙ ap (λ (x : Option Process).
+        status_object accounts l.category (bytes_for accounts l.category f l.naming.number name x) name x)
+        here)
 
     -- what stands one step below its container is linked there
     pub step_below : (x : Step) (o : ℕ) → l.naming.number (x ∷ home_address name) ≡ Some o → set.contains container_found.0 o ≡ true
-    step_below x o at = sym (ap (λ (found : Found). set.contains (links_in found) o) container_found.1) ∙ step_linked accounts s f l x (home_address name) container o at_container at
+    step_below x o at =
+        sym (ap (λ (found : Found). set.contains (links_in found) o) container_found.1)
+        ∙ step_linked accounts s f l x (home_address name) container o at_container at
 
     module _ (me : ProcName) (p : Process) where
       abbrev own : Levels
@@ -90,7 +101,8 @@ module _ (accounts : Accounts) (s : State) (f : Flat) (l : ObjectsMatch accounts
       clearance = rights_clearance l.category (thread_rights accounts me p)
 
       -- it is observed where the process sees it
-      pub observed : is_below_raised (guard_label l.category (process_guard name other)) (rights_label l.category (thread_rights accounts me p)) ≡ sees p other
+      pub observed : is_below_raised (guard_label l.category (process_guard name other))
+          (rights_label l.category (thread_rights accounts me p)) ≡ sees p other
       observed = sees_process accounts me p l.category l.different name other
 
       -- what is its own is secret to the jobs that the process is in
@@ -102,26 +114,36 @@ module _ (accounts : Accounts) (s : State) (f : Flat) (l : ObjectsMatch accounts
 
       -- and a process that sees it modifies it where it is its own
       pub modified : f.processes me ≡ Some p → sees p other ≡ true
-          → (is_below (rights_label l.category (thread_rights accounts me p)) (guard_label l.category (process_guard name other)) && is_below_raised (guard_label l.category (process_guard name other)) (rights_label l.category (thread_rights accounts me p))) ≡ same name me
+          → (is_below (rights_label l.category (thread_rights accounts me p))
+          (guard_label l.category (process_guard name other))
+          && is_below_raised (guard_label l.category (process_guard name other))
+          (rights_label l.category (thread_rights accounts me p))) ≡ same name me
       modified agrees seen =
           (λ i. below_process accounts me p l.category l.different name other i && (observed ∙ seen) i)
           ∙ and-true (list_all (has other.chain) p.chain && same name me) ∙ own_secret agrees (same name me) refl
 
       module _ (t : ℕ) (runs : RunsAs accounts s f l me p t) where
-        pub thread : s.objects t ≡ object (rights_label l.category (thread_rights accounts me p)) (Thread (rights_clearance l.category (thread_rights accounts me p)))
+        pub thread : s.objects t
+            ≡ object (rights_label l.category (thread_rights accounts me p))
+            (Thread (rights_clearance l.category (thread_rights accounts me p)))
         thread = thread_found accounts s f l me p runs.0 runs.1 t runs.2
 
         -- Its process segment is read unless the process may not see it.
-        pub read_said : check s t (Read (where_is accounts s f l name).container (where_is accounts s f l name).segment) ≡ unless (sees p other) Observe
+        pub read_said : check s t (Read (where_is accounts s f l name).container (where_is accounts s f l name).segment)
+            ≡ unless (sees p other) Observe
         read_said = by (sees p other) refl
           where
             by : (b : Bool) → sees p other ≡ b → check s t (Read container segment) ≡ unless b Observe
             by false is = read_blocked s t own clearance thread container due container_found.0 container_found.1 (observed ∙ is) segment
             by true is =
-                read_check s t own clearance thread container due container_found.0 container_found.1 (observed ∙ is) segment (step_below Status segment at_segment) due (process_bytes f.processes l.naming.number name other) segment_found
+                read_check s t own clearance thread container due container_found.0 container_found.1 (observed ∙ is)
+                segment (step_below Status segment at_segment) due
+                (process_bytes f.processes l.naming.number name other) segment_found
                 ∙ ap (λ (b : Bool). unless b Observe) (observed ∙ is)
 
         -- What its container links is taken away by itself alone.
-        pub unlink_said : sees p other ≡ true → (x : Step) (o : ℕ) → l.naming.number (x ∷ home_address name) ≡ Some o → check s t (Unlink (where_is accounts s f l name).container o) ≡ unless (same name me) Modify
+        pub unlink_said : sees p other ≡ true → (x : Step) (o : ℕ) → l.naming.number (x ∷ home_address name) ≡ Some o
+            → check s t (Unlink (where_is accounts s f l name).container o) ≡ unless (same name me) Modify
         unlink_said seen x o at =
-            unlink_check s t own clearance thread container due container_found.0 container_found.1 (observed ∙ seen) o (step_below x o at) ∙ ap (λ (b : Bool). unless b Modify) (modified runs.0 seen)
+            unlink_check s t own clearance thread container due container_found.0 container_found.1 (observed ∙ seen) o
+            (step_below x o at) ∙ ap (λ (b : Bool). unless b Modify) (modified runs.0 seen)

@@ -39,28 +39,40 @@ use Rattle.histar_sim.proofs.ReadsByCall.{HasWalk, HasReadsByCall}
 use Rattle.histar_sim.proofs.Chains.{all_granted, entries_of, Chain, Step}
 use Rattle.histar_sim.proofs.CallErrors.{ReadsAmong}
 use Rattle.histar_sim.proofs.Steps.{Goal, refused_at_once}
-use Rattle.histar_sim.proofs.Walks.{place_at, walk_reads, holds, among_granted_behind, nothing_there, file_there, directory_there, has_walk, walk_step_behind}
+use Rattle.histar_sim.proofs.Walks.{place_at, walk_reads, holds, among_granted_behind, nothing_there, file_there, directory_there, has_walk}
+use Rattle.histar_sim.proofs.Walks.{walk_step_behind}
 use Rattle.histar_sim.proofs.FoundObjects.{entries, is_dir, directory_class, writes_as_class}
 
 -- What the flat rules say of a call that needs room for an entry: where there is none they refuse it, and it cannot do without the reads of the walk.
-pub record NeedsRoom (accounts : Accounts) (f : Flat) (me : ProcName) (p : Process) (q : Path) (call : UnixCall) (behind : Option Errno) : Type 0 where
+pub record NeedsRoom (accounts : Accounts) (f : Flat) (me : ProcName) (p : Process) (q : Path) (call : UnixCall)
+    (behind : Option Errno) : Type 0 where
   pub refuses : refused accounts f me p call ≡ (no_room accounts f p q orelse behind)
-  pub reads : (s : State) (reply : Reply) (entries : List TraceEntry) → HasWalk accounts s f p q entries → HasReadsByCall accounts s f p call reply entries
+  pub reads : (s : State) (reply : Reply) (entries : List TraceEntry) → HasWalk accounts s f p q entries
+      → HasReadsByCall accounts s f p call reply entries
 
 -- there is no room for `/`, which stands already
-pub slash_agrees : (accounts : Accounts) (old new : KernelModel) (f : Flat) (me : ProcName) (t : ℕ) (ready : IsReady accounts (state old) f me t) (call : UnixCall) (result : Result Reply Stopped) (behind : Option Errno)
-    → NeedsRoom accounts f me ready.caller.process [] call behind → (before : List RawCall) (start : KernelModel) → state start ≡ state old → Chain old t (all_granted before) start
-    → (rest : Room → Program) → Runs (find_room (roots_of (length accounts.users)) [] rest) start new t result → Goal accounts f me ready.caller call old new t ready.thread result
+pub slash_agrees : (accounts : Accounts) (old new : KernelModel) (f : Flat) (me : ProcName) (t : ℕ)
+    (ready : IsReady accounts (state old) f me t) (call : UnixCall) (result : Result Reply Stopped)
+    (behind : Option Errno)
+    → NeedsRoom accounts f me ready.caller.process [] call behind → (before : List RawCall) (start : KernelModel)
+    → state start ≡ state old → Chain old t (all_granted before) start
+    → (rest : Room → Program) → Runs (find_room (roots_of (length accounts.users)) [] rest) start new t result
+    → Goal accounts f me ready.caller call old new t ready.thread result
 unfolding find_room
 slash_agrees accounts old new f me t ready call result behind needs before start unchanged begun rest run =
-    refused_at_once accounts f me ready.caller call old new t ready.thread result before start begun unchanged ready.represents EEXIST needs.refuses refl refl
+    refused_at_once accounts f me ready.caller call old new t ready.thread result before start begun unchanged
+    ready.represents EEXIST needs.refuses refl refl
     (needs.reads (state old) (Refused EEXIST) (entries_of old.line t (all_granted before)) tt) run
 
 -- the place of a new entry in a directory
-abbrev pub the_room : (accounts : Accounts) (ok : AreAccounts accounts) (s : State) (f : Flat) (me : ProcName) (t : ℕ) (ready : IsReady accounts s f me t) → Path → Name → Room
-the_room accounts ok s f me t ready d m = record { place = place_at accounts ok s f me t ready d; entries = entries accounts ok s f me t ready d; name = m }
+abbrev pub the_room : (accounts : Accounts) (ok : AreAccounts accounts) (s : State) (f : Flat) (me : ProcName) (t : ℕ)
+    (ready : IsReady accounts s f me t) → Path → Name → Room
+the_room accounts ok s f me t ready d m =
+    record { place = place_at accounts ok s f me t ready d; entries = entries accounts ok s f me t ready d; name = m }
 
-module _ (accounts : Accounts) (ok : AreAccounts accounts) (old new : KernelModel) (f : Flat) (me : ProcName) (t : ℕ) (ready : IsReady accounts (state old) f me t) (m : Name) (d : Path) (call : UnixCall) (result : Result Reply Stopped)
+module _ (accounts : Accounts) (ok : AreAccounts accounts) (old new : KernelModel) (f : Flat) (me : ProcName) (t : ℕ)
+    (ready : IsReady accounts (state old) f me t) (m : Name) (d : Path) (call : UnixCall)
+    (result : Result Reply Stopped)
     (behind : Option Errno) (needs : NeedsRoom accounts f me ready.caller.process (m ∷ d) call behind) where
   abbrev Refined : Type 0
   Refined = Goal accounts f me ready.caller call old new t ready.thread result
@@ -78,8 +90,12 @@ module _ (accounts : Accounts) (ok : AreAccounts accounts) (old new : KernelMode
   room_here = the_room accounts ok (state old) f me t ready d m
 
   -- the reads of the walk are reads that the call cannot do without
-  pub has_reads : (steps : List Step) (reply : Reply) → AreAmong (walk_reads accounts ok (state old) f me t ready d) (entries_of old.line t steps) → ReadsAmong accounts f me ready.caller call old new t ready.thread steps reply
-  has_reads steps reply among = needs.reads (state old) reply (entries_of old.line t steps) (has_walk accounts ok (state old) f me t ready m d (entries_of old.line t steps) among)
+  pub has_reads : (steps : List Step) (reply : Reply)
+      → AreAmong (walk_reads accounts ok (state old) f me t ready d) (entries_of old.line t steps)
+      → ReadsAmong accounts f me ready.caller call old new t ready.thread steps reply
+  has_reads steps reply among =
+      needs.reads (state old) reply (entries_of old.line t steps)
+      (has_walk accounts ok (state old) f me t ready m d (entries_of old.line t steps) among)
 
   -- the directory has room
   abbrev roomy : Bool
@@ -89,16 +105,23 @@ module _ (accounts : Accounts) (ok : AreAccounts accounts) (old new : KernelMode
   abbrev tests : Option Node → Bool → Bool → Option Errno
   tests o room may = unless (not (is_some_and o (λ n. true))) EEXIST orelse unless room ENOSPC orelse unless may EACCES
 
-  refused_is : (way : Option Errno) (o : Option Node) (room may : Bool) → into accounts f p d ≡ way → get f.files (m ∷ d) ≡ o → roomy ≡ room → writes accounts f p d ≡ may
+  refused_is : (way : Option Errno) (o : Option Node) (room may : Bool) → into accounts f p d ≡ way
+      → get f.files (m ∷ d) ≡ o → roomy ≡ room → writes accounts f p d ≡ may
       → refused accounts f me p call ≡ ((way orelse tests o room may) orelse behind)
   refused_is way o room may is_way is_o is_room is_may = needs.refuses ∙ (λ i. (is_way i orelse tests (is_o i) (is_room i) (is_may i)) orelse behind)
 
   -- once there is room the directory may be written, or the call is refused
-  pub refused_in_room : (open_so_far : into accounts f ready.caller.process d ≡ None) → get f.files (m ∷ d) ≡ None → nat_lt (length (entries_in f d)) most_entries ≡ true
-      → (may : Bool) → may_write accounts ready.caller.process (directory_class accounts ok (state old) f me t ready d open_so_far) ≡ may → refused accounts f me ready.caller.process call ≡ (unless may EACCES orelse behind)
-  refused_in_room open_so_far absent room may is_may = refused_is None None true may open_so_far absent room (writes_as_class accounts ok (state old) f me t ready d open_so_far ∙ is_may)
+  pub refused_in_room : (open_so_far : into accounts f ready.caller.process d ≡ None) → get f.files (m ∷ d) ≡ None
+      → nat_lt (length (entries_in f d)) most_entries ≡ true
+      → (may : Bool)
+      → may_write accounts ready.caller.process (directory_class accounts ok (state old) f me t ready d open_so_far)
+      ≡ may → refused accounts f me ready.caller.process call ≡ (unless may EACCES orelse behind)
+  refused_in_room open_so_far absent room may is_may =
+      refused_is None None true may open_so_far absent room
+      (writes_as_class accounts ok (state old) f me t ready d open_so_far ∙ is_may)
 
-  module _ (before : List RawCall) (start : KernelModel) (unchanged : state start ≡ state old) (begun : Chain old t (all_granted before) start) (rest : Room → Program) where
+  module _ (before : List RawCall) (start : KernelModel) (unchanged : state start ≡ state old)
+      (begun : Chain old t (all_granted before) start) (rest : Room → Program) where
     -- the raw calls up to the end of the walk
     abbrev reached : List RawCall
     reached = before ++ reads
@@ -111,9 +134,13 @@ module _ (accounts : Accounts) (ok : AreAccounts accounts) (old new : KernelMode
     abbrev pub GoesOnWithRoom : Type 0
     GoesOnWithRoom =
         into accounts f p d ≡ None → get f.files (m ∷ d) ≡ None → nat_lt (length (entries_in f d)) most_entries ≡ true
-        → (mid : KernelModel) → state mid ≡ state old → Chain old t (all_granted (before ++ walk_reads accounts ok (state old) f me t ready d)) mid → Runs (rest (the_room accounts ok (state old) f me t ready d m)) mid new t result → Refined
+        → (mid : KernelModel) → state mid ≡ state old
+        → Chain old t (all_granted (before ++ walk_reads accounts ok (state old) f me t ready d)) mid
+        → Runs (rest (the_room accounts ok (state old) f me t ready d m)) mid new t result → Refined
 
-    module _ (go_on : GoesOnWithRoom) (open_so_far : into accounts f p d ≡ None) (mid : KernelModel) (stays : state mid ≡ state old) (chain : Chain old t (all_granted reached) mid) (on : Runs (at_entry (map.get listed m) (map.len listed == most_entries)) mid new t result) where
+    module _ (go_on : GoesOnWithRoom) (open_so_far : into accounts f p d ≡ None) (mid : KernelModel)
+        (stays : state mid ≡ state old) (chain : Chain old t (all_granted reached) mid)
+        (on : Runs (at_entry (map.get listed m) (map.len listed == most_entries)) mid new t result) where
       -- the directory is full exactly where it has no room
       few : map.len listed ≤ most_entries
       few = (holds accounts ok (state old) f me t ready d (is_dir accounts ok (state old) f me t ready d open_so_far)).listable.few
@@ -123,25 +150,34 @@ module _ (accounts : Accounts) (ok : AreAccounts accounts) (old new : KernelMode
       full_test false e = let count = count_entries accounts (state old) f ready.represents.matched d in grind (arith, nat_tests, count, few, e)
 
       -- the call is refused with no raw call more
-      ends_here : (errno : Errno) → is_access errno ≡ false → is_permission errno ≡ false → refused accounts f me p call ≡ Some errno → Runs (Answers (Refused errno)) mid new t result → Refined
+      ends_here : (errno : Errno) → is_access errno ≡ false → is_permission errno ≡ false
+          → refused accounts f me p call ≡ Some errno → Runs (Answers (Refused errno)) mid new t result → Refined
       ends_here errno no_access no_permission is end =
-          refused_at_once accounts f me ready.caller call old new t ready.thread result reached mid chain stays ready.represents errno is no_access no_permission
+          refused_at_once accounts f me ready.caller call old new t ready.thread result reached mid chain stays
+          ready.represents errno is no_access no_permission
           (has_reads (all_granted reached) (Refused errno) (among_granted_behind old.line t before reads)) end
 
       looked_up : (target : Option Target) → map.get listed m ≡ target → Runs (at_entry target (map.len listed == most_entries)) mid new t result
       looked_up target is = subst (λ (o : Option Target). Runs (at_entry o (map.len listed == most_entries)) mid new t result) is on
 
       by_content : (class : Class) (c : Content) → get f.files (m ∷ d) ≡ Some (record { class = class; content = c }) → Refined
-      by_content class Dir is = ends_here EEXIST refl refl (refused_is None _ roomy (writes accounts f p d) open_so_far is refl refl) (looked_up _ (directory_there accounts ok (state old) f me t ready m d class is))
-      by_content class (File bytes) is = ends_here EEXIST refl refl (refused_is None _ roomy (writes accounts f p d) open_so_far is refl refl) (looked_up _ (file_there accounts ok (state old) f me t ready m d class bytes is))
+      by_content class Dir is =
+          ends_here EEXIST refl refl (refused_is None _ roomy (writes accounts f p d) open_so_far is refl refl)
+          (looked_up _ (directory_there accounts ok (state old) f me t ready m d class is))
+      by_content class (File bytes) is =
+          ends_here EEXIST refl refl (refused_is None _ roomy (writes accounts f p d) open_so_far is refl refl)
+          (looked_up _ (file_there accounts ok (state old) f me t ready m d class bytes is))
 
       by_room : (b : Bool) → roomy ≡ b → get f.files (m ∷ d) ≡ None → Runs (at_entry None (not b)) mid new t result → Refined
-      by_room false no_room absent full = ends_here ENOSPC refl refl (refused_is None None false (writes accounts f p d) open_so_far absent no_room refl) full
+      by_room false no_room absent full =
+          ends_here ENOSPC refl refl
+          (refused_is None None false (writes accounts f p d) open_so_far absent no_room refl) full
       by_room true room absent free = go_on open_so_far absent room mid stays chain free
 
       by_agrees : (o : Option Node) → get f.files (m ∷ d) ≡ o → Refined
       by_agrees None absent =
-          by_room roomy refl absent (subst (λ (b : Bool). Runs (at_entry None b) mid new t result) (full_test roomy refl) (looked_up None (nothing_there accounts ok (state old) f me t ready m d absent)))
+          by_room roomy refl absent (subst (λ (b : Bool). Runs (at_entry None b) mid new t result) (full_test roomy refl)
+          (looked_up None (nothing_there accounts ok (state old) f me t ready m d absent)))
       by_agrees (Some node) is = by_content node.class node.content is
 
     -- There is room, or the call is refused.
@@ -149,6 +185,11 @@ module _ (accounts : Accounts) (ok : AreAccounts accounts) (old new : KernelMode
     unfolding find_room
     room_step runs go_on =
         walk_step_behind accounts ok old new f me t ready call result before start unchanged begun d
-        (λ directory. given (room_at (map.get directory.entries m) (map.len directory.entries == most_entries)) (λ _. rest (record { place = directory.place; entries = directory.entries; name = m }))) runs
-        (λ errno is steps among. (refused_is (Some errno) (get f.files (m ∷ d)) roomy (writes accounts f p d) is refl refl refl, has_reads steps (Refused errno) among))
+        (λ directory. given (room_at (map.get directory.entries m) (map.len directory.entries == most_entries))
+        (λ _. rest (record { place = directory.place; entries = directory.entries; name = m }))) runs
+        (λ errno is steps among. (
+          refused_is (Some errno) (get f.files (m ∷ d)) roomy (writes accounts f p d) is refl refl refl,
+          has_reads
+              steps (Refused errno) among,
+        ))
         (λ open_so_far mid stays chain on. by_agrees go_on open_so_far mid stays chain on (get f.files (m ∷ d)) refl)

@@ -68,7 +68,8 @@ use Rattle.histar_sim.specs.Reads.{AreAmong}
 use Rattle.histar_sim.proofs.Chains.{all_granted, entries_of, Chain}
 use Rattle.histar_sim.proofs.Steps.{Goal, granted_step, answered_step}
 use Rattle.histar_sim.proofs.Walks.{place_at, walk_reads, holds, among_then, has_walk}
-use Rattle.histar_sim.proofs.FoundObjects.{directory_class, directory_agrees, directory_guard, entries, is_dir, below, container_numbered, listing_numbered, writes_as_class}
+use Rattle.histar_sim.proofs.FoundObjects.{directory_class, directory_agrees, directory_guard, entries, is_dir, below, container_numbered}
+use Rattle.histar_sim.proofs.FoundObjects.{listing_numbered, writes_as_class}
 use Rattle.histar_sim.proofs.BirthRun.{IsFit, spawned, birth_made}
 use Rattle.histar_sim.proofs.BirthSteps.{numbered_step}
 use Rattle.histar_sim.proofs.ChildRoom.{own_of, own_clearance_of, status_of, at_home, at_status, at_thread}
@@ -78,8 +79,11 @@ use Rattle.histar_sim.proofs.ScratchCalls.{with_segment, make_said, write_said, 
 use Rattle.histar_sim.proofs.JobFit.{fit, held_is}
 use Rattle.histar_sim.proofs.JobRights.{JobParent}
 
-module _ (accounts : Accounts) (ok : AreAccounts accounts) (me : ProcName) (caller : Caller) (old new : KernelModel) (f : Flat) (result : Result Reply Stopped)
-    (ready : IsReady accounts (state old) f me caller.thread) (found : caller_at (state old) (roots_of (length accounts.users)).home me ≡ Some caller) (m : Name) (named : IsTrue (is_name m)) (d : Path) where
+module _ (accounts : Accounts) (ok : AreAccounts accounts) (me : ProcName) (caller : Caller) (old new : KernelModel)
+    (f : Flat) (result : Result Reply Stopped)
+    (ready : IsReady accounts (state old) f me caller.thread)
+    (found : caller_at (state old) (roots_of (length accounts.users)).home me ≡ Some caller) (m : Name)
+    (named : IsTrue (is_name m)) (d : Path) where
   abbrev t : ℕ
   t = caller.thread
 
@@ -115,8 +119,10 @@ module _ (accounts : Accounts) (ok : AreAccounts accounts) (me : ProcName) (call
   -- what is left of the program once the container has a number
   abbrev pub within : ℕ → Program
   within number =
-      ask (MakeSegment number due []) (λ listing. write_entries place (map.insert (entries accounts ok (state old) f me t ready d) m (targets.Directory number listing))
-      (λ _. birth caller.home status (kin_in accounts own job) (λ _. hold_job (own, own_clearance) job (λ _. Answers (Child ((status.born + 1) ∷ me))))))
+      ask (MakeSegment number due [])
+      (λ listing. write_entries place (map.insert (entries accounts ok (state old) f me t ready d) m (targets.Directory number listing))
+      (λ _. birth caller.home status (kin_in accounts own job)
+      (λ _. hold_job (own, own_clearance) job (λ _. Answers (Child ((status.born + 1) ∷ me))))))
 
   -- where nothing refuses the call and the container is made, the call is its row
   abbrev pub JobBegun : Type 0
@@ -126,7 +132,8 @@ module _ (accounts : Accounts) (ok : AreAccounts accounts) (me : ProcName) (call
       → may_write accounts p (directory_class accounts ok (state old) f me t ready d open_so_far) ≡ true
       → (i : ℕ) → user_number accounts p.user ≡ Some i → has_number (state old) ≡ true
       → (calls : List RawCall) → AreAmong (walk_reads accounts ok (state old) f me t ready d) (entries_of old.line t (all_granted calls))
-      → (linked : KernelModel) → state linked ≡ with_object (with_category (state old) t) place.container container → Chain old t (all_granted calls) linked
+      → (linked : KernelModel) → state linked ≡ with_object (with_category (state old) t) place.container container
+      → Chain old t (all_granted calls) linked
       → Runs (within (state old).next_object) linked new t result → Refined
 
   -- ---- the call as a whole
@@ -159,14 +166,21 @@ module _ (accounts : Accounts) (ok : AreAccounts accounts) (me : ProcName) (call
 
   -- what is left of the program once the directory is written, and once the directory segment has a number
   abbrev birth_then : ProcessStatus → Levels → Levels → Program
-  birth_then revealed label clearance = birth caller.home revealed kin (λ _. ask (SetLabel label) (λ _. ask (SetClearance clearance) (λ _. Answers (Child ((revealed.born + 1) ∷ me)))))
+  birth_then revealed label clearance =
+      birth caller.home revealed kin (λ _.
+      ask (SetLabel label) (λ _. ask (SetClearance clearance) (λ _. Answers (Child ((revealed.born + 1) ∷ me)))))
 
   abbrev after_segment : ℕ → Program
   after_segment listing =
-      write_entries place (map.insert (entries accounts ok (state old) f me t ready d) m (targets.Directory number listing)) (λ _. birth_then status (with_level own job Star) (with_level own_clearance job L3))
+      write_entries place
+      (map.insert (entries accounts ok (state old) f me t ready d) m (targets.Directory number listing))
+      (λ _. birth_then status (with_level own job Star) (with_level own_clearance job L3))
 
-  module _ (long : nat_lt (length me) most_numbers ≡ true) (room : nat_lt p.born most_children ≡ true) (open_so_far : into accounts f p d ≡ None) (absent : get f.files (m ∷ d) ≡ None)
-      (room_above : nat_lt (length (entries_in f d)) most_entries ≡ true) (may : may_write accounts p (directory_class accounts ok (state old) f me t ready d open_so_far) ≡ true) (i : ℕ) (declared : user_number accounts p.user ≡ Some i) where
+  module _ (long : nat_lt (length me) most_numbers ≡ true) (room : nat_lt p.born most_children ≡ true)
+      (open_so_far : into accounts f p d ≡ None) (absent : get f.files (m ∷ d) ≡ None)
+      (room_above : nat_lt (length (entries_in f d)) most_entries ≡ true)
+      (may : may_write accounts p (directory_class accounts ok (state old) f me t ready d open_so_far) ≡ true)
+      (i : ℕ) (declared : user_number accounts p.user ≡ Some i) where
     few_children : p.born < 64
     few_children = ltb-true p.born 64 room
 
@@ -178,7 +192,8 @@ module _ (accounts : Accounts) (ok : AreAccounts accounts) (me : ProcName) (call
 
     refused_nowhere : refused accounts f me p (Wrap (m ∷ d)) ≡ None
     refused_nowhere = λ j. (unless (room j) EAGAIN orelse unless (long j) EAGAIN)
-        orelse (open_so_far j orelse unless (not (is_some_and (absent j) (λ n. true))) EEXIST orelse unless (room_above j) ENOSPC orelse unless (writes_is j) EACCES)
+        orelse (open_so_far j orelse unless (not (is_some_and (absent j) (λ n. true))) EEXIST
+        orelse unless (room_above j) ENOSPC orelse unless (writes_is j) EACCES)
         orelse unless (not (not_nobody accounts ok p.user i declared j)) EPERM
 
     -- where the directory and the process stand
@@ -262,7 +277,10 @@ module _ (accounts : Accounts) (ok : AreAccounts accounts) (me : ProcName) (call
           ∙ ap (λ (o : Option ℕ). guard_label job_named.category (scratch_guard (p.chain ++ child ∷ []) (or_zero o))) declared
 
       state_is : with_segment_bytes (with_segment accounts ok (state old) f me t ready d open_so_far unused i declared) place.listing written ≡ before
-      state_is = λ j. with_segment_bytes (with_object (with_object (with_category (state old) t) place.container (record { label = due_is j; kind = Container set.empty })) number (record { label = due_is j; kind = Segment [] }))
+      state_is =
+          λ j. with_segment_bytes (with_object (with_object (with_category (state old) t) place.container
+          (record { label = due_is j; kind = Container set.empty })) number
+          (record { label = due_is j; kind = Segment [] }))
           place.listing (spelling (map.insert (directory_of f.files (sym naming_is j).number d) m target))
 
       -- what its process and its job are there
@@ -298,7 +316,10 @@ module _ (accounts : Accounts) (ok : AreAccounts accounts) (me : ProcName) (call
 
       -- what the process segment of the parent tells, and what its thread has
       status_is : status ≡ status_by f.processes later.naming.number me p
-      status_is = same_process_status ready.represents.matched.naming.number later.naming.number (wrapping.k_numbers accounts (state old) f ready.represents me p wrapper named few_entries) f.processes me p
+      status_is =
+          same_process_status ready.represents.matched.naming.number later.naming.number
+          (wrapping.k_numbers accounts (state old) f ready.represents me p wrapper named few_entries) f.processes me
+          p
 
       abbrev own_then : Levels
       own_then = rights_label later.category (rights_with_job accounts me p)
@@ -313,7 +334,10 @@ module _ (accounts : Accounts) (ok : AreAccounts accounts) (me : ProcName) (call
       own_clearance_is = clearance_by accounts (state old) f ready.represents.matched me p ready.caller.agrees unused later.category names_are
 
       thread_has_job : before.objects t ≡ object own_then (Thread later_clearance)
-      thread_has_job = sym (ap (λ (s : State). s.objects t) state_is) ∙ thread_then accounts ok (state old) f me t ready d open_so_far unused i declared written ∙ (λ j. object (own_is j) (Thread (own_clearance_is j)))
+      thread_has_job =
+          sym (ap (λ (s : State). s.objects t) state_is)
+          ∙ thread_then accounts ok (state old) f me t ready d open_so_far unused i declared written
+          ∙ (λ j. object (own_is j) (Thread (own_clearance_is j)))
 
       -- the parent of the job's first process, once the directory is there
       abbrev parent : JobParent accounts made_state with_directory later me p
@@ -335,34 +359,54 @@ module _ (accounts : Accounts) (ok : AreAccounts accounts) (me : ProcName) (call
       -- what the birth needs is there
       fits : IsFit before t caller.home (status_by f.processes later.naming.number me p) kin own_then later_clearance
       fits = fit accounts ok made_state with_directory later me p parent before.objects own own_clearance agrees_beside thread_has_job kin
-          (jobs_by accounts (state old) f ready.represents.matched me p ready.caller.agrees unused later.category names_are) (owned_revealed accounts (state old) f ready.represents.matched me p ready.caller.agrees unused)
+          (jobs_by accounts (state old) f ready.represents.matched me p ready.caller.agrees unused later.category
+          names_are)
+          (owned_revealed accounts (state old) f ready.represents.matched me p ready.caller.agrees unused)
 
       -- it leaves the state in which the parent holds the job
       held_then : (few_born : before.next_object + 3 < greatest)
-          → spawned before t caller.home (status_by f.processes later.naming.number me p) kin own_then later_clearance ≡ wrapping.state_wrapped accounts (state old) f ready.represents me p wrapper named few_entries few_born
-      held_then few_born = held_is accounts ok made_state with_directory later me p parent before.objects own own_clearance agrees_beside thread_has_job kin
-          (jobs_by accounts (state old) f ready.represents.matched me p ready.caller.agrees unused later.category names_are) (owned_revealed accounts (state old) f ready.represents.matched me p ready.caller.agrees unused)
+          → spawned before t caller.home (status_by f.processes later.naming.number me p) kin own_then later_clearance
+          ≡ wrapping.state_wrapped accounts (state old) f ready.represents me p wrapper named few_entries few_born
+      held_then few_born =
+          held_is accounts ok made_state with_directory later me p parent before.objects own own_clearance agrees_beside
+          thread_has_job kin
+          (jobs_by accounts (state old) f ready.represents.matched me p ready.caller.agrees unused later.category
+          names_are)
+          (owned_revealed accounts (state old) f ready.represents.matched me p ready.caller.agrees unused)
           stranger held_ordered few_born counted
 
       -- in which the flat state of the row is represented
-      matched_then : (few_born : before.next_object + 3 < greatest) → Represents accounts (spawned before t caller.home (status_by f.processes later.naming.number me p) kin own_then later_clearance) (changed accounts f me p call)
+      matched_then : (few_born : before.next_object + 3 < greatest)
+          → Represents accounts (spawned before t caller.home (status_by f.processes later.naming.number me p) kin own_then
+          later_clearance) (changed accounts f me p call)
       matched_then few_born =
-          subst (λ (s : State). Represents accounts s (changed accounts f me p call)) (sym (held_then few_born)) (wrapping.represents_wrapped accounts (state old) f ready.represents me p wrapper named few_entries few_born)
+          subst (λ (s : State). Represents accounts s (changed accounts f me p call)) (sym (held_then few_born))
+          (wrapping.represents_wrapped accounts (state old) f ready.represents me p wrapper named few_entries
+          few_born)
 
       -- with all raw calls the call is answered
-      answered : (calls : List RawCall) (end : KernelModel) → AreAmong reads (entries_of old.line t (all_granted calls)) → Chain old t (all_granted calls) end
-          → state end ≡ spawned before t caller.home (status_by f.processes later.naming.number me p) kin own_then later_clearance → before.next_object + 3 < greatest → Runs (Answers (Child child)) end new t result → Refined
+      answered : (calls : List RawCall) (end : KernelModel) → AreAmong reads (entries_of old.line t (all_granted calls))
+          → Chain old t (all_granted calls) end
+          → state end
+          ≡ spawned before t caller.home (status_by f.processes later.naming.number me p) kin own_then
+          later_clearance → before.next_object + 3 < greatest → Runs (Answers (Child child)) end new t result
+          → Refined
       answered calls end kept chain is few_born runs =
-          answered_step accounts f me ready.caller call old new t ready.thread result calls end chain (Child child) refl refused_nowhere tt (has_walk accounts ok (state old) f me t ready m d (entries_of old.line t (all_granted calls)) kept)
+          answered_step accounts f me ready.caller call old new t ready.thread result calls end chain (Child child) refl
+          refused_nowhere tt
+          (has_walk accounts ok (state old) f me t ready m d (entries_of old.line t (all_granted calls)) kept)
           (subst (λ (s : State). Represents accounts s (changed accounts f me p call)) (sym is) (matched_then few_born)) runs
 
       -- the job's first process is born
-      born : (calls : List RawCall) (mid : KernelModel) → AreAmong reads (entries_of old.line t (all_granted calls)) → Chain old t (all_granted calls) mid → state mid ≡ before
+      born : (calls : List RawCall) (mid : KernelModel) → AreAmong reads (entries_of old.line t (all_granted calls))
+          → Chain old t (all_granted calls) mid → state mid ≡ before
           → Runs (birth_then status (with_level own job Star) (with_level own_clearance job L3)) mid new t result → Refined
       born calls mid kept chain at runs =
-          birth_made accounts f me ready.caller call old new t ready.thread result before caller.home (status_by f.processes later.naming.number me p) kin own_then later_clearance fits
+          birth_made accounts f me ready.caller call old new t ready.thread result before caller.home
+          (status_by f.processes later.naming.number me p) kin own_then later_clearance fits
           (Child child) reads answered calls mid kept chain at
-          (subst (λ (x : ProcessStatus × Levels × Levels). Runs (birth_then x.0 x.1 x.2) mid new t result) (λ j. (status_is j, own_is j, own_clearance_is j)) runs)
+          (subst (λ (x : ProcessStatus × Levels × Levels). Runs (birth_then x.0 x.1 x.2) mid new t result)
+          (λ j. (status_is j, own_is j, own_clearance_is j)) runs)
 
       -- the directory is written
       few_written : length written ≤ 4096
@@ -373,18 +417,28 @@ module _ (accounts : Accounts) (ok : AreAccounts accounts) (me : ProcName) (call
           let low = below accounts ok (state old) f me t ready (address_of d) place.container container_there in
           let listable = (holds accounts ok (state old) f me t ready d (is_dir accounts ok (state old) f me t ready d open_so_far)).listable in
           let is_target : IsTarget target = ((omega (arith, low), omega (arith, few)), (omega (arith, low), omega (arith, few))) in
-          spelling_fits (map.insert (entries accounts ok (state old) f me t ready d) m target) (listable_insert (entries accounts ok (state old) f me t ready d) m target listable room_left (named, is_target))
+          spelling_fits (map.insert (entries accounts ok (state old) f me t ready d) m target)
+          (listable_insert (entries accounts ok (state old) f me t ready d) m target listable room_left
+          (named, is_target))
 
-      directory_written : (calls : List RawCall) (mid : KernelModel) → AreAmong reads (entries_of old.line t (all_granted calls)) → Chain old t (all_granted calls) mid
-          → state mid ≡ with_segment accounts ok (state old) f me t ready d open_so_far unused i declared → Runs (after_segment (number + 1)) mid new t result → Refined
+      directory_written : (calls : List RawCall) (mid : KernelModel)
+          → AreAmong reads (entries_of old.line t (all_granted calls)) → Chain old t (all_granted calls) mid
+          → state mid ≡ with_segment accounts ok (state old) f me t ready d open_so_far unused i declared
+          → Runs (after_segment (number + 1)) mid new t result → Refined
       directory_written calls mid kept chain at runs =
           let write : RawCall = Write place.container place.listing 0 written in
           let guard = directory_guard accounts ok (state old) f me t ready d open_so_far in
-          let apart = wrapping.not_named accounts (state old) f ready.represents me p wrapper d (record { class = above; content = Dir }) guard.0 at_parent guard.1 in
-          granted_step accounts f me ready.caller call old new t ready.thread result calls mid chain write (λ _. birth_then status (with_level own job Star) (with_level own_clearance job L3))
-          (ap (λ (s : State). check s t write) at ∙ write_said accounts ok (state old) f me t ready d open_so_far unused i declared may stranger apart.0 apart.1 written few_written) runs
+          let apart =
+          wrapping.not_named accounts (state old) f ready.represents me p wrapper d
+          (record { class = above; content = Dir }) guard.0 at_parent guard.1 in
+          granted_step accounts f me ready.caller call old new t ready.thread result calls mid chain write
+          (λ _. birth_then status (with_level own job Star) (with_level own_clearance job L3))
+          (ap (λ (s : State). check s t write) at
+          ∙ write_said accounts ok (state old) f me t ready d open_so_far unused i declared may stranger apart.0
+          apart.1 written few_written) runs
           (λ end done called right longer goes.
-          born (calls ++ write ∷ []) end (among_then old.line t reads calls (write ∷ []) kept) longer (called.state ∙ ap (λ (s : State). with_segment_bytes s place.listing written) at ∙ state_is) goes)
+          born (calls ++ write ∷ []) end (among_then old.line t reads calls (write ∷ []) kept) longer
+          (called.state ∙ ap (λ (s : State). with_segment_bytes s place.listing written) at ∙ state_is) goes)
 
   -- A wrap whose container is made is its row.
   pub job_begun : JobBegun
@@ -392,9 +446,11 @@ module _ (accounts : Accounts) (ok : AreAccounts accounts) (me : ProcName) (call
   job_begun long room open_so_far absent room_above may i declared has calls kept linked at chain runs =
       let next : RawCall = MakeSegment number due [] in
       numbered_step accounts f me ready.caller call old new t ready.thread result calls linked chain next after_segment refl
-      (subst (λ (s : State). check s t next ≡ unless (has_number s) TooBig) (sym at) (make_said accounts ok (state old) f me t ready d open_so_far unused i declared)) runs
+      (subst (λ (s : State). check s t next ≡ unless (has_number s) TooBig) (sym at)
+      (make_said accounts ok (state old) f me t ready d open_so_far unused i declared)) runs
       (λ more mid listing called right longer goes.
       let few = ltb-true (number + 1) greatest (sym (ap has_number at) ∙ more) in
-      directory_written long room open_so_far absent room_above may i declared few (calls ++ next ∷ []) mid (among_then old.line t reads calls (next ∷ []) kept) longer
+      directory_written long room open_so_far absent room_above may i declared few (calls ++ next ∷ []) mid
+      (among_then old.line t reads calls (next ∷ []) kept) longer
       (called.state ∙ ap (λ (s : State). with_object s number (record { label = due; kind = Segment [] })) at)
       (subst (λ (q : ℕ). Runs (after_segment q) mid new t result) (right ∙ ap (λ (s : State). s.next_object) at) goes))

@@ -39,12 +39,20 @@ use Rattle.histar_sim.proofs.BirthRun.{IsFit, spawned}
 use Rattle.histar_sim.proofs.ChildBytes.{started_fits, grown_fits, few_listed, child_bytes_are, own_bytes_are}
 use Rattle.histar_sim.proofs.ChildLabels.{outer_is, inner_is, label_is, clearance_is}
 use Rattle.histar_sim.proofs.ScratchLabels.{rights_with_job}
-use Rattle.histar_sim.proofs.JobRights.{JobParent, jobs_used, jobs_free, names, kept, owner, owner_clearance, around_owner, home_modified, outer_modified, inner_modified, thread_lesser, own_taken, own_is, own_clearance_is}
+use Rattle.histar_sim.proofs.JobRights.{JobParent, jobs_used, jobs_free, names, kept, owner, owner_clearance, around_owner, home_modified}
+use Rattle.histar_sim.proofs.JobRights.{outer_modified, inner_modified, thread_lesser, own_taken, own_is, own_clearance_is}
 
-module _ (accounts : Accounts) (ok : AreAccounts accounts) (s : State) (f : Flat) (l : ObjectsMatch accounts s f) (me : ProcName) (p : Process) (parent : JobParent accounts s f l me p)
-    (objects : Objects Levels) (own clearance : Levels) (beside : Beside parent.thread own clearance (record { objects = objects; next_object = s.next_object; next_category = s.next_category }) s)
-    (thread : objects parent.thread ≡ object (rights_label l.category (rights_with_job accounts me p)) (Thread (rights_clearance l.category (rights_with_job accounts me p))))
-    (kin : Kin) (alike : (q : ℕ) → is_in kin.jobs q ≡ is_in (map l.category (map OfJob (p.chain ++ ((p.born + 1) ∷ me) ∷ []))) q) (revealed : kin.owned ≡ owned_by accounts (or_zero (user_number accounts p.user)) false) where
+module _ (accounts : Accounts) (ok : AreAccounts accounts) (s : State) (f : Flat) (l : ObjectsMatch accounts s f)
+    (me : ProcName) (p : Process) (parent : JobParent accounts s f l me p)
+    (objects : Objects Levels) (own clearance : Levels) (beside : Beside parent.thread own clearance
+    (record { objects = objects; next_object = s.next_object; next_category = s.next_category }) s)
+    (thread : objects parent.thread
+    ≡ object (rights_label l.category (rights_with_job accounts me p))
+    (Thread (rights_clearance l.category (rights_with_job accounts me p))))
+    (kin : Kin)
+    (alike : (q : ℕ)
+    → is_in kin.jobs q ≡ is_in (map l.category (map OfJob (p.chain ++ ((p.born + 1) ∷ me) ∷ []))) q)
+    (revealed : kin.owned ≡ owned_by accounts (or_zero (user_number accounts p.user)) false) where
   -- the numbers of the parent's container, its process segment and its thread
   abbrev C : ℕ
   C = parent.home
@@ -99,7 +107,10 @@ module _ (accounts : Accounts) (ok : AreAccounts accounts) (s : State) (f : Flat
       subst (IsUsed accounts f) (sym found.1) (jobs_used accounts s f l me p parent found.0 found.2)
 
   alike_then : (q : ℕ) → is_in kin.jobs q ≡ is_in (map then_names (map OfJob jobs)) q
-  alike_then q = alike q ∙ ap (λ (numbers : List ℕ). is_in numbers q) (sym (same_numbers l.category then_names (map OfJob jobs) (λ c e. same c (used c e))))
+  alike_then q =
+      alike q
+      ∙ ap (λ (numbers : List ℕ). is_in numbers q)
+      (sym (same_numbers l.category then_names (map OfJob jobs) (λ c e. same c (used c e))))
 
   revealed_then : kin.owned ≡ owned_by accounts (or_zero (user_number accounts p.user)) (is_free newborn)
   revealed_then = revealed ∙ ap (owned_by accounts (or_zero (user_number accounts p.user))) (sym (not_free p.chain child))
@@ -108,23 +119,35 @@ module _ (accounts : Accounts) (ok : AreAccounts accounts) (s : State) (f : Flat
   named = name_of_number accounts p.user (inr parent.declared)
 
   reads_is : then_names (ReadsProcess ((p.born + 1) ∷ me)) ≡ s.next_category
-  reads_is = reads_number accounts s f l me p parent.here parent.runs parent.room jobs (jobs_used accounts s f l me p parent) parent.jobs_ordered (jobs_free accounts s f l me p parent) C S parent.at_home parent.at_status
+  reads_is =
+      reads_number accounts s f l me p parent.here parent.runs parent.room jobs (jobs_used accounts s f l me p parent)
+      parent.jobs_ordered (jobs_free accounts s f l me p parent) C S parent.at_home parent.at_status
 
   writes_is : then_names (WritesProcess ((p.born + 1) ∷ me)) ≡ s.next_category + 1
-  writes_is = writes_number accounts s f l me p parent.here parent.runs parent.room jobs (jobs_used accounts s f l me p parent) parent.jobs_ordered (jobs_free accounts s f l me p parent) C S parent.at_home parent.at_status
+  writes_is =
+      writes_number accounts s f l me p parent.here parent.runs parent.room jobs (jobs_used accounts s f l me p parent)
+      parent.jobs_ordered (jobs_free accounts s f l me p parent) C S parent.at_home parent.at_status
 
   -- so the labels that are handed in are the child's
   outer_same : outer_label kin (s.next_category + 1) ≡ guard_label then_names (process_guard child newborn)
-  outer_same = outer_is accounts then_names newborn as_made named kin alike_then revealed_then child s.next_category (s.next_category + 1) reads_is writes_is
+  outer_same =
+      outer_is accounts then_names newborn as_made named kin alike_then revealed_then child s.next_category
+      (s.next_category + 1) reads_is writes_is
 
   inner_same : inner_label kin s.next_category (s.next_category + 1) ≡ guard_label then_names (inside_guard child newborn)
-  inner_same = inner_is accounts then_names newborn as_made named kin alike_then revealed_then child s.next_category (s.next_category + 1) reads_is writes_is
+  inner_same =
+      inner_is accounts then_names newborn as_made named kin alike_then revealed_then child s.next_category
+      (s.next_category + 1) reads_is writes_is
 
   label_same : thread_label kin s.next_category (s.next_category + 1) ≡ rights_label then_names (thread_rights accounts child newborn)
-  label_same = label_is accounts then_names newborn as_made named kin alike_then revealed_then child s.next_category (s.next_category + 1) reads_is writes_is
+  label_same =
+      label_is accounts then_names newborn as_made named kin alike_then revealed_then child s.next_category
+      (s.next_category + 1) reads_is writes_is
 
   clearance_same : thread_clearance kin s.next_category (s.next_category + 1) ≡ rights_clearance then_names (thread_rights accounts child newborn)
-  clearance_same = clearance_is accounts then_names newborn as_made named kin alike_then revealed_then child s.next_category (s.next_category + 1) reads_is writes_is
+  clearance_same =
+      clearance_is accounts then_names newborn as_made named kin alike_then revealed_then child s.next_category
+      (s.next_category + 1) reads_is writes_is
 
   abbrev grown : Levels
   grown = owner accounts s f l me p parent
@@ -133,7 +156,8 @@ module _ (accounts : Accounts) (ok : AreAccounts accounts) (s : State) (f : Flat
   grown_clearance = owner_clearance accounts s f l me p parent
 
   -- What the birth needs is there.
-  pub fit : IsFit before T (record { container = C; segment = S }) (status_by f.processes l.naming.number me p) kin own_with_job own_clearance_with_job
+  pub fit : IsFit before T (record { container = C; segment = S }) (status_by f.processes l.naming.number me p) kin
+      own_with_job own_clearance_with_job
   fit = record {
     thread = thread;
     owner = grown;
@@ -143,23 +167,44 @@ module _ (accounts : Accounts) (ok : AreAccounts accounts) (s : State) (f : Flat
     around = around_owner accounts s f l me p parent objects beside.others thread;
     under = (home_modified accounts s f l me p parent).0;
     seen = (home_modified accounts s f l me p parent).1;
-    outer = subst (λ (x : Levels). IsModified grown grown_clearance x (s.next_category + 1 + 1)) (sym outer_same) (outer_modified accounts s f l me p parent);
-    inner = subst (λ (x : Levels). IsModified grown grown_clearance x (s.next_category + 1 + 1)) (sym inner_same) (inner_modified accounts s f l me p parent);
-    lesser = subst (λ (x : Levels × Levels). IsLesser grown grown_clearance x.0 x.1 (s.next_category + 1 + 1)) (λ i. (sym label_same i, sym clearance_same i))
+    outer =
+        subst (λ (x : Levels). IsModified grown grown_clearance x (s.next_category + 1 + 1)) (sym outer_same)
+        (outer_modified accounts s f l me p parent);
+    inner =
+        subst (λ (x : Levels). IsModified grown grown_clearance x (s.next_category + 1 + 1)) (sym inner_same)
+        (inner_modified accounts s f l me p parent);
+    lesser =
+        subst (λ (x : Levels × Levels). IsLesser grown grown_clearance x.0 x.1 (s.next_category + 1 + 1))
+        (λ i. (sym label_same i, sym clearance_same i))
         (thread_lesser accounts s f l me p parent);
     taken = own_taken accounts s f l me p parent;
     child_few = started_fits (s.next_object + 1) (s.next_object + 1 + 1);
-    own_few = grown_fits (process_bytes f.processes l.naming.number me p) s.next_object (s.next_object + 1 + 1 + 1) status (let listed = few_listed f.processes l.naming.number me p in let room = parent.room in omega (arith, listed, room));
+    own_few =
+        grown_fits (process_bytes f.processes l.naming.number me p) s.next_object (s.next_object + 1 + 1 + 1) status
+        (let listed = few_listed f.processes l.naming.number me p in let room = parent.room in omega
+        (arith, listed, room));
   }
 
   -- the state after it is the one in which its parent holds the job
-  module _ (stranger : has p.chain ((p.born + 1) ∷ me) ≡ false) (held_ordered : AreInOrder l.category (p.held ++ ((p.born + 1) ∷ me) ∷ [])) (few : s.next_object + 3 < greatest) (counted : s.next_category ≤ s.next_category) where
-    pub held_is : spawned before T (record { container = C; segment = S }) (status_by f.processes l.naming.number me p) kin own_with_job own_clearance_with_job
-        ≡ state_held accounts s f l me p parent.here parent.runs parent.room parent.declared parent.served stranger parent.jobs_ordered held_ordered C S T parent.at_home parent.at_status parent.at_thread few own clearance before beside counted
+  module _ (stranger : has p.chain ((p.born + 1) ∷ me) ≡ false)
+      (held_ordered : AreInOrder l.category (p.held ++ ((p.born + 1) ∷ me) ∷ [])) (few : s.next_object + 3 < greatest)
+      (counted : s.next_category ≤ s.next_category) where
+    pub held_is : spawned before T (record { container = C; segment = S }) (status_by f.processes l.naming.number me p)
+        kin own_with_job own_clearance_with_job
+        ≡ state_held accounts s f l me p parent.here parent.runs parent.room parent.declared parent.served stranger
+        parent.jobs_ordered held_ordered C S T parent.at_home parent.at_status parent.at_thread few own clearance
+        before beside counted
     held_is = λ i. own_set T (births (with_category (with_category before T) T) C S
         (record { label = outer_same i; kind = Container set.empty })
         (record { label = inner_same i; kind = Container set.empty })
         (thread_of (label_same i) (clearance_same i))
-        (record { label = outer_same i; kind = Segment (child_bytes_are accounts s f l me p parent.here parent.runs parent.room jobs (jobs_used accounts s f l me p parent) parent.jobs_ordered (jobs_free accounts s f l me p parent) C S parent.at_home parent.at_status i) })
-        (own_bytes_are accounts s f l me p parent.here parent.runs parent.room jobs (jobs_used accounts s f l me p parent) parent.jobs_ordered (jobs_free accounts s f l me p parent) C S parent.at_home parent.at_status i))
+        (record {
+          label = outer_same i;
+          kind = Segment (child_bytes_are accounts s f l me p parent.here parent.runs parent.room jobs
+              (jobs_used accounts s f l me p parent) parent.jobs_ordered
+              (jobs_free accounts s f l me p parent) C S parent.at_home parent.at_status i);
+        })
+        (own_bytes_are accounts s f l me p parent.here parent.runs parent.room jobs
+        (jobs_used accounts s f l me p parent) parent.jobs_ordered (jobs_free accounts s f l me p parent) C S
+        parent.at_home parent.at_status i))
         (own_is accounts s f l me p parent i) (own_clearance_is accounts s f l me p parent i)

@@ -26,7 +26,8 @@ use Rattle.histar_refinement.proofs.AmongNames.{each_head, each_append}
 use Rattle.histar_refinement.proofs.Growing.{RightsHave, IsOld, new_number, made_label, made_clearance, same_rights_label, same_rights_clearance}
 use Rattle.histar_layout.proofs.Members.{first_of, second_of}
 use Rattle.histar_refinement.proofs.RawChecks.{object}
-use Rattle.histar_refinement.proofs.Spawning.{after, no_child, with_reads, different_reads, category, different, keeps_first, keeps, made_then, at_child}
+use Rattle.histar_refinement.proofs.Spawning.{after, no_child, with_reads, different_reads, category, different, keeps_first, keeps, made_then}
+use Rattle.histar_refinement.proofs.Spawning.{at_child}
 use Rattle.histar_refinement.proofs.Tested.{AreMade, guard_made, rights_made, clearance_made, guard_owns_nothing}
 use Rattle.histar_refinement.proofs.Uses.{process_used, inside_used, rights_used, keep_process_label}
 use Rattle.histar_refinement.proofs.WrapTests as tests
@@ -52,7 +53,8 @@ pub record JobParent (accounts : Accounts) (s : State) (f : Flat) (l : ObjectsMa
   pub at_status : l.naming.number (Status ∷ home_address me) ≡ Some segment
   pub at_thread : l.naming.number (Runner ∷ Inside ∷ home_address me) ≡ Some thread
 
-module _ (accounts : Accounts) (s : State) (f : Flat) (l : ObjectsMatch accounts s f) (me : ProcName) (p : Process) (parent : JobParent accounts s f l me p) where
+module _ (accounts : Accounts) (s : State) (f : Flat) (l : ObjectsMatch accounts s f) (me : ProcName) (p : Process)
+    (parent : JobParent accounts s f l me p) where
   -- its fields by name
   abbrev here : f.processes me ≡ Some p
   here = parent.here
@@ -147,17 +149,27 @@ module _ (accounts : Accounts) (s : State) (f : Flat) (l : ObjectsMatch accounts
   -- ---- its label and its clearance grow by both categories
 
   used : RightsHave (IsUsed accounts f) mine
-  used = let own = rights_used accounts f me p here in (each_head (IsUsed accounts f) (OfJob child) (thread_rights accounts me p).owned (inr served) own.0, own.1)
+  used =
+      let own = rights_used accounts f me p here in
+      (each_head (IsUsed accounts f) (OfJob child) (thread_rights accounts me p).owned (inr served) own.0, own.1)
 
   -- used names have their numbers still
   pub kept : (c : CategoryName) → IsUsed accounts f c → names c ≡ l.category c
   kept = keeps accounts s f l me p here runs room jobs jobs_used jobs_ordered jobs_free C S at_home at_status
 
   not_reads : (c : CategoryName) → IsUsed accounts f c → c ≢ ReadsProcess child
-  not_reads c is e = let there : is_some (f.processes child) ≡ true = subst (IsUsed accounts f) e is in true≢false (sym there ∙ ap is_some (no_child accounts s f l me p here runs room jobs jobs_used jobs_ordered jobs_free C S at_home at_status))
+  not_reads c is e =
+      let there : is_some (f.processes child)
+      ≡ true = subst (IsUsed accounts f) e is in true≢false (sym there
+      ∙ ap is_some (no_child accounts s f l me p here runs room jobs jobs_used jobs_ordered jobs_free C S at_home
+      at_status))
 
   not_writes : (c : CategoryName) → IsUsed accounts f c → c ≢ WritesProcess child
-  not_writes c is e = let there : is_some (f.processes child) ≡ true = subst (IsUsed accounts f) e is in true≢false (sym there ∙ ap is_some (no_child accounts s f l me p here runs room jobs jobs_used jobs_ordered jobs_free C S at_home at_status))
+  not_writes c is e =
+      let there : is_some (f.processes child)
+      ≡ true = subst (IsUsed accounts f) e is in true≢false (sym there
+      ∙ ap is_some (no_child accounts s f l me p here runs room jobs jobs_used jobs_ordered jobs_free C S at_home
+      at_status))
 
   -- a name that was used is old, for the one category and for the other
   abbrev IsOldFirst : CategoryName → Type 0
@@ -202,11 +214,14 @@ module _ (accounts : Accounts) (s : State) (f : Flat) (l : ObjectsMatch accounts
 
   -- In a state with these objects, where the thread has the job and all other objects are as they are.
   module _ (objects : Objects Levels) (others : (q : ℕ) → q ≢ T → objects q ≡ s.objects q)
-      (thread : objects T ≡ object (rights_label l.category (rights_with_job accounts me p)) (Thread (rights_clearance l.category (rights_with_job accounts me p)))) where
+      (thread : objects T
+      ≡ object (rights_label l.category (rights_with_job accounts me p))
+      (Thread (rights_clearance l.category (rights_with_job accounts me p)))) where
     abbrev pub beside_state : State
     beside_state = record { objects = objects; next_object = s.next_object; next_category = s.next_category }
 
-    around_beside : Around T C S (rights_label l.category mine) (rights_clearance l.category mine) (guard_label l.category (process_guard me p)) (process_bytes f.processes l.naming.number me p) beside_state
+    around_beside : Around T C S (rights_label l.category mine) (rights_clearance l.category mine)
+        (guard_label l.category (process_guard me p)) (process_bytes f.processes l.naming.number me p) beside_state
     around_beside =
         let before = around_before accounts s f l me p here runs C S at_home at_status T at_thread in
         let own = rights_label l.category (thread_rights accounts me p) in
@@ -223,24 +238,37 @@ module _ (accounts : Accounts) (s : State) (f : Flat) (l : ObjectsMatch accounts
         }
 
     -- once both categories of the child are made
-    pub around_owner : Around T C S owner owner_clearance (guard_label names (process_guard me p)) (process_bytes f.processes l.naming.number me p) (with_category (with_category beside_state T) T)
+    pub around_owner : Around T C S owner owner_clearance (guard_label names (process_guard me p))
+        (process_bytes f.processes l.naming.number me p) (with_category (with_category beside_state T) T)
     around_owner =
-        let one = around_category T C S (rights_label l.category mine) (rights_clearance l.category mine) (guard_label l.category (process_guard me p)) (process_bytes f.processes l.naming.number me p) beside_state around_beside in
-        let two = around_category T C S (with_level (rights_label l.category mine) next Star) (with_level (rights_clearance l.category mine) next L3) (guard_label l.category (process_guard me p)) (process_bytes f.processes l.naming.number me p) (with_category beside_state T) one in
-        subst (λ (x : Levels × Levels × Levels). Around T C S x.0 x.1 x.2 (process_bytes f.processes l.naming.number me p) (with_category (with_category beside_state T) T))
+        let one =
+        around_category T C S (rights_label l.category mine) (rights_clearance l.category mine)
+        (guard_label l.category (process_guard me p)) (process_bytes f.processes l.naming.number me p)
+        beside_state around_beside in
+        let two =
+        around_category T C S (with_level (rights_label l.category mine) next Star)
+        (with_level (rights_clearance l.category mine) next L3) (guard_label l.category (process_guard me p))
+        (process_bytes f.processes l.naming.number me p) (with_category beside_state T) one in
+        subst (λ (x : Levels × Levels × Levels). Around T C S x.0 x.1 x.2 (process_bytes f.processes l.naming.number me p)
+        (with_category (with_category beside_state T) T))
         (λ i. (label_grown i, clearance_grown i, keep_process_label accounts f l.category names kept me p here i)) two
 
   -- ---- what it may do
 
   made : (c : CategoryName) → IsUsed accounts then_flat c → IsMade (next + 1 + 1) (names c)
-  made c is = let two : next + 2 ≡ next + 1 + 1 = omega arith in subst (λ (n : ℕ). IsMade n (names c)) two (made_then accounts s f l me p here runs room jobs jobs_used jobs_ordered jobs_free C S at_home at_status c is)
+  made c is =
+      let two : next + 2
+      ≡ next + 1
+      + 1 = omega arith in subst (λ (n : ℕ). IsMade n (names c)) two (made_then accounts s f l me p here runs
+      room jobs jobs_used jobs_ordered jobs_free C S at_home at_status c is)
 
   -- what was used was made
   made_before : (c : CategoryName) → IsUsed accounts f c → IsMade (next + 1 + 1) (names c)
   made_before c is = let old = l.made c is in let same = kept c is in (omega (arith, old.0, same), omega (arith, old.1, same))
 
   -- it modifies its own container and process segment
-  pub home_modified : (is_below owner (guard_label names (process_guard me p)) ≡ true) × (is_below_raised (guard_label names (process_guard me p)) owner ≡ true)
+  pub home_modified : (is_below owner (guard_label names (process_guard me p)) ≡ true)
+      × (is_below_raised (guard_label names (process_guard me p)) owner ≡ true)
   home_modified =
       let both = tests.own_modified accounts names apart me p child in (
         first_of (is_below owner (guard_label names (process_guard me p))) (is_below_raised (guard_label names (process_guard me p)) owner) both,
@@ -250,7 +278,9 @@ module _ (accounts : Accounts) (s : State) (f : Flat) (l : ObjectsMatch accounts
   -- it makes the child's container and process segment, and its internal container
   pub outer_modified : IsModified owner owner_clearance (guard_label names (process_guard ((p.born + 1) ∷ me) newborn)) (s.next_category + 1 + 1)
   outer_modified =
-      let these = process_used accounts then_flat child newborn (at_child accounts s f l me p here runs room jobs jobs_used jobs_ordered jobs_free C S at_home at_status) in
+      let these =
+      process_used accounts then_flat child newborn
+      (at_child accounts s f l me p here runs room jobs jobs_used jobs_ordered jobs_free C S at_home at_status) in
       record {
         above = tests.outer_above accounts names apart me p child;
         below = tests.outer_below accounts names apart me p child;
@@ -261,7 +291,9 @@ module _ (accounts : Accounts) (s : State) (f : Flat) (l : ObjectsMatch accounts
 
   pub inner_modified : IsModified owner owner_clearance (guard_label names (inside_guard ((p.born + 1) ∷ me) newborn)) (s.next_category + 1 + 1)
   inner_modified =
-      let these = inside_used accounts then_flat child newborn (at_child accounts s f l me p here runs room jobs jobs_used jobs_ordered jobs_free C S at_home at_status) in
+      let these =
+      inside_used accounts then_flat child newborn
+      (at_child accounts s f l me p here runs room jobs jobs_used jobs_ordered jobs_free C S at_home at_status) in
       record {
         above = tests.inner_above accounts names apart me p child;
         below = tests.inner_below accounts names apart me p child;
@@ -274,10 +306,14 @@ module _ (accounts : Accounts) (s : State) (f : Flat) (l : ObjectsMatch accounts
   rights_are_made r has = each_append (λ c. IsMade (next + 1 + 1) (names c)) r.owned r.tainted has.0 has.1
 
   -- and its thread
-  pub thread_lesser : IsLesser owner owner_clearance (rights_label names (thread_rights accounts ((p.born + 1) ∷ me) newborn)) (rights_clearance names (thread_rights accounts ((p.born + 1) ∷ me) newborn)) (s.next_category + 1 + 1)
+  pub thread_lesser : IsLesser owner owner_clearance
+      (rights_label names (thread_rights accounts ((p.born + 1) ∷ me) newborn))
+      (rights_clearance names (thread_rights accounts ((p.born + 1) ∷ me) newborn)) (s.next_category + 1 + 1)
   thread_lesser =
       let childs : Rights = thread_rights accounts child newborn in
-      let these = rights_used accounts then_flat child newborn (at_child accounts s f l me p here runs room jobs jobs_used jobs_ordered jobs_free C S at_home at_status) in
+      let these =
+      rights_used accounts then_flat child newborn
+      (at_child accounts s f l me p here runs room jobs jobs_used jobs_ordered jobs_free C S at_home at_status) in
       let are : RightsHave (λ c. IsMade (next + 1 + 1) (names c)) childs = (λ c e. made c (these.0 c e), λ c e. made c (these.1 c e)) in
       record {
         above = tests.thread_above accounts names apart me p child;
@@ -291,12 +327,18 @@ module _ (accounts : Accounts) (s : State) (f : Flat) (l : ObjectsMatch accounts
 
   -- what it has with the job is what it has as the holder of the job
   pub own_is : rights_label l.category (rights_with_job accounts me p) ≡ rights_label names (holding accounts names apart me p ((p.born + 1) ∷ me))
-  own_is = sym (same_rights_label l.category names mine (λ c e. kept c (used.0 c e), λ c e. kept c (used.1 c e))) ∙ tests.label_holding accounts names apart me p child
+  own_is =
+      sym (same_rights_label l.category names mine (λ c e. kept c (used.0 c e), λ c e. kept c (used.1 c e)))
+      ∙ tests.label_holding accounts names apart me p child
 
-  pub own_clearance_is : rights_clearance l.category (rights_with_job accounts me p) ≡ rights_clearance names (holding accounts names apart me p ((p.born + 1) ∷ me))
-  own_clearance_is = sym (same_rights_clearance l.category names mine (λ c e. kept c (used.0 c e), λ c e. kept c (used.1 c e))) ∙ tests.clearance_holding accounts names apart me p child
+  pub own_clearance_is : rights_clearance l.category (rights_with_job accounts me p)
+      ≡ rights_clearance names (holding accounts names apart me p ((p.born + 1) ∷ me))
+  own_clearance_is =
+      sym (same_rights_clearance l.category names mine (λ c e. kept c (used.0 c e), λ c e. kept c (used.1 c e)))
+      ∙ tests.clearance_holding accounts names apart me p child
 
-  taken_then : IsTaken owner owner_clearance (rights_label names (holding accounts names apart me p child)) (rights_clearance names (holding accounts names apart me p child)) (next + 1 + 1)
+  taken_then : IsTaken owner owner_clearance (rights_label names (holding accounts names apart me p child))
+      (rights_clearance names (holding accounts names apart me p child)) (next + 1 + 1)
   taken_then =
       let are : RightsHave (λ c. IsMade (next + 1 + 1) (names c)) mine = (λ c e. made_before c (used.0 c e), λ c e. made_before c (used.1 c e)) in
       record {
@@ -304,10 +346,19 @@ module _ (accounts : Accounts) (s : State) (f : Flat) (l : ObjectsMatch accounts
         below = (tests.label_kept accounts names apart me p child).1;
         capped = (tests.clearance_kept accounts names apart me p child).0;
         within = (tests.clearance_kept accounts names apart me p child).1;
-        made = subst (λ (x : Levels). is_made (next + 1 + 1) x ≡ true) (tests.label_holding accounts names apart me p child) (rights_made (next + 1 + 1) names mine are.0 are.1);
-        cleared = subst (λ (x : Levels). is_made (next + 1 + 1) x ≡ true) (tests.clearance_holding accounts names apart me p child) (clearance_made (next + 1 + 1) names (mine.owned ++ mine.tainted) (rights_are_made mine are));
+        made =
+            subst (λ (x : Levels). is_made (next + 1 + 1) x ≡ true)
+            (tests.label_holding accounts names apart me p child)
+            (rights_made (next + 1 + 1) names mine are.0 are.1);
+        cleared =
+            subst (λ (x : Levels). is_made (next + 1 + 1) x ≡ true)
+            (tests.clearance_holding accounts names apart me p child)
+            (clearance_made (next + 1 + 1) names (mine.owned ++ mine.tainted) (rights_are_made mine are));
       }
 
   -- it may have its own labels with the job
-  pub own_taken : IsTaken owner owner_clearance (rights_label l.category (rights_with_job accounts me p)) (rights_clearance l.category (rights_with_job accounts me p)) (s.next_category + 1 + 1)
-  own_taken = subst (λ (x : Levels × Levels). IsTaken owner owner_clearance x.0 x.1 (next + 1 + 1)) (λ i. (sym own_is i, sym own_clearance_is i)) taken_then
+  pub own_taken : IsTaken owner owner_clearance (rights_label l.category (rights_with_job accounts me p))
+      (rights_clearance l.category (rights_with_job accounts me p)) (s.next_category + 1 + 1)
+  own_taken =
+      subst (λ (x : Levels × Levels). IsTaken owner owner_clearance x.0 x.1 (next + 1 + 1))
+      (λ i. (sym own_is i, sym own_clearance_is i)) taken_then

@@ -1,5 +1,6 @@
 -- A kill does what the flat rule of `kill` says.
-use Rattle.std.proofs.Common.{◌≡◌, ℕ, ◌&&◌, ◌||◌, Bool, true, false, List, [], ◌∷◌, ◌++◌, Option, None, Some, Result, inl, inr, refl, sym, ap, ◌∙◌, subst, length, if◌then◌else◌}
+use Rattle.std.proofs.Common.{◌≡◌, ℕ, ◌&&◌, ◌||◌, Bool, true, false, List, [], ◌∷◌, ◌++◌, Option, None, Some, Result, inl, inr, refl, sym, ap, ◌∙◌}
+use Rattle.std.proofs.Common.{subst, length, if◌then◌else◌}
 use Rattle.std.specs.FinSet as set
 use Rattle.std.specs.List.{list_all}
 use Rattle.std.specs.Prelude.{map}
@@ -95,7 +96,8 @@ owns_no_boot accounts me p =
         ∙ (λ k. among_none ReadsGroup OfBoot (λ g. refl) (groups_of accounts p.user) k || picked (is_free p) i k)
 
 -- so what the root container links is taken away by none
-module _ (accounts : Accounts) (s : State) (f : Flat) (l : ObjectsMatch accounts s f) (me : ProcName) (p : Process) (t : ℕ) (runs : RunsAs accounts s f l me p t) where
+module _ (accounts : Accounts) (s : State) (f : Flat) (l : ObjectsMatch accounts s f) (me : ProcName) (p : Process)
+    (t : ℕ) (runs : RunsAs accounts s f l me p t) where
   abbrev own_label : Levels
   own_label = rights_label l.category (thread_rights accounts me p)
 
@@ -109,7 +111,9 @@ module _ (accounts : Accounts) (s : State) (f : Flat) (l : ObjectsMatch accounts
   root = root_found accounts s f l
 
   root_seen : is_below_raised root_due own_label ≡ true
-  root_seen = ap (λ (label : Levels). is_below_raised label own_label) (root_label accounts s f l) ∙ sees_unguarded accounts me p l.category l.different boot_guard refl
+  root_seen =
+      ap (λ (label : Levels). is_below_raised label own_label) (root_label accounts s f l)
+      ∙ sees_unguarded accounts me p l.category l.different boot_guard refl
 
   root_unwritten : is_below own_label root_due ≡ false
   root_unwritten =
@@ -118,14 +122,20 @@ module _ (accounts : Accounts) (s : State) (f : Flat) (l : ObjectsMatch accounts
       ∙ (λ i. list_all (among []) (map OfJob p.chain) && (owns_no_boot accounts me p i && true)) ∙ and-false (list_all (among []) (map OfJob p.chain))
 
   home_linked : set.contains root.0 home ≡ true
-  home_linked = sym (ap (λ (found : Found). set.contains (links_in found) home) root.1) ∙ step_linked accounts s f l Home [] root_number home (l.as_booted [] root_number refl) (l.as_booted (Home ∷ []) home refl)
+  home_linked =
+      sym (ap (λ (found : Found). set.contains (links_in found) home) root.1)
+      ∙ step_linked accounts s f l Home [] root_number home (l.as_booted [] root_number refl)
+      (l.as_booted (Home ∷ []) home refl)
 
   first_kept : check s t (raw.Unlink root_number (home_number (length accounts.users))) ≡ Some Modify
   first_kept =
-      unlink_check s t own_label (rights_clearance l.category (thread_rights accounts me p)) (thread_found accounts s f l me p runs.0 runs.1 t runs.2) root_number root_due root.0 root.1 root_seen home home_linked
+      unlink_check s t own_label (rights_clearance l.category (thread_rights accounts me p))
+      (thread_found accounts s f l me p runs.0 runs.1 t runs.2) root_number root_due root.0 root.1 root_seen home
+      home_linked
       ∙ ap (λ (b : Bool). unless (b && is_below_raised root_due own_label) Modify) root_unwritten
 
-module _ (accounts : Accounts) (ok : AreAccounts accounts) (old new : KernelModel) (f : Flat) (me : ProcName) (t : ℕ) (ready : IsReady accounts (state old) f me t) (result : Result Reply Stopped) where
+module _ (accounts : Accounts) (ok : AreAccounts accounts) (old new : KernelModel) (f : Flat) (me : ProcName) (t : ℕ)
+    (ready : IsReady accounts (state old) f me t) (result : Result Reply Stopped) where
   abbrev p : Process
   p = ready.caller.process
 
@@ -141,18 +151,26 @@ module _ (accounts : Accounts) (ok : AreAccounts accounts) (old new : KernelMode
   -- what refuses the search refuses the kill
   kill_refuses : (name : ProcName) → Refuses accounts ok old new f me t ready (calls.Kill name) result name
   kill_refuses [] errno is steps among = absurd cc
-  kill_refuses (n ∷ above) errno is steps among = (ap (λ (o : Option Errno). o orelse unless (same me above) EACCES) is, has_search accounts (state old) f me t ready (n ∷ above) _ among)
+  kill_refuses (n ∷ above) errno is steps among = (
+    ap (λ (o : Option Errno). o orelse unless (same me above) EACCES) is,
+    has_search accounts (state old) f me t
+        ready (n ∷ above) _ among,
+  )
 
   -- process 0 is read, and its container is kept
   kill_of_first : Runs (kill_program (roots_of (length accounts.users)) []) old new t result → Refined []
   unfolding kill_program find_home
   kill_of_first run =
       let unlinks : RawCall = raw.Unlink root_number (home_number (length accounts.users)) in
-      search_step accounts ok old new f me t ready (calls.Kill []) result [] (λ home status. ask (raw.Unlink root_number (home_number (length accounts.users))) (λ _. Answers Done)) run (kill_refuses [])
+      search_step accounts ok old new f me t ready (calls.Kill []) result []
+      (λ home status. ask (raw.Unlink root_number (home_number (length accounts.users))) (λ _. Answers Done)) run
+      (kill_refuses [])
       (λ found first here seen mid stays chain on.
-      refused_step accounts f me ready.caller (calls.Kill []) old new t ready.thread result (calls_to []) mid chain stays ready.represents EACCES refl unlinks (λ _. Answers Done) Modify
+      refused_step accounts f me ready.caller (calls.Kill []) old new t ready.thread result (calls_to []) mid chain
+      stays ready.represents EACCES refl unlinks (λ _. Answers Done) Modify
       (ap (λ (s : State). check s t unlinks) stays ∙ first_kept accounts (state old) f l me p t (runs_as accounts (state old) f me t ready)) refl
-      (has_search accounts (state old) f me t ready [] _ (among_also old.line t (calls_to []) (calls_to []) ((unlinks, Some Modify) ∷ []) (among_granted_all old.line t (calls_to [])))) on)
+      (has_search accounts (state old) f me t ready [] _ (among_also old.line t (calls_to []) (calls_to []) ((unlinks, Some Modify) ∷ [])
+      (among_granted_all old.line t (calls_to [])))) on)
 
   -- ---- another process
 
@@ -185,7 +203,9 @@ module _ (accounts : Accounts) (ok : AreAccounts accounts) (old new : KernelMode
     abbrev call_error : Program
     call_error = ask writing_call (λ _. Answers Done)
 
-    module _ (found : not_found f p (n ∷ above) ≡ None) (child : Process) (there : f.processes (n ∷ above) ≡ Some child) (mid : KernelModel) (stays : state mid ≡ state old) (chain : Chain old t (all_granted (calls_to (n ∷ above))) mid) where
+    module _ (found : not_found f p (n ∷ above) ≡ None) (child : Process) (there : f.processes (n ∷ above) ≡ Some child)
+        (mid : KernelModel) (stays : state mid ≡ state old)
+        (chain : Chain old t (all_granted (calls_to (n ∷ above))) mid) where
       refused_by : (b : Bool) → same above me ≡ b → refused accounts f me p call ≡ unless b EACCES
       refused_by b is = λ i. found i orelse unless ((same_turned me above ∙ is) i) EACCES
 
@@ -193,13 +213,18 @@ module _ (accounts : Accounts) (ok : AreAccounts accounts) (old new : KernelMode
       said : (b : Bool) → same above me ≡ b → check (state mid) t unlinking ≡ unless b Modify
       said b is =
           ap (λ (s : State). check s t unlinking) stays
-          ∙ unlink_said accounts (state old) f l above parent here me p t (runs_as accounts (state old) f me t ready) seen (Child n) o (at_container accounts (state old) f l name child there)
+          ∙ unlink_said accounts (state old) f l above parent here me p t (runs_as accounts (state old) f me t ready)
+          seen (Child n) o (at_container accounts (state old) f l name child there)
           ∙ ap (λ (b : Bool). unless b Modify) is
 
-      module _ (mine : same above me ≡ true) (cut : KernelModel) (cuts : CutsOff (state old) C o (state cut)) (so_far : Chain old t (all_granted (calls_to name ++ unlinking ∷ [])) cut) where
+      module _ (mine : same above me ≡ true) (cut : KernelModel) (cuts : CutsOff (state old) C o (state cut))
+          (so_far : Chain old t (all_granted (calls_to name ++ unlinking ∷ [])) cut) where
         -- the caller is not below its child
         outside : under same_step (home_address (n ∷ above)) (home_address me) ≡ false
-        outside = ap (λ (x : ProcName). under same_step (home_address (n ∷ above)) (home_address x)) (sym (equal_names above me mine)) ∙ not_above same_step step_tests_equality (home_address above) (Child n)
+        outside =
+            ap (λ (x : ProcName). under same_step (home_address (n ∷ above)) (home_address x))
+            (sym (equal_names above me mine))
+            ∙ not_above same_step step_tests_equality (home_address above) (Child n)
 
         abbrev own : Levels
         own = rights_label l.category (thread_rights accounts me p)
@@ -213,49 +238,70 @@ module _ (accounts : Accounts) (ok : AreAccounts accounts) (old new : KernelMode
         write_said : check (state cut) t writing_call ≡ None
         write_said =
             let runs = runs_as accounts (state old) f me t ready in
-            write_granted (state cut) t C S own clearance due (set.remove (container_found accounts (state old) f l above parent here).0 o) (process_bytes f.processes l.naming.number above parent)
+            write_granted (state cut) t C S own clearance due
+            (set.remove (container_found accounts (state old) f l above parent here).0 o)
+            (process_bytes f.processes l.naming.number above parent)
             (thread_then accounts (state old) f l above parent here n child there me p t runs outside (state cut) cuts)
             (holder_then accounts (state old) f l above parent here n child there me p t runs outside (state cut) cuts)
             (segment_then accounts (state old) f l above parent here n child there me p t runs outside (state cut) cuts)
-            (observed accounts (state old) f l above parent here me p ∙ seen) (modified accounts (state old) f l above parent here me p ready.caller.agrees seen ∙ mine)
-            (linked_then accounts (state old) f l above parent here n child there me p t runs outside (state cut) cuts) bytes (killed_few accounts (state old) f l above parent here n)
+            (observed accounts (state old) f l above parent here me p ∙ seen)
+            (modified accounts (state old) f l above parent here me p ready.caller.agrees seen ∙ mine)
+            (linked_then accounts (state old) f l above parent here n child there me p t runs outside (state cut) cuts)
+            bytes (killed_few accounts (state old) f l above parent here n)
 
         matched_after : Represents accounts (with_segment_bytes (state cut) S bytes) (without_process f name)
         matched_after =
-            subst (λ (b : List ℕ). Represents accounts (with_segment_bytes (state cut) S b) (without_process f name)) (sym (killed_bytes accounts (state old) f l above parent here n))
-            (represents_left accounts (state old) f l above parent here n C S o (at_container accounts (state old) f l above parent here) (at_segment accounts (state old) f l above parent here) (at_container accounts (state old) f l name child there)
+            subst (λ (b : List ℕ). Represents accounts (with_segment_bytes (state cut) S b) (without_process f name))
+            (sym (killed_bytes accounts (state old) f l above parent here n))
+            (represents_left accounts (state old) f l above parent here n C S o
+            (at_container accounts (state old) f l above parent here)
+            (at_segment accounts (state old) f l above parent here)
+            (at_container accounts (state old) f l name child there)
             (state cut) cuts ready.represents.jobs_given)
 
         -- the parent's segment is written, and the call is answered
         written : Runs call_error cut new t result → Refined name
         written on =
-            granted_step accounts f me ready.caller call old new t ready.thread result (calls_to name ++ unlinking ∷ []) cut so_far writing_call (λ _. Answers Done) write_said on
+            granted_step accounts f me ready.caller call old new t ready.thread result (calls_to name ++ unlinking ∷ [])
+            cut so_far writing_call (λ _. Answers Done) write_said on
             (λ end done wrote right whole last.
             let all = (calls_to name ++ unlinking ∷ []) ++ writing_call ∷ [] in
             answered_step accounts f me ready.caller call old new t ready.thread result all end whole Done refl (refused_by true mine) tt
             (has_search accounts (state old) f me t ready name _
-            (among_then old.line t (calls_to name) (calls_to name ++ unlinking ∷ []) (writing_call ∷ []) (among_then old.line t (calls_to name) (calls_to name) (unlinking ∷ []) (among_granted_all old.line t (calls_to name)))))
+            (among_then old.line t (calls_to name) (calls_to name ++ unlinking ∷ []) (writing_call ∷ [])
+            (among_then old.line t (calls_to name) (calls_to name) (unlinking ∷ [])
+            (among_granted_all old.line t (calls_to name)))))
             (subst (λ (s : State). Represents accounts s (without_process f name)) (sym wrote.state) matched_after) last)
 
       by_kin : (b : Bool) → same above me ≡ b → Runs (ask unlinking (λ _. call_error)) mid new t result → Refined name
       by_kin false is on =
-          refused_step accounts f me ready.caller call old new t ready.thread result (calls_to name) mid chain stays ready.represents EACCES (refused_by false is) unlinking (λ _. call_error) Modify (said false is) refl
-          (has_search accounts (state old) f me t ready name _ (among_also old.line t (calls_to name) (calls_to name) ((unlinking, Some Modify) ∷ []) (among_granted_all old.line t (calls_to name)))) on
+          refused_step accounts f me ready.caller call old new t ready.thread result (calls_to name) mid chain stays
+          ready.represents EACCES (refused_by false is) unlinking (λ _. call_error) Modify (said false is) refl
+          (has_search accounts (state old) f me t ready name _ (among_also old.line t (calls_to name) (calls_to name)
+          ((unlinking, Some Modify) ∷ []) (among_granted_all old.line t (calls_to name)))) on
       by_kin true is on =
-          granted_step accounts f me ready.caller call old new t ready.thread result (calls_to name) mid chain unlinking (λ _. call_error) (said true is) on
+          granted_step accounts f me ready.caller call old new t ready.thread result (calls_to name) mid chain unlinking
+          (λ _. call_error) (said true is) on
           (λ cut done called right so_far rest. written is cut (subst (λ (s : State). CutsOff s C o (state cut)) stays called.state) so_far rest)
 
   -- the parent is found, then the child, which is taken away
-  kill_is_refined : (n : ℕ) (above : ProcName) → Runs (kill_program (roots_of (length accounts.users)) (n ∷ above)) old new t result → Refined (n ∷ above)
+  kill_is_refined : (n : ℕ) (above : ProcName)
+      → Runs (kill_program (roots_of (length accounts.users)) (n ∷ above)) old new t result → Refined (n ∷ above)
   unfolding kill_program
   kill_is_refined n above run =
       search_step accounts ok old new f me t ready (calls.Kill (n ∷ above)) result above
-      (λ home status. given (must_be_there (child_at status.children n)) (λ child. read_status (child_home child) (λ _. ask (raw.Unlink home.container child.container) (λ _. ask (raw.Write home.container home.segment 0 (status_bytes (without_child n status))) (λ _. Answers Done))))) run
+      (λ home status. given (must_be_there (child_at status.children n))
+      (λ child. read_status (child_home child) (λ _. ask (raw.Unlink home.container child.container) (λ _.
+      ask (raw.Write home.container home.segment 0 (status_bytes (without_child n status)))
+      (λ _. Answers Done))))) run
       (parent_refuses accounts ok old new f me t ready (calls.Kill (n ∷ above)) result n above (kill_refuses (n ∷ above)))
       (λ found parent here seen mid stays chain on.
-      child_step accounts ok old new f me t ready (calls.Kill (n ∷ above)) result n above (λ place status. ask (raw.Unlink (where_is accounts (state old) f l above).container place.container) (λ _. call_error n above parent here seen))
+      child_step accounts ok old new f me t ready (calls.Kill (n ∷ above)) result n above
+      (λ place status. ask (raw.Unlink (where_is accounts (state old) f l above).container place.container)
+      (λ _. call_error n above parent here seen))
       (kill_refuses (n ∷ above))
-      (λ child_found child there sees_child mid stays chain on. by_kin n above parent here seen child_found child there mid stays chain (same above me) refl on)
+      (λ child_found child there sees_child mid stays chain on.
+      by_kin n above parent here seen child_found child there mid stays chain (same above me) refl on)
       found parent here mid stays chain on)
 
 -- a kill does what its flat rule says

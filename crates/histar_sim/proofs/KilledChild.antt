@@ -1,5 +1,6 @@
 -- A child is taken out of its parent's container, with all below it: what stands there then, and what is written of its parent.
-use Rattle.std.proofs.Common.{◌≡◌, ◌≢◌, ℕ, ◌≤◌, ◌==◌, ◌&&◌, ◌||◌, Bool, true, false, cond, List, [], ◌∷◌, None, Some, inl, inr, refl, sym, ap, ◌∙◌, subst, map, length, if◌then◌else◌}
+use Rattle.std.proofs.Common.{◌≡◌, ◌≢◌, ℕ, ◌≤◌, ◌==◌, ◌&&◌, ◌||◌, Bool, true, false, cond, List, [], ◌∷◌, None, Some, inl, inr, refl, sym, ap, ◌∙◌}
+use Rattle.std.proofs.Common.{subst, map, length, if◌then◌else◌}
 use Rattle.std.specs.FinSet as set
 use Rattle.std.specs.Prelude.{nat_eq, not, is_some, option_map}
 use Rattle.std.specs.List.{filter, range_with_len}
@@ -41,7 +42,9 @@ use Rattle.histar_sim.proofs.OwnSegment.{status_few, listed_few, thread_apart, s
 
 -- ---- lists of children
 
-module _ (me : ProcName) (n : ℕ) (number numbers : AddressNumbers) (test later : ℕ → Bool) (gone : later n ≡ false) (stays : (k : ℕ) → k ≢ n → later k ≡ test k) (same : (k : ℕ) → k ≢ n → listed_by number me k ≡ listed_by numbers me k) where
+module _ (me : ProcName) (n : ℕ) (number numbers : AddressNumbers) (test later : ℕ → Bool) (gone : later n ≡ false)
+    (stays : (k : ℕ) → k ≢ n → later k ≡ test k)
+    (same : (k : ℕ) → k ≢ n → listed_by number me k ≡ listed_by numbers me k) where
   abbrev is_other : Listed → Bool
   is_other child = not (child.number == n)
 
@@ -63,7 +66,9 @@ module _ (me : ProcName) (n : ℕ) (number numbers : AddressNumbers) (test later
   drops k ks is false = refl
 
   keeps : (k : ℕ) (ks : List ℕ) → (k == n) ≡ false → k ≢ n → others_of ks ≡ left_of ks → (b : Bool) → others_by k ks b ≡ left_by k ks b
-  keeps k ks is other rest true = ap (λ (t : Bool). cond (not t) (listed_by number me k ∷ others_of ks) (others_of ks)) is ∙ (λ i. same k other i ∷ rest i)
+  keeps k ks is other rest true =
+      ap (λ (t : Bool). cond (not t) (listed_by number me k ∷ others_of ks) (others_of ks)) is
+      ∙ (λ i. same k other i ∷ rest i)
   keeps k ks is other rest false = rest
 
   -- the children but for one are those that are there without it
@@ -76,7 +81,8 @@ module _ (me : ProcName) (n : ℕ) (number numbers : AddressNumbers) (test later
 
 -- ---- in a state that is represented
 
-module _ (accounts : Accounts) (s : State) (f : Flat) (l : ObjectsMatch accounts s f) (me : ProcName) (p : Process) (here : f.processes me ≡ Some p) (n : ℕ) where
+module _ (accounts : Accounts) (s : State) (f : Flat) (l : ObjectsMatch accounts s f) (me : ProcName) (p : Process)
+    (here : f.processes me ≡ Some p) (n : ℕ) where
   abbrev top : ProcName
   top = n ∷ me
 
@@ -110,24 +116,37 @@ module _ (accounts : Accounts) (s : State) (f : Flat) (l : ObjectsMatch accounts
   ]
 
   child_same : (k : ℕ) → k ≢ n → listed_by l.naming.number me k ≡ listed_by naming.number me k
-  child_same k other = λ i. record { number = k; container = or_zero (kept (home_address (k ∷ me)) (child_outside k other) i); segment = or_zero (kept (Status ∷ home_address (k ∷ me)) (child_outside k other) i) }
+  child_same k other =
+      λ i. record {
+        number = k;
+        container = or_zero (kept (home_address (k ∷ me)) (child_outside k other) i);
+        segment = or_zero (kept (Status ∷ home_address (k ∷ me)) (child_outside k other) i);
+      }
 
   -- What is written of the parent is what the flat state without the child asks for.
-  pub killed_bytes : status_bytes (without_child n (status_by f.processes l.naming.number me p)) ≡ process_bytes (without_process f (n ∷ me)).processes (without_below same_step l.naming (home_address (n ∷ me))).number me p
+  pub killed_bytes : status_bytes (without_child n (status_by f.processes l.naming.number me p))
+      ≡ process_bytes (without_process f (n ∷ me)).processes
+      (without_below same_step l.naming (home_address (n ∷ me))).number me p
   killed_bytes = λ i. status_bytes (record {
     exited = p.exited;
     born = p.born;
     internal = or_zero (kept (Inside ∷ home_address me) parent_outside i);
     thread = or_zero (kept (Runner ∷ Inside ∷ home_address me) parent_outside i);
-    children = others_left me n l.naming.number naming.number (λ k. is_some (f.processes (k ∷ me))) (λ k. is_some (after.processes (k ∷ me))) child_gone child_stays child_same (range_with_len 1 p.born) i;
+    children =
+        others_left me n l.naming.number naming.number (λ k. is_some (f.processes (k ∷ me)))
+        (λ k. is_some (after.processes (k ∷ me))) child_gone child_stays child_same (range_with_len 1 p.born) i;
   })
 
   -- it is few bytes
   pub killed_few : length (status_bytes (without_child n (status_by f.processes l.naming.number me p))) ≤ 4096
-  killed_few = subst (λ (b : List ℕ). length b ≤ 4096) (sym killed_bytes) (status_few (status_by after.processes naming.number me p) (listed_few after.processes naming.number me p.born (l.processes me p here).few))
+  killed_few =
+      subst (λ (b : List ℕ). length b ≤ 4096) (sym killed_bytes) (status_few (status_by after.processes naming.number me p)
+      (listed_few after.processes naming.number me p.born (l.processes me p here).few))
 
   -- the state once the child was taken out of the container
-  module _ (child : Process) (there : f.processes (n ∷ me) ≡ Some child) (caller : ProcName) (q : Process) (t : ℕ) (runs : RunsAs accounts s f l caller q t) (outside : under same_step (home_address (n ∷ me)) (home_address caller) ≡ false)
+  module _ (child : Process) (there : f.processes (n ∷ me) ≡ Some child) (caller : ProcName) (q : Process) (t : ℕ)
+      (runs : RunsAs accounts s f l caller q t)
+      (outside : under same_step (home_address (n ∷ me)) (home_address caller) ≡ false)
       (cut : State) (cuts : CutsOff s (where_is accounts s f l me).container (where_is accounts s f l (n ∷ me)).container cut) where
     abbrev C : ℕ
     C = (where_is accounts s f l me).container
@@ -163,25 +182,43 @@ module _ (accounts : Accounts) (s : State) (f : Flat) (l : ObjectsMatch accounts
     at_victim = at_container accounts s f l (n ∷ me) child there
 
     -- what lies elsewhere is as it was, but for the container
-    remains : (b : Address Step) (k : ℕ) → l.naming.number b ≡ Some k → under same_step (home_address top) b ≡ false → k ≢ C → cut.objects k ≡ s.objects k
+    remains : (b : Address Step) (k : ℕ) → l.naming.number b ≡ Some k → under same_step (home_address top) b ≡ false
+        → k ≢ C → cut.objects k ≡ s.objects k
     remains b k at_k out other =
-        cuts.is_cut.stays k (not_reached same_step step_tests_equality s.objects s.next_object (objects_at s.objects l.naming) l.naming l.agrees.tree o (home_address top) (l.agrees.tree.addressed (home_address top) o at_victim) k
+        cuts.is_cut.stays k
+        (not_reached same_step step_tests_equality s.objects s.next_object (objects_at s.objects l.naming) l.naming
+        l.agrees.tree o (home_address top) (l.agrees.tree.addressed (home_address top) o at_victim) k
         (ap (is_under same_step (home_address top)) (l.agrees.tree.addressed b k at_k) ∙ out)) other
 
-    pub thread_then : cut.objects t ≡ object (rights_label l.category (thread_rights accounts caller q)) (Thread (rights_clearance l.category (thread_rights accounts caller q)))
-    thread_then = remains (Runner ∷ Inside ∷ home_address caller) t runs.2 outside (thread_apart s t C S own clearance due links _ thread_is holder_is segment_is) ∙ thread_is
+    pub thread_then : cut.objects t
+        ≡ object (rights_label l.category (thread_rights accounts caller q))
+        (Thread (rights_clearance l.category (thread_rights accounts caller q)))
+    thread_then =
+        remains (Runner ∷ Inside ∷ home_address caller) t runs.2 outside
+        (thread_apart s t C S own clearance due links _ thread_is holder_is segment_is) ∙ thread_is
 
-    pub segment_then : cut.objects (where_is accounts s f l me).segment ≡ object (guard_label l.category (process_guard me p)) (Segment (process_bytes f.processes l.naming.number me p))
-    segment_then = remains (Status ∷ home_address me) S (at_segment accounts s f l me p here) parent_outside (segment_apart s t C S own clearance due links _ thread_is holder_is segment_is) ∙ segment_is
+    pub segment_then : cut.objects (where_is accounts s f l me).segment
+        ≡ object (guard_label l.category (process_guard me p))
+        (Segment (process_bytes f.processes l.naming.number me p))
+    segment_then =
+        remains (Status ∷ home_address me) S (at_segment accounts s f l me p here) parent_outside
+        (segment_apart s t C S own clearance due links _ thread_is holder_is segment_is) ∙ segment_is
 
-    pub holder_then : cut.objects (where_is accounts s f l me).container ≡ object (guard_label l.category (process_guard me p)) (Container (set.remove (container_found accounts s f l me p here).0 (where_is accounts s f l (n ∷ me)).container))
+    pub holder_then : cut.objects (where_is accounts s f l me).container
+        ≡ object (guard_label l.category (process_guard me p)) (Container
+        (set.remove (container_found accounts s f l me p here).0 (where_is accounts s f l (n ∷ me)).container))
     holder_then = cuts.is_cut.unlinked ∙ ap (option_map (unlinking o)) holder_is
 
     -- the parent's segment is another object than the child's container, and is still linked
     segment_other : S ≢ o
-    segment_other e = let same = one_address same_step step_tests_equality s l.naming (expected accounts l.category f l.naming.number) l.agrees (Status ∷ home_address me) (home_address top) S (at_segment accounts s f l me p here) (at_victim ∙ ap Some (sym e)) in absurd cc
+    segment_other e =
+        let same = one_address same_step step_tests_equality s l.naming (expected accounts l.category f l.naming.number)
+        l.agrees (Status ∷ home_address me) (home_address top) S (at_segment accounts s f l me p here)
+        (at_victim ∙ ap Some (sym e)) in absurd cc
 
-    pub linked_then : set.contains (set.remove (container_found accounts s f l me p here).0 (where_is accounts s f l (n ∷ me)).container) (where_is accounts s f l me).segment ≡ true
+    pub linked_then : set.contains
+        (set.remove (container_found accounts s f l me p here).0 (where_is accounts s f l (n ∷ me)).container)
+        (where_is accounts s f l me).segment ≡ true
     linked_then =
         unlinked_links (Some (record { label = due; kind = Container links })) o S
         ∙ (λ i. not (ne_eqb S o segment_other i) && step_below accounts s f l me p here Status S (at_segment accounts s f l me p here) i)

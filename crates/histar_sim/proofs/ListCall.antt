@@ -29,7 +29,8 @@ use Rattle.histar_sim.specs.Laws.{ListRefines}
 use Rattle.histar_sim.proofs.Steps.{Goal, answered_step}
 use Rattle.histar_sim.proofs.Walks.{walk_reads, has_way, among_granted_all, walk_step}
 
-module _ (accounts : Accounts) (ok : AreAccounts accounts) (old new : KernelModel) (f : Flat) (me : ProcName) (t : ℕ) (ready : IsReady accounts (state old) f me t) (path : Path) (result : Result Reply Stopped) where
+module _ (accounts : Accounts) (ok : AreAccounts accounts) (old new : KernelModel) (f : Flat) (me : ProcName) (t : ℕ)
+    (ready : IsReady accounts (state old) f me t) (path : Path) (result : Result Reply Stopped) where
   abbrev call : UnixCall
   call = calls.List path
 
@@ -37,20 +38,26 @@ module _ (accounts : Accounts) (ok : AreAccounts accounts) (old new : KernelMode
   refused_is : (q : Path) → refused accounts f me ready.caller.process (calls.List q) ≡ into accounts f ready.caller.process q
   refused_is [] =
       let root = (root_is_dir accounts (state old) f ready.represents.matched).1 in
-      λ i. unless (is_some_and (root i) (λ n. true)) ENOENT orelse unless (is_some_and (root i) is_dir) ENOTDIR orelse unless (reads accounts f ready.caller.process []) EACCES
+      λ i. unless (is_some_and (root i) (λ n. true)) ENOENT orelse unless (is_some_and (root i) is_dir) ENOTDIR
+      orelse unless (reads accounts f ready.caller.process []) EACCES
   refused_is (n ∷ d) = refl
 
   names_are : names_in (directory_of f.files ready.represents.matched.naming.number path) ≡ entries_in f path
-  names_are = names_directory f ready.represents.matched.naming.number path (λ n there at. entry_leads accounts (state old) f ready.represents.matched (n ∷ path) there at)
+  names_are =
+      names_directory f ready.represents.matched.naming.number path
+      (λ n there at. entry_leads accounts (state old) f ready.represents.matched (n ∷ path) there at)
 
-  list_is_refined : Runs (list_program (roots_of (length accounts.users)) path) old new t result → Goal accounts f me ready.caller call old new t ready.thread result
+  list_is_refined : Runs (list_program (roots_of (length accounts.users)) path) old new t result
+      → Goal accounts f me ready.caller call old new t ready.thread result
   unfolding list_program
   list_is_refined run =
       let walk = walk_reads accounts ok (state old) f me t ready path in
       walk_step accounts ok old new f me t ready call result path (λ directory. Answers (Entries (names_in directory.entries))) run
       (λ errno is steps among. (refused_is path ∙ is, has_way accounts ok (state old) f me t ready path _ among))
       (λ open_so_far mid stays chain on.
-      answered_step accounts f me ready.caller call old new t ready.thread result walk mid chain (Entries (names_in (directory_of f.files ready.represents.matched.naming.number path))) (ap Entries names_are) (refused_is path ∙ open_so_far) tt
+      answered_step accounts f me ready.caller call old new t ready.thread result walk mid chain
+      (Entries (names_in (directory_of f.files ready.represents.matched.naming.number path))) (ap Entries names_are)
+      (refused_is path ∙ open_so_far) tt
       (has_way accounts ok (state old) f me t ready path _ (among_granted_all old.line t walk))
       (subst (λ (s : State). Represents accounts s f) (sym stays) ready.represents) on)
 

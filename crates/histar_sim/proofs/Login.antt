@@ -1,5 +1,6 @@
 -- A login is the row of its call: the gate keeps out who is in a job; else its raw calls are granted by the lemmas of the refinement, and it ends as the user or as it was.
-use Rattle.std.proofs.Common.{◌≡◌, ℕ, ◌+◌, ◌≤◌, Bool, true, false, List, [], ◌∷◌, ◌++◌, length, Option, None, Some, Result, inl, inr, refl, sym, ap, ◌∙◌, subst}
+use Rattle.std.proofs.Common.{◌≡◌, ℕ, ◌+◌, ◌≤◌, Bool, true, false, List, [], ◌∷◌, ◌++◌, length, Option, None, Some, Result, inl, inr, refl, sym, ap}
+use Rattle.std.proofs.Common.{◌∙◌, subst}
 use Rattle.std.specs.Prelude.{option_map, is_some}
 use Rattle.std.specs.Str.{bytes_eq}
 use Rattle.std.proofs.lemmas.Option.{same_Some}
@@ -37,7 +38,8 @@ use Rattle.histar_calls.specs.Parts.{◌>>=◌, ◌>>◌, ask}
 use Rattle.histar_process.specs.declared.caller.Caller.{Caller}
 use Rattle.histar_process.specs.Caller.{caller_at}
 use Rattle.histar_login.specs.Start.{roots_of, owners_label, owners_clearance}
-use Rattle.histar_login.specs.Login.{place_of, password_of, gate_of, user_label, user_clearance, entering, label_if, clearance_if, reply_if, login_at, login_as_program}
+use Rattle.histar_login.specs.Login.{place_of, password_of, gate_of, user_label, user_clearance, entering, label_if, clearance_if, reply_if, login_at}
+use Rattle.histar_login.specs.Login.{login_as_program}
 use Rattle.histar_refinement.specs.Categories.{CategoryName, among}
 use Rattle.histar_refinement.specs.Categories.CategoryName.{ReadsProcess, WritesProcess}
 use Rattle.histar_refinement.specs.Guards.{Rights, rights_label, rights_clearance}
@@ -49,7 +51,8 @@ use Rattle.histar_refinement.proofs.Agreeing.{thread_found}
 use Rattle.histar_refinement.proofs.StatusFound.{thread_back}
 use Rattle.histar_refinement.proofs.LeftObjects.{password_found, unnumbered_user}
 use Rattle.histar_refinement.proofs.CallerFound.{caller_found}
-use Rattle.histar_refinement.proofs.LoginChecks.{more, wanted, limit, entered, as_user, enter_said, read_password_said, user_owns_less, own_owns_less, set_label_said, relabelled_state, set_clearance_said}
+use Rattle.histar_refinement.proofs.LoginChecks.{more, wanted, limit, entered, as_user, enter_said, read_password_said, user_owns_less, own_owns_less}
+use Rattle.histar_refinement.proofs.LoginChecks.{set_label_said, relabelled_state, set_clearance_said}
 use Rattle.histar_refinement.proofs.LoggingIn.{represents_login}
 use Rattle.histar_refinement.proofs.GateLabels.{gate_label_is, gate_clearance_is}
 use Rattle.histar_refinement.proofs.CallLabels.{equal_bytes, number_by_place, user_label_is, user_clearance_is}
@@ -65,8 +68,10 @@ use Rattle.histar_sim.proofs.Steps.{granted_step, refused_step, refused_at_once,
 free_by_chain : (p : Process) (chain : List ProcName) → p.chain ≡ chain → is_free p ≡ elim chain as (λ _. Bool) [ [] ↦ true | job ∷ jobs ↦ false ]
 free_by_chain p chain e = λ i. elim (e i) as (λ _. Bool) [ [] ↦ true | job ∷ jobs ↦ false ]
 
-module _ (accounts : Accounts) (name : Name) (password : Password) (me : ProcName) (caller : Caller) (old new : KernelModel) (f : Flat) (result : Result Reply Stopped)
-    (ready : IsReady accounts (state old) f me caller.thread) (found : caller_at (state old) (roots_of (length accounts.users)).home me ≡ Some caller) where
+module _ (accounts : Accounts) (name : Name) (password : Password) (me : ProcName) (caller : Caller)
+    (old new : KernelModel) (f : Flat) (result : Result Reply Stopped)
+    (ready : IsReady accounts (state old) f me caller.thread)
+    (found : caller_at (state old) (roots_of (length accounts.users)).home me ≡ Some caller) where
   abbrev t : ℕ
   t = caller.thread
 
@@ -94,16 +99,20 @@ module _ (accounts : Accounts) (name : Name) (password : Password) (me : ProcNam
 
   -- what the flat rules refuse, in their order
   abbrev refusal : Option User → Bool → Option Errno
-  refusal found alone = unless (is_some found) ENOENT orelse unless alone EACCES orelse unless (is_some_and found (λ (u : User). same u.password password)) EAUTH
+  refusal found alone =
+      unless (is_some found) ENOENT orelse unless alone EACCES
+      orelse unless (is_some_and found (λ (u : User). same u.password password)) EAUTH
 
-  refused_is : (found : Option User) (alone : Bool) → user_named accounts.users name ≡ found → is_free p ≡ alone → refused accounts f me p call ≡ refusal found alone
+  refused_is : (found : Option User) (alone : Bool) → user_named accounts.users name ≡ found → is_free p ≡ alone
+      → refused accounts f me p call ≡ refusal found alone
   refused_is found alone named alone_is = λ i. refusal (named i) (alone_is i)
 
   -- no user has the name
   unknown : place_of accounts.users name ≡ None → Runs (Answers (Refused ENOENT)) old new t result → Goal
   unknown nowhere runs =
       refused_at_once accounts f me ready.caller call old new t ready.thread result [] old (same_kernel old) refl ready.represents ENOENT
-      (refused_is None (is_free p) (unnumbered_user accounts name (number_by_place accounts name ∙ ap (option_map (λ place. place + 1)) nowhere)) refl) refl refl
+      (refused_is None (is_free p) (unnumbered_user accounts name
+      (number_by_place accounts name ∙ ap (option_map (λ place. place + 1)) nowhere)) refl) refl refl
       (subst (λ (o : Option ℕ). AreAmong (reads_of_login accounts o false) []) (sym nowhere) tt) runs
 
   module _ (place : ℕ) (at_place : place_of accounts.users name ≡ Some place) where
@@ -142,7 +151,10 @@ module _ (accounts : Accounts) (name : Name) (password : Password) (me : ProcNam
 
     -- behind the gate the password is what it was
     password_then : bytes_in (behind.objects (password_of (place + 1))) ≡ user.0.password
-    password_then = kept_bytes (state old) t own clearance thread (wanted accounts (state old) f l me p t runs_as name (place + 1) numbered) (limit accounts (state old) f l me p t runs_as name (place + 1) numbered) (password_of (place + 1)) ∙ user.2
+    password_then =
+        kept_bytes (state old) t own clearance thread
+        (wanted accounts (state old) f l me p t runs_as name (place + 1) numbered)
+        (limit accounts (state old) f l me p t runs_as name (place + 1) numbered) (password_of (place + 1)) ∙ user.2
 
     abbrev process_then : Process
     process_then = as_user accounts (state old) f l me p t runs_as name (place + 1) numbered
@@ -161,7 +173,8 @@ module _ (accounts : Accounts) (name : Name) (password : Password) (me : ProcNam
     -- the gate lets in exactly who is in no job
     enters_said : check (state old) t enters ≡ unless (is_free p) Gate
     enters_said =
-        (λ k. check (state old) t (Enter root_number (gate_of (place + 1)) (floor_of own (sym gate_label k)) (join_of clearance (sym gate_clearance k)) own))
+        (λ k. check (state old) t (Enter root_number (gate_of (place + 1)) (floor_of own (sym gate_label k))
+        (join_of clearance (sym gate_clearance k)) own))
         ∙ enter_said accounts (state old) f l me p t runs_as name (place + 1) numbered
 
     -- behind it the thread has the labels that the code asks for
@@ -189,36 +202,61 @@ module _ (accounts : Accounts) (name : Name) (password : Password) (me : ProcNam
     all_calls right = OwnLabel ∷ enters ∷ reads ∷ takes_label right ∷ takes_clearance right ∷ []
 
     -- the read of the password is among them
-    among_calls : (right : Bool) → AreAmong (reads_of_login accounts (place_of accounts.users name) true) (entries_of old.line t (all_granted (all_calls right)))
-    among_calls right = subst (λ (o : Option ℕ). AreAmong (reads_of_login accounts o true) (entries_of old.line t (all_granted (all_calls right)))) (sym at_place) (inr (inr (inl (refl, tt))))
+    among_calls : (right : Bool)
+        → AreAmong (reads_of_login accounts (place_of accounts.users name) true)
+        (entries_of old.line t (all_granted (all_calls right)))
+    among_calls right =
+        subst (λ (o : Option ℕ).
+        AreAmong (reads_of_login accounts o true) (entries_of old.line t (all_granted (all_calls right))))
+        (sym at_place) (inr (inr (inl (refl, tt))))
 
     -- labels of rights that are no more than the thread has behind the gate are taken
-    module _ (right : Bool) (r : Rights) (owned : (c : CategoryName) → among r.owned c ≡ true → among (more accounts (state old) f l me p t runs_as name (place + 1) numbered).owned c ≡ true)
-        (fewer : (c : CategoryName) → among r.tainted c ≡ true → among (thread_rights accounts me p).tainted c ≡ true) (as_many : (c : CategoryName) → among (thread_rights accounts me p).tainted c ≡ true → among r.tainted c ≡ true)
-        (label_is : label_if right caller owners own ≡ rights_label l.category r) (clearance_is : clearance_if right caller owners clearance ≡ rights_clearance l.category r)
+    module _ (right : Bool) (r : Rights) (owned : (c : CategoryName) → among r.owned c ≡ true
+        → among (more accounts (state old) f l me p t runs_as name (place + 1) numbered).owned c ≡ true)
+        (fewer : (c : CategoryName) → among r.tainted c ≡ true → among (thread_rights accounts me p).tainted c ≡ true)
+        (as_many : (c : CategoryName) → among (thread_rights accounts me p).tainted c ≡ true
+        → among r.tainted c ≡ true)
+        (label_is : label_if right caller owners own ≡ rights_label l.category r)
+        (clearance_is : clearance_if right caller owners clearance ≡ rights_clearance l.category r)
         (mid : KernelModel) (so_far : Chain old t (all_granted (OwnLabel ∷ enters ∷ reads ∷ [])) mid) (at : state mid ≡ behind) where
       abbrev after_label : State
       after_label = relabelled_state accounts (state old) f l me p t runs_as name (place + 1) numbered r owned fewer as_many
 
       -- what comes after the labels were taken
       abbrev GoesOn : Type 0
-      GoesOn = (later : KernelModel) → Chain old t (all_granted (all_calls right)) later → state later ≡ with_own (state old) t (rights_label l.category r) (rights_clearance l.category r) → Runs (Answers (reply_if right)) later new t result → Goal
+      GoesOn =
+          (later : KernelModel) → Chain old t (all_granted (all_calls right)) later
+          → state later ≡ with_own (state old) t (rights_label l.category r) (rights_clearance l.category r)
+          → Runs (Answers (reply_if right)) later new t result → Goal
 
       -- the clearance behind the label
-      cleared : (labelled : KernelModel) → Chain old t (all_granted (OwnLabel ∷ enters ∷ reads ∷ takes_label right ∷ [])) labelled → state labelled ≡ after_label → Runs (ask (takes_clearance right) (λ _. Answers (reply_if right))) labelled new t result → GoesOn → Goal
+      cleared : (labelled : KernelModel)
+          → Chain old t (all_granted (OwnLabel ∷ enters ∷ reads ∷ takes_label right ∷ [])) labelled
+          → state labelled ≡ after_label
+          → Runs (ask (takes_clearance right) (λ _. Answers (reply_if right))) labelled new t result → GoesOn → Goal
       cleared labelled chain is runs go_on =
-          granted_step accounts f me ready.caller call old new t ready.thread result (OwnLabel ∷ enters ∷ reads ∷ takes_label right ∷ []) labelled chain (takes_clearance right) (λ _. Answers (reply_if right))
-          ((λ k. check (is k) t (SetClearance (clearance_is k))) ∙ set_clearance_said accounts (state old) f l me p t runs_as name (place + 1) numbered r owned fewer as_many) runs
+          granted_step accounts f me ready.caller call old new t ready.thread result
+          (OwnLabel ∷ enters ∷ reads ∷ takes_label right ∷ []) labelled chain (takes_clearance right)
+          (λ _. Answers (reply_if right))
+          ((λ k. check (is k) t (SetClearance (clearance_is k)))
+          ∙ set_clearance_said accounts (state old) f l me p t runs_as name (place + 1) numbered r owned fewer
+          as_many) runs
           (λ later done called revealed longer answers. go_on later longer
           (called.state ∙ (λ k. with_changed (is k) t (with_clearance (clearance_is k)))
-          ∙ labels_taken (state old) t (wanted accounts (state old) f l me p t runs_as name (place + 1) numbered) (limit accounts (state old) f l me p t runs_as name (place + 1) numbered) (rights_label l.category r) (rights_clearance l.category r))
+          ∙ labels_taken (state old) t (wanted accounts (state old) f l me p t runs_as name (place + 1) numbered)
+          (limit accounts (state old) f l me p t runs_as name (place + 1) numbered) (rights_label l.category r)
+          (rights_clearance l.category r))
           answers)
 
       taken : Runs (taking right) mid new t result → GoesOn → Goal
       taken runs go_on =
-          granted_step accounts f me ready.caller call old new t ready.thread result (OwnLabel ∷ enters ∷ reads ∷ []) mid so_far (takes_label right) (λ _. ask (takes_clearance right) (λ _. Answers (reply_if right)))
-          ((λ k. check (at k) t (SetLabel (label_is k))) ∙ set_label_said accounts (state old) f l me p t runs_as name (place + 1) numbered r owned fewer as_many) runs
-          (λ labelled done called revealed chain clears. cleared labelled chain (called.state ∙ λ k. with_changed (at k) t (with_label (label_is k))) clears go_on)
+          granted_step accounts f me ready.caller call old new t ready.thread result (OwnLabel ∷ enters ∷ reads ∷ [])
+          mid so_far (takes_label right) (λ _. ask (takes_clearance right) (λ _. Answers (reply_if right)))
+          ((λ k. check (at k) t (SetLabel (label_is k)))
+          ∙ set_label_said accounts (state old) f l me p t runs_as name (place + 1) numbered r owned fewer
+          as_many) runs
+          (λ labelled done called revealed chain clears.
+          cleared labelled chain (called.state ∙ λ k. with_changed (at k) t (with_label (label_is k))) clears go_on)
 
     -- the program behind the gate
     abbrev reading : Program
@@ -232,52 +270,78 @@ module _ (accounts : Accounts) (name : Name) (password : Password) (me : ProcNam
       -- the labels that the code takes are those of the user's process
       user_takes : user_label caller owners ≡ rights_label l.category (thread_rights accounts me process_then)
       user_takes = sym (user_label_is accounts (state old) f l me caller own_reads own_writes name (place + 1) numbered p.exited p.born)
-          ∙ λ k. rights_label l.category (thread_rights accounts me (record { user = name; chain = sym in_none k; held = []; exited = p.exited; born = p.born }))
+          ∙ λ k. rights_label l.category (thread_rights accounts me
+          (record { user = name; chain = sym in_none k; held = []; exited = p.exited; born = p.born }))
 
       user_clears : user_clearance caller owners ≡ rights_clearance l.category (thread_rights accounts me process_then)
       user_clears = sym (user_clearance_is accounts (state old) f l me caller own_reads own_writes name (place + 1) numbered p.exited p.born)
-          ∙ λ k. rights_clearance l.category (thread_rights accounts me (record { user = name; chain = sym in_none k; held = []; exited = p.exited; born = p.born }))
+          ∙ λ k. rights_clearance l.category (thread_rights accounts me
+          (record { user = name; chain = sym in_none k; held = []; exited = p.exited; born = p.born }))
 
       refused_by : (right : Bool) → same user.0.password password ≡ right → refused accounts f me p call ≡ unless right EAUTH
       refused_by right is = refused_is (Some user.0) true user.1 alone ∙ ap (λ (b : Bool). unless b EAUTH) is
 
       -- behind the gate, by whether the password is right
-      ends : (right : Bool) → same user.0.password password ≡ right → (mid : KernelModel) → Chain old t (all_granted (OwnLabel ∷ enters ∷ reads ∷ [])) mid → state mid ≡ behind → Runs (taking right) mid new t result → Goal
+      ends : (right : Bool) → same user.0.password password ≡ right → (mid : KernelModel)
+          → Chain old t (all_granted (OwnLabel ∷ enters ∷ reads ∷ [])) mid → state mid ≡ behind
+          → Runs (taking right) mid new t result → Goal
       ends true is mid so_far at runs =
-          taken true (thread_rights accounts me process_then) (user_owns_less accounts (state old) f l me p t runs_as name (place + 1) numbered) (λ c e. e) (λ c e. e) user_takes user_clears mid so_far at runs
+          taken true (thread_rights accounts me process_then)
+          (user_owns_less accounts (state old) f l me p t runs_as name (place + 1) numbered) (λ c e. e) (λ c e. e)
+          user_takes user_clears mid so_far at runs
           (λ later chain later_is answers.
-          answered_step accounts f me ready.caller call old new t ready.thread result (all_calls true) later chain Done refl (refused_by true is) tt (among_calls true)
-          (subst (λ (s : State). Represents accounts s (with_process f me process_then)) (sym later_is) (represents_login accounts (state old) f ready.represents me p runs_as.0 runs_as.1 name (ap is_some numbered) t runs_as.2)) answers)
+          answered_step accounts f me ready.caller call old new t ready.thread result (all_calls true) later chain Done
+          refl (refused_by true is) tt (among_calls true)
+          (subst (λ (s : State). Represents accounts s (with_process f me process_then)) (sym later_is)
+          (represents_login accounts (state old) f ready.represents me p runs_as.0 runs_as.1 name
+          (ap is_some numbered) t runs_as.2)) answers)
       ends false is mid so_far at runs =
-          taken false (thread_rights accounts me p) (own_owns_less accounts (state old) f l me p t runs_as name (place + 1) numbered) (λ c e. e) (λ c e. e) refl refl mid so_far at runs
+          taken false (thread_rights accounts me p)
+          (own_owns_less accounts (state old) f l me p t runs_as name (place + 1) numbered) (λ c e. e) (λ c e. e)
+          refl refl mid so_far at runs
           (λ later chain later_is answers.
-          refused_at_once accounts f me ready.caller call old new t ready.thread result (all_calls false) later chain (later_is ∙ labels_back (state old) t own clearance thread) ready.represents EAUTH (refused_by false is) refl refl (among_calls false) answers)
+          refused_at_once accounts f me ready.caller call old new t ready.thread result (all_calls false) later chain
+          (later_is ∙ labels_back (state old) t own clearance thread) ready.represents EAUTH (refused_by false is)
+          refl refl (among_calls false) answers)
 
       -- the password is read
-      from_gate : (inside : KernelModel) → Chain old t (all_granted (OwnLabel ∷ enters ∷ [])) inside → state inside ≡ behind → Runs reading inside new t result → Goal
+      from_gate : (inside : KernelModel) → Chain old t (all_granted (OwnLabel ∷ enters ∷ [])) inside
+          → state inside ≡ behind → Runs reading inside new t result → Goal
       from_gate inside chain is runs =
-          granted_step accounts f me ready.caller call old new t ready.thread result (OwnLabel ∷ enters ∷ []) inside chain reads (λ kept. taking (bytes_eq kept password))
+          granted_step accounts f me ready.caller call old new t ready.thread result (OwnLabel ∷ enters ∷ []) inside
+          chain reads (λ kept. taking (bytes_eq kept password))
           (ap (λ (s : State). check s t reads) is ∙ read_password_said accounts (state old) f l me p t runs_as name (place + 1) numbered) runs
           (λ read kept called kept_is longer goes.
           let kept_so : kept ≡ user.0.password = kept_is ∙ ap (λ (s : State). bytes_in (s.objects (password_of (place + 1)))) is ∙ password_then in
-          ends (bytes_eq kept password) (sym (ap (λ (bytes : List ℕ). bytes_eq bytes password) kept_so ∙ equal_bytes user.0.password password)) read longer (called.state ∙ is) goes)
+          ends (bytes_eq kept password)
+          (sym (ap (λ (bytes : List ℕ). bytes_eq bytes password) kept_so ∙ equal_bytes user.0.password password))
+          read longer (called.state ∙ is) goes)
 
       -- the gate lets it in
-      let_in : (asked : KernelModel) → Chain old t (all_granted (OwnLabel ∷ [])) asked → state asked ≡ state old → Runs (ask enters (λ _. reading)) asked new t result → Goal
+      let_in : (asked : KernelModel) → Chain old t (all_granted (OwnLabel ∷ [])) asked → state asked ≡ state old
+          → Runs (ask enters (λ _. reading)) asked new t result → Goal
       let_in asked chain stays runs =
-          granted_step accounts f me ready.caller call old new t ready.thread result (OwnLabel ∷ []) asked chain enters (λ _. reading) (ap (λ (s : State). check s t enters) stays ∙ enters_said ∙ ap (λ (b : Bool). unless b Gate) alone) runs
+          granted_step accounts f me ready.caller call old new t ready.thread result (OwnLabel ∷ []) asked chain enters
+          (λ _. reading)
+          (ap (λ (s : State). check s t enters) stays ∙ enters_said ∙ ap (λ (b : Bool). unless b Gate) alone) runs
           (λ inside entry called entry_is longer goes.
           from_gate inside longer (called.state ∙ ap (λ (s : State). with_own s t code_label code_clearance) stays ∙ entered_is) goes)
 
     -- a process in a job is not let in
-    kept_out : is_free p ≡ false → (asked : KernelModel) → Chain old t (all_granted (OwnLabel ∷ [])) asked → state asked ≡ state old → Runs (ask enters (λ _. reading)) asked new t result → Goal
+    kept_out : is_free p ≡ false → (asked : KernelModel) → Chain old t (all_granted (OwnLabel ∷ [])) asked
+        → state asked ≡ state old → Runs (ask enters (λ _. reading)) asked new t result → Goal
     kept_out jobbed asked chain stays runs =
-        refused_step accounts f me ready.caller call old new t ready.thread result (OwnLabel ∷ []) asked chain stays ready.represents EACCES (refused_is (Some user.0) false user.1 jobbed) enters (λ _. reading) Gate
+        refused_step accounts f me ready.caller call old new t ready.thread result (OwnLabel ∷ []) asked chain stays
+        ready.represents EACCES (refused_is (Some user.0) false user.1 jobbed) enters (λ _. reading) Gate
         (ap (λ (s : State). check s t enters) stays ∙ enters_said ∙ ap (λ (b : Bool). unless b Gate) jobbed) refl
-        (subst (λ (o : Option ℕ). AreAmong (reads_of_login accounts o false) (entries_of old.line t (all_granted (OwnLabel ∷ []) ++ (enters, Some Gate) ∷ []))) (sym at_place) tt) runs
+        (subst (λ (o : Option ℕ). AreAmong (reads_of_login accounts o false)
+        (entries_of old.line t (all_granted (OwnLabel ∷ []) ++ (enters, Some Gate) ∷ []))) (sym at_place)
+        tt) runs
 
     -- the gate is tried, by the jobs that the process is in
-    to_gate : (jobs : List ProcName) → p.chain ≡ jobs → (asked : KernelModel) → Chain old t (all_granted (OwnLabel ∷ [])) asked → state asked ≡ state old → Runs (ask enters (λ _. reading)) asked new t result → Goal
+    to_gate : (jobs : List ProcName) → p.chain ≡ jobs → (asked : KernelModel)
+        → Chain old t (all_granted (OwnLabel ∷ [])) asked → state asked ≡ state old
+        → Runs (ask enters (λ _. reading)) asked new t result → Goal
     to_gate [] is asked chain stays runs = let_in is asked chain stays runs
     to_gate (job ∷ jobs) is asked chain stays runs = kept_out (free_by_chain p (job ∷ jobs) is) asked chain stays runs
 
@@ -296,7 +360,12 @@ module _ (accounts : Accounts) (name : Name) (password : Password) (me : ProcNam
     someone runs =
         granted_step accounts f me ready.caller call old new t ready.thread result [] old (same_kernel old) OwnLabel with_labels asks_said runs
         (λ asked revealed called reveals chain goes.
-        let revealed_is : revealed ≡ (own, clearance) = λ k. (same_Some revealed.0 own (reveals.0 ∙ ap label_there thread) k, same_Some revealed.1 clearance (reveals.1 ∙ ap clearance_there thread) k) in
+        let revealed_is : revealed ≡ (own, clearance) =
+        λ k. (
+          same_Some revealed.0 own (reveals.0 ∙ ap label_there thread) k,
+          same_Some revealed.1 clearance
+              (reveals.1 ∙ ap clearance_there thread) k,
+        ) in
         to_gate p.chain refl asked chain called.state (subst (λ (x : Levels × Levels). Runs (with_labels x) asked new t result) revealed_is goes))
 
   by_place : (o : Option ℕ) → place_of accounts.users name ≡ o → Runs (login_at accounts caller name password o) old new t result → Goal
@@ -305,4 +374,5 @@ module _ (accounts : Accounts) (name : Name) (password : Password) (me : ProcNam
 
 -- A login is the row of its call.
 pub login_refines : LoginRefines
-login_refines accounts ok name password me caller old new f result ready found runs = by_place accounts name password me caller old new f result ready found (place_of accounts.users name) refl runs
+login_refines accounts ok name password me caller old new f result ready found runs =
+    by_place accounts name password me caller old new f result ready found (place_of accounts.users name) refl runs

@@ -1,6 +1,7 @@
 -- A call that makes an entry, as `create` and `mkdir` do: there is room for it, the thread makes the object with the label of what it makes
 -- in the mode, and the directory is written with the entry; or the call is refused as the flat rules refuse it.
-use Rattle.std.proofs.Common.{◌≡◌, ℕ, ◌<◌, Bool, true, false, List, [], ◌∷◌, ◌++◌, Option, None, Some, Result, arith, refl, sym, ap, ◌∙◌, subst, length}
+use Rattle.std.proofs.Common.{◌≡◌, ℕ, ◌<◌, Bool, true, false, List, [], ◌∷◌, ◌++◌, Option, None, Some, Result, arith, refl, sym, ap, ◌∙◌, subst}
+use Rattle.std.proofs.Common.{length}
 use Rattle.std.specs.Prelude.{IsTrue, is_some, nat_lt}
 use Rattle.std.specs.FinMap as map
 use Rattle.std.proofs.lemmas.Bool.{ltb-true}
@@ -55,18 +56,21 @@ use Rattle.histar_sim.proofs.Chains.{all_granted, entries_of, Chain, Step}
 use Rattle.histar_sim.proofs.CallErrors.{IsBacked, ReadsAmong}
 use Rattle.histar_sim.proofs.Steps.{Goal, granted_step, refused_step, exhausted_step, answered_step}
 use Rattle.histar_sim.proofs.Walks.{place_at, walk_reads, holds, among_granted_all, among_then, among_also}
-use Rattle.histar_sim.proofs.FoundObjects.{label, clearance, thread, entries, is_dir, directory_class, may_look, directory_guard, HasListing, MakesObject}
+use Rattle.histar_sim.proofs.FoundObjects.{label, clearance, thread, entries, is_dir, directory_class, may_look, directory_guard, HasListing}
+use Rattle.histar_sim.proofs.FoundObjects.{MakesObject}
 use Rattle.histar_sim.proofs.FoundRoom.{NeedsRoom, the_room, has_reads, refused_in_room, room_step}
 use Rattle.histar_sim.proofs.Makers.{own, MakesClass, makes}
 use Rattle.histar_sim.proofs.NewEntries.{segment_written}
 
 -- What the flat rules say of a call that makes an entry with this content: that it needs room and a class for it, what they change, and their answer.
-pub record MakesEntry (accounts : Accounts) (f : Flat) (me : ProcName) (p : Process) (q : Path) (mode : Mode) (content : Content) (call : UnixCall) : Type 0 where
+pub record MakesEntry (accounts : Accounts) (f : Flat) (me : ProcName) (p : Process) (q : Path) (mode : Mode)
+    (content : Content) (call : UnixCall) : Type 0 where
   pub needs : NeedsRoom accounts f me p q call (unless (is_some (class_made accounts p mode)) EPERM)
   pub changes : changed accounts f me p call ≡ with_node f q (class_or_open (class_made accounts p mode)) content
   pub answers : flat.answer f me p call ≡ Done
 
-module _ (accounts : Accounts) (ok : AreAccounts accounts) (s : State) (f : Flat) (me : ProcName) (t : ℕ) (ready : IsReady accounts s f me t) (d : Path) where
+module _ (accounts : Accounts) (ok : AreAccounts accounts) (s : State) (f : Flat) (me : ProcName) (t : ℕ)
+    (ready : IsReady accounts s f me t) (d : Path) where
   abbrev walk : List RawCall
   walk = walk_reads accounts ok s f me t ready d
 
@@ -78,7 +82,9 @@ module _ (accounts : Accounts) (ok : AreAccounts accounts) (s : State) (f : Flat
   pub among_asked : (line : ℕ) (more : List RawCall) → AreAmong walk (entries_of line t (all_granted (asked ++ more)))
   among_asked line more = among_then line t walk asked more (among_then line t walk walk (raw.OwnLabel ∷ []) (among_granted_all line t walk))
 
-module _ (accounts : Accounts) (ok : AreAccounts accounts) (old new : KernelModel) (f : Flat) (me : ProcName) (t : ℕ) (ready : IsReady accounts (state old) f me t) (m : Name) (d : Path) (mode : Mode) (content : Content) (call : UnixCall) (result : Result Reply Stopped)
+module _ (accounts : Accounts) (ok : AreAccounts accounts) (old new : KernelModel) (f : Flat) (me : ProcName) (t : ℕ)
+    (ready : IsReady accounts (state old) f me t) (m : Name) (d : Path) (mode : Mode) (content : Content)
+    (call : UnixCall) (result : Result Reply Stopped)
     (entry : MakesEntry accounts f me ready.caller.process (m ∷ d) mode content call) where
   abbrev Refined : Type 0
   Refined = Goal accounts f me ready.caller call old new t ready.thread result
@@ -106,7 +112,8 @@ module _ (accounts : Accounts) (ok : AreAccounts accounts) (old new : KernelMode
   no_class = unless (is_some (class_made accounts p mode)) EPERM
 
   -- the reads of the walk are reads that the call cannot do without
-  has_reads_made : (steps : List Step) (reply : Reply) → AreAmong reads (entries_of old.line t steps) → ReadsAmong accounts f me ready.caller call old new t ready.thread steps reply
+  has_reads_made : (steps : List Step) (reply : Reply) → AreAmong reads (entries_of old.line t steps)
+      → ReadsAmong accounts f me ready.caller call old new t ready.thread steps reply
   has_reads_made steps reply among = has_reads accounts ok old new f me t ready m d call result no_class entry.needs steps reply among
 
   -- the directory has room
@@ -114,10 +121,14 @@ module _ (accounts : Accounts) (ok : AreAccounts accounts) (old new : KernelMode
   roomy = nat_lt (length (entries_in f d)) most_entries
 
   -- once there is room the directory may be written and the process makes something of this mode, or the call is refused
-  refused_then : (open_so_far : into accounts f p d ≡ None) → get f.files (m ∷ d) ≡ None → roomy ≡ true → (may makes : Bool) → may_write accounts p (directory_class accounts ok (state old) f me t ready d open_so_far) ≡ may → is_some (class_made accounts p mode) ≡ makes
+  refused_then : (open_so_far : into accounts f p d ≡ None) → get f.files (m ∷ d) ≡ None → roomy ≡ true
+      → (may makes : Bool)
+      → may_write accounts p (directory_class accounts ok (state old) f me t ready d open_so_far) ≡ may
+      → is_some (class_made accounts p mode) ≡ makes
       → refused accounts f me p call ≡ (unless may EACCES orelse unless makes EPERM)
   refused_then open_so_far absent room may makes is_may is_makes =
-      refused_in_room accounts ok old new f me t ready m d call result no_class entry.needs open_so_far absent room may is_may ∙ ap (λ (b : Bool). unless may EACCES orelse unless b EPERM) is_makes
+      refused_in_room accounts ok old new f me t ready m d call result no_class entry.needs open_so_far absent room may
+      is_may ∙ ap (λ (b : Bool). unless may EACCES orelse unless b EPERM) is_makes
 
   -- ---- the object is made
 
@@ -139,65 +150,107 @@ module _ (accounts : Accounts) (ok : AreAccounts accounts) (old new : KernelMode
 
     -- the call goes on once it is made with this label
     abbrev GoesOnWith : KernelModel → Levels → Type 0
-    GoesOnWith mid x = (linked : KernelModel) (answer : AnswerOf (make place.container x)) → Called mid linked t (make place.container x) None → IsAnswer (state mid) t (make place.container x) answer → Chain old t (all_granted (calls ++ make place.container x ∷ [])) linked → Runs (within room_here x answer) linked new t result → Refined
+    GoesOnWith mid x =
+        (linked : KernelModel) (answer : AnswerOf (make place.container x))
+        → Called mid linked t (make place.container x) None → IsAnswer (state mid) t (make place.container x) answer
+        → Chain old t (all_granted (calls ++ make place.container x ∷ [])) linked
+        → Runs (within room_here x answer) linked new t result → Refined
 
     -- The call goes on once the object is made: the way is open, nothing of the name is there and there is room, the process makes this and may write the directory.
     abbrev pub GoesOn : Type 0
-    GoesOn = (open_so_far : into accounts f p d ≡ None) → get f.files (m ∷ d) ≡ None → roomy ≡ true → (made : Made) → may_write accounts p (directory_class accounts ok (state old) f me t ready d open_so_far) ≡ true → has_number (state old) ≡ true
+    GoesOn =
+        (open_so_far : into accounts f p d ≡ None) → get f.files (m ∷ d) ≡ None → roomy ≡ true → (made : Made)
+        → may_write accounts p (directory_class accounts ok (state old) f me t ready d open_so_far) ≡ true
+        → has_number (state old) ≡ true
         → (mid : KernelModel) → state mid ≡ state old → GoesOnWith mid (due made)
 
-    module _ (open_so_far : into accounts f p d ≡ None) (absent : get f.files (m ∷ d) ≡ None) (room : roomy ≡ true) (object : MakesObject accounts ok (state old) f me t ready d open_so_far (make place.container))
+    module _ (open_so_far : into accounts f p d ≡ None) (absent : get f.files (m ∷ d) ≡ None) (room : roomy ≡ true)
+        (object : MakesObject accounts ok (state old) f me t ready d open_so_far (make place.container))
         (mid : KernelModel) (stays : state mid ≡ state old) (chain : Chain old t (all_granted calls) mid) where
       -- the directory may be written
       abbrev may : Bool
       may = may_write accounts p (directory_class accounts ok (state old) f me t ready d open_so_far)
 
       -- the making is denied, and so the call refused
-      denied : (x : Levels) (why : Denied) (errno : Errno) → check (state mid) t (make place.container x) ≡ Some why → errno_of why ≡ Some errno → refused accounts f me p call ≡ Some errno → Runs (making x) mid new t result → Refined
+      denied : (x : Levels) (why : Denied) (errno : Errno) → check (state mid) t (make place.container x) ≡ Some why
+          → errno_of why ≡ Some errno → refused accounts f me p call ≡ Some errno → Runs (making x) mid new t result
+          → Refined
       denied x why errno fails revealed is on =
-          refused_step accounts f me ready.caller call old new t ready.thread result calls mid chain stays ready.represents errno is (make place.container x) (within room_here x) why fails (object.reveals x why ∙ revealed)
-          (has_reads_made _ _ (among_also old.line t reads calls ((make place.container x, Some why) ∷ []) (among_then old.line t reads reads (raw.OwnLabel ∷ []) (among_granted_all old.line t reads)))) on
+          refused_step accounts f me ready.caller call old new t ready.thread result calls mid chain stays
+          ready.represents errno is (make place.container x) (within room_here x) why fails
+          (object.reveals x why ∙ revealed)
+          (has_reads_made _ _ (among_also old.line t reads calls ((make place.container x, Some why) ∷ [])
+          (among_then old.line t reads reads (raw.OwnLabel ∷ []) (among_granted_all old.line t reads)))) on
 
       -- where the kernel lets the thread hand in a label as the flat rules let the process make something, the making is granted or denied as they say
-      by_right : (x : Levels) (can makes has : Bool) → may ≡ can → is_some (class_made accounts p mode) ≡ makes → has_number (state old) ≡ has → check (state mid) t (make place.container x) ≡ (unless can Modify orelse unless makes Range orelse unless has TooBig)
+      by_right : (x : Levels) (can makes has : Bool) → may ≡ can → is_some (class_made accounts p mode) ≡ makes
+          → has_number (state old) ≡ has
+          → check (state mid) t (make place.container x)
+          ≡ (unless can Modify orelse unless makes Range orelse unless has TooBig)
           → (may ≡ true → makes ≡ true → has_number (state old) ≡ true → GoesOnWith mid x) → Runs (making x) mid new t result → Refined
-      by_right x false makes has is_may is_makes is_has said go_on on = denied x Modify EACCES said refl (refused_then open_so_far absent room false makes is_may is_makes) on
-      by_right x true false has is_may is_makes is_has said go_on on = denied x Range EPERM said refl (refused_then open_so_far absent room true false is_may is_makes) on
+      by_right x false makes has is_may is_makes is_has said go_on on =
+          denied x Modify EACCES said refl (refused_then open_so_far absent room false makes is_may is_makes) on
+      by_right x true false has is_may is_makes is_has said go_on on =
+          denied x Range EPERM said refl (refused_then open_so_far absent room true false is_may is_makes) on
       by_right x true true false is_may is_makes is_has said go_on on =
-          exhausted_step accounts f me ready.caller call old new t ready.thread result calls mid chain (make place.container x) (within room_here x) said (object.reveals x TooBig) (ap has_number stays ∙ is_has) on
-      by_right x true true true is_may is_makes is_has said go_on on = granted_step accounts f me ready.caller call old new t ready.thread result calls mid chain (make place.container x) (within room_here x) said on (go_on is_may refl is_has)
+          exhausted_step accounts f me ready.caller call old new t ready.thread result calls mid chain
+          (make place.container x) (within room_here x) said (object.reveals x TooBig)
+          (ap has_number stays ∙ is_has) on
+      by_right x true true true is_may is_makes is_has said go_on on =
+          granted_step accounts f me ready.caller call old new t ready.thread result calls mid chain
+          (make place.container x) (within room_here x) said on (go_on is_may refl is_has)
 
       -- the thread hands in the label of what it makes
       made_step : GoesOn → Runs (making (label_made accounts mine mode)) mid new t result → Refined
       made_step go_on on =
           makes accounts ok (state old) f me t ready mode
           (λ nothing.
-          by_right _ may false (has_number (state old)) refl nothing.nothing refl (ap (λ (s : State). check s t (make place.container (guard_label ready.represents.matched.category nothing.guard))) stays ∙ object.outside nothing.guard nothing.outside) (λ is_may is_false is_has. absurd cc)
+          by_right _ may false (has_number (state old)) refl nothing.nothing refl
+          (ap (λ (s : State).
+          check s t (make place.container (guard_label ready.represents.matched.category nothing.guard)))
+          stays ∙ object.outside nothing.guard nothing.outside) (λ is_may is_false is_has. absurd cc)
           (subst (λ (x : Levels). Runs (making x) mid new t result) nothing.label_is on))
           (λ made.
           by_right _ may true (has_number (state old)) refl (ap is_some made.class_is) refl
-          (ap (λ (s : State). check s t (make place.container (due made))) stays ∙ object.within made.class made.known made.guard made.guarded ∙ (λ k. unless may Modify orelse unless (made.within k) Range orelse unless (has_number (state old)) TooBig))
-          (λ is_may is_true is_has. go_on open_so_far absent room made is_may is_has mid stays) (subst (λ (x : Levels). Runs (making x) mid new t result) made.label_is on))
+          (ap (λ (s : State). check s t (make place.container (due made))) stays
+          ∙ object.within made.class made.known made.guard made.guarded
+          ∙ (λ k. unless may Modify orelse unless (made.within k) Range
+          orelse unless (has_number (state old)) TooBig))
+          (λ is_may is_true is_has. go_on open_so_far absent room made is_may is_has mid stays)
+          (subst (λ (x : Levels). Runs (making x) mid new t result) made.label_is on))
 
     -- There is room, the thread asks for its own label and makes the object, or the call is refused.
-    pub entry_step : ((open_so_far : into accounts f p d ≡ None) → MakesObject accounts ok (state old) f me t ready d open_so_far (make place.container))
-        → Runs (find_room (roots_of (length accounts.users)) (m ∷ d) (λ room. ask raw.OwnLabel (λ labels. ask (make room.place.container (label_made accounts labels.0 mode)) (within room (label_made accounts labels.0 mode))))) old new t result
+    pub entry_step : ((open_so_far : into accounts f p d ≡ None)
+        → MakesObject accounts ok (state old) f me t ready d open_so_far (make place.container))
+        → Runs (find_room (roots_of (length accounts.users)) (m ∷ d) (λ room.
+        ask raw.OwnLabel (λ labels. ask (make room.place.container (label_made accounts labels.0 mode))
+        (within room (label_made accounts labels.0 mode))))) old new t result
         → GoesOn → Refined
     entry_step object run go_on =
         let there = thread accounts ok (state old) f me t ready in
-        room_step accounts ok old new f me t ready m d call result no_class entry.needs [] old refl (same_kernel old) (λ room. ask raw.OwnLabel (λ labels. ask (make room.place.container (label_made accounts labels.0 mode)) (within room (label_made accounts labels.0 mode)))) run
+        room_step accounts ok old new f me t ready m d call result no_class entry.needs [] old refl (same_kernel old)
+        (λ room. ask raw.OwnLabel (λ labels. ask (make room.place.container (label_made accounts labels.0 mode))
+        (within room (label_made accounts labels.0 mode)))) run
         (λ open_so_far absent room mid stays chain on.
-        granted_step accounts f me ready.caller call old new t ready.thread result reads mid chain raw.OwnLabel (λ labels. making (label_made accounts labels.0 mode))
-        (ap (λ (s : State). check s t raw.OwnLabel) stays ∙ caller_passes (state old) t (label accounts ok (state old) f me t ready) (clearance accounts ok (state old) f me t ready) there) on
+        granted_step accounts f me ready.caller call old new t ready.thread result reads mid chain raw.OwnLabel
+        (λ labels. making (label_made accounts labels.0 mode))
+        (ap (λ (s : State). check s t raw.OwnLabel) stays
+        ∙ caller_passes (state old) t (label accounts ok (state old) f me t ready)
+        (clearance accounts ok (state old) f me t ready) there) on
         (λ later labels called right longer rest.
-        let is_own : labels.0 ≡ mine = same_Some labels.0 mine (right.0 ∙ ap (λ (s : State). label_there (s.objects t)) stays ∙ ap label_there there) in
+        let is_own : labels.0 ≡ mine =
+        same_Some labels.0 mine
+        (right.0 ∙ ap (λ (s : State). label_there (s.objects t)) stays ∙ ap label_there there) in
         made_step open_so_far absent room (object open_so_far) later (called.state ∙ stays) longer go_on
         (subst (λ (x : Levels). Runs (making (label_made accounts x mode)) later new t result) is_own rest)))
 
   -- ---- the directory is written
 
-  module _ (named : IsTrue (is_name m)) (open_so_far : into accounts f p d ≡ None) (absent : get f.files (m ∷ d) ≡ None) (room : roomy ≡ true) (made : Made) (is_may : may_write accounts p (directory_class accounts ok (state old) f me t ready d open_so_far) ≡ true)
-      (target : Target) (is_target : IsTarget target) (later : State) (there : HasListing accounts ok (state old) f me t ready d open_so_far later) where
+  module _ (named : IsTrue (is_name m)) (open_so_far : into accounts f p d ≡ None) (absent : get f.files (m ∷ d) ≡ None)
+      (room : roomy ≡ true) (made : Made)
+      (is_may : may_write accounts p (directory_class accounts ok (state old) f me t ready d open_so_far) ≡ true)
+      (target : Target) (is_target : IsTarget target) (later : State)
+      (there : HasListing accounts ok (state old) f me t ready d open_so_far later) where
     -- what the directory segment holds then, and the state
     abbrev bytes : List ℕ
     bytes = spelling (map.insert listed m target)
@@ -214,24 +267,34 @@ module _ (accounts : Accounts) (ok : AreAccounts accounts) (old new : KernelMode
         let few : length (entries_in f d) < most_entries = ltb-true (length (entries_in f d)) most_entries room in
         let room_left : map.len listed < 64 = omega (arith, count, few) in
         let listable = (holds accounts ok (state old) f me t ready d (is_dir accounts ok (state old) f me t ready d open_so_far)).listable in
-        segment_written later t place.container place.listing (label accounts ok (state old) f me t ready) (clearance accounts ok (state old) f me t ready) (guard_label l.category guard.0) (spelling listed) there
-        (observes_class accounts me p l.category l.different ok above guard.0 guard.1 ∙ may_look accounts ok (state old) f me t ready d open_so_far) (modifies_class accounts me p l.category l.different ok above guard.0 guard.1 ∙ is_may)
+        segment_written later t place.container place.listing (label accounts ok (state old) f me t ready)
+        (clearance accounts ok (state old) f me t ready) (guard_label l.category guard.0) (spelling listed) there
+        (observes_class accounts me p l.category l.different ok above guard.0 guard.1
+        ∙ may_look accounts ok (state old) f me t ready d open_so_far)
+        (modifies_class accounts me p l.category l.different ok above guard.0 guard.1 ∙ is_may)
         bytes (spelling_fits (map.insert listed m target) (listable_insert listed m target listable room_left (named, is_target)))
 
     changed_is : changed accounts f me p call ≡ with_node f (m ∷ d) made.class content
     changed_is = entry.changes ∙ ap (λ (o : Option Class). with_node f (m ∷ d) (class_or_open o) content) made.class_is
 
     -- The directory is written with the entry, and the call is done, where the objects of the flat state with the new entry stand then.
-    pub entry_written : (before : List RawCall) → AreAmong reads (entries_of old.line t (all_granted before)) → (linked : KernelModel) → state linked ≡ later → Chain old t (all_granted before) linked
+    pub entry_written : (before : List RawCall) → AreAmong reads (entries_of old.line t (all_granted before))
+        → (linked : KernelModel) → state linked ≡ later → Chain old t (all_granted before) linked
         → ObjectsMatch accounts after (with_node f (m ∷ d) made.class content)
         → Runs (write_entries room_here.place (map.insert room_here.entries m target) (λ _. Answers Done)) linked new t result → Refined
     entry_written before among linked is_later chain matched on =
         let write : RawCall = raw.Write place.container place.listing 0 bytes in
-        let jobs = jobs_made accounts (state old) f ready.represents.matched d m made.class content absent made.fits made.known ready.represents.jobs_given in
+        let jobs =
+        jobs_made accounts (state old) f ready.represents.matched d m made.class content absent made.fits made.known
+        ready.represents.jobs_given in
         let represents : Represents accounts after (with_node f (m ∷ d) made.class content) = record { matched = matched; jobs_given = jobs } in
-        granted_step accounts f me ready.caller call old new t ready.thread result before linked chain write (λ _. Answers Done) (ap (λ (s : State). check s t write) is_later ∙ write_said) on
+        granted_step accounts f me ready.caller call old new t ready.thread result before linked chain write
+        (λ _. Answers Done) (ap (λ (s : State). check s t write) is_later ∙ write_said) on
         (λ end done wrote right whole last.
         let end_state : state end ≡ after = wrote.state ∙ ap (λ (s : State). with_segment_bytes s place.listing bytes) is_later in
-        answered_step accounts f me ready.caller call old new t ready.thread result (before ++ write ∷ []) end whole Done (sym entry.answers) (refused_then open_so_far absent room true true is_may (ap is_some made.class_is))
-        (subst (λ (r : Reply). IsBacked (state old) (entries_of old.line t (all_granted (before ++ write ∷ []))) r) (sym entry.answers) tt) (has_reads_made _ _ (among_then old.line t reads before (write ∷ []) among))
-        (subst (λ (s : State). Represents accounts s (changed accounts f me p call)) (sym end_state) (subst (Represents accounts after) (sym changed_is) represents)) last)
+        answered_step accounts f me ready.caller call old new t ready.thread result (before ++ write ∷ []) end whole
+        Done (sym entry.answers) (refused_then open_so_far absent room true true is_may (ap is_some made.class_is))
+        (subst (λ (r : Reply). IsBacked (state old) (entries_of old.line t (all_granted (before ++ write ∷ []))) r)
+        (sym entry.answers) tt) (has_reads_made _ _ (among_then old.line t reads before (write ∷ []) among))
+        (subst (λ (s : State). Represents accounts s (changed accounts f me p call)) (sym end_state)
+        (subst (Represents accounts after) (sym changed_is) represents)) last)

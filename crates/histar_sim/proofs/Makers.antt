@@ -1,5 +1,6 @@
 -- What a process makes: the label that its thread hands in is that of the class that it makes, or lies outside the thread's range.
-use Rattle.std.proofs.Common.{◌≡◌, ◌≢◌, ◌⊎◌, ℕ, ◌≤◌, ◌==◌, ◌||◌, ◌&&◌, Bool, true, false, List, [], ◌∷◌, Option, None, Some, arith, inl, inr, refl, sym, ap, ◌∙◌, length, if◌then◌else◌}
+use Rattle.std.proofs.Common.{◌≡◌, ◌≢◌, ◌⊎◌, ℕ, ◌≤◌, ◌==◌, ◌||◌, ◌&&◌, Bool, true, false, List, [], ◌∷◌, Option, None, Some, arith, inl, inr, refl}
+use Rattle.std.proofs.Common.{sym, ap, ◌∙◌, length, if◌then◌else◌}
 use Rattle.std.specs.Prelude.{is_some, map, option_map}
 use Rattle.std.proofs.lemmas.Bool.Decides.{nat_tests}
 use mathlib.Core.Bool.{true≢false}
@@ -27,7 +28,8 @@ use Rattle.histar_refinement.proofs.ClassTests.{member as is_member_of}
 use Rattle.histar_refinement.proofs.JobLabels.{jobs_are, none_if_free}
 use Rattle.histar_refinement.proofs.Levelled.{same_guarded}
 use Rattle.histar_refinement.specs.Categories.CategoryName.{OfJob}
-use Rattle.histar_refinement.proofs.MakingRanges.{is_made_within, private_range, readable_range, group_range as made_of_group, all_had, all_known, made_in_range}
+use Rattle.histar_refinement.proofs.MakingRanges.{is_made_within, private_range, readable_range, group_range as made_of_group, all_had, all_known}
+use Rattle.histar_refinement.proofs.MakingRanges.{made_in_range}
 use Rattle.histar_refinement.proofs.ListedFiles.{ClassFits, AreKnown, made_fits, made_known}
 use Rattle.histar_refinement.proofs.CallLabels.{reads_numbered, private_label, readable_label, group_label, user_of_thread}
 use Rattle.histar_sim.specs.Simulation.{IsReady}
@@ -52,7 +54,8 @@ class_of_mode modes.Readable user = Readable user
 class_of_mode modes.Open user = Open
 class_of_mode (modes.Group group) user = Grouped group
 
-module _ (accounts : Accounts) (ok : AreAccounts accounts) (s : State) (f : Flat) (me : ProcName) (t : ℕ) (ready : IsReady accounts s f me t) (mode : Mode) where
+module _ (accounts : Accounts) (ok : AreAccounts accounts) (s : State) (f : Flat) (me : ProcName) (t : ℕ)
+    (ready : IsReady accounts s f me t) (mode : Mode) where
   abbrev p : Process
   p = ready.caller.process
 
@@ -90,20 +93,27 @@ module _ (accounts : Accounts) (ok : AreAccounts accounts) (s : State) (f : Flat
 
   module _ (free : is_free p ≡ true) where
     -- what is for a group has the group's categories, and nobody's where there is none
-    group_label_so : (group : Name) (o : Option ℕ) → group_number accounts group ≡ o → (i : ℕ) → file_label accounts (modes.Group group) i ≡ guard_label ready.represents.matched.category (guard_of_group o)
+    group_label_so : (group : Name) (o : Option ℕ) → group_number accounts group ≡ o → (i : ℕ)
+        → file_label accounts (modes.Group group) i ≡ guard_label ready.represents.matched.category (guard_of_group o)
     group_label_so group None is i =
-        ap (λ (o : Option ℕ). let owner = elim o as (λ _. ℕ) [ None ↦ 0 | Some k ↦ group_owner (length accounts.users) k ] in secret_of (read_category owner) (write_category owner)) is
+        ap (λ (o : Option ℕ).
+        let owner = elim o as (λ _. ℕ) [ None ↦ 0 | Some k ↦ group_owner (length accounts.users) k ] in secret_of
+        (read_category owner) (write_category owner)) is
         ∙ sym (private_label accounts s f ready.represents.matched 0 (omega arith))
     group_label_so group (Some k) is i = sym (group_label accounts s f ready.represents.matched group k is)
 
     made_in_none : handed ≡ file_label accounts mode (user_of own (length accounts.users))
     made_in_none =
-        ap (λ (b : Bool). if b then file_label accounts mode (user_of own (length accounts.users)) else scratch_label (user_of own (length accounts.users)) (jobs_in own))
+        ap (λ (b : Bool). if b then file_label accounts mode (user_of own (length accounts.users)) else scratch_label
+        (user_of own (length accounts.users)) (jobs_in own))
         (none_if_free ready.represents.matched.category accounts me p ∙ free)
 
-    label_so : (i : ℕ) → or_zero number ≡ i → i ≤ length accounts.users → handed ≡ guard_label ready.represents.matched.category (guard_of accounts mode i)
+    label_so : (i : ℕ) → or_zero number ≡ i → i ≤ length accounts.users
+        → handed ≡ guard_label ready.represents.matched.category (guard_of accounts mode i)
     label_so i is low =
-        made_in_none ∙ ap (file_label accounts mode) (user_is own (length accounts.users) (or_zero number) (user_of_thread accounts s f ready.represents.matched me p) ∙ is)
+        made_in_none
+        ∙ ap (file_label accounts mode) (user_is own (length accounts.users) (or_zero number)
+        (user_of_thread accounts s f ready.represents.matched me p) ∙ is)
         ∙ by mode
       where
         by : (x : Mode) → file_label accounts x i ≡ guard_label ready.represents.matched.category (guard_of accounts x i)
@@ -134,9 +144,13 @@ module _ (accounts : Accounts) (ok : AreAccounts accounts) (s : State) (f : Flat
         by (Some i) is = let low = (user_range accounts p.user i is).0 in grind (arith, nat_tests, low)
 
     -- a group's is made by its members
-    by_group : (group : Name) (i : ℕ) (o : Option ℕ) → group_number accounts group ≡ o → (b : Bool) → is_member accounts p.user group ≡ b → CanMake (modes.Group group) i ⊎ CannotMake (modes.Group group) i
+    by_group : (group : Name) (i : ℕ) (o : Option ℕ) → group_number accounts group ≡ o → (b : Bool)
+        → is_member accounts p.user group ≡ b → CanMake (modes.Group group) i ⊎ CannotMake (modes.Group group) i
     by_group group i None is b member = inr (record {
-      outside = ap (λ (o : Option ℕ). is_made_within accounts ready.represents.matched.category ready.represents.matched.different me p (guard_of_group o)) is
+      outside =
+          ap (λ (o : Option ℕ).
+          is_made_within accounts ready.represents.matched.category ready.represents.matched.different me p
+          (guard_of_group o)) is
           ∙ private_range accounts ready.represents.matched.category ready.represents.matched.different me p 0 ∙ off;
       nothing = ap (λ (x : Bool). is_some (if x then Some (Grouped group) else None)) (no_member accounts p.user group is);
     })
@@ -147,9 +161,14 @@ module _ (accounts : Accounts) (ok : AreAccounts accounts) (s : State) (f : Flat
       writes = λ j. member j && free j;
     })
     by_group group i (Some k) is false member = inr (record {
-      outside = ap (λ (o : Option ℕ). is_made_within accounts ready.represents.matched.category ready.represents.matched.different me p (guard_of_group o)) is
+      outside =
+          ap (λ (o : Option ℕ).
+          is_made_within accounts ready.represents.matched.category ready.represents.matched.different me p
+          (guard_of_group o)) is
           ∙ made_of_group accounts ready.represents.matched.category ready.represents.matched.different me p k
-          ∙ (λ j. free j && (is_member_of accounts me p ready.represents.matched.category ready.represents.matched.different ok group k is ∙ member) j);
+          ∙ (λ j. free j
+          && (is_member_of accounts me p ready.represents.matched.category
+          ready.represents.matched.different ok group k is ∙ member) j);
       nothing = ap (λ (x : Bool). is_some (if x then Some (Grouped group) else None)) member;
     })
 
@@ -198,15 +217,19 @@ module _ (accounts : Accounts) (ok : AreAccounts accounts) (s : State) (f : Flat
     -- what the process makes of this mode, as the user of number i or, where that plays no part, as nobody
     made_so : (i : ℕ) → or_zero number ≡ i → i ≤ length accounts.users → CanMake mode i → MakesClass
     made_so i is low can =
-        let class_is : class_made accounts p mode ≡ Some (class_of_mode mode p.user) = ap (λ (b : Bool). if b then free_class accounts p mode else Some (Scratch p.user p.chain)) free ∙ can.made in
-        let has_guard : class_guard accounts (class_of_mode mode p.user) ≢ None = λ none. let k : None ≡ Some (guard_of accounts mode i) = sym none ∙ can.guarded in absurd cc in
+        let class_is : class_made accounts p mode ≡ Some (class_of_mode mode p.user) =
+        ap (λ (b : Bool). if b then free_class accounts p mode else Some (Scratch p.user p.chain)) free ∙ can.made in
+        let has_guard : class_guard accounts (class_of_mode mode p.user) ≢ None =
+        λ none. let k : None ≡ Some (guard_of accounts mode i) = sym none ∙ can.guarded in absurd cc in
         record {
           class = class_of_mode mode p.user;
           class_is = class_is;
           guard = guard_of accounts mode i;
           guarded = can.guarded;
           label_is = label_so i is low;
-          within = made_in_range accounts ready.represents.matched.category ready.represents.matched.different me p ok mode (class_of_mode mode p.user) (guard_of accounts mode i) class_is can.guarded;
+          within =
+              made_in_range accounts ready.represents.matched.category ready.represents.matched.different me p ok mode
+              (class_of_mode mode p.user) (guard_of accounts mode i) class_is can.guarded;
           fits = made_fits accounts s f ready.represents.matched me p ready.caller.agrees (class_of_mode mode p.user) has_guard (no_jobs p.user mode);
           known = made_known accounts s f ready.represents.matched me p ready.caller.agrees (class_of_mode mode p.user) (no_jobs p.user mode);
           reads = can.reads;
@@ -256,12 +279,17 @@ module _ (accounts : Accounts) (ok : AreAccounts accounts) (s : State) (f : Flat
     -- what the thread hands in is secret to its user and to its jobs
     label_in_jobs : handed ≡ guard_label ready.represents.matched.category (scratch_guard p.chain (user number refl).0)
     label_in_jobs =
-        ap (λ (b : Bool). if b then file_label accounts mode (user_of own (length accounts.users)) else scratch_label (user_of own (length accounts.users)) (jobs_in own))
+        ap (λ (b : Bool). if b then file_label accounts mode (user_of own (length accounts.users)) else scratch_label
+        (user_of own (length accounts.users)) (jobs_in own))
         (none_if_free ready.represents.matched.category accounts me p ∙ busy)
-        ∙ ap (λ (number : ℕ). scratch_label number (jobs_in own)) (user_is own (length accounts.users) (or_zero number) (user_of_thread accounts s f ready.represents.matched me p) ∙ ap or_zero is)
-        ∙ same_guarded (read_category (user number refl).0 ∷ jobs_in own) [] (read_category (user number refl).0 ∷ map ready.represents.matched.category (map OfJob p.chain)) []
-        (λ q. ap (λ (b : Bool). q == read_category (user number refl).0 || b) (jobs_are ready.represents.matched.category accounts me p q)) (λ q. refl)
-        ∙ ap (λ (c : ℕ). guarded_by (c ∷ map ready.represents.matched.category (map OfJob p.chain)) []) (sym (reads_numbered accounts s f ready.represents.matched (user number refl).0 low))
+        ∙ ap (λ (number : ℕ). scratch_label number (jobs_in own)) (user_is own (length accounts.users) (or_zero number)
+        (user_of_thread accounts s f ready.represents.matched me p) ∙ ap or_zero is)
+        ∙ same_guarded (read_category (user number refl).0 ∷ jobs_in own) []
+        (read_category (user number refl).0 ∷ map ready.represents.matched.category (map OfJob p.chain)) []
+        (λ q. ap (λ (b : Bool). q == read_category (user number refl).0 || b)
+        (jobs_are ready.represents.matched.category accounts me p q)) (λ q. refl)
+        ∙ ap (λ (c : ℕ). guarded_by (c ∷ map ready.represents.matched.category (map OfJob p.chain)) [])
+        (sym (reads_numbered accounts s f ready.represents.matched (user number refl).0 low))
 
     class_guarded : class_guard accounts (Scratch p.user p.chain) ≡ Some (scratch_guard p.chain (user number refl).0)
     class_guarded = ap (option_map (scratch_guard p.chain)) is
@@ -280,8 +308,14 @@ module _ (accounts : Accounts) (ok : AreAccounts accounts) (s : State) (f : Flat
       guard = scratch_guard p.chain (user number refl).0;
       guarded = class_guarded;
       label_is = label_in_jobs;
-      within = made_in_range accounts ready.represents.matched.category ready.represents.matched.different me p ok mode (Scratch p.user p.chain) (scratch_guard p.chain (user number refl).0) class_in_jobs class_guarded;
-      fits = made_fits accounts s f ready.represents.matched me p ready.caller.agrees (Scratch p.user p.chain) (λ none. let k : None ≡ Some (scratch_guard p.chain (user number refl).0) = sym none ∙ class_guarded in absurd cc) of_chain;
+      within =
+          made_in_range accounts ready.represents.matched.category ready.represents.matched.different me p ok mode
+          (Scratch p.user p.chain) (scratch_guard p.chain (user number refl).0) class_in_jobs class_guarded;
+      fits =
+          made_fits accounts s f ready.represents.matched me p ready.caller.agrees (Scratch p.user p.chain)
+          (λ none. let k : None
+          ≡ Some (scratch_guard p.chain (user number refl).0) = sym none ∙ class_guarded in absurd cc)
+          of_chain;
       known = made_known accounts s f ready.represents.matched me p ready.caller.agrees (Scratch p.user p.chain) of_chain;
       reads = λ j. equal_tested p.user p.user refl j && all_known p j;
       writes = λ j. (equal_tested p.user p.user refl j && all_known p j) && all_had p.chain j;

@@ -47,15 +47,18 @@ use Rattle.histar_sim.specs.Laws.{MkdirRefines}
 use Rattle.histar_sim.proofs.Chains.{all_granted, Chain}
 use Rattle.histar_sim.proofs.Steps.{Goal, granted_step, exhausted_step}
 use Rattle.histar_sim.proofs.Walks.{runs, walk_reads, among_then}
-use Rattle.histar_sim.proofs.FoundObjects.{container, listing, directory_class, directory_agrees, container_numbered, listing_numbered, may_look, below, listing_still, listing_then, inside_passes, container_made}
+use Rattle.histar_sim.proofs.FoundObjects.{container, listing, directory_class, directory_agrees, container_numbered, listing_numbered, may_look}
+use Rattle.histar_sim.proofs.FoundObjects.{below, listing_still, listing_then, inside_passes, container_made}
 use Rattle.histar_sim.proofs.Makers.{MakesClass}
 use Rattle.histar_sim.proofs.FoundRoom.{slash_agrees, the_room}
 use Rattle.histar_sim.proofs.MadeEntries.{MakesEntry, asked, among_asked, GoesOn, entry_step, entry_written}
 use Rattle.histar_sim.proofs.NewEntries.{last_name}
 
 -- a mkdir makes a directory
-mkdir_makes : (accounts : Accounts) (f : Flat) (me : ProcName) (p : Process) (q : Path) (mode : Mode) → MakesEntry accounts f me p q mode Dir (calls.Mkdir q mode)
-mkdir_makes accounts f me p q mode = record { needs = record { refuses = refl; reads = λ s reply entries walk. walk }; changes = refl; answers = refl }
+mkdir_makes : (accounts : Accounts) (f : Flat) (me : ProcName) (p : Process) (q : Path) (mode : Mode)
+    → MakesEntry accounts f me p q mode Dir (calls.Mkdir q mode)
+mkdir_makes accounts f me p q mode =
+    record { needs = record { refuses = refl; reads = λ s reply entries walk. walk }; changes = refl; answers = refl }
 
 -- the container is made, its directory segment in it, and the directory is written
 abbrev make : ℕ → Levels → RawCall
@@ -67,7 +70,9 @@ call_error room inner segment = write_entries room.place (map.insert room.entrie
 abbrev within : Room → Levels → ℕ → Program
 within room x inner = ask (raw.MakeSegment inner x []) (call_error room inner)
 
-module _ (accounts : Accounts) (ok : AreAccounts accounts) (old new : KernelModel) (f : Flat) (me : ProcName) (t : ℕ) (ready : IsReady accounts (state old) f me t) (m : Name) (named : IsTrue (is_name m)) (d : Path) (mode : Mode) (result : Result Reply Stopped) where
+module _ (accounts : Accounts) (ok : AreAccounts accounts) (old new : KernelModel) (f : Flat) (me : ProcName) (t : ℕ)
+    (ready : IsReady accounts (state old) f me t) (m : Name) (named : IsTrue (is_name m)) (d : Path) (mode : Mode)
+    (result : Result Reply Stopped) where
   abbrev call : UnixCall
   call = calls.Mkdir (m ∷ d) mode
 
@@ -90,8 +95,10 @@ module _ (accounts : Accounts) (ok : AreAccounts accounts) (old new : KernelMode
   abbrev new_container : ℕ
   new_container = (state old).next_object
 
-  module _ (open_so_far : into accounts f ready.caller.process d ≡ None) (absent : get f.files (m ∷ d) ≡ None) (room : nat_lt (length (entries_in f d)) most_entries ≡ true)
-      (made : MakesClass accounts ok (state old) f me t ready mode) (is_may : may_write accounts ready.caller.process (directory_class accounts ok (state old) f me t ready d open_so_far) ≡ true) where
+  module _ (open_so_far : into accounts f ready.caller.process d ≡ None) (absent : get f.files (m ∷ d) ≡ None)
+      (room : nat_lt (length (entries_in f d)) most_entries ≡ true)
+      (made : MakesClass accounts ok (state old) f me t ready mode) (is_may : may_write accounts ready.caller.process
+      (directory_class accounts ok (state old) f me t ready d open_so_far) ≡ true) where
     abbrev due : Levels
     due = guard_label ready.represents.matched.category made.guard
 
@@ -112,18 +119,30 @@ module _ (accounts : Accounts) (ok : AreAccounts accounts) (old new : KernelMode
         let reads_inside = observes_class accounts me p l.category l.different ok made.class made.guard made.guarded ∙ made.reads in
         let writes_inside = modifies_class accounts me p l.category l.different ok made.class made.guard made.guarded ∙ made.writes in
         let opens = inside_passes accounts ok (state old) f me t ready d open_so_far due reads_inside writes_inside in
-        let ranged : in_range (with_container.objects t) due ≡ true = ap (λ (o : Found). in_range o due) (listing_still accounts ok (state old) f me t ready d open_so_far held).thread ∙ made.within in
-        let is_known_now = is_known accounts (state old) f l ok me p t (runs accounts ok (state old) f me t ready) d (directory_class accounts ok (state old) f me t ready d open_so_far) (directory_agrees accounts ok (state old) f me t ready d open_so_far) above (listing accounts ok (state old) f me t ready d)
-        (container_numbered accounts ok (state old) f me t ready d open_so_far) (listing_numbered accounts ok (state old) f me t ready d open_so_far) (may_look accounts ok (state old) f me t ready d open_so_far) made.class made.known made.guard made.guarded in
-        λ i. opens i orelse unless (ranged i) Range orelse unless (is_known_now i) Range orelse unless (not (guard_owns_nothing l.category made.guard i)) Range orelse unless (is i) TooBig
+        let ranged : in_range (with_container.objects t) due ≡ true =
+        ap (λ (o : Found). in_range o due)
+        (listing_still accounts ok (state old) f me t ready d open_so_far held).thread ∙ made.within in
+        let is_known_now =
+        is_known accounts (state old) f l ok me p t (runs accounts ok (state old) f me t ready) d
+        (directory_class accounts ok (state old) f me t ready d open_so_far)
+        (directory_agrees accounts ok (state old) f me t ready d open_so_far) above
+        (listing accounts ok (state old) f me t ready d)
+        (container_numbered accounts ok (state old) f me t ready d open_so_far)
+        (listing_numbered accounts ok (state old) f me t ready d open_so_far)
+        (may_look accounts ok (state old) f me t ready d open_so_far) made.class made.known made.guard made.guarded in
+        λ i. opens i orelse unless (ranged i) Range orelse unless (is_known_now i) Range
+        orelse unless (not (guard_owns_nothing l.category made.guard i)) Range orelse unless (is i) TooBig
 
     -- once the container is made
-    module _ (linked : KernelModel) (linked_state : state linked ≡ with_container) (so_far : Chain old t (all_granted (asked accounts ok (state old) f me t ready d ++ make above due ∷ [])) linked) where
+    module _ (linked : KernelModel) (linked_state : state linked ≡ with_container)
+        (so_far : Chain old t (all_granted (asked accounts ok (state old) f me t ready d ++ make above due ∷ []))
+        linked) where
       abbrev before : List RawCall
       before = asked accounts ok (state old) f me t ready d ++ make above due ∷ []
 
       -- once the directory segment is made too the directory is written
-      written : has_number with_container ≡ true → (inside : KernelModel) (number : ℕ) → Called linked inside t next None → number ≡ (state linked).next_object
+      written : has_number with_container ≡ true → (inside : KernelModel) (number : ℕ)
+          → Called linked inside t next None → number ≡ (state linked).next_object
           → Chain old t (all_granted (before ++ next ∷ [])) inside → Runs (call_error room_here new_container number) inside new t result → Refined
       written more inside number called number_is chain rest =
           let segment : Object Levels = record { label = due; kind = Segment [] } in
@@ -134,19 +153,30 @@ module _ (accounts : Accounts) (ok : AreAccounts accounts) (old new : KernelMode
           let at_listing = listing_numbered accounts ok (state old) f me t ready d open_so_far in
           let low = below accounts ok (state old) f me t ready (address_of d) above at_container in
           let number_left = ltb-true (new_container + 1) greatest more in
-          let later = matched_directory_created accounts (state old) f l d class agrees above listing_there at_container at_listing m absent made.class made.fits made.guard made.guarded named (ltb-true (length (entries_in f d)) most_entries room) number_left in
+          let later =
+          matched_directory_created accounts (state old) f l d class agrees above listing_there at_container
+          at_listing m absent made.class made.fits made.guard made.guarded named
+          (ltb-true (length (entries_in f d)) most_entries room) number_left in
           entry_written accounts ok old new f me t ready m d mode Dir call result makes named open_so_far absent room made is_may
-          (targets.Directory new_container (new_container + 1)) ((omega (arith, low), omega (arith, number_left)), (omega (arith, low), omega (arith, number_left)))
+          (targets.Directory new_container (new_container + 1))
+          ((omega (arith, low), omega (arith, number_left)), (omega (arith, low), omega (arith, number_left)))
           (with_object with_container new_container segment) (listing_then accounts ok (state old) f me t ready d open_so_far held segment)
-          (before ++ next ∷ []) (among_then old.line t (walk_reads accounts ok (state old) f me t ready d) before (next ∷ []) (among_asked accounts ok (state old) f me t ready d old.line (make above due ∷ [])))
+          (before ++ next ∷ []) (among_then old.line t (walk_reads accounts ok (state old) f me t ready d) before (next ∷ [])
+          (among_asked accounts ok (state old) f me t ready d old.line (make above due ∷ [])))
           inside (called.state ∙ ap (λ (s : State). with_object s new_container segment) linked_state) chain later.0
-          (subst (λ (q : ℕ). Runs (call_error room_here new_container q) inside new t result) (number_is ∙ ap (λ (s : State). s.next_object) linked_state) rest)
+          (subst (λ (q : ℕ). Runs (call_error room_here new_container q) inside new t result)
+          (number_is ∙ ap (λ (s : State). s.next_object) linked_state) rest)
 
       by_more : (more : Bool) → has_number with_container ≡ more → Runs (ask next (call_error room_here new_container)) linked new t result → Refined
       by_more false is on =
-          exhausted_step accounts f me ready.caller call old new t ready.thread result before linked so_far next (call_error room_here new_container) (ap (λ (s : State). check s t next) linked_state ∙ next_said false is) refl (ap has_number linked_state ∙ is) on
+          exhausted_step accounts f me ready.caller call old new t ready.thread result before linked so_far next
+          (call_error room_here new_container)
+          (ap (λ (s : State). check s t next) linked_state ∙ next_said false is) refl
+          (ap has_number linked_state ∙ is) on
       by_more true is on =
-          granted_step accounts f me ready.caller call old new t ready.thread result before linked so_far next (call_error room_here new_container) (ap (λ (s : State). check s t next) linked_state ∙ next_said true is) on
+          granted_step accounts f me ready.caller call old new t ready.thread result before linked so_far next
+          (call_error room_here new_container) (ap (λ (s : State). check s t next) linked_state ∙ next_said true is)
+          on
           (λ inside number called number_is chain rest. written is inside number called number_is chain rest)
 
   -- once the container is made its directory segment is
@@ -154,14 +184,19 @@ module _ (accounts : Accounts) (ok : AreAccounts accounts) (old new : KernelMode
   goes_on open_so_far absent room made is_may has mid stays linked inner called inner_is chain rest =
       let label : Levels = guard_label ready.represents.matched.category made.guard in
       let held : Object Levels = record { label = label; kind = Container set.empty } in
-      by_more open_so_far absent room made is_may linked (called.state ∙ ap (λ (s : State). with_object s above held) stays) chain (has_number (with_object (state old) above held)) refl
+      by_more open_so_far absent room made is_may linked
+      (called.state ∙ ap (λ (s : State). with_object s above held) stays) chain
+      (has_number (with_object (state old) above held)) refl
       (subst (λ (q : ℕ). Runs (within room_here label q) linked new t result) (inner_is ∙ ap (λ (s : State). s.next_object) stays) rest)
 
 -- a mkdir does what its flat rule says
 pub mkdir_refines : MkdirRefines
 unfolding mkdir_program
 mkdir_refines accounts ok [] mode right me old new f t result ready run =
-    slash_agrees accounts old new f me t ready (calls.Mkdir [] mode) result _ (mkdir_makes accounts f me ready.caller.process [] mode).needs [] old refl (same_kernel old) _ run
+    slash_agrees accounts old new f me t ready (calls.Mkdir [] mode) result _
+    (mkdir_makes accounts f me ready.caller.process [] mode).needs [] old refl (same_kernel old) _ run
 mkdir_refines accounts ok (m ∷ d) mode right me old new f t result ready run =
-    entry_step accounts ok old new f me t ready m d mode Dir (calls.Mkdir (m ∷ d) mode) result (mkdir_makes accounts f me ready.caller.process (m ∷ d) mode) make within
-    (λ open_so_far. container_made accounts ok (state old) f me t ready d open_so_far) run (goes_on accounts ok old new f me t ready m (last_name m d right) d mode result)
+    entry_step accounts ok old new f me t ready m d mode Dir (calls.Mkdir (m ∷ d) mode) result
+    (mkdir_makes accounts f me ready.caller.process (m ∷ d) mode) make within
+    (λ open_so_far. container_made accounts ok (state old) f me t ready d open_so_far) run
+    (goes_on accounts ok old new f me t ready m (last_name m d right) d mode result)

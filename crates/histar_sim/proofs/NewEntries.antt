@@ -25,7 +25,9 @@ use Rattle.histar_refinement.proofs.FileChecks.{fits}
 
 -- the last name of a path that can be named is a name
 pub last_name : (m : Name) (d : Path) → IsTrue (is_path (m ∷ d)) → IsTrue (is_name m)
-last_name m d right = (and_parts (is_name m) (list_all is_name d) (and_parts (nat_le (length (m ∷ d)) most_names) (list_all is_name (m ∷ d)) right).1).0
+last_name m d right =
+    (and_parts (is_name m) (list_all is_name d)
+    (and_parts (nat_le (length (m ∷ d)) most_names) (list_all is_name (m ∷ d)) right).1).0
 
 -- A thread stands in the state, and a container that links a segment of these bytes, both of the same label.
 pub record HasSegment (s : State) (t d n : ℕ) (label clearance above : Levels) (old : List ℕ) : Type 0 where
@@ -37,7 +39,9 @@ pub record HasSegment (s : State) (t d n : ℕ) (label clearance above : Levels)
 
 module _ (s : State) (t d n : ℕ) (label clearance above : Levels) (old : List ℕ) (there : HasSegment s t d n label clearance above old) where
   -- the segment is written
-  pub segment_written : is_below_raised above label ≡ true → (is_below label above && is_below_raised above label) ≡ true → (bytes : List ℕ) → length bytes ≤ 4096 → check s t (Write d n 0 bytes) ≡ None
+  pub segment_written : is_below_raised above label ≡ true
+      → (is_below label above && is_below_raised above label) ≡ true → (bytes : List ℕ) → length bytes ≤ 4096
+      → check s t (Write d n 0 bytes) ≡ None
   segment_written seen may bytes few =
       write_check s t label clearance there.thread d above there.links there.holder seen n there.linked above old there.segment 0 bytes
       ∙ (λ i. unless (may i) Modify orelse unless (fits old bytes few i) TooBig)
@@ -60,16 +64,22 @@ module _ (s : State) (t d n : ℕ) (label clearance above : Levels) (old : List 
       still_there = record {
         links = set.insert there.links s.next_object;
         thread = stays t below_thread other_thread ∙ there.thread;
-        holder = new_holder s.objects s.next_object d o (λ e. absurd (omega (arith, below_holder, e))) ∙ ap (option_map (linking s.next_object)) there.holder;
+        holder =
+            new_holder s.objects s.next_object d o (λ e. absurd (omega (arith, below_holder, e)))
+            ∙ ap (option_map (linking s.next_object)) there.holder;
         segment = stays n below_segment other_segment ∙ there.segment;
-        linked = set.contains-insert nat_cmp_total there.links s.next_object n ∙ ap (λ (b : Bool). eq_by_cmp nat_cmp n s.next_object || b) there.linked ∙ or-true (eq_by_cmp nat_cmp n s.next_object);
+        linked =
+            set.contains-insert nat_cmp_total there.links s.next_object n
+            ∙ ap (λ (b : Bool). eq_by_cmp nat_cmp n s.next_object || b) there.linked
+            ∙ or-true (eq_by_cmp nat_cmp n s.next_object);
       }
 
       module _ (inner : Object Levels) where
         -- what was there before both stays once something is made in what was added
         stays_then : (q : ℕ) → q < s.next_object → (with_object (with_object s d o) s.next_object inner).objects q ≡ (with_object s d o).objects q
         stays_then q low =
-            new_other (with_object s d o).objects (s.next_object + 1) s.next_object inner q (λ e. absurd (omega (arith, low, e))) (λ e. absurd (omega (arith, low, e)))
+            new_other (with_object s d o).objects (s.next_object + 1) s.next_object inner q
+            (λ e. absurd (omega (arith, low, e))) (λ e. absurd (omega (arith, low, e)))
 
         -- and all of it stands there then
         pub there_then : HasSegment (with_object (with_object s d o) s.next_object inner) t d n label clearance above old
@@ -89,6 +99,9 @@ module _ (s : State) (t d n : ℕ) (label clearance above : Levels) (old : List 
       inside = new_there s.objects s.next_object d bare
 
       -- in a container that was added something may be made, as its label says
-      pub making_inside : is_below_raised label_inside label ≡ true → (is_below label label_inside && is_below_raised label_inside label) ≡ true → no_making (with_object s d bare) t s.next_object ≡ None
+      pub making_inside : is_below_raised label_inside label ≡ true
+          → (is_below label label_inside && is_below_raised label_inside label) ≡ true
+          → no_making (with_object s d bare) t s.next_object ≡ None
       making_inside seen may =
-          making_check (with_object s d bare) t label clearance (still_there bare).thread s.next_object label_inside set.empty inside seen ∙ ap (λ (b : Bool). unless b Modify) may
+          making_check (with_object s d bare) t label clearance (still_there bare).thread s.next_object label_inside
+          set.empty inside seen ∙ ap (λ (b : Bool). unless b Modify) may

@@ -1,5 +1,6 @@
 -- A process's own container and process segment: it writes the segment, which has few bytes, and takes away what the container links.
-use Rattle.std.proofs.Common.{◌≡◌, ◌≢◌, ℕ, ◌*◌, ◌≤◌, ◌&&◌, Bool, true, List, [], ◌∷◌, ◌++◌, length, map, Option, None, Some, arith, refl, sym, ap, ◌∙◌}
+use Rattle.std.proofs.Common.{◌≡◌, ◌≢◌, ℕ, ◌*◌, ◌≤◌, ◌&&◌, Bool, true, List, [], ◌∷◌, ◌++◌, length, map, Option, None, Some, arith, refl, sym, ap}
+use Rattle.std.proofs.Common.{◌∙◌}
 use Rattle.std.specs.Prelude.{is_some}
 use Rattle.std.specs.FinSet as set
 use Rattle.std.specs.Int.{w64, to_be_bytes}
@@ -33,7 +34,8 @@ children_long [] = refl
 children_long (c ∷ cs) = let later = children_long cs in omega (arith, later)
 
 long_by : (e : Option ℕ) (status : ProcessStatus) → length status.children ≤ most_children
-    → length (life_bytes e ++ (status.born ∷ to_be_bytes w64 status.internal) ++ to_be_bytes w64 status.thread ++ flat_map child_bytes status.children) ≤ 4096
+    → length (life_bytes e ++ (status.born ∷ to_be_bytes w64 status.internal) ++ to_be_bytes w64 status.thread
+    ++ flat_map child_bytes status.children) ≤ 4096
 long_by None status few = let long = children_long status.children in omega (arith, few, long)
 long_by (Some n) status few = let long = children_long status.children in omega (arith, few, long)
 
@@ -41,7 +43,8 @@ pub status_few : (status : ProcessStatus) → length status.children ≤ most_ch
 status_few status few = long_by status.exited status few
 
 -- of as many children as a process can have no more are listed
-pub listed_few : (processes : ProcName → Option Process) (number : AddressNumbers) (me : ProcName) (born : ℕ) → born ≤ most_children → length (map (listed_by number me) (children processes me born)) ≤ most_children
+pub listed_few : (processes : ProcName → Option Process) (number : AddressNumbers) (me : ProcName) (born : ℕ)
+    → born ≤ most_children → length (map (listed_by number me) (children processes me born)) ≤ most_children
 listed_few processes number me born most =
     let mapped = length-map (children processes me born) (listed_by number me) in
     let filtered = length-filter (λ n. is_some (processes (n ∷ me))) (range_with_len 1 born) in
@@ -51,7 +54,9 @@ listed_few processes number me born most =
 
 -- ---- the raw calls on it, by a thread that modifies both
 
-module _ (s : State) (t C S : ℕ) (own most due : Levels) (links : Links) (held : List ℕ) (thread : s.objects t ≡ object own (Thread most)) (holder : s.objects C ≡ object due (Container links)) (segment : s.objects S ≡ object due (Segment held)) where
+module _ (s : State) (t C S : ℕ) (own most due : Levels) (links : Links) (held : List ℕ)
+    (thread : s.objects t ≡ object own (Thread most)) (holder : s.objects C ≡ object due (Container links))
+    (segment : s.objects S ≡ object due (Segment held)) where
   -- the three are different objects
   pub thread_apart : t ≢ C
   thread_apart e = true≢false (sym (ap is_container (ap s.objects e ∙ holder)) ∙ ap is_container thread)

@@ -39,10 +39,12 @@ use Rattle.histar_sim.proofs.Files.{ReachesFile, slash_is_no_file, reached, file
 use Rattle.histar_sim.proofs.FoundObjects.{container, segment, held_there, read_said}
 
 -- a read reaches the file that it reads
-read_reaches : (accounts : Accounts) (f : Flat) (me : ProcName) (p : Process) (q : Path) → ReachesFile accounts f me p q (calls.Read q) (unless (reads accounts f p q) EACCES)
+read_reaches : (accounts : Accounts) (f : Flat) (me : ProcName) (p : Process) (q : Path)
+    → ReachesFile accounts f me p q (calls.Read q) (unless (reads accounts f p q) EACCES)
 read_reaches accounts f me p q = record { refuses = refl; reads = λ s reply entries walk. walk }
 
-module _ (accounts : Accounts) (ok : AreAccounts accounts) (old new : KernelModel) (f : Flat) (me : ProcName) (t : ℕ) (ready : IsReady accounts (state old) f me t) (m : Name) (d : Path) (result : Result Reply Stopped) where
+module _ (accounts : Accounts) (ok : AreAccounts accounts) (old new : KernelModel) (f : Flat) (me : ProcName) (t : ℕ)
+    (ready : IsReady accounts (state old) f me t) (m : Name) (d : Path) (result : Result Reply Stopped) where
   abbrev call : UnixCall
   call = calls.Read (m ∷ d)
 
@@ -62,36 +64,54 @@ module _ (accounts : Accounts) (ok : AreAccounts accounts) (old new : KernelMode
   abbrev next : RawCall
   next = raw.Read (container accounts ok (state old) f me t ready d) file
 
-  module _ (open_so_far : into accounts f p d ≡ None) (class : Class) (bytes : List ℕ) (at : get f.files (m ∷ d) ≡ Some (record { class = class; content = File bytes })) (mid : KernelModel) (stays : state mid ≡ state old) (chain : Chain old t (all_granted walk) mid) where
+  module _ (open_so_far : into accounts f p d ≡ None) (class : Class) (bytes : List ℕ)
+      (at : get f.files (m ∷ d) ≡ Some (record { class = class; content = File bytes })) (mid : KernelModel)
+      (stays : state mid ≡ state old) (chain : Chain old t (all_granted walk) mid) where
     -- the kernel's check is the flat rule
     said_by : (may : Bool) → reads accounts f p (m ∷ d) ≡ may → check (state mid) t next ≡ unless may Observe
-    said_by may is = ap (λ (s : State). check s t next) stays ∙ read_said accounts ok (state old) f me t ready d open_so_far m class bytes at ∙ ap (λ (b : Bool). unless b Observe) is
+    said_by may is =
+        ap (λ (s : State). check s t next) stays
+        ∙ read_said accounts ok (state old) f me t ready d open_so_far m class bytes at
+        ∙ ap (λ (b : Bool). unless b Observe) is
 
     refused_by : (may : Bool) → reads accounts f p (m ∷ d) ≡ may → refused accounts f me p call ≡ unless may EACCES
-    refused_by may is = reached accounts ok old new f me t ready m d call result _ (read_reaches accounts f me p (m ∷ d)) open_so_far class bytes at ∙ ap (λ (b : Bool). unless b EACCES) is
+    refused_by may is =
+        reached accounts ok old new f me t ready m d call result _ (read_reaches accounts f me p (m ∷ d)) open_so_far
+        class bytes at ∙ ap (λ (b : Bool). unless b EACCES) is
 
     held : bytes_in ((state mid).objects file) ≡ bytes_at f (m ∷ d)
     held = ap (λ (s : State). bytes_in (s.objects file)) stays ∙ held_there accounts ok (state old) f me t ready d open_so_far m class bytes at
 
     by_right : (may : Bool) → reads accounts f p (m ∷ d) ≡ may → Runs (ask next (λ (b : List ℕ). Answers (Data b))) mid new t result → Refined
     by_right false is on =
-        refused_step accounts f me ready.caller call old new t ready.thread result walk mid chain stays ready.represents EACCES (refused_by false is) next (λ (b : List ℕ). Answers (Data b)) Observe
+        refused_step accounts f me ready.caller call old new t ready.thread result walk mid chain stays ready.represents
+        EACCES (refused_by false is) next (λ (b : List ℕ). Answers (Data b)) Observe
         (said_by false is) refl (walked_also accounts ok (state old) f me t ready m d old.line ((next, Some Observe) ∷ [])) on
     by_right true is on =
-        granted_step accounts f me ready.caller call old new t ready.thread result walk mid chain next (λ (b : List ℕ). Answers (Data b)) (said_by true is) on
+        granted_step accounts f me ready.caller call old new t ready.thread result walk mid chain next
+        (λ (b : List ℕ). Answers (Data b)) (said_by true is) on
         (λ later answer called right longer end.
         let answer_is : answer ≡ bytes_at f (m ∷ d) = right ∙ held in
-        let entries_are : entries_of old.line t (all_granted (walk ++ next ∷ [])) ≡ entries_of old.line t (all_granted walk ++ (next, None) ∷ []) = ap (entries_of old.line t) (map-append (λ (c : RawCall). (c, None)) walk (next ∷ [])) in
+        let entries_are : entries_of old.line t (all_granted (walk ++ next ∷ []))
+        ≡ entries_of old.line t (all_granted walk ++ (next, None) ∷ []) =
+        ap (entries_of old.line t) (map-append (λ (c : RawCall). (c, None)) walk (next ∷ [])) in
         let backed = subst (λ (es : List TraceEntry). EndsWithRead (state old) es (bytes_at f (m ∷ d))) (sym entries_are)
-        (subst (EndsWithRead (state old) (entries_of old.line t (all_granted walk ++ (next, None) ∷ []))) held (read_last old mid t walk chain (container accounts ok (state old) f me t ready d) file)) in
+        (subst (EndsWithRead (state old) (entries_of old.line t (all_granted walk ++ (next, None) ∷ []))) held
+        (read_last old mid t walk chain (container accounts ok (state old) f me t ready d) file)) in
         let same : state later ≡ state old = called.state ∙ stays in
-        answered_step accounts f me ready.caller call old new t ready.thread result (walk ++ next ∷ []) later longer (Data answer) (ap Data answer_is) (refused_by true is) backed (walked_then accounts ok (state old) f me t ready m d old.line (next ∷ []))
+        answered_step accounts f me ready.caller call old new t ready.thread result (walk ++ next ∷ []) later longer
+        (Data answer) (ap Data answer_is) (refused_by true is) backed
+        (walked_then accounts ok (state old) f me t ready m d old.line (next ∷ []))
         (subst (λ (s : State). Represents accounts s f) (sym same) ready.represents) end)
 
 -- a read does what its flat rule says
 pub read_refines : ReadRefines
 unfolding read_program
-read_refines accounts ok [] me old new f t result ready run = slash_is_no_file accounts old new f me t ready (calls.Read []) result _ (read_reaches accounts f me ready.caller.process []) _ run
+read_refines accounts ok [] me old new f t result ready run =
+    slash_is_no_file accounts old new f me t ready (calls.Read []) result _
+    (read_reaches accounts f me ready.caller.process []) _ run
 read_refines accounts ok (m ∷ d) me old new f t result ready run =
     file_step accounts ok old new f me t ready m d (calls.Read (m ∷ d)) result _ (read_reaches accounts f me ready.caller.process (m ∷ d)) _ run
-    (λ open_so_far class bytes at mid stays chain on. by_right accounts ok old new f me t ready m d result open_so_far class bytes at mid stays chain (reads accounts f ready.caller.process (m ∷ d)) refl on)
+    (λ open_so_far class bytes at mid stays chain on.
+    by_right accounts ok old new f me t ready m d result open_so_far class bytes at mid stays chain
+    (reads accounts f ready.caller.process (m ∷ d)) refl on)

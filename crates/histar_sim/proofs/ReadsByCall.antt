@@ -17,7 +17,8 @@ use Rattle.histar_rules.specs.Sound.{root_number}
 use Rattle.histar_syscall.specs.declared.trace.TraceEntry.{TraceEntry}
 use Rattle.histar_login.specs.Login.{place_of, password_of}
 use Rattle.histar_refinement.specs.Lines.{IsStatusSegment, IsDirectoryAt, IsObjectAt}
-use Rattle.histar_sim.specs.Reads.{Question, AreAmong, is_compared, tested, looked_at, walked, walked_into, walked_unless_full, label_asked, password_asked, due, Asks, AskAll, HasReads}
+use Rattle.histar_sim.specs.Reads.{Question, AreAmong, is_compared, tested, looked_at, walked, walked_into, walked_unless_full, label_asked}
+use Rattle.histar_sim.specs.Reads.{password_asked, due, Asks, AskAll, HasReads}
 use Rattle.histar_sim.specs.Reads.Question.{EntriesOf, LabelAt, StatusOf, OwnLabel, PasswordAt}
 
 module _ (accounts : Accounts) where
@@ -50,13 +51,16 @@ module _ (accounts : Accounts) where
 
     -- a raw call that asks for the label of what stands at a path, where the reply tells of it
     abbrev pub AreLabelCalls : Path → Reply → List RawCall → Type 0
-    AreLabelCalls q (Stats stat) calls = (container : ℕ) × (object : ℕ) × IsObjectAt accounts s q container object × (calls ≡ raw.LabelOf container object ∷ [])
+    AreLabelCalls q (Stats stat) calls =
+        (container : ℕ) × (object : ℕ) × IsObjectAt accounts s q container object
+        × (calls ≡ raw.LabelOf container object ∷ [])
     AreLabelCalls q _ calls = calls ≡ []
 
     -- among the entries are the reads of the walk to a path, and after them the raw call for the label, if there is one
     abbrev pub HasLabel : Flat → Process → Path → Reply → List TraceEntry → Type 0
     HasLabel f p q reply entries =
-        (reads : List RawCall) × (labels : List RawCall) × AreReadsOf (walked_paths f p q) reads × AreLabelCalls q reply labels × AreAmong (reads ++ labels) entries
+        (reads : List RawCall) × (labels : List RawCall) × AreReadsOf (walked_paths f p q) reads
+        × AreLabelCalls q reply labels × AreAmong (reads ++ labels) entries
 
     -- these raw calls read the process segments of these processes, one after another
     abbrev pub AreStatusReads : List ProcName → List RawCall → Type 0
@@ -94,7 +98,8 @@ module _ (accounts : Accounts) where
 
   module _ (s : State) (f : Flat) (p : Process) where
     -- what is asked first, and then what is asked behind it
-    asked_then : (xs ys : List Question) (a b : List RawCall) → AskAll accounts s xs a → AskAll accounts s ys b → AskAll accounts s (xs ++ ys) (a ++ b)
+    asked_then : (xs ys : List Question) (a b : List RawCall) → AskAll accounts s xs a → AskAll accounts s ys b
+        → AskAll accounts s (xs ++ ys) (a ++ b)
     asked_then [] ys a b h k = subst (λ (c : List RawCall). AskAll accounts s ys (c ++ b)) (sym h) k
     asked_then (x ∷ xs) ys a b h k = (h.0, h.1 ++ b, h.2, ap (λ (c : List RawCall). c ++ b) h.3, asked_then xs ys h.1 b h.4 k)
 
@@ -119,36 +124,55 @@ module _ (accounts : Accounts) where
     asked_label q reply calls h = h
 
     -- what is due to a walk is asked
-    walk_due : (q : Path) (entries : List TraceEntry) → HasWalk s f p q entries → (calls : List RawCall) × AskAll accounts s (walked accounts f p q) calls × AreAmong calls entries
+    walk_due : (q : Path) (entries : List TraceEntry) → HasWalk s f p q entries
+        → (calls : List RawCall) × AskAll accounts s (walked accounts f p q) calls × AreAmong calls entries
     walk_due [] entries h = ([], refl, tt)
     walk_due (n ∷ d) entries h = (h.0, asked_entries (tested accounts f p d) h.0 h.1, h.2)
 
     -- what is due to a call that looks into a directory that it removes
-    into_due : (q : Path) (entries : List TraceEntry) → HasWayUnlessSlash s f p q entries → (calls : List RawCall) × AskAll accounts s (walked_into accounts f p q) calls × AreAmong calls entries
+    into_due : (q : Path) (entries : List TraceEntry) → HasWayUnlessSlash s f p q entries
+        → (calls : List RawCall) × AskAll accounts s (walked_into accounts f p q) calls × AreAmong calls entries
     into_due [] entries h = ([], refl, tt)
     into_due (n ∷ d) entries h = (h.0, asked_entries (tested accounts f p (n ∷ d)) h.0 h.1, h.2)
 
     -- what is due to a wrap
-    wrap_due : (q : Path) (reply : Reply) (entries : List TraceEntry) → HasWalkUnlessFull s f p q reply entries → (calls : List RawCall) × AskAll accounts s (walked_unless_full accounts f p q reply) calls × AreAmong calls entries
+    wrap_due : (q : Path) (reply : Reply) (entries : List TraceEntry) → HasWalkUnlessFull s f p q reply entries
+        → (calls : List RawCall) × AskAll accounts s (walked_unless_full accounts f p q reply) calls
+        × AreAmong calls entries
     wrap_due q (Refused EAGAIN) entries h = ([], refl, tt)
     wrap_due q (Refused errno) entries h = walk_due q entries h
     wrap_due q reply entries h = walk_due q entries h
 
     -- what is due to a search
-    search_due : (name : ProcName) (entries : List TraceEntry) → HasSearch s f p name entries → (calls : List RawCall) × AskAll accounts s (map StatusOf (looked_at accounts f p name)) calls × AreAmong calls entries
+    search_due : (name : ProcName) (entries : List TraceEntry) → HasSearch s f p name entries
+        → (calls : List RawCall) × AskAll accounts s (map StatusOf (looked_at accounts f p name)) calls
+        × AreAmong calls entries
     search_due name entries h = (h.0, asked_statuses (looked_at accounts f p name) h.0 h.1, h.2)
 
     -- what is due to a login
-    login_due : (place : Option ℕ) (compared : Bool) (entries : List TraceEntry) → AreAmong (reads_of_login place compared) entries → (calls : List RawCall) × AskAll accounts s (password_asked place compared) calls × AreAmong calls entries
+    login_due : (place : Option ℕ) (compared : Bool) (entries : List TraceEntry)
+        → AreAmong (reads_of_login place compared) entries
+        → (calls : List RawCall) × AskAll accounts s (password_asked place compared) calls × AreAmong calls entries
     login_due None compared entries h = ([], refl, tt)
     login_due (Some place) false entries h = ([], refl, tt)
-    login_due (Some place) true entries h = (raw.Read root_number (password_of (place + 1)) ∷ [], (raw.Read root_number (password_of (place + 1)), [], refl, refl, refl), h)
+    login_due (Some place) true entries h = (
+      raw.Read root_number (password_of (place + 1))
+          ∷ [],
+      (raw.Read root_number (password_of (place + 1)), [], refl, refl, refl),
+      h,
+    )
 
     -- what is due to a call is asked, where it has the reads of its words
-    pub reads_due : (call : UnixCall) (reply : Reply) (entries : List TraceEntry) → HasReadsByCall s f p call reply entries → HasReads accounts s f (Some p) call reply entries
+    pub reads_due : (call : UnixCall) (reply : Reply) (entries : List TraceEntry)
+        → HasReadsByCall s f p call reply entries → HasReads accounts s f (Some p) call reply entries
     reads_due (ListCall path) reply entries h = (h.0, asked_entries (tested accounts f p path) h.0 h.1, h.2)
-    reads_due (Stat path) reply entries h =
-        (h.0 ++ h.1, asked_then (walked accounts f p path) (label_asked path reply) h.0 h.1 (asked_walk path h.0 h.2) (asked_label path reply h.1 h.3), h.4)
+    reads_due (Stat path) reply entries h = (
+      h.0
+          ++ h.1,
+      asked_then (walked accounts f p path) (label_asked path reply) h.0 h.1 (asked_walk path h.0 h.2)
+          (asked_label path reply h.1 h.3),
+      h.4,
+    )
     reads_due (Rmdir path) reply entries h = into_due path entries h
     reads_due (Status name) reply entries h = search_due name entries h
     reads_due (Kill name) reply entries h = search_due name entries h

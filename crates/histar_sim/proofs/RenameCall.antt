@@ -44,11 +44,14 @@ use Rattle.histar_refinement.proofs.Renaming.{listable_renamed, represents_renam
 use Rattle.histar_sim.specs.Simulation.{IsReady}
 use Rattle.histar_sim.proofs.Chains.{all_granted, Chain}
 use Rattle.histar_sim.proofs.Steps.{Goal, granted_step, refused_step, refused_at_once, answered_step}
-use Rattle.histar_sim.proofs.Walks.{runs, place_at, walk_reads, among_granted_all, agrees, at_container, at_listing, dir, seen, nothing_there, has_walk, walked_then, walked_also}
+use Rattle.histar_sim.proofs.Walks.{runs, place_at, walk_reads, among_granted_all, agrees, at_container, at_listing, dir, seen, nothing_there}
+use Rattle.histar_sim.proofs.Walks.{has_walk, walked_then, walked_also}
 use Rattle.histar_sim.specs.Laws.{RenameRefines}
 use Rattle.histar_sim.proofs.Entries.{target_at, entry_leads, reached, entry_step}
 
-module _ (accounts : Accounts) (ok : AreAccounts accounts) (old new : KernelModel) (f : Flat) (me : ProcName) (t : ℕ) (ready : IsReady accounts (state old) f me t) (m : Name) (d : Path) (name : Name) (named : IsTrue (is_name name)) (result : Result Reply Stopped) where
+module _ (accounts : Accounts) (ok : AreAccounts accounts) (old new : KernelModel) (f : Flat) (me : ProcName) (t : ℕ)
+    (ready : IsReady accounts (state old) f me t) (m : Name) (d : Path) (name : Name) (named : IsTrue (is_name name))
+    (result : Result Reply Stopped) where
   abbrev call : UnixCall
   call = calls.Rename (m ∷ d) name
 
@@ -75,7 +78,9 @@ module _ (accounts : Accounts) (ok : AreAccounts accounts) (old new : KernelMode
   abbrev refusal : Option Node → Bool → Option Errno
   refusal o may = unless (not (is_some_and o (λ n. true))) EEXIST orelse unless may EACCES
 
-  module _ (open_so_far : into accounts f p d ≡ None) (class : Class) (content : Content) (at : get f.files (m ∷ d) ≡ Some (record { class = class; content = content })) (mid : KernelModel) (stays : state mid ≡ state old) (chain : Chain old t (all_granted walk) mid) where
+  module _ (open_so_far : into accounts f p d ≡ None) (class : Class) (content : Content)
+      (at : get f.files (m ∷ d) ≡ Some (record { class = class; content = content })) (mid : KernelModel)
+      (stays : state mid ≡ state old) (chain : Chain old t (all_granted walk) mid) where
     is_dir_here : is_dir_at f d ≡ true
     is_dir_here = dir accounts ok (state old) f me t ready d open_so_far
 
@@ -97,9 +102,13 @@ module _ (accounts : Accounts) (ok : AreAccounts accounts) (old new : KernelMode
     right_is : writes accounts f p d ≡ may_write accounts p root
     right_is = ap (λ (o : Option Node). is_some_and o (λ n. may_write accounts p n.class)) root_at
 
-    refused_by : (o : Option Node) (may : Bool) → get f.files (name ∷ d) ≡ o → may_write accounts p root ≡ may → refused accounts f me p call ≡ refusal o may
+    refused_by : (o : Option Node) (may : Bool) → get f.files (name ∷ d) ≡ o → may_write accounts p root ≡ may
+        → refused accounts f me p call ≡ refusal o may
     refused_by o may is_o is_may =
-        reached accounts ok old new f me t ready m d call result (refusal (get f.files (name ∷ d)) (writes accounts f p d)) refl (λ _ steps r among. has_walk accounts ok (state old) f me t ready m d _ among) open_so_far (record { class = class; content = content }) at
+        reached accounts ok old new f me t ready m d call result
+        (refusal (get f.files (name ∷ d)) (writes accounts f p d)) refl
+        (λ _ steps r among. has_walk accounts ok (state old) f me t ready m d _ among) open_so_far
+        (record { class = class; content = content }) at
         ∙ (λ i. refusal (is_o i) ((right_is ∙ is_may) i))
 
     -- where the entry leads
@@ -107,7 +116,9 @@ module _ (accounts : Accounts) (ok : AreAccounts accounts) (old new : KernelMode
     target = target_at accounts ok (state old) f me t ready m d content
 
     leads : leads_at f.files ready.represents.matched.naming.number (m ∷ d) ≡ Some target
-    leads = sym (get_directory f.files ready.represents.matched.naming.number d m) ∙ entry_leads accounts ok (state old) f me t ready m d class content at
+    leads =
+        sym (get_directory f.files ready.represents.matched.naming.number d m)
+        ∙ entry_leads accounts ok (state old) f me t ready m d class content at
 
     -- the directory with the entry under its new name
     abbrev renamed : Entries
@@ -121,23 +132,32 @@ module _ (accounts : Accounts) (ok : AreAccounts accounts) (old new : KernelMode
       said : (may : Bool) → may_write accounts p root ≡ may → check (state mid) t next ≡ unless may Modify
       said may is_may =
           ap (λ (s : State). check s t next) stays
-          ∙ write_listing_said accounts (state old) f ready.represents.matched ok me p t (runs accounts ok (state old) f me t ready) d root root_at container listing at_D at_N sees renamed
-          (listable_renamed accounts (state old) f ready.represents.matched m name d listing at_N absent target leads named (ready.represents.matched.listable d is_dir_here))
+          ∙ write_listing_said accounts (state old) f ready.represents.matched ok me p t
+          (runs accounts ok (state old) f me t ready) d root root_at container listing at_D at_N sees renamed
+          (listable_renamed accounts (state old) f ready.represents.matched m name d listing at_N absent target leads
+          named (ready.represents.matched.listable d is_dir_here))
           ∙ ap (λ (b : Bool). unless b Modify) is_may
 
       -- the kernel has the objects of the flat state with the entry renamed
       matched_after : Represents accounts (with_segment_bytes (state old) listing (spelling renamed)) (with_renamed f (m ∷ d) (name ∷ d))
-      matched_after = represents_renamed accounts (state old) f ready.represents.matched m name d listing at_N absent target leads ready.represents.jobs_given named is_dir_here
+      matched_after =
+          represents_renamed accounts (state old) f ready.represents.matched m name d listing at_N absent target leads
+          ready.represents.jobs_given named is_dir_here
 
       by_right : (may : Bool) → may_write accounts p root ≡ may → Runs (ask next (λ _. Answers Done)) mid new t result → Refined
       by_right false is_may on =
-          refused_step accounts f me ready.caller call old new t ready.thread result walk mid chain stays ready.represents EACCES (refused_by None false absent is_may) next (λ _. Answers Done) Modify (said false is_may) refl
+          refused_step accounts f me ready.caller call old new t ready.thread result walk mid chain stays
+          ready.represents EACCES (refused_by None false absent is_may) next (λ _. Answers Done) Modify
+          (said false is_may) refl
           (walked_also accounts ok (state old) f me t ready m d old.line ((next, Some Modify) ∷ [])) on
       by_right true is_may on =
           granted_step accounts f me ready.caller call old new t ready.thread result walk mid chain next (λ _. Answers Done) (said true is_may) on
           (λ later answer called right longer end.
-          let new_state : state later ≡ with_segment_bytes (state old) listing (spelling renamed) = called.state ∙ ap (λ (s : State). with_segment_bytes s listing (spelling renamed)) stays in
-          answered_step accounts f me ready.caller call old new t ready.thread result (walk ++ next ∷ []) later longer Done refl (refused_by None true absent is_may) tt (walked_then accounts ok (state old) f me t ready m d old.line (next ∷ []))
+          let new_state : state later ≡ with_segment_bytes (state old) listing (spelling renamed) =
+          called.state ∙ ap (λ (s : State). with_segment_bytes s listing (spelling renamed)) stays in
+          answered_step accounts f me ready.caller call old new t ready.thread result (walk ++ next ∷ []) later longer
+          Done refl (refused_by None true absent is_may) tt
+          (walked_then accounts ok (state old) f me t ready m d old.line (next ∷ []))
           (subst (λ (s : State). Represents accounts s (with_renamed f (m ∷ d) (name ∷ d))) (sym new_state) matched_after) end)
 
     -- once the new name was looked up
@@ -146,25 +166,35 @@ module _ (accounts : Accounts) (ok : AreAccounts accounts) (old new : KernelMode
 
     by_name : (o : Option Node) → get f.files (name ∷ d) ≡ o → Runs (at_name (map.get entries name)) mid new t result → Refined
     by_name None absent on =
-        by_right absent (may_write accounts p root) refl (subst (λ (o : Option Target). Runs (at_name o) mid new t result) (nothing_there accounts ok (state old) f me t ready name d absent) on)
+        by_right absent (may_write accounts p root) refl (subst (λ (o : Option Target). Runs (at_name o) mid new t result)
+        (nothing_there accounts ok (state old) f me t ready name d absent) on)
     by_name (Some node) is on =
-        refused_at_once accounts f me ready.caller call old new t ready.thread result walk mid chain stays ready.represents EEXIST (refused_by (Some node) (may_write accounts p root) is refl) refl refl
+        refused_at_once accounts f me ready.caller call old new t ready.thread result walk mid chain stays
+        ready.represents EEXIST (refused_by (Some node) (may_write accounts p root) is refl) refl refl
         (has_walk accounts ok (state old) f me t ready m d _ (among_granted_all old.line t walk))
-        (subst (λ (o : Option Target). Runs (at_name o) mid new t result) (entry_leads accounts ok (state old) f me t ready name d node.class node.content is) on)
+        (subst (λ (o : Option Target). Runs (at_name o) mid new t result)
+        (entry_leads accounts ok (state old) f me t ready name d node.class node.content is) on)
 
   rename_is_refined : Runs (rename_program (roots_of (length accounts.users)) (m ∷ d) name) old new t result → Refined
   unfolding rename_program
-  rename_is_refined run = entry_step accounts ok old new f me t ready m d call result (refusal (get f.files (name ∷ d)) (writes accounts f p d)) refl (λ _ steps r among. has_walk accounts ok (state old) f me t ready m d _ among) _ run
+  rename_is_refined run =
+      entry_step accounts ok old new f me t ready m d call result
+      (refusal (get f.files (name ∷ d)) (writes accounts f p d)) refl
+      (λ _ steps r among. has_walk accounts ok (state old) f me t ready m d _ among) _ run
       (λ open_so_far class content at mid stays chain on. by_name open_so_far class content at mid stays chain (get f.files (name ∷ d)) refl on)
 
 -- a rename of `/`
-rename_of_slash : (accounts : Accounts) (old new : KernelModel) (f : Flat) (me : ProcName) (t : ℕ) (name : Name) (result : Result Reply Stopped) (ready : IsReady accounts (state old) f me t) → Runs (rename_program (roots_of (length accounts.users)) [] name) old new t result
+rename_of_slash : (accounts : Accounts) (old new : KernelModel) (f : Flat) (me : ProcName) (t : ℕ) (name : Name)
+    (result : Result Reply Stopped) (ready : IsReady accounts (state old) f me t)
+    → Runs (rename_program (roots_of (length accounts.users)) [] name) old new t result
     → Goal accounts f me ready.caller (calls.Rename [] name) old new t ready.thread result
 unfolding rename_program find_entry
 rename_of_slash accounts old new f me t name result ready run =
-    refused_at_once accounts f me ready.caller (calls.Rename [] name) old new t ready.thread result [] old (same_kernel old) refl ready.represents EBUSY refl refl refl tt run
+    refused_at_once accounts f me ready.caller (calls.Rename [] name) old new t ready.thread result [] old
+    (same_kernel old) refl ready.represents EBUSY refl refl refl tt run
 
 -- a rename does what its flat rule says
 pub rename_refines : RenameRefines
 rename_refines accounts ok [] name named me old new f t result ready run = rename_of_slash accounts old new f me t name result ready run
-rename_refines accounts ok (m ∷ d) name named me old new f t result ready run = rename_is_refined accounts ok old new f me t ready m d name named result run
+rename_refines accounts ok (m ∷ d) name named me old new f t result ready run =
+    rename_is_refined accounts ok old new f me t ready m d name named result run

@@ -1,5 +1,6 @@
 -- An rmdir does what the flat rule of `rmdir` says.
-use Rattle.std.proofs.Common.{◌≡◌, ℕ, ◌==◌, ◌&&◌, Bool, true, false, List, [], ◌∷◌, ◌++◌, Option, None, Some, Result, Ok, Err, refl, sym, ap, ◌∙◌, subst, length, if◌then◌else◌}
+use Rattle.std.proofs.Common.{◌≡◌, ℕ, ◌==◌, ◌&&◌, Bool, true, false, List, [], ◌∷◌, ◌++◌, Option, None, Some, Result, Ok, Err, refl, sym, ap, ◌∙◌}
+use Rattle.std.proofs.Common.{subst, length, if◌then◌else◌}
 use Rattle.std.proofs.lemmas.List.{map-append, append-nil}
 use Rattle.std.specs.Prelude.{not, is_some, map}
 use Rattle.histar_base.specs.Refusals.{◌orelse◌, unless}
@@ -45,7 +46,8 @@ use Rattle.histar_sim.proofs.TakingAway.{take_away_step}
 abbrev unless_filled : Bool → Result (Unit {0}) Errno
 unless_filled empty = if empty then Ok tt else Err ENOTEMPTY
 
-module _ (accounts : Accounts) (ok : AreAccounts accounts) (old new : KernelModel) (f : Flat) (me : ProcName) (t : ℕ) (ready : IsReady accounts (state old) f me t) (m : Name) (d : Path) (result : Result Reply Stopped) where
+module _ (accounts : Accounts) (ok : AreAccounts accounts) (old new : KernelModel) (f : Flat) (me : ProcName) (t : ℕ)
+    (ready : IsReady accounts (state old) f me t) (m : Name) (d : Path) (result : Result Reply Stopped) where
   abbrev call : UnixCall
   call = calls.Rmdir (m ∷ d)
 
@@ -63,23 +65,32 @@ module _ (accounts : Accounts) (ok : AreAccounts accounts) (old new : KernelMode
   Refined = Goal accounts f me ready.caller call old new t ready.thread result
 
   -- the reads that the call cannot do without are those of the walk, and that of the directory itself where the way leads into it
-  reads_are : (b : Bool) → (not (is_some (into accounts f p d)) && is_dir_at f (m ∷ d)) ≡ b → walk_reads accounts ok (state old) f me t ready (m ∷ d) ≡ walk ++ (if b then read ∷ [] else [])
+  reads_are : (b : Bool) → (not (is_some (into accounts f p d)) && is_dir_at f (m ∷ d)) ≡ b
+      → walk_reads accounts ok (state old) f me t ready (m ∷ d) ≡ walk ++ (if b then read ∷ [] else [])
   reads_are b is =
-      map-append (read_of accounts ok (state old) f me t ready) (tested accounts f p d) (if not (is_some (into accounts f p d)) && is_dir_at f (m ∷ d) then (m ∷ d) ∷ [] else [])
+      map-append (read_of accounts ok (state old) f me t ready) (tested accounts f p d)
+      (if not (is_some (into accounts f p d)) && is_dir_at f (m ∷ d) then (m ∷ d) ∷ [] else [])
       ∙ ap (λ (b : Bool). walk ++ map (read_of accounts ok (state old) f me t ready) (if b then (m ∷ d) ∷ [] else [])) is ∙ by b
     where
-      by : (b : Bool) → walk ++ map (read_of accounts ok (state old) f me t ready) (if b then (m ∷ d) ∷ [] else []) ≡ walk ++ (if b then read ∷ [] else [])
+      by : (b : Bool)
+          → walk ++ map (read_of accounts ok (state old) f me t ready) (if b then (m ∷ d) ∷ [] else [])
+          ≡ walk ++ (if b then read ∷ [] else [])
       by true = refl
       by false = refl
 
   module _ (steps : List Step) (r : Reply) where
-    walk_suffices : (not (is_some (into accounts f p d)) && is_dir_at f (m ∷ d)) ≡ false → AreAmong walk (entries_of old.line t steps) → ReadsAmong accounts f me ready.caller call old new t ready.thread steps r
+    walk_suffices : (not (is_some (into accounts f p d)) && is_dir_at f (m ∷ d)) ≡ false
+        → AreAmong walk (entries_of old.line t steps)
+        → ReadsAmong accounts f me ready.caller call old new t ready.thread steps r
     walk_suffices none among = has_way accounts ok (state old) f me t ready (m ∷ d) _
         (subst (λ (calls : List RawCall). AreAmong calls (entries_of old.line t steps)) (sym (reads_are false none ∙ append-nil walk)) among)
 
-    both_suffice : into accounts f p d ≡ None → is_dir_at f (m ∷ d) ≡ true → AreAmong (walk ++ read ∷ []) (entries_of old.line t steps) → ReadsAmong accounts f me ready.caller call old new t ready.thread steps r
+    both_suffice : into accounts f p d ≡ None → is_dir_at f (m ∷ d) ≡ true
+        → AreAmong (walk ++ read ∷ []) (entries_of old.line t steps)
+        → ReadsAmong accounts f me ready.caller call old new t ready.thread steps r
     both_suffice open_so_far dir among = has_way accounts ok (state old) f me t ready (m ∷ d) _
-        (subst (λ (calls : List RawCall). AreAmong calls (entries_of old.line t steps)) (sym (reads_are true (λ i. not (is_some (open_so_far i)) && dir i))) among)
+        (subst (λ (calls : List RawCall). AreAmong calls (entries_of old.line t steps))
+        (sym (reads_are true (λ i. not (is_some (open_so_far i)) && dir i))) among)
 
   -- what the flat rules refuse of the entry
   abbrev refusal : Bool → Bool → Bool → Option Errno
@@ -96,56 +107,84 @@ module _ (accounts : Accounts) (ok : AreAccounts accounts) (old new : KernelMode
   at_entry entry = given (must_be_directory entry.target) (λ place. read_directory place (when_read entry))
 
   module _ (open_so_far : into accounts f p d ≡ None) where
-    refused_by : (content : Content) (class : Class) (sees empty : Bool) → get f.files (m ∷ d) ≡ Some (record { class = class; content = content }) → reads accounts f p (m ∷ d) ≡ sees → is_empty ≡ empty
+    refused_by : (content : Content) (class : Class) (sees empty : Bool)
+        → get f.files (m ∷ d) ≡ Some (record { class = class; content = content }) → reads accounts f p (m ∷ d) ≡ sees
+        → is_empty ≡ empty
         → refused accounts f me p call ≡ refusal (is_dir (record { class = class; content = content })) sees empty
     refused_by content class sees empty at is_seen is_so =
-        reached accounts ok old new f me t ready m d call result (refusal (is_dir_at f (m ∷ d)) (reads accounts f p (m ∷ d)) is_empty) refl (λ none steps r among. walk_suffices steps r none among) open_so_far _ at
+        reached accounts ok old new f me t ready m d call result
+        (refusal (is_dir_at f (m ∷ d)) (reads accounts f p (m ∷ d)) is_empty) refl
+        (λ none steps r among. walk_suffices steps r none among) open_so_far _ at
         ∙ (λ i. refusal (is_some_and (at i) is_dir) (is_seen i) (is_so i))
 
     module _ (class : Class) (at : get f.files (m ∷ d) ≡ Some (record { class = class; content = Dir })) where
       is_dir_here : is_dir_at f (m ∷ d) ≡ true
       is_dir_here = ap (λ (o : Option Node). is_some_and o is_dir) at
 
-      module _ (sees : reads accounts f p (m ∷ d) ≡ true) (mid : KernelModel) (stays : state mid ≡ state old) (chain : Chain old t (all_granted (walk ++ read ∷ [])) mid) where
-        by_entries : (b : Bool) → is_empty ≡ b → Runs (given (unless_filled b) (λ _. take_away (entry_of accounts ok (state old) f me t ready m d Dir) (λ _. Answers Done))) mid new t result → Refined
+      module _ (sees : reads accounts f p (m ∷ d) ≡ true) (mid : KernelModel) (stays : state mid ≡ state old)
+          (chain : Chain old t (all_granted (walk ++ read ∷ [])) mid) where
+        by_entries : (b : Bool) → is_empty ≡ b
+            → Runs (given (unless_filled b)
+            (λ _. take_away (entry_of accounts ok (state old) f me t ready m d Dir) (λ _. Answers Done))) mid
+            new t result → Refined
         by_entries false is on =
-            refused_at_once accounts f me ready.caller call old new t ready.thread result (walk ++ read ∷ []) mid chain stays ready.represents ENOTEMPTY (refused_by Dir class true false at sees is) refl refl
-            (both_suffice (all_granted (walk ++ read ∷ [])) (Refused ENOTEMPTY) open_so_far is_dir_here (among_granted_all old.line t (walk ++ read ∷ []))) on
+            refused_at_once accounts f me ready.caller call old new t ready.thread result (walk ++ read ∷ []) mid chain
+            stays ready.represents ENOTEMPTY (refused_by Dir class true false at sees is) refl refl
+            (both_suffice (all_granted (walk ++ read ∷ [])) (Refused ENOTEMPTY) open_so_far is_dir_here
+            (among_granted_all old.line t (walk ++ read ∷ []))) on
         by_entries true is on =
-            take_away_step accounts ok old new f me t ready m d call result (record { refuses = refused_by Dir class true true at sees is; removes = refl; answers = refl }) open_so_far class Dir at
+            take_away_step accounts ok old new f me t ready m d call result
+            (record { refuses = refused_by Dir class true true at sees is; removes = refl; answers = refl })
+            open_so_far class Dir at
             (walk ++ read ∷ []) (λ steps r among. both_suffice steps r open_so_far is_dir_here among) mid stays chain on
 
-        emptied : Runs (when_read (entry_of accounts ok (state old) f me t ready m d Dir) (directory_read accounts ok (state old) f me t ready (m ∷ d))) mid new t result → Refined
+        emptied : Runs (when_read (entry_of accounts ok (state old) f me t ready m d Dir)
+            (directory_read accounts ok (state old) f me t ready (m ∷ d))) mid new t result → Refined
         emptied on =
             by_entries is_empty refl
-            (subst (λ (n : ℕ). Runs (given (unless_filled (n == 0)) (λ _. take_away (entry_of accounts ok (state old) f me t ready m d Dir) (λ _. Answers Done))) mid new t result)
+            (subst (λ (n : ℕ). Runs (given (unless_filled (n == 0))
+            (λ _. take_away (entry_of accounts ok (state old) f me t ready m d Dir) (λ _. Answers Done)))
+            mid new t result)
             (count_entries accounts (state old) f ready.represents.matched (m ∷ d)) on)
 
     module _ (mid : KernelModel) (stays : state mid ≡ state old) (chain : Chain old t (all_granted walk) mid) where
-      by_content : (class : Class) (content : Content) → get f.files (m ∷ d) ≡ Some (record { class = class; content = content }) → Runs (at_entry (entry_of accounts ok (state old) f me t ready m d content)) mid new t result → Refined
+      by_content : (class : Class) (content : Content)
+          → get f.files (m ∷ d) ≡ Some (record { class = class; content = content })
+          → Runs (at_entry (entry_of accounts ok (state old) f me t ready m d content)) mid new t result → Refined
       by_content class Dir at on =
-          read_step accounts ok old new f me t ready call result (m ∷ d) (is_dir_here class at) walk mid stays chain (when_read (entry_of accounts ok (state old) f me t ready m d Dir)) on
+          read_step accounts ok old new f me t ready call result (m ∷ d) (is_dir_here class at) walk mid stays chain
+          (when_read (entry_of accounts ok (state old) f me t ready m d Dir)) on
           (λ unseen. (
             refused_by Dir class false is_empty at unseen refl,
-            both_suffice (all_granted walk ++ (read, Some Observe) ∷ []) (Refused EACCES) open_so_far (is_dir_here class at) (among_refused old.line t walk read Observe),
+            both_suffice (all_granted walk ++ (read, Some Observe) ∷ []) (Refused EACCES) open_so_far
+                (is_dir_here class at) (among_refused old.line t walk read Observe),
           ))
           (λ sees later same longer rest. emptied class at sees later same longer rest)
       by_content class (File bytes) at on =
-          refused_at_once accounts f me ready.caller call old new t ready.thread result walk mid chain stays ready.represents ENOTDIR (refused_by (File bytes) class (reads accounts f p (m ∷ d)) is_empty at refl refl) refl refl
-          (walk_suffices (all_granted walk) (Refused ENOTDIR) (λ i. not (is_some (open_so_far i)) && is_some_and (at i) is_dir) (among_granted_all old.line t walk)) on
+          refused_at_once accounts f me ready.caller call old new t ready.thread result walk mid chain stays
+          ready.represents ENOTDIR
+          (refused_by (File bytes) class (reads accounts f p (m ∷ d)) is_empty at refl refl) refl refl
+          (walk_suffices (all_granted walk) (Refused ENOTDIR)
+          (λ i. not (is_some (open_so_far i)) && is_some_and (at i) is_dir) (among_granted_all old.line t walk))
+          on
 
   rmdir_is_refined : Runs (rmdir_program (roots_of (length accounts.users)) (m ∷ d)) old new t result → Refined
   unfolding rmdir_program
   rmdir_is_refined run =
-      entry_step accounts ok old new f me t ready m d call result (refusal (is_dir_at f (m ∷ d)) (reads accounts f p (m ∷ d)) is_empty) refl (λ none steps r among. walk_suffices steps r none among) at_entry run
+      entry_step accounts ok old new f me t ready m d call result
+      (refusal (is_dir_at f (m ∷ d)) (reads accounts f p (m ∷ d)) is_empty) refl
+      (λ none steps r among. walk_suffices steps r none among) at_entry run
       (λ open_so_far class content at mid stays chain on. by_content open_so_far mid stays chain class content at on)
 
 -- an rmdir of `/`
-rmdir_of_slash : (accounts : Accounts) (old new : KernelModel) (f : Flat) (me : ProcName) (t : ℕ) (result : Result Reply Stopped) (ready : IsReady accounts (state old) f me t) → Runs (rmdir_program (roots_of (length accounts.users)) []) old new t result
+rmdir_of_slash : (accounts : Accounts) (old new : KernelModel) (f : Flat) (me : ProcName) (t : ℕ)
+    (result : Result Reply Stopped) (ready : IsReady accounts (state old) f me t)
+    → Runs (rmdir_program (roots_of (length accounts.users)) []) old new t result
     → Goal accounts f me ready.caller (calls.Rmdir []) old new t ready.thread result
 unfolding rmdir_program find_entry
 rmdir_of_slash accounts old new f me t result ready run =
-    refused_at_once accounts f me ready.caller (calls.Rmdir []) old new t ready.thread result [] old (same_kernel old) refl ready.represents EBUSY refl refl refl tt run
+    refused_at_once accounts f me ready.caller (calls.Rmdir []) old new t ready.thread result [] old (same_kernel old)
+    refl ready.represents EBUSY refl refl refl tt run
 
 -- an rmdir does what its flat rule says
 pub rmdir_refines : RmdirRefines

@@ -26,7 +26,8 @@ use Rattle.histar_sim.specs.Laws.{RmtreeRefines}
 use Rattle.histar_sim.proofs.Entries.{reached, entry_step}
 use Rattle.histar_sim.proofs.TakingAway.{take_away_step}
 
-module _ (accounts : Accounts) (ok : AreAccounts accounts) (old new : KernelModel) (f : Flat) (me : ProcName) (t : ℕ) (ready : IsReady accounts (state old) f me t) (m : Name) (d : Path) (result : Result Reply Stopped) where
+module _ (accounts : Accounts) (ok : AreAccounts accounts) (old new : KernelModel) (f : Flat) (me : ProcName) (t : ℕ)
+    (ready : IsReady accounts (state old) f me t) (m : Name) (d : Path) (result : Result Reply Stopped) where
   abbrev call : UnixCall
   call = calls.Rmtree (m ∷ d)
 
@@ -34,21 +35,32 @@ module _ (accounts : Accounts) (ok : AreAccounts accounts) (old new : KernelMode
   abbrev refusal : Option Errno
   refusal = unless (writes accounts f ready.caller.process d) EACCES
 
-  rmtree_is_refined : Runs (rmtree_program (roots_of (length accounts.users)) (m ∷ d)) old new t result → Goal accounts f me ready.caller call old new t ready.thread result
+  rmtree_is_refined : Runs (rmtree_program (roots_of (length accounts.users)) (m ∷ d)) old new t result
+      → Goal accounts f me ready.caller call old new t ready.thread result
   unfolding rmtree_program
   rmtree_is_refined run =
-      entry_step accounts ok old new f me t ready m d call result refusal refl (λ none steps r among. has_walk accounts ok (state old) f me t ready m d _ among) (λ entry. take_away entry (λ _. Answers Done)) run
+      entry_step accounts ok old new f me t ready m d call result refusal refl
+      (λ none steps r among. has_walk accounts ok (state old) f me t ready m d _ among)
+      (λ entry. take_away entry (λ _. Answers Done)) run
       (λ open_so_far class content at mid stays chain on.
-      let refuses = reached accounts ok old new f me t ready m d call result refusal refl (λ none steps r among. has_walk accounts ok (state old) f me t ready m d _ among) open_so_far (record { class = class; content = content }) at in
-      take_away_step accounts ok old new f me t ready m d call result (record { refuses = refuses; removes = refl; answers = refl }) open_so_far class content at
-      (walk_reads accounts ok (state old) f me t ready d) (λ steps r among. has_walk accounts ok (state old) f me t ready m d _ among) mid stays chain on)
+      let refuses =
+      reached accounts ok old new f me t ready m d call result refusal refl
+      (λ none steps r among. has_walk accounts ok (state old) f me t ready m d _ among) open_so_far
+      (record { class = class; content = content }) at in
+      take_away_step accounts ok old new f me t ready m d call result
+      (record { refuses = refuses; removes = refl; answers = refl }) open_so_far class content at
+      (walk_reads accounts ok (state old) f me t ready d)
+      (λ steps r among. has_walk accounts ok (state old) f me t ready m d _ among) mid stays chain on)
 
 -- an rmtree of `/`
-rmtree_of_slash : (accounts : Accounts) (old new : KernelModel) (f : Flat) (me : ProcName) (t : ℕ) (result : Result Reply Stopped) (ready : IsReady accounts (state old) f me t) → Runs (rmtree_program (roots_of (length accounts.users)) []) old new t result
+rmtree_of_slash : (accounts : Accounts) (old new : KernelModel) (f : Flat) (me : ProcName) (t : ℕ)
+    (result : Result Reply Stopped) (ready : IsReady accounts (state old) f me t)
+    → Runs (rmtree_program (roots_of (length accounts.users)) []) old new t result
     → Goal accounts f me ready.caller (calls.Rmtree []) old new t ready.thread result
 unfolding rmtree_program find_entry
 rmtree_of_slash accounts old new f me t result ready run =
-    refused_at_once accounts f me ready.caller (calls.Rmtree []) old new t ready.thread result [] old (same_kernel old) refl ready.represents EBUSY refl refl refl tt run
+    refused_at_once accounts f me ready.caller (calls.Rmtree []) old new t ready.thread result [] old (same_kernel old)
+    refl ready.represents EBUSY refl refl refl tt run
 
 -- an rmtree does what its flat rule says
 pub rmtree_refines : RmtreeRefines

@@ -30,7 +30,8 @@ use Rattle.histar_refinement.specs.Addresses.Step.{Listing}
 use Rattle.histar_layout.proofs.Members.{second_of}
 use Rattle.histar_refinement.proofs.RawChecks.{object}
 use Rattle.histar_sim.specs.Simulation.{IsReady}
-use Rattle.histar_sim.proofs.FoundObjects.{label, clearance, container, listing, entries, directory_class, directory_agrees, directory_guard, has_listing, thread_below, below, container_numbered, listing_numbered}
+use Rattle.histar_sim.proofs.FoundObjects.{label, clearance, container, listing, entries, directory_class, directory_agrees, directory_guard}
+use Rattle.histar_sim.proofs.FoundObjects.{has_listing, thread_below, below, container_numbered, listing_numbered}
 use Rattle.histar_sim.proofs.NewEntries.{HasSegment, segment_written, still_there, there_then}
 use Rattle.histar_sim.proofs.BirthObjects.{holder_made, held_thread}
 use Rattle.histar_sim.proofs.BirthChecks.{IsModified, segment_said}
@@ -54,8 +55,10 @@ module _ (s : State) (t d n : ℕ) (own own_clearance above : Levels) (old : Lis
     linked = there.linked;
   }
 
-module _ (accounts : Accounts) (ok : AreAccounts accounts) (s : State) (f : Flat) (me : ProcName) (t : ℕ) (ready : IsReady accounts s f me t) (d : Path) (open_so_far : into accounts f ready.caller.process d ≡ None)
-    (unused : ¬ IsUsed accounts f (OfJob ((ready.caller.process.born + 1) ∷ me))) (i : ℕ) (declared : user_number accounts ready.caller.process.user ≡ Some i) where
+module _ (accounts : Accounts) (ok : AreAccounts accounts) (s : State) (f : Flat) (me : ProcName) (t : ℕ)
+    (ready : IsReady accounts s f me t) (d : Path) (open_so_far : into accounts f ready.caller.process d ≡ None)
+    (unused : ¬ IsUsed accounts f (OfJob ((ready.caller.process.born + 1) ∷ me))) (i : ℕ)
+    (declared : user_number accounts ready.caller.process.user ≡ Some i) where
   abbrev p : Process
   p = ready.caller.process
 
@@ -82,44 +85,72 @@ module _ (accounts : Accounts) (ok : AreAccounts accounts) (s : State) (f : Flat
   abbrev pub with_segment : State
   with_segment = with_object with_container s.next_object (record { label = due; kind = Segment [] })
 
-  there : HasSegment (with_category s t) t (container accounts ok s f me t ready d) (listing accounts ok s f me t ready d) own_then later_clearance above (spelling (entries accounts ok s f me t ready d))
-  there = there_owning s t (container accounts ok s f me t ready d) (listing accounts ok s f me t ready d) (label accounts ok s f me t ready) (clearance accounts ok s f me t ready) above (spelling (entries accounts ok s f me t ready d))
+  there : HasSegment (with_category s t) t (container accounts ok s f me t ready d)
+      (listing accounts ok s f me t ready d) own_then later_clearance above
+      (spelling (entries accounts ok s f me t ready d))
+  there =
+      there_owning s t (container accounts ok s f me t ready d) (listing accounts ok s f me t ready d)
+      (label accounts ok s f me t ready) (clearance accounts ok s f me t ready) above
+      (spelling (entries accounts ok s f me t ready d))
       (has_listing accounts ok s f me t ready d open_so_far)
 
   container_below : container accounts ok s f me t ready d < s.next_object
-  container_below = below accounts ok s f me t ready (address_of d) (container accounts ok s f me t ready d) (container_numbered accounts ok s f me t ready d open_so_far)
+  container_below =
+      below accounts ok s f me t ready (address_of d) (container accounts ok s f me t ready d)
+      (container_numbered accounts ok s f me t ready d open_so_far)
 
   listing_below : listing accounts ok s f me t ready d < s.next_object
-  listing_below = below accounts ok s f me t ready (Listing ∷ address_of d) (listing accounts ok s f me t ready d) (listing_numbered accounts ok s f me t ready d open_so_far)
+  listing_below =
+      below accounts ok s f me t ready (Listing ∷ address_of d) (listing accounts ok s f me t ready d)
+      (listing_numbered accounts ok s f me t ready d open_so_far)
 
-  still : HasSegment with_container t (container accounts ok s f me t ready d) (listing accounts ok s f me t ready d) own_then later_clearance above (spelling (entries accounts ok s f me t ready d))
-  still = still_there (with_category s t) t (container accounts ok s f me t ready d) (listing accounts ok s f me t ready d) own_then later_clearance above (spelling (entries accounts ok s f me t ready d)) there
+  still : HasSegment with_container t (container accounts ok s f me t ready d) (listing accounts ok s f me t ready d)
+      own_then later_clearance above (spelling (entries accounts ok s f me t ready d))
+  still =
+      still_there (with_category s t) t (container accounts ok s f me t ready d) (listing accounts ok s f me t ready d)
+      own_then later_clearance above (spelling (entries accounts ok s f me t ready d)) there
       (thread_below accounts ok s f me t ready) container_below listing_below held
 
-  then : HasSegment with_segment t (container accounts ok s f me t ready d) (listing accounts ok s f me t ready d) own_then later_clearance above (spelling (entries accounts ok s f me t ready d))
-  then = there_then (with_category s t) t (container accounts ok s f me t ready d) (listing accounts ok s f me t ready d) own_then later_clearance above (spelling (entries accounts ok s f me t ready d)) there
+  then : HasSegment with_segment t (container accounts ok s f me t ready d) (listing accounts ok s f me t ready d)
+      own_then later_clearance above (spelling (entries accounts ok s f me t ready d))
+  then =
+      there_then (with_category s t) t (container accounts ok s f me t ready d) (listing accounts ok s f me t ready d)
+      own_then later_clearance above (spelling (entries accounts ok s f me t ready d)) there
       (thread_below accounts ok s f me t ready) container_below listing_below held (record { label = due; kind = Segment [] })
 
   -- The directory segment is made unless there is no number for it.
   pub make_said : check with_container t (MakeSegment s.next_object due []) ≡ unless (has_number with_container) TooBig
   make_said =
-      let is : IsModified own_then later_clearance due (s.next_category + 1) = directory_modified accounts s f ready.represents.matched me p ready.caller.agrees unused i declared in
-      segment_said with_container t own_then later_clearance still.thread s.next_object due (holder_made (with_category s t) (container accounts ok s f me t ready d) due) is.above is.seen due is [] refl
+      let is : IsModified own_then later_clearance due (s.next_category + 1) =
+      directory_modified accounts s f ready.represents.matched me p ready.caller.agrees unused i declared in
+      segment_said with_container t own_then later_clearance still.thread s.next_object due
+      (holder_made (with_category s t) (container accounts ok s f me t ready d) due) is.above is.seen due is [] refl
 
-  module _ (may : may_write accounts ready.caller.process (directory_class accounts ok s f me t ready d open_so_far) ≡ true) (stranger : has ready.caller.process.chain ((ready.caller.process.born + 1) ∷ me) ≡ false)
+  module _
+      (may : may_write accounts ready.caller.process (directory_class accounts ok s f me t ready d open_so_far) ≡ true)
+      (stranger : has ready.caller.process.chain ((ready.caller.process.born + 1) ∷ me) ≡ false)
       (not_secret : among (directory_guard accounts ok s f me t ready d open_so_far).0.secret (OfJob ((ready.caller.process.born + 1) ∷ me)) ≡ false)
-      (not_written : among (directory_guard accounts ok s f me t ready d open_so_far).0.written (OfJob ((ready.caller.process.born + 1) ∷ me)) ≡ false) where
+      (not_written : among (directory_guard accounts ok s f me t ready d open_so_far).0.written
+      (OfJob ((ready.caller.process.born + 1) ∷ me)) ≡ false) where
     modified : (is_below own_then above && is_below_raised above own_then) ≡ true
     modified =
-        above_modified accounts s f ready.represents.matched me p ready.caller.agrees unused ok d (record { class = directory_class accounts ok s f me t ready d open_so_far; content = Dir }) (directory_agrees accounts ok s f me t ready d open_so_far)
-        (directory_guard accounts ok s f me t ready d open_so_far).0 (directory_guard accounts ok s f me t ready d open_so_far).1 stranger not_secret not_written ∙ may
+        above_modified accounts s f ready.represents.matched me p ready.caller.agrees unused ok d
+        (record { class = directory_class accounts ok s f me t ready d open_so_far; content = Dir })
+        (directory_agrees accounts ok s f me t ready d open_so_far)
+        (directory_guard accounts ok s f me t ready d open_so_far).0
+        (directory_guard accounts ok s f me t ready d open_so_far).1 stranger not_secret not_written ∙ may
 
     -- The directory above is written with few bytes.
-    pub write_said : (bytes : List ℕ) → length bytes ≤ 4096 → check with_segment t (Write (container accounts ok s f me t ready d) (listing accounts ok s f me t ready d) 0 bytes) ≡ None
+    pub write_said : (bytes : List ℕ) → length bytes ≤ 4096
+        → check with_segment t
+        (Write (container accounts ok s f me t ready d) (listing accounts ok s f me t ready d) 0 bytes) ≡ None
     write_said bytes few =
-        segment_written with_segment t (container accounts ok s f me t ready d) (listing accounts ok s f me t ready d) own_then later_clearance above (spelling (entries accounts ok s f me t ready d)) then
+        segment_written with_segment t (container accounts ok s f me t ready d) (listing accounts ok s f me t ready d)
+        own_then later_clearance above (spelling (entries accounts ok s f me t ready d)) then
         (second_of (is_below own_then above) (is_below_raised above own_then) modified) modified bytes few
 
   -- The thread has the job's category then.
-  pub thread_then : (bytes : List ℕ) → (with_segment_bytes with_segment (listing accounts ok s f me t ready d) bytes).objects t ≡ object own_then (Thread later_clearance)
+  pub thread_then : (bytes : List ℕ)
+      → (with_segment_bytes with_segment (listing accounts ok s f me t ready d) bytes).objects t
+      ≡ object own_then (Thread later_clearance)
   thread_then bytes = held_thread (t == listing accounts ok s f me t ready d) bytes (with_segment.objects t) own_then later_clearance then.thread

@@ -38,7 +38,8 @@ use Rattle.histar_refinement.proofs.Tested.{rights_made, clearance_made, guard_o
 use Rattle.histar_refinement.proofs.Uses.{rights_used}
 use Rattle.histar_refinement.proofs.WrapTests.{with_job, scratch_above, scratch_below, observes_parent, modifies_parent, label_back, clearance_back}
 use Rattle.histar_sim.specs.Simulation.{IsReady}
-use Rattle.histar_sim.proofs.FoundObjects.{label, clearance, thread, container, directory_class, directory_agrees, directory_guard, container_numbered, may_look}
+use Rattle.histar_sim.proofs.FoundObjects.{label, clearance, thread, container, directory_class, directory_agrees, directory_guard}
+use Rattle.histar_sim.proofs.FoundObjects.{container_numbered, may_look}
 use Rattle.histar_sim.proofs.BirthChecks.{IsTaken, label_said, clearance_said}
 use Rattle.histar_sim.proofs.BirthObjects.{thread_relabelled}
 use Rattle.histar_sim.proofs.ScratchLabels.{number_there, label_by, clearance_by, directory_by, directory_made}
@@ -98,7 +99,10 @@ module _ (accounts : Accounts) (ok : AreAccounts accounts) (s : State) (f : Flat
   clearance_then = clearance_by accounts s f l me p ready.caller.agrees unused m.category naming_is
 
   thread_then : with_it.objects t ≡ object owner (Thread owner_clearance)
-  thread_then = changed_here s.objects t (with_star_at job) ∙ ap (option_map (with_star_at job)) (thread accounts ok s f me t ready) ∙ (λ i. object (label_then i) (Thread (clearance_then i)))
+  thread_then =
+      changed_here s.objects t (with_star_at job)
+      ∙ ap (option_map (with_star_at job)) (thread accounts ok s f me t ready)
+      ∙ (λ i. object (label_then i) (Thread (clearance_then i)))
 
   -- ---- it takes its own label and clearance again
 
@@ -112,20 +116,30 @@ module _ (accounts : Accounts) (ok : AreAccounts accounts) (s : State) (f : Flat
     capped = (clearance_back accounts m.category m.different me p child).0;
     within = (clearance_back accounts m.category m.different me p child).1;
     made = rights_made (job + 1) m.category mine (λ c e. m.made c (used.0 c e)) (λ c e. m.made c (used.1 c e));
-    cleared = clearance_made (job + 1) m.category (mine.owned ++ mine.tainted) (each_append (λ c. IsMade (job + 1) (m.category c)) mine.owned mine.tainted (λ c e. m.made c (used.0 c e)) (λ c e. m.made c (used.1 c e)));
+    cleared =
+        clearance_made (job + 1) m.category (mine.owned ++ mine.tainted)
+        (each_append (λ c. IsMade (job + 1) (m.category c)) mine.owned mine.tainted (λ c e. m.made c (used.0 c e))
+        (λ c e. m.made c (used.1 c e)));
   }
 
   taken : IsTaken owner owner_clearance own own_clearance (job + 1)
   taken =
       let kept = jobs.keeps accounts s f ready.represents me p ready.caller.agrees in
       subst (λ (x : Levels × Levels). IsTaken owner owner_clearance x.0 x.1 (job + 1))
-      (λ i. (same_rights_label l.category m.category mine (λ c e. kept c (used.0 c e), λ c e. kept c (used.1 c e)) i, same_rights_clearance l.category m.category mine (λ c e. kept c (used.0 c e), λ c e. kept c (used.1 c e)) i)) taken_named
+      (λ i. (
+        same_rights_label l.category m.category mine (λ c e. kept c (used.0 c e), λ c e. kept c (used.1 c e)) i,
+        same_rights_clearance l.category m.category mine
+            (λ c e. kept c (used.0 c e), λ c e. kept c (used.1 c e)) i,
+      )) taken_named
 
   pub set_label_said : check (with_category s t) t (SetLabel (label accounts ok s f me t ready)) ≡ None
   set_label_said = label_said with_it t owner owner_clearance thread_then own own_clearance taken
 
-  pub set_clearance_said : check (with_changed (with_category s t) t (with_label (label accounts ok s f me t ready))) t (SetClearance (clearance accounts ok s f me t ready)) ≡ None
-  set_clearance_said = clearance_said (with_changed with_it t (with_label own)) t owner owner_clearance own own_clearance (thread_relabelled with_it t owner owner_clearance own thread_then) taken
+  pub set_clearance_said : check (with_changed (with_category s t) t (with_label (label accounts ok s f me t ready))) t
+      (SetClearance (clearance accounts ok s f me t ready)) ≡ None
+  set_clearance_said =
+      clearance_said (with_changed with_it t (with_label own)) t owner owner_clearance own own_clearance
+      (thread_relabelled with_it t owner owner_clearance own thread_then) taken
 
   -- ---- the label of the scratch directory
 
@@ -162,10 +176,15 @@ module _ (accounts : Accounts) (ok : AreAccounts accounts) (s : State) (f : Flat
     above = directory_guard accounts ok s f me t ready d open_so_far
 
     at_container : m.naming.number (address_of d) ≡ Some D
-    at_container = ap (λ (n : Naming Step). n.number (address_of d)) (jobs.named accounts s f ready.represents me p ready.caller.agrees).1 ∙ container_numbered accounts ok s f me t ready d open_so_far
+    at_container =
+        ap (λ (n : Naming Step). n.number (address_of d))
+        (jobs.named accounts s f ready.represents me p ready.caller.agrees).1
+        ∙ container_numbered accounts ok s f me t ready d open_so_far
 
     holder : (links : Links) × (s.objects D ≡ object (guard_label m.category above.0) (Container links))
-    holder = container_found accounts (with_next_category s) f m d class (directory_agrees accounts ok s f me t ready d open_so_far) above.0 above.1 D at_container
+    holder =
+        container_found accounts (with_next_category s) f m d class
+        (directory_agrees accounts ok s f me t ready d open_so_far) above.0 above.1 D at_container
 
     -- the thread is no container
     other : D ≢ t
@@ -177,14 +196,22 @@ module _ (accounts : Accounts) (ok : AreAccounts accounts) (s : State) (f : Flat
     making_then : no_making with_it t D ≡ unless (may_write accounts p class) Modify
     making_then =
         let stranger = jobs.stranger accounts s f ready.represents me p ready.caller.agrees in
-        let unnamed = jobs.not_named accounts s f ready.represents me p ready.caller.agrees d (record { class = class; content = Dir }) above.0 (directory_agrees accounts ok s f me t ready d open_so_far) above.1 in
+        let unnamed =
+        jobs.not_named accounts s f ready.represents me p ready.caller.agrees d
+        (record { class = class; content = Dir }) above.0
+        (directory_agrees accounts ok s f me t ready d open_so_far) above.1 in
         making_check with_it t owner owner_clearance thread_then D (guard_label m.category above.0) holder.0 holder_then
-        (observes_parent accounts m.category m.different me p child ok class above.0 above.1 stranger unnamed.0 unnamed.1 ∙ may_look accounts ok s f me t ready d open_so_far)
-        ∙ ap (λ (b : Bool). unless b Modify) (modifies_parent accounts m.category m.different me p child ok class above.0 above.1 stranger unnamed.0 unnamed.1)
+        (observes_parent accounts m.category m.different me p child ok class above.0 above.1 stranger unnamed.0
+        unnamed.1 ∙ may_look accounts ok s f me t ready d open_so_far)
+        ∙ ap (λ (b : Bool). unless b Modify) (modifies_parent accounts m.category m.different me p child ok class
+        above.0 above.1 stranger unnamed.0 unnamed.1)
 
     -- Making the container is refused where the directory may not be written, where the user is not declared, and where there is no number for it.
-    pub scratch_said : check (with_category s t) t (MakeContainer (container accounts ok s f me t ready d) (directory_label accounts (label accounts ok s f me t ready) s.next_category))
-        ≡ (unless (may_write accounts ready.caller.process (directory_class accounts ok s f me t ready d open_so_far)) Modify orelse unless (is_some (user_number accounts ready.caller.process.user)) Range orelse unless (has_number s) TooBig)
+    pub scratch_said : check (with_category s t) t (MakeContainer (container accounts ok s f me t ready d)
+        (directory_label accounts (label accounts ok s f me t ready) s.next_category))
+        ≡ (unless (may_write accounts ready.caller.process (directory_class accounts ok s f me t ready d open_so_far))
+        Modify orelse unless (is_some (user_number accounts ready.caller.process.user)) Range
+        orelse unless (has_number s) TooBig)
     scratch_said =
         ap (λ (x : Levels). check with_it t (MakeContainer D x)) due_is
         ∙ (λ k. making_then k

@@ -1,6 +1,7 @@
 -- The labels of a wrap by the names of categories, once the job's category is made: of the thread, of the scratch directory, and of the directory
 -- above it; and what a job's first process gets from its parent.
-use Rattle.std.proofs.Common.{◌≡◌, ℕ, ◌+◌, ◌≤◌, ◌&&◌, ◌||◌, ◌==◌, inl, inr, Bool, true, false, List, [], ◌∷◌, ◌++◌, length, Option, None, Some, arith, refl, sym, ap, ◌∙◌, subst}
+use Rattle.std.proofs.Common.{◌≡◌, ℕ, ◌+◌, ◌≤◌, ◌&&◌, ◌||◌, ◌==◌, inl, inr, Bool, true, false, List, [], ◌∷◌, ◌++◌, length, Option, None, Some, arith}
+use Rattle.std.proofs.Common.{refl, sym, ap, ◌∙◌, subst}
 use Rattle.std.specs.Prelude.{is_some, map, nat_eq}
 use Rattle.std.proofs.lemmas.List.{map-append}
 use Rattle.std.proofs.lemmas.Bool.{or_left}
@@ -42,7 +43,11 @@ use Rattle.histar_wrap.specs.Scratch.{jobs_with, directory_label, kin_in}
 
 -- the rights of a thread that owns the category of a new job too, which is named by the next child
 abbrev pub rights_with_job : Accounts → ProcName → Process → Rights
-rights_with_job accounts me p = record { owned = OfJob ((p.born + 1) ∷ me) ∷ (thread_rights accounts me p).owned; tainted = (thread_rights accounts me p).tainted }
+rights_with_job accounts me p =
+    record {
+      owned = OfJob ((p.born + 1) ∷ me) ∷ (thread_rights accounts me p).owned;
+      tainted = (thread_rights accounts me p).tainted;
+    }
 
 -- the number that a user has is the user's number
 pub number_there : (o : Option ℕ) → is_number o (or_zero o) ≡ is_some o
@@ -52,7 +57,8 @@ number_there (Some i) = itself
     itself : nat_eq i i ≡ true
     itself = grind (arith)
 
-module _ (accounts : Accounts) (s : State) (f : Flat) (l : ObjectsMatch accounts s f) (me : ProcName) (p : Process) (here : f.processes me ≡ Some p) (unused : ¬ IsUsed accounts f (OfJob ((p.born + 1) ∷ me))) where
+module _ (accounts : Accounts) (s : State) (f : Flat) (l : ObjectsMatch accounts s f) (me : ProcName) (p : Process)
+    (here : f.processes me ≡ Some p) (unused : ¬ IsUsed accounts f (OfJob ((p.born + 1) ∷ me))) where
   abbrev child : ProcName
   child = (p.born + 1) ∷ me
 
@@ -150,7 +156,9 @@ module _ (accounts : Accounts) (s : State) (f : Flat) (l : ObjectsMatch accounts
 
   -- it names categories that are made
   made_by_names : is_made (job + 1) (guard_label names (scratch_guard jobs user)) ≡ true
-  made_by_names = guard_made (job + 1) names (scratch_guard jobs user) (each_head (λ c. IsMade (job + 1) (names c)) (ReadsUser user) (map OfJob jobs) (made (ReadsUser user) low) jobs_made) (λ c e. absurd cc)
+  made_by_names =
+      guard_made (job + 1) names (scratch_guard jobs user) (each_head (λ c. IsMade (job + 1) (names c))
+      (ReadsUser user) (map OfJob jobs) (made (ReadsUser user) low) jobs_made) (λ c e. absurd cc)
 
   pub directory_made : is_made (s.next_category + 1) (directory_label accounts own job) ≡ true
   directory_made = ap (is_made (job + 1)) directory_is ∙ made_by_names
@@ -171,17 +179,26 @@ module _ (accounts : Accounts) (s : State) (f : Flat) (l : ObjectsMatch accounts
     }
 
     -- The thread may hand it in.
-    pub directory_modified : IsModified (with_level own job Star) (with_level clearance job L3) (directory_label accounts own job) (s.next_category + 1)
-    directory_modified = subst (λ (x : Levels × Levels × Levels). IsModified x.0 x.1 x.2 (job + 1)) (λ j. (sym label_with_job j, sym clearance_with_job j, sym directory_is j)) modified_by_names
+    pub directory_modified : IsModified (with_level own job Star) (with_level clearance job L3)
+        (directory_label accounts own job) (s.next_category + 1)
+    directory_modified =
+        subst (λ (x : Levels × Levels × Levels). IsModified x.0 x.1 x.2 (job + 1))
+        (λ j. (sym label_with_job j, sym clearance_with_job j, sym directory_is j)) modified_by_names
 
   -- ---- the directory above, which the thread modifies as before
 
-  module _ (ok : AreAccounts accounts) (d : Path) (there : Node) (at : get f.files d ≡ Some there) (g : Guard) (guarded : class_guard accounts there.class ≡ Some g)
-      (stranger : has p.chain ((p.born + 1) ∷ me) ≡ false) (not_secret : among g.secret (OfJob ((p.born + 1) ∷ me)) ≡ false) (not_written : among g.written (OfJob ((p.born + 1) ∷ me)) ≡ false) where
+  module _ (ok : AreAccounts accounts) (d : Path) (there : Node) (at : get f.files d ≡ Some there) (g : Guard)
+      (guarded : class_guard accounts there.class ≡ Some g)
+      (stranger : has p.chain ((p.born + 1) ∷ me) ≡ false)
+      (not_secret : among g.secret (OfJob ((p.born + 1) ∷ me)) ≡ false)
+      (not_written : among g.written (OfJob ((p.born + 1) ∷ me)) ≡ false) where
     above_is : guard_label names g ≡ guard_label l.category g
-    above_is = let used = class_used accounts f d there at there.class refl g guarded in same_guard_label l.category names g (λ c e. keeps c (used.0 c e), λ c e. keeps c (used.1 c e))
+    above_is =
+        let used = class_used accounts f d there at there.class refl g guarded in same_guard_label l.category names g
+        (λ c e. keeps c (used.0 c e), λ c e. keeps c (used.1 c e))
 
-    pub above_modified : (is_below (with_level own job Star) (guard_label l.category g) && is_below_raised (guard_label l.category g) (with_level own job Star)) ≡ may_write accounts p there.class
+    pub above_modified : (is_below (with_level own job Star) (guard_label l.category g)
+        && is_below_raised (guard_label l.category g) (with_level own job Star)) ≡ may_write accounts p there.class
     above_modified =
         (λ j. is_below (label_with_job j) (sym above_is j) && is_below_raised (sym above_is j) (label_with_job j))
         ∙ tests.modifies_parent accounts names apart me p child ok there.class g guarded stranger not_secret not_written

@@ -1,6 +1,7 @@
 -- The way to a process, at a state that represents a flat state: it is refused as the flat rules refuse it, or the process segment of each
 -- process on the way is read, and the last one is handed on.
-use Rattle.std.proofs.Common.{◌≡◌, ℕ, ◌&&◌, Bool, true, false, List, [], ◌∷◌, ◌++◌, Option, None, Some, Result, refl, sym, ap, ◌∙◌, subst, length, if◌then◌else◌}
+use Rattle.std.proofs.Common.{◌≡◌, ℕ, ◌&&◌, Bool, true, false, List, [], ◌∷◌, ◌++◌, Option, None, Some, Result, refl, sym, ap, ◌∙◌, subst, length}
+use Rattle.std.proofs.Common.{if◌then◌else◌}
 use Rattle.std.proofs.lemmas.List.{map-append, append-nil}
 use mathlib.Core.Bool.{true≢false}
 use Rattle.std.specs.Prelude.{not, map, is_some, option_map}
@@ -93,12 +94,14 @@ module _ (accounts : Accounts) (s : State) (f : Flat) (me : ProcName) (t : ℕ) 
       all_joined (λ (q : ProcName). is_some (f.processes q) ≡ true) (looked_at accounts f p above) _ (looked_there above)
       (by (not (is_some (not_found f p above))) (is_some (f.processes (n ∷ above))) refl)
     where
-      by : (a b : Bool) → is_some (f.processes (n ∷ above)) ≡ b → AllByRecursion (λ (q : ProcName). is_some (f.processes q) ≡ true) (if a && b then (n ∷ above) ∷ [] else [])
+      by : (a b : Bool) → is_some (f.processes (n ∷ above)) ≡ b
+          → AllByRecursion (λ (q : ProcName). is_some (f.processes q) ≡ true) (if a && b then (n ∷ above) ∷ [] else [])
       by true true e = (e, tt)
       by true false e = tt
       by false b e = tt
 
-  are_reads : (names : List ProcName) → AllByRecursion (λ (q : ProcName). is_some (f.processes q) ≡ true) names → AreStatusReads accounts s names (map read_of names)
+  are_reads : (names : List ProcName) → AllByRecursion (λ (q : ProcName). is_some (f.processes q) ≡ true) names
+      → AreStatusReads accounts s names (map read_of names)
   are_reads [] all = refl
   are_reads (name ∷ more) all =
       let there = some_of (f.processes name) all.0 in
@@ -112,29 +115,43 @@ module _ (accounts : Accounts) (s : State) (f : Flat) (me : ProcName) (t : ℕ) 
   search_longer : (n : ℕ) (above : ProcName) → not_found f p above ≡ None → (b : Bool) → is_some (f.processes (n ∷ above)) ≡ b
       → search_reads (n ∷ above) ≡ search_reads above ++ (if b then read_of (n ∷ above) ∷ [] else [])
   search_longer n above found b is =
-      map-append read_of (looked_at accounts f p above) (if not (is_some (not_found f p above)) && is_some (f.processes (n ∷ above)) then (n ∷ above) ∷ [] else [])
+      map-append read_of (looked_at accounts f p above)
+      (if not (is_some (not_found f p above)) && is_some (f.processes (n ∷ above)) then (n ∷ above) ∷ [] else [])
       ∙ (λ i. search_reads above ++ map read_of (if not (is_some (found i)) && is i then (n ∷ above) ∷ [] else [])) ∙ by b
     where
-      by : (b : Bool) → search_reads above ++ map read_of (if b then (n ∷ above) ∷ [] else []) ≡ search_reads above ++ (if b then read_of (n ∷ above) ∷ [] else [])
+      by : (b : Bool)
+          → search_reads above ++ map read_of (if b then (n ∷ above) ∷ [] else [])
+          ≡ search_reads above ++ (if b then read_of (n ∷ above) ∷ [] else [])
       by true = refl
       by false = refl
 
   -- where the parent is not found no process more is looked at
   search_stopped : (n : ℕ) (above : ProcName) (errno : Errno) → not_found f p above ≡ Some errno → search_reads (n ∷ above) ≡ search_reads above
   search_stopped n above errno is =
-      map-append read_of (looked_at accounts f p above) (if not (is_some (not_found f p above)) && is_some (f.processes (n ∷ above)) then (n ∷ above) ∷ [] else [])
-      ∙ (λ i. search_reads above ++ map read_of (if not (is_some (is i)) && is_some (f.processes (n ∷ above)) then (n ∷ above) ∷ [] else [])) ∙ append-nil (search_reads above)
+      map-append read_of (looked_at accounts f p above)
+      (if not (is_some (not_found f p above)) && is_some (f.processes (n ∷ above)) then (n ∷ above) ∷ [] else [])
+      ∙ (λ i. search_reads above
+      ++ map read_of
+      (if not (is_some (is i)) && is_some (f.processes (n ∷ above)) then (n ∷ above) ∷ [] else []))
+      ∙ append-nil (search_reads above)
 
   -- what the bytes of a process segment tell
-  pub revealed : (name : ProcName) (other : Process) → f.processes name ≡ Some other → status_in (bytes_in (s.objects (place_of name).segment)) ≡ Some (status_of name other)
+  pub revealed : (name : ProcName) (other : Process) → f.processes name ≡ Some other
+      → status_in (bytes_in (s.objects (place_of name).segment)) ≡ Some (status_of name other)
   revealed name other here = status_is accounts s f l name other here
 
   -- and what they tell of a child
   pub child_revealed : (n : ℕ) (name : ProcName) (other : Process) → f.processes name ≡ Some other
-      → child_at (status_of name other).children n ≡ option_map (λ (q : Process). record { number = n; container = (place_of (n ∷ name)).container; segment = (place_of (n ∷ name)).segment }) (f.processes (n ∷ name))
+      → child_at (status_of name other).children n
+      ≡ option_map (λ (q : Process). record {
+        number = n;
+        container = (place_of (n ∷ name)).container;
+        segment = (place_of (n ∷ name)).segment;
+      }) (f.processes (n ∷ name))
   child_revealed n name other here = child_is accounts s f l n name other here
 
-module _ (accounts : Accounts) (ok : AreAccounts accounts) (old new : KernelModel) (f : Flat) (me : ProcName) (t : ℕ) (ready : IsReady accounts (state old) f me t) (call : UnixCall) (result : Result Reply Stopped) where
+module _ (accounts : Accounts) (ok : AreAccounts accounts) (old new : KernelModel) (f : Flat) (me : ProcName) (t : ℕ)
+    (ready : IsReady accounts (state old) f me t) (call : UnixCall) (result : Result Reply Stopped) where
   abbrev Refined : Type 0
   Refined = Goal accounts f me ready.caller call old new t ready.thread result
 
@@ -155,45 +172,58 @@ module _ (accounts : Accounts) (ok : AreAccounts accounts) (old new : KernelMode
 
   -- the call is refused so, and these raw calls are the reads that it cannot do without
   abbrev pub IsRefusedBy : Errno → List Step → Type 0
-  IsRefusedBy errno steps = (refused accounts f me process call ≡ Some errno) × ReadsAmong accounts f me ready.caller call old new t ready.thread steps (Refused errno)
+  IsRefusedBy errno steps =
+      (refused accounts f me process call ≡ Some errno)
+      × ReadsAmong accounts f me ready.caller call old new t ready.thread steps (Refused errno)
 
   -- where the process cannot be learnt of, the call is refused, once the reads of the way are made
   abbrev pub Refuses : ProcName → Type 0
-  Refuses name = (errno : Errno) → not_found f process name ≡ Some errno → (steps : List Step) → AreAmong (calls_to name) (entries_of old.line t steps) → IsRefusedBy errno steps
+  Refuses name =
+      (errno : Errno) → not_found f process name ≡ Some errno → (steps : List Step)
+      → AreAmong (calls_to name) (entries_of old.line t steps) → IsRefusedBy errno steps
 
   -- where it can, the call goes on with where it is found and what its process segment tells
   abbrev pub GoesOn : ProcName → (Home → ProcessStatus → Program) → Type 0
   GoesOn name rest =
       not_found f process name ≡ None → (other : Process) → f.processes name ≡ Some other → sees process other ≡ true
-      → (mid : KernelModel) → state mid ≡ state old → Chain old t (all_granted (calls_to name)) mid → Runs (rest (place name) (status name other)) mid new t result → Refined
+      → (mid : KernelModel) → state mid ≡ state old → Chain old t (all_granted (calls_to name)) mid
+      → Runs (rest (place name) (status name other)) mid new t result → Refined
 
   -- a process segment is read after these raw calls
-  pub status_step : (name : ProcName) (other : Process) → f.processes name ≡ Some other → (before : List RawCall) (mid : KernelModel) → state mid ≡ state old → Chain old t (all_granted before) mid
+  pub status_step : (name : ProcName) (other : Process) → f.processes name ≡ Some other
+      → (before : List RawCall) (mid : KernelModel) → state mid ≡ state old → Chain old t (all_granted before) mid
       → (rest : ProcessStatus → Program) → Runs (read_status (place name) rest) mid new t result
       → (sees process other ≡ false → IsRefusedBy EACCES (all_granted before ++ (read name, Some Observe) ∷ []))
-      → (sees process other ≡ true → (later : KernelModel) → state later ≡ state old → Chain old t (all_granted (before ++ read name ∷ [])) later → Runs (rest (status name other)) later new t result → Refined) → Refined
+      → (sees process other ≡ true → (later : KernelModel) → state later ≡ state old
+      → Chain old t (all_granted (before ++ read name ∷ [])) later
+      → Runs (rest (status name other)) later new t result → Refined) → Refined
   unfolding read_status
   status_step name other here before mid stays chain rest run refuses go_on = by (sees process other) refl
     where
       said : (b : Bool) → sees process other ≡ b → check (state mid) t (read name) ≡ unless b Observe
       said b is =
           ap (λ (s : State). check s t (read name)) stays
-          ∙ read_said accounts (state old) f ready.represents.matched name other here me process t (runs_as accounts (state old) f me t ready) ∙ ap (λ (b : Bool). unless b Observe) is
+          ∙ read_said accounts (state old) f ready.represents.matched name other here me process t
+          (runs_as accounts (state old) f me t ready) ∙ ap (λ (b : Bool). unless b Observe) is
 
       by : (b : Bool) → sees process other ≡ b → Refined
       by false is =
           let end = refuses is in
-          refused_step accounts f me ready.caller call old new t ready.thread result before mid chain stays ready.represents EACCES end.0 (read name) _ Observe (said false is) refl end.1 run
+          refused_step accounts f me ready.caller call old new t ready.thread result before mid chain stays
+          ready.represents EACCES end.0 (read name) _ Observe (said false is) refl end.1 run
       by true is =
           granted_step accounts f me ready.caller call old new t ready.thread result before mid chain (read name) _ (said true is) run
           (λ later bytes called right longer on.
           let reveals : status_in bytes ≡ Some (status name other) =
-          ap status_in (right ∙ ap (λ (s : State). bytes_in (s.objects (place name).segment)) stays) ∙ revealed accounts (state old) f me t ready name other here in
+          ap status_in (right ∙ ap (λ (s : State). bytes_in (s.objects (place name).segment)) stays)
+          ∙ revealed accounts (state old) f me t ready name other here in
           go_on is later (called.state ∙ stays) longer (subst (λ (o : Option ProcessStatus). Runs (if_there rest o) later new t result) reveals on))
 
   -- from a process that was found on to a child of it
-  module _ (n : ℕ) (above : ProcName) (rest : Home → ProcessStatus → Program) (refuses : Refuses (n ∷ above)) (go_on : GoesOn (n ∷ above) rest) (found : not_found f process above ≡ None)
-      (parent : Process) (here : f.processes above ≡ Some parent) (mid : KernelModel) (stays : state mid ≡ state old) (chain : Chain old t (all_granted (calls_to above)) mid) where
+  module _ (n : ℕ) (above : ProcName) (rest : Home → ProcessStatus → Program) (refuses : Refuses (n ∷ above))
+      (go_on : GoesOn (n ∷ above) rest) (found : not_found f process above ≡ None)
+      (parent : Process) (here : f.processes above ≡ Some parent) (mid : KernelModel) (stays : state mid ≡ state old)
+      (chain : Chain old t (all_granted (calls_to above)) mid) where
     -- the tests of the next number
     abbrev tests : Option Process → Option Errno
     tests o = unless (is_some o) ESRCH orelse unless (is_some_and o (sees process)) EACCES
@@ -205,43 +235,61 @@ module _ (accounts : Accounts) (ok : AreAccounts accounts) (old new : KernelMode
     abbrev at_child : Option Listed → Program
     at_child child = given (must_be_there child) (λ child. read_status (home_of child) (rest (home_of child)))
 
-    enters : (child : Process) → f.processes (n ∷ above) ≡ Some child → Runs (read_status (place (n ∷ above)) (rest (place (n ∷ above)))) mid new t result → Refined
+    enters : (child : Process) → f.processes (n ∷ above) ≡ Some child
+        → Runs (read_status (place (n ∷ above)) (rest (place (n ∷ above)))) mid new t result → Refined
     enters child is on =
         let longer = search_longer accounts (state old) f me t ready n above found true (ap is_some is) in
         status_step (n ∷ above) child is (calls_to above) mid stays chain (rest (place (n ∷ above))) on
-        (λ unseen. refuses EACCES (tests_are (Some child) is ∙ ap (λ (b : Bool). unless b EACCES) unseen) (all_granted (calls_to above) ++ (read (n ∷ above), Some Observe) ∷ [])
-        (subst (λ (calls : List RawCall). AreAmong calls (entries_of old.line t (all_granted (calls_to above) ++ (read (n ∷ above), Some Observe) ∷ []))) (sym longer) (among_refused old.line t (calls_to above) (read (n ∷ above)) Observe)))
+        (λ unseen. refuses EACCES (tests_are (Some child) is ∙ ap (λ (b : Bool). unless b EACCES) unseen)
+        (all_granted (calls_to above) ++ (read (n ∷ above), Some Observe) ∷ [])
+        (subst (λ (calls : List RawCall). AreAmong calls
+        (entries_of old.line t (all_granted (calls_to above) ++ (read (n ∷ above), Some Observe) ∷ [])))
+        (sym longer) (among_refused old.line t (calls_to above) (read (n ∷ above)) Observe)))
         (λ seen later same further end. go_on (tests_are (Some child) is ∙ ap (λ (b : Bool). unless b EACCES) seen) child is seen later same
         (subst (λ (calls : List RawCall). Chain old t (all_granted calls) later) (sym longer) further) end)
 
     by_child : (o : Option Process) → f.processes (n ∷ above) ≡ o
-        → Runs (at_child (option_map (λ (q : Process). record { number = n; container = (place (n ∷ above)).container; segment = (place (n ∷ above)).segment }) o)) mid new t result → Refined
+        → Runs (at_child (option_map (λ (q : Process). record {
+          number = n;
+          container = (place (n ∷ above)).container;
+          segment = (place (n ∷ above)).segment;
+        }) o)) mid new t result → Refined
     by_child None is on =
         let same = search_longer accounts (state old) f me t ready n above found false (ap is_some is) ∙ append-nil (calls_to above) in
         let end = refuses ESRCH (tests_are None is) (all_granted (calls_to above))
-        (subst (λ (calls : List RawCall). AreAmong calls (entries_of old.line t (all_granted (calls_to above)))) (sym same) (among_granted_all old.line t (calls_to above))) in
-        refused_at_once accounts f me ready.caller call old new t ready.thread result (calls_to above) mid chain stays ready.represents ESRCH end.0 refl refl end.1 on
+        (subst (λ (calls : List RawCall). AreAmong calls (entries_of old.line t (all_granted (calls_to above))))
+        (sym same) (among_granted_all old.line t (calls_to above))) in
+        refused_at_once accounts f me ready.caller call old new t ready.thread result (calls_to above) mid chain stays
+        ready.represents ESRCH end.0 refl refl end.1 on
     by_child (Some child) is on = enters child is on
 
     -- the number is looked up in what the parent's process segment tells, and the child's is read
     pub child_step : Runs (at_child (child_at (status above parent).children n)) mid new t result → Refined
-    child_step run = by_child (f.processes (n ∷ above)) refl (subst (λ (o : Option Listed). Runs (at_child o) mid new t result) (child_revealed accounts (state old) f me t ready n above parent here) run)
+    child_step run =
+        by_child (f.processes (n ∷ above)) refl (subst (λ (o : Option Listed). Runs (at_child o) mid new t result)
+        (child_revealed accounts (state old) f me t ready n above parent here) run)
 
   -- where the parent cannot be learnt of, no more can the child
   pub parent_refuses : (n : ℕ) (above : ProcName) → Refuses (n ∷ above) → Refuses above
   parent_refuses n above refuses errno is steps among =
-      refuses errno (ap (λ (o : Option Errno). o orelse unless (is_some (f.processes (n ∷ above))) ESRCH orelse unless (is_some_and (f.processes (n ∷ above)) (sees process)) EACCES) is) steps
-      (subst (λ (calls : List RawCall). AreAmong calls (entries_of old.line t steps)) (sym (search_stopped accounts (state old) f me t ready n above errno is)) among)
+      refuses errno (ap (λ (o : Option Errno). o orelse unless (is_some (f.processes (n ∷ above))) ESRCH
+      orelse unless (is_some_and (f.processes (n ∷ above)) (sees process)) EACCES) is) steps
+      (subst (λ (calls : List RawCall). AreAmong calls (entries_of old.line t steps))
+      (sym (search_stopped accounts (state old) f me t ready n above errno is)) among)
 
   -- The way to a process: it is refused as the flat rules refuse the call, or the call goes on with the process.
-  pub search_step : (name : ProcName) (rest : Home → ProcessStatus → Program) → Runs (find_home (roots_of (length accounts.users)).home name (λ home. read_status home (rest home))) old new t result → Refuses name → GoesOn name rest → Refined
+  pub search_step : (name : ProcName) (rest : Home → ProcessStatus → Program)
+      → Runs (find_home (roots_of (length accounts.users)).home name (λ home. read_status home (rest home))) old new t
+      result → Refuses name → GoesOn name rest → Refined
   unfolding find_home
   search_step [] rest run refuses go_on =
       let first = first_there accounts (state old) f me t ready in
       status_step [] first.0 first.1 [] old refl (same_kernel old) (rest (place []))
-      (subst (λ (home : Home). Runs (read_status home (rest home)) old new t result) (first_place accounts (state old) f ready.represents.matched) run)
+      (subst (λ (home : Home). Runs (read_status home (rest home)) old new t result)
+      (first_place accounts (state old) f ready.represents.matched) run)
       (λ unseen. absurd (true≢false (sym first.2 ∙ unseen)))
       (λ seen later stays chain on. go_on refl first.0 first.1 seen later stays chain on)
   search_step (n ∷ above) rest run refuses go_on =
-      search_step above (λ home status. given (must_be_there (child_at status.children n)) (λ child. read_status (home_of child) (rest (home_of child)))) run (parent_refuses n above refuses)
+      search_step above (λ home status. given (must_be_there (child_at status.children n))
+      (λ child. read_status (home_of child) (rest (home_of child)))) run (parent_refuses n above refuses)
       (λ found parent here seen mid stays chain on. child_step n above rest refuses go_on found parent here mid stays chain on)

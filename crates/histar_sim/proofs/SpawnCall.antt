@@ -41,15 +41,18 @@ use Rattle.histar_sim.proofs.Steps.{Goal, answered_step}
 use Rattle.histar_sim.specs.Laws.{SpawnRefines}
 use Rattle.histar_sim.proofs.BirthFit.{fit, spawned_matched}
 use Rattle.histar_sim.proofs.BirthRun.{spawned, birth_made}
-use Rattle.histar_sim.proofs.ChildRoom.{NeedsChild, own_of, own_clearance_of, status_of, reads, at_home, at_status, at_thread, child_room_step, own_label_step}
+use Rattle.histar_sim.proofs.ChildRoom.{NeedsChild, own_of, own_clearance_of, status_of, reads, at_home, at_status, at_thread, child_room_step}
+use Rattle.histar_sim.proofs.ChildRoom.{own_label_step}
 
 -- what is refused first is refused, whatever nothing comes behind it
 nothing_behind : (o : Option Errno) → o ≡ (o orelse None)
 nothing_behind None = refl
 nothing_behind (Some errno) = refl
 
-module _ (accounts : Accounts) (ok : AreAccounts accounts) (me : ProcName) (caller : Caller) (old new : KernelModel) (f : Flat) (result : Result Reply Stopped)
-    (ready : IsReady accounts (state old) f me caller.thread) (found : caller_at (state old) (roots_of (length accounts.users)).home me ≡ Some caller) where
+module _ (accounts : Accounts) (ok : AreAccounts accounts) (me : ProcName) (caller : Caller) (old new : KernelModel)
+    (f : Flat) (result : Result Reply Stopped)
+    (ready : IsReady accounts (state old) f me caller.thread)
+    (found : caller_at (state old) (roots_of (length accounts.users)).home me ≡ Some caller) where
   abbrev t : ℕ
   t = caller.thread
 
@@ -78,7 +81,9 @@ module _ (accounts : Accounts) (ok : AreAccounts accounts) (me : ProcName) (call
   reply = Child ((status.born + 1) ∷ me)
 
   abbrev with_labels : ProcessStatus → Levels × Levels → Program
-  with_labels revealed labels = birth caller.home revealed (kin_of accounts labels.0) (λ _. ask (SetLabel labels.0) (λ _. ask (SetClearance labels.1) (λ _. Answers (Child ((revealed.born + 1) ∷ me)))))
+  with_labels revealed labels =
+      birth caller.home revealed (kin_of accounts labels.0) (λ _. ask (SetLabel labels.0)
+      (λ _. ask (SetClearance labels.1) (λ _. Answers (Child ((revealed.born + 1) ∷ me)))))
 
   abbrev in_room : ProcessStatus → Program
   in_room revealed = ask OwnLabel (with_labels revealed)
@@ -96,16 +101,21 @@ module _ (accounts : Accounts) (ok : AreAccounts accounts) (me : ProcName) (call
     refused_nowhere = λ i. unless (room i) EAGAIN orelse unless (long i) EAGAIN
 
     -- with all raw calls the call is answered
-    answered : (calls : List RawCall) (later : KernelModel) → AreAmong [] (entries_of old.line t (all_granted calls)) → Chain old t (all_granted calls) later → state later ≡ spawned (state old) t caller.home status (kin_of accounts own) own clearance → (state old).next_object + 3 < greatest
+    answered : (calls : List RawCall) (later : KernelModel) → AreAmong [] (entries_of old.line t (all_granted calls))
+        → Chain old t (all_granted calls) later
+        → state later ≡ spawned (state old) t caller.home status (kin_of accounts own) own clearance
+        → (state old).next_object + 3 < greatest
         → Runs (Answers reply) later new t result → Refined
     answered calls later kept chain is few runs =
         answered_step accounts f me ready.caller Spawn old new t ready.thread result calls later chain reply refl refused_nowhere tt tt
         (subst (λ (s : State). Represents accounts s (flat.with_child f me p p.chain)) (sym is)
-        (spawned_matched accounts ok (state old) f ready.represents me p ready.caller.agrees ready.caller.runs few_born caller.home.container caller.home.segment
+        (spawned_matched accounts ok (state old) f ready.represents me p ready.caller.agrees ready.caller.runs few_born
+        caller.home.container caller.home.segment
         (at_home accounts me caller old new f result ready found) (at_status accounts me caller old new f result ready found) t (at_thread accounts me caller old new f result ready found) few)) runs
 
     -- the thread has asked for its own labels
-    born : (mid : KernelModel) → Chain old t (all_granted (before ++ OwnLabel ∷ [])) mid → state mid ≡ state old → Runs (with_labels status (own, clearance)) mid new t result → Refined
+    born : (mid : KernelModel) → Chain old t (all_granted (before ++ OwnLabel ∷ [])) mid → state mid ≡ state old
+        → Runs (with_labels status (own, clearance)) mid new t result → Refined
     born mid chain stays runs =
         birth_made accounts f me ready.caller Spawn old new t ready.thread result (state old) caller.home status (kin_of accounts own) own clearance
         (fit accounts ok (state old) f ready.represents me p ready.caller.agrees ready.caller.runs few_born caller.home.container caller.home.segment
@@ -113,11 +123,15 @@ module _ (accounts : Accounts) (ok : AreAccounts accounts) (me : ProcName) (call
         answered (before ++ OwnLabel ∷ []) mid tt chain stays runs
 
     asked : (mid : KernelModel) → Chain old t (all_granted before) mid → state mid ≡ state old → Runs (in_room status) mid new t result → Refined
-    asked mid chain stays runs = own_label_step accounts me caller old new f result ready found Spawn before mid chain stays (with_labels status) runs born
+    asked mid chain stays runs =
+        own_label_step accounts me caller old new f result ready found Spawn before mid chain stays (with_labels status)
+        runs born
 
 -- A spawn is the row of its call.
 pub spawn_refines : SpawnRefines
 unfolding spawn_program
 spawn_refines accounts ok me caller old new f result ready found runs =
-    child_room_step accounts me caller old new f result ready found Spawn None (needs accounts ok me caller old new f result ready found) (in_room accounts ok me caller old new f result ready found) runs
+    child_room_step accounts me caller old new f result ready found Spawn None
+    (needs accounts ok me caller old new f result ready found)
+    (in_room accounts ok me caller old new f result ready found) runs
     (λ long room mid chain stays on. asked accounts ok me caller old new f result ready found long room mid chain stays on)

@@ -56,56 +56,72 @@ use Rattle.histar_sim.specs.Laws.{StatRefines}
 use Rattle.histar_sim.proofs.Chains.{all_granted, entries_of, Chain}
 use Rattle.histar_sim.proofs.CallErrors.{IsBacked, ReadsAmong}
 use Rattle.histar_sim.proofs.Steps.{Goal, granted_step, refused_at_once, answered_step}
-use Rattle.histar_sim.proofs.Walks.{runs, place_at, walk_reads, reads_way, has_way, agrees, found, holds, at_container, at_listing, dir, seen, nothing_there, file_number, file_there, directory_there, among_granted_all, look_step}
+use Rattle.histar_sim.proofs.Walks.{runs, place_at, walk_reads, reads_way, has_way, agrees, found, holds, at_container, at_listing, dir, seen}
+use Rattle.histar_sim.proofs.Walks.{nothing_there, file_number, file_there, directory_there, among_granted_all, look_step}
 
 -- the way into a directory, where no label is asked for
-label_less : (accounts : Accounts) (s : State) (f : Flat) (m : Name) (d : Path) (errno : Errno) (entries : List TraceEntry) (p : Process) → HasWay accounts s f p d entries → HasLabel accounts s f p (m ∷ d) (Refused errno) entries
-label_less accounts s f m d errno entries p way = (way.0, [], way.1, refl, subst (λ (calls : List RawCall). AreAmong calls entries) (sym (append-nil way.0)) way.2)
+label_less : (accounts : Accounts) (s : State) (f : Flat) (m : Name) (d : Path) (errno : Errno)
+    (entries : List TraceEntry) (p : Process) → HasWay accounts s f p d entries
+    → HasLabel accounts s f p (m ∷ d) (Refused errno) entries
+label_less accounts s f m d errno entries p way =
+    (way.0, [], way.1, refl, subst (λ (calls : List RawCall). AreAmong calls entries) (sym (append-nil way.0)) way.2)
 
-module _ (accounts : Accounts) (ok : AreAccounts accounts) (old new : KernelModel) (f : Flat) (me : ProcName) (t : ℕ) (ready : IsReady accounts (state old) f me t) (result : Result Reply Stopped) where
+module _ (accounts : Accounts) (ok : AreAccounts accounts) (old new : KernelModel) (f : Flat) (me : ProcName) (t : ℕ)
+    (ready : IsReady accounts (state old) f me t) (result : Result Reply Stopped) where
   abbrev Refined : Path → Type 0
   Refined q = Goal accounts f me ready.caller (calls.Stat q) old new t ready.thread result
 
   -- the label of what stands at a path is asked for, once these raw calls were made
-  module _ (q : Path) (there : Node) (at : get f.files q ≡ Some there) (D O : ℕ) (numbered : ready.represents.matched.naming.number (address_of q) ≡ Some O) (object_at : IsObjectAt accounts (state old) q D O)
+  module _ (q : Path) (there : Node) (at : get f.files q ≡ Some there) (D O : ℕ)
+      (numbered : ready.represents.matched.naming.number (address_of q) ≡ Some O)
+      (object_at : IsObjectAt accounts (state old) q D O)
       (allowed : refused accounts f me ready.caller.process (calls.Stat q) ≡ None) (passes : check (state old) t (raw.LabelOf D O) ≡ None)
-      (reads : List RawCall) (are_reads : AreReadsOf accounts (state old) (walked_paths accounts (state old) f ready.caller.process q) reads) (mid : KernelModel) (stays : state mid ≡ state old) (chain : Chain old t (all_granted reads) mid) where
-    abbrev call : UnixCall
-    call = calls.Stat q
+      (reads : List RawCall) (are_reads : AreReadsOf accounts (state old) (walked_paths accounts (state old) f ready.caller.process q)
+      reads) (mid : KernelModel) (stays : state mid ≡ state old) (chain : Chain old t (all_granted reads) mid)
+    where
+      abbrev call : UnixCall
+      call = calls.Stat q
 
-    abbrev next : RawCall
-    next = raw.LabelOf D O
+      abbrev next : RawCall
+      next = raw.LabelOf D O
 
-    guard : (g : Guard) × (class_guard accounts there.class ≡ Some g)
-    guard = guard_at accounts (state old) f ready.represents.matched q there at
+      guard : (g : Guard) × (class_guard accounts there.class ≡ Some g)
+      guard = guard_at accounts (state old) f ready.represents.matched q there at
 
-    reveals : HasOwnerAndMode there.class (class_shown accounts (guard_label ready.represents.matched.category guard.0))
-    reveals = class_revealed accounts (state old) f ready.represents.matched q there at guard.0 guard.1
+      reveals : HasOwnerAndMode there.class (class_shown accounts (guard_label ready.represents.matched.category guard.0))
+      reveals = class_revealed accounts (state old) f ready.represents.matched q there at guard.0 guard.1
 
-    abbrev due : Reply
-    due = Stats (stat_of reveals.shown_class (is_dir there))
+      abbrev due : Reply
+      due = Stats (stat_of reveals.shown_class (is_dir there))
 
-    due_is : due ≡ stat_reply (get f.files q)
-    due_is = (λ i. Stats (record { is_directory = is_dir there; owner = reveals.owner i; mode = reveals.mode i })) ∙ sym (ap stat_reply at)
+      due_is : due ≡ stat_reply (get f.files q)
+      due_is = (λ i. Stats (record { is_directory = is_dir there; owner = reveals.owner i; mode = reveals.mode i })) ∙ sym (ap stat_reply at)
 
-    revealed_is : (label : Levels) → Some label ≡ label_there ((state mid).objects O) → class_reply (is_dir there) (class_shown accounts label) ≡ Answers due
-    revealed_is label right =
-        let same = same_Some _ _ (right ∙ ap (λ (s : State). label_there (s.objects O)) stays ∙ label_at accounts (state old) f ready.represents.matched q there at O numbered guard.0 guard.1) in
-        ap (λ (l : Levels). class_reply (is_dir there) (class_shown accounts l)) same ∙ ap (class_reply (is_dir there)) reveals.is
+      revealed_is : (label : Levels) → Some label ≡ label_there ((state mid).objects O)
+          → class_reply (is_dir there) (class_shown accounts label) ≡ Answers due
+      revealed_is label right =
+          let same =
+          same_Some _ _ (right ∙ ap (λ (s : State). label_there (s.objects O)) stays
+          ∙ label_at accounts (state old) f ready.represents.matched q there at O numbered guard.0 guard.1) in
+          ap (λ (l : Levels). class_reply (is_dir there) (class_shown accounts l)) same ∙ ap (class_reply (is_dir there)) reveals.is
 
-    all_reads : ReadsAmong accounts f me ready.caller call old new t ready.thread (all_granted (reads ++ next ∷ [])) due
-    all_reads = (reads, next ∷ [], are_reads, (D, O, object_at, refl), among_granted_all old.line t (reads ++ next ∷ []))
+      all_reads : ReadsAmong accounts f me ready.caller call old new t ready.thread (all_granted (reads ++ next ∷ [])) due
+      all_reads = (reads, next ∷ [], are_reads, (D, O, object_at, refl), among_granted_all old.line t (reads ++ next ∷ []))
 
-    label_step : Runs (ask next (λ label. class_reply (is_dir there) (class_shown accounts label))) mid new t result → Refined q
-    label_step on =
-        granted_step accounts f me ready.caller call old new t ready.thread result reads mid chain next (λ label. class_reply (is_dir there) (class_shown accounts label)) (ap (λ (s : State). check s t next) stays ∙ passes) on
-        (λ later label called right longer end.
-        let same : state later ≡ state old = called.state ∙ stays in
-        let entries = entries_of old.line t (all_granted (reads ++ next ∷ [])) in
-        answered_step accounts f me ready.caller call old new t ready.thread result (reads ++ next ∷ []) later longer due due_is allowed
-        (subst (IsBacked (state old) entries) due_is tt) (subst (ReadsAmong accounts f me ready.caller call old new t ready.thread (all_granted (reads ++ next ∷ []))) due_is all_reads)
-        (subst (λ (s : State). Represents accounts s f) (sym same) ready.represents)
-        (subst (λ (program : Program). Runs program later new t result) (revealed_is label right) end))
+      label_step : Runs (ask next (λ label. class_reply (is_dir there) (class_shown accounts label))) mid new t result → Refined q
+      label_step on =
+          granted_step accounts f me ready.caller call old new t ready.thread result reads mid chain next
+          (λ label. class_reply (is_dir there) (class_shown accounts label))
+          (ap (λ (s : State). check s t next) stays ∙ passes) on
+          (λ later label called right longer end.
+          let same : state later ≡ state old = called.state ∙ stays in
+          let entries = entries_of old.line t (all_granted (reads ++ next ∷ [])) in
+          answered_step accounts f me ready.caller call old new t ready.thread result (reads ++ next ∷ []) later longer due due_is allowed
+          (subst (IsBacked (state old) entries) due_is tt) (subst
+          (ReadsAmong accounts f me ready.caller call old new t ready.thread (all_granted (reads ++ next ∷ [])))
+          due_is all_reads)
+          (subst (λ (s : State). Represents accounts s f) (sym same) ready.represents)
+          (subst (λ (program : Program). Runs program later new t result) (revealed_is label right) end))
 
   module _ (m : Name) (d : Path) where
     abbrev stat : UnixCall
@@ -118,49 +134,87 @@ module _ (accounts : Accounts) (ok : AreAccounts accounts) (old new : KernelMode
     place = place_at accounts ok (state old) f me t ready d
 
     -- the way, and then whether something stands there
-    refused_is : (way : Option Errno) (o : Option Node) → into accounts f ready.caller.process d ≡ way → get f.files (m ∷ d) ≡ o → refused accounts f me ready.caller.process stat ≡ (way orelse unless (is_some_and o (λ n. true)) ENOENT)
+    refused_is : (way : Option Errno) (o : Option Node) → into accounts f ready.caller.process d ≡ way
+        → get f.files (m ∷ d) ≡ o
+        → refused accounts f me ready.caller.process stat ≡ (way orelse unless (is_some_and o (λ n. true)) ENOENT)
     refused_is way o is_way is_o = λ i. is_way i orelse unless (is_some_and (is_o i) (λ n. true)) ENOENT
 
     -- once the entry was looked up
     abbrev at_entry : Option Target → Program
-    at_entry target = given (entry_at target) (λ found. ask (raw.LabelOf place.container (object_of found)) (λ label. class_reply (is_directory found) (class_shown accounts label)))
+    at_entry target =
+        given (entry_at target) (λ found. ask (raw.LabelOf place.container (object_of found))
+        (λ label. class_reply (is_directory found) (class_shown accounts label)))
 
-    module _ (open_so_far : into accounts f ready.caller.process d ≡ None) (mid : KernelModel) (stays : state mid ≡ state old) (chain : Chain old t (all_granted walk) mid)
+    module _ (open_so_far : into accounts f ready.caller.process d ≡ None) (mid : KernelModel)
+        (stays : state mid ≡ state old) (chain : Chain old t (all_granted walk) mid)
         (on : Runs (at_entry (map.get (directory_of f.files ready.represents.matched.naming.number d) m)) mid new t result) where
-      leads : (target : Option Target) → map.get (directory_of f.files ready.represents.matched.naming.number d) m ≡ target → Runs (at_entry target) mid new t result
+      leads : (target : Option Target)
+          → map.get (directory_of f.files ready.represents.matched.naming.number d) m ≡ target
+          → Runs (at_entry target) mid new t result
       leads target is = subst (λ (target : Option Target). Runs (at_entry target) mid new t result) is on
 
-      by_target : (there : Node) → get f.files (m ∷ d) ≡ Some there → (target : Target) → map.get (directory_of f.files ready.represents.matched.naming.number d) m ≡ Some target
-          → ready.represents.matched.naming.number (address_of (m ∷ d)) ≡ Some (object_of target) → is_directory target ≡ is_dir there → Refined (m ∷ d)
+      by_target : (there : Node) → get f.files (m ∷ d) ≡ Some there → (target : Target)
+          → map.get (directory_of f.files ready.represents.matched.naming.number d) m ≡ Some target
+          → ready.represents.matched.naming.number (address_of (m ∷ d)) ≡ Some (object_of target)
+          → is_directory target ≡ is_dir there → Refined (m ∷ d)
       by_target there at target is numbered kind =
           let is_dir_above = dir accounts ok (state old) f me t ready d open_so_far in
           let above = agrees accounts ok (state old) f me t ready d is_dir_above in
-          let object_at : IsObjectAt accounts (state old) (m ∷ d) place.container (object_of target) =
-          (place.listing, directory_of f.files ready.represents.matched.naming.number d, target, found accounts ok (state old) f me t ready d is_dir_above, holds accounts ok (state old) f me t ready d is_dir_above, is, refl) in
-          let passes = label_said accounts (state old) f ready.represents.matched ok me ready.caller.process t (runs accounts ok (state old) f me t ready) d above.0 above.1 place.container place.listing
-          (at_container accounts ok (state old) f me t ready d is_dir_above) (at_listing accounts ok (state old) f me t ready d is_dir_above) (seen accounts ok (state old) f me t ready d open_so_far) m (object_of target) numbered
+          let object_at : IsObjectAt accounts (state old) (m ∷ d) place.container (object_of target) = (
+            place.listing,
+            directory_of f.files ready.represents.matched.naming.number d,
+            target,
+            found accounts ok
+                (state old) f me t ready d is_dir_above,
+            holds accounts ok (state old) f me t ready d is_dir_above,
+            is,
+            refl,
+          ) in
+          let passes =
+          label_said accounts (state old) f ready.represents.matched ok me ready.caller.process t
+          (runs accounts ok (state old) f me t ready) d above.0 above.1 place.container place.listing
+          (at_container accounts ok (state old) f me t ready d is_dir_above)
+          (at_listing accounts ok (state old) f me t ready d is_dir_above)
+          (seen accounts ok (state old) f me t ready d open_so_far) m (object_of target) numbered
           (no_thread_at accounts (state old) f ready.represents.matched (m ∷ d) there at (object_of target) numbered) in
-          label_step (m ∷ d) there at place.container (object_of target) numbered object_at (refused_is None (Some there) open_so_far at) passes walk (reads_way accounts ok (state old) f me t ready d) mid stays chain
-          (subst (λ (b : Bool). Runs (ask (raw.LabelOf place.container (object_of target)) (λ label. class_reply b (class_shown accounts label))) mid new t result) kind (leads (Some target) is))
+          label_step (m ∷ d) there at place.container (object_of target) numbered object_at
+          (refused_is None (Some there) open_so_far at) passes walk
+          (reads_way accounts ok (state old) f me t ready d) mid stays chain
+          (subst (λ (b : Bool). Runs (ask (raw.LabelOf place.container (object_of target))
+          (λ label. class_reply b (class_shown accounts label))) mid new t result) kind
+          (leads (Some target) is))
 
       by_content : (class : Class) (c : Content) → get f.files (m ∷ d) ≡ Some (record { class = class; content = c }) → Refined (m ∷ d)
       by_content class Dir at =
           let here : is_dir_at f (m ∷ d) ≡ true = ap (λ (o : Option Node). is_some_and o is_dir) at in
-          by_target (record { class = class; content = Dir }) at _ (directory_there accounts ok (state old) f me t ready m d class at) (at_container accounts ok (state old) f me t ready (m ∷ d) here) refl
+          by_target (record { class = class; content = Dir }) at _
+          (directory_there accounts ok (state old) f me t ready m d class at)
+          (at_container accounts ok (state old) f me t ready (m ∷ d) here) refl
       by_content class (File bytes) at =
-          by_target (record { class = class; content = File bytes }) at _ (file_there accounts ok (state old) f me t ready m d class bytes at) (file_number accounts ok (state old) f me t ready m d class bytes at) refl
+          by_target (record { class = class; content = File bytes }) at _
+          (file_there accounts ok (state old) f me t ready m d class bytes at)
+          (file_number accounts ok (state old) f me t ready m d class bytes at) refl
 
       by_agrees : (o : Option Node) → get f.files (m ∷ d) ≡ o → Refined (m ∷ d)
       by_agrees None at =
-          refused_at_once accounts f me ready.caller stat old new t ready.thread result walk mid chain stays ready.represents ENOENT (refused_is None None open_so_far at) refl refl
-          (label_less accounts (state old) f m d ENOENT _ ready.caller.process (has_way accounts ok (state old) f me t ready d _ (among_granted_all old.line t walk))) (leads None (nothing_there accounts ok (state old) f me t ready m d at))
+          refused_at_once accounts f me ready.caller stat old new t ready.thread result walk mid chain stays
+          ready.represents ENOENT (refused_is None None open_so_far at) refl refl
+          (label_less accounts (state old) f m d ENOENT _ ready.caller.process
+          (has_way accounts ok (state old) f me t ready d _ (among_granted_all old.line t walk)))
+          (leads None (nothing_there accounts ok (state old) f me t ready m d at))
       by_agrees (Some there) at = by_content there.class there.content at
 
     stat_is_refined : Runs (stat_program accounts (roots_of (length accounts.users)) (m ∷ d)) old new t result → Refined (m ∷ d)
     unfolding stat_program find_object
     stat_is_refined run =
-        look_step accounts ok old new f me t ready stat result d m (λ place target. given (entry_at target) (λ found. ask (raw.LabelOf place.container (object_of found)) (λ label. class_reply (is_directory found) (class_shown accounts label)))) run
-        (λ errno is steps among. (refused_is (Some errno) (get f.files (m ∷ d)) is refl, label_less accounts (state old) f m d errno _ ready.caller.process (has_way accounts ok (state old) f me t ready d _ among)))
+        look_step accounts ok old new f me t ready stat result d m
+        (λ place target. given (entry_at target) (λ found. ask (raw.LabelOf place.container (object_of found))
+        (λ label. class_reply (is_directory found) (class_shown accounts label)))) run
+        (λ errno is steps among. (
+          refused_is (Some errno) (get f.files (m ∷ d)) is refl,
+          label_less accounts (state old) f m d errno _
+              ready.caller.process (has_way accounts ok (state old) f me t ready d _ among),
+        ))
         (λ open_so_far mid stays chain on. by_agrees open_so_far mid stays chain on (get f.files (m ∷ d)) refl)
 
   -- a stat of `/`
@@ -169,8 +223,11 @@ module _ (accounts : Accounts) (ok : AreAccounts accounts) (old new : KernelMode
   stat_of_slash run =
       let root = root_is_dir accounts (state old) f ready.represents.matched in
       let slash = slash_number (length accounts.users) in
-      label_step [] (record { class = root.0; content = Dir }) root.1 root_number slash (ready.represents.matched.as_booted (Slash ∷ []) slash refl) (refl, refl)
-      (ap (λ (o : Option Node). unless (is_some_and o (λ n. true)) ENOENT) root.1) (slash_label_said accounts (state old) f ready.represents.matched me ready.caller.process t (runs accounts ok (state old) f me t ready))
+      label_step [] (record { class = root.0; content = Dir }) root.1 root_number slash
+      (ready.represents.matched.as_booted (Slash ∷ []) slash refl) (refl, refl)
+      (ap (λ (o : Option Node). unless (is_some_and o (λ n. true)) ENOENT) root.1)
+      (slash_label_said accounts (state old) f ready.represents.matched me ready.caller.process t
+      (runs accounts ok (state old) f me t ready))
       [] refl old refl (same_kernel old) run
 
 -- a stat does what its flat rule says

@@ -36,14 +36,16 @@ life_backed : (s : State) (entries : List TraceEntry) (e : Option ℕ) → IsBac
 life_backed s entries None = tt
 life_backed s entries (Some n) = tt
 
-module _ (accounts : Accounts) (ok : AreAccounts accounts) (old new : KernelModel) (f : Flat) (me : ProcName) (t : ℕ) (ready : IsReady accounts (state old) f me t) (name : ProcName) (result : Result Reply Stopped) where
+module _ (accounts : Accounts) (ok : AreAccounts accounts) (old new : KernelModel) (f : Flat) (me : ProcName) (t : ℕ)
+    (ready : IsReady accounts (state old) f me t) (name : ProcName) (result : Result Reply Stopped) where
   abbrev call : UnixCall
   call = calls.Status name
 
   said : (other : Process) → f.processes name ≡ Some other → status_reply other.exited ≡ life_reply (f.processes name)
   said other here = life_is other.exited ∙ ap life_reply (sym here)
 
-  status_is_refined : Runs (status_program (roots_of (length accounts.users)) name) old new t result → Goal accounts f me ready.caller call old new t ready.thread result
+  status_is_refined : Runs (status_program (roots_of (length accounts.users)) name) old new t result
+      → Goal accounts f me ready.caller call old new t ready.thread result
   unfolding status_program
   status_is_refined run =
       let reads = search_reads accounts (state old) f me t ready name in

@@ -46,7 +46,8 @@ pub record GoesOnAfter (old new : KernelModel) (t : ℕ) (call : RawCall) (rest 
   pub runs : Runs (rest (Ok answer)) mid new t result
 
 -- a raw call that was refused, and what its denial made of the call
-record IsRefusedAt (old new : KernelModel) (t : ℕ) (call : RawCall) (rest : Outcome call → Program) (denied : Denied) (result : Result Reply Stopped) : Type 0 where
+record IsRefusedAt (old new : KernelModel) (t : ℕ) (call : RawCall) (rest : Outcome call → Program) (denied : Denied)
+    (result : Result Reply Stopped) : Type 0 where
   mid : KernelModel
   called : Called old mid t call (Some denied)
   runs : Runs (rest (Err denied)) mid new t result
@@ -55,7 +56,8 @@ same_denied : (a b : Denied) → Some a ≡ Some b → a ≡ b
 same_denied a b e = cc
 
 -- a call that has only its reply left has replied
-pub replied : (t : ℕ) (old new : KernelModel) (reply : Reply) (result : Result Reply Stopped) → Runs (Answers reply) old new t result → IsUnchanged old new × (result ≡ Ok reply)
+pub replied : (t : ℕ) (old new : KernelModel) (reply : Reply) (result : Result Reply Stopped)
+    → Runs (Answers reply) old new t result → IsUnchanged old new × (result ≡ Ok reply)
 unfolding Runs
 replied t old new reply (Ok other) runs = (runs.0, ap Ok runs.1)
 replied t old new reply (Err stopped) runs = absurd runs
@@ -68,9 +70,13 @@ stopped_here t old new (Err stopped) runs = record { unchanged = runs; unanswere
 
 module _ (t : ℕ) (old new : KernelModel) where
   -- bytes that are a directory
-  listed_as : (bytes : List ℕ) (dir : Entries) → IsDirectory bytes dir → (rest : Entries → Program) (result : Result Reply Stopped) → Runs (list bytes rest) old new t result → EndsHere old new result ⊎ Runs (rest dir) old new t result
+  listed_as : (bytes : List ℕ) (dir : Entries) → IsDirectory bytes dir
+      → (rest : Entries → Program) (result : Result Reply Stopped) → Runs (list bytes rest) old new t result
+      → EndsHere old new result ⊎ Runs (rest dir) old new t result
   unfolding Runs
-  listed_as bytes dir is rest (Ok reply) runs = inr (subst (λ (o : Option Entries). Completes (if_there rest o) old new t reply) (found_directory bytes runs.0 dir runs.1 is) runs.2)
+  listed_as bytes dir is rest (Ok reply) runs =
+      inr (subst (λ (o : Option Entries). Completes (if_there rest o) old new t reply)
+      (found_directory bytes runs.0 dir runs.1 is) runs.2)
   listed_as bytes dir is rest (Err stopped) runs = elim runs [
     | inl same ↦ inl (record { unchanged = same; unanswered = refl })
     | inr goes ↦ inr (subst (λ (o : Option Entries). Begins (if_there rest o) old new t) (found_directory bytes goes.0 dir goes.1 is) goes.2)
@@ -79,7 +85,9 @@ module _ (t : ℕ) (old new : KernelModel) where
   module _ (call : RawCall) (rest : Outcome call → Program) where
     -- a raw call was made, with its outcome
     asked_so : (result : Result Reply Stopped) → Runs (Asks call rest) old new t result
-        → EndsHere old new result ⊎ ((mid : KernelModel) × (outcome : Outcome call) × Asked old mid t call outcome × Runs (rest outcome) mid new t result)
+        → EndsHere old new result
+        ⊎ ((mid : KernelModel) × (outcome : Outcome call) × Asked old mid t call outcome
+        × Runs (rest outcome) mid new t result)
     unfolding Runs
     asked_so (Ok reply) runs = inr runs
     asked_so (Err stopped) runs = elim runs [
@@ -88,24 +96,30 @@ module _ (t : ℕ) (old new : KernelModel) where
     ]
 
     -- the rules grant it
-    pub granted_so : check (state old) t call ≡ None → (result : Result Reply Stopped) → Runs (Asks call rest) old new t result → EndsHere old new result ⊎ GoesOnAfter old new t call rest result
+    pub granted_so : check (state old) t call ≡ None → (result : Result Reply Stopped)
+        → Runs (Asks call rest) old new t result → EndsHere old new result ⊎ GoesOnAfter old new t call rest result
     granted_so passes result runs = elim (asked_so result runs) [
       | inl ends ↦ inl ends
       | inr goes ↦ by goes.0 goes.1 goes.2 goes.3
     ]
       where
-        by : (mid : KernelModel) (outcome : Outcome call) → Asked old mid t call outcome → Runs (rest outcome) mid new t result → EndsHere old new result ⊎ GoesOnAfter old new t call rest result
+        by : (mid : KernelModel) (outcome : Outcome call) → Asked old mid t call outcome
+            → Runs (rest outcome) mid new t result → EndsHere old new result ⊎ GoesOnAfter old new t call rest result
         by mid (Ok answer) asked runs = inr (record { mid = mid; answer = answer; called = asked.0; right = asked.1; runs = runs })
         by mid (Err denied) asked runs = let k : Some denied ≡ None = sym asked.outcome ∙ passes in absurd cc
 
     -- the rules refuse it
-    refused_so : (denied : Denied) → check (state old) t call ≡ Some denied → (result : Result Reply Stopped) → Runs (Asks call rest) old new t result → EndsHere old new result ⊎ IsRefusedAt old new t call rest denied result
+    refused_so : (denied : Denied) → check (state old) t call ≡ Some denied → (result : Result Reply Stopped)
+        → Runs (Asks call rest) old new t result
+        → EndsHere old new result ⊎ IsRefusedAt old new t call rest denied result
     refused_so denied fails result runs = elim (asked_so result runs) [
       | inl ends ↦ inl ends
       | inr goes ↦ by goes.0 goes.1 goes.2 goes.3
     ]
       where
-        by : (mid : KernelModel) (outcome : Outcome call) → Asked old mid t call outcome → Runs (rest outcome) mid new t result → EndsHere old new result ⊎ IsRefusedAt old new t call rest denied result
+        by : (mid : KernelModel) (outcome : Outcome call) → Asked old mid t call outcome
+            → Runs (rest outcome) mid new t result
+            → EndsHere old new result ⊎ IsRefusedAt old new t call rest denied result
         by mid (Ok answer) asked runs = let k : None ≡ Some denied = sym asked.0.outcome ∙ fails in absurd cc
         by mid (Err other) asked runs =
             let same : other ≡ denied = same_denied other denied (sym asked.outcome ∙ fails) in
@@ -115,7 +129,8 @@ module _ (t : ℕ) (old new : KernelModel) where
               runs = subst (λ (d : Denied). Runs (rest (Err d)) mid new t result) same runs;
             })
 
-module _ (accounts : Accounts) (f : Flat) (me : ProcName) (caller : IsRunning f me) (call : UnixCall) (old new : KernelModel) (t : ℕ) (named : IsThreadOf accounts (state old) me t) (result : Result Reply Stopped) where
+module _ (accounts : Accounts) (f : Flat) (me : ProcName) (caller : IsRunning f me) (call : UnixCall)
+    (old new : KernelModel) (t : ℕ) (named : IsThreadOf accounts (state old) me t) (result : Result Reply Stopped) where
   -- what a row shows
   abbrev pub Goal : Type 0
   Goal = FollowsRule accounts f me call old new t result
@@ -124,12 +139,16 @@ module _ (accounts : Accounts) (f : Flat) (me : ProcName) (caller : IsRunning f 
   module _ (calls : List RawCall) (mid : KernelModel) (so_far : Chain old t (all_granted calls) mid) where
     -- with one more
     longer : (next : RawCall) (later : KernelModel) → Called mid later t next None → Chain old t (all_granted (calls ++ next ∷ [])) later
-    longer next later called = subst (λ (steps : List Step). Chain old t steps later) (sym (map-append (λ (c : RawCall). (c, None)) calls (next ∷ [])))
+    longer next later called =
+        subst (λ (steps : List Step). Chain old t steps later)
+        (sym (map-append (λ (c : RawCall). (c, None)) calls (next ∷ [])))
         (chain_after t old mid later (all_granted calls) ((next, None) ∷ []) so_far (later, called, same_kernel later))
 
     -- with nothing more
     kept : IsUnchanged mid new → Chain old t (all_granted calls) new
-    kept same = subst (λ (steps : List Step). Chain old t steps new) (append-nil (all_granted calls)) (chain_after t old mid new (all_granted calls) [] so_far same)
+    kept same =
+        subst (λ (steps : List Step). Chain old t steps new) (append-nil (all_granted calls))
+        (chain_after t old mid new (all_granted calls) [] so_far same)
 
     -- the call ends here
     ends_here : EndsHere mid new result → Goal
@@ -140,11 +159,15 @@ module _ (accounts : Accounts) (f : Flat) (me : ProcName) (caller : IsRunning f 
 
         by : (r : Result Reply Stopped) → IsErr r → FollowsRule accounts f me call old new t r
         by (Ok reply) err = absurd cc
-        by (Err stopped) err = chain_unanswered accounts f me caller call old new t named (all_granted calls) chain (granted_broken_off t (reply_to accounts f me call) old new old.line calls chain)
+        by (Err stopped) err =
+            chain_unanswered accounts f me caller call old new t named (all_granted calls) chain
+            (granted_broken_off t (reply_to accounts f me call) old new old.line calls chain)
 
     -- a raw call that the rules grant, whatever a denial would have come to
     pub allowed_step : (next : RawCall) (rest : Outcome next → Program) → check (state mid) t next ≡ None → Runs (Asks next rest) mid new t result
-        → ((later : KernelModel) (answer : AnswerOf next) → Called mid later t next None → IsAnswer (state mid) t next answer → Chain old t (all_granted (calls ++ next ∷ [])) later → Runs (rest (Ok answer)) later new t result → Goal) → Goal
+        → ((later : KernelModel) (answer : AnswerOf next) → Called mid later t next None
+        → IsAnswer (state mid) t next answer → Chain old t (all_granted (calls ++ next ∷ [])) later
+        → Runs (rest (Ok answer)) later new t result → Goal) → Goal
     allowed_step next rest passes runs go_on = elim (granted_so t mid new next rest passes result runs) [
       | inl ends ↦ ends_here ends
       | inr goes ↦ go_on goes.mid goes.answer goes.called goes.right (longer next goes.mid goes.called) goes.runs
@@ -152,20 +175,29 @@ module _ (accounts : Accounts) (f : Flat) (me : ProcName) (caller : IsRunning f 
 
     -- one whose denial is replied or stops the call
     pub granted_step : (next : RawCall) (rest : AnswerOf next → Program) → check (state mid) t next ≡ None → Runs (ask next rest) mid new t result
-        → ((later : KernelModel) (answer : AnswerOf next) → Called mid later t next None → IsAnswer (state mid) t next answer → Chain old t (all_granted (calls ++ next ∷ [])) later → Runs (rest answer) later new t result → Goal) → Goal
+        → ((later : KernelModel) (answer : AnswerOf next) → Called mid later t next None
+        → IsAnswer (state mid) t next answer → Chain old t (all_granted (calls ++ next ∷ [])) later
+        → Runs (rest answer) later new t result → Goal) → Goal
     granted_step next rest passes runs go_on = allowed_step next (or_refused (errno_for next) rest) passes runs go_on
 
     -- a raw call that the rules refuse: the call goes on with its denial
-    pub denied_step : (next : RawCall) (rest : Outcome next → Program) (denied : Denied) → check (state mid) t next ≡ Some denied → Runs (Asks next rest) mid new t result
-        → ((later : KernelModel) → Called mid later t next (Some denied) → Chain old t (all_granted calls ++ (next, Some denied) ∷ []) later → Runs (rest (Err denied)) later new t result → Goal) → Goal
+    pub denied_step : (next : RawCall) (rest : Outcome next → Program) (denied : Denied)
+        → check (state mid) t next ≡ Some denied → Runs (Asks next rest) mid new t result
+        → ((later : KernelModel) → Called mid later t next (Some denied)
+        → Chain old t (all_granted calls ++ (next, Some denied) ∷ []) later
+        → Runs (rest (Err denied)) later new t result → Goal) → Goal
     denied_step next rest denied fails runs go_on = elim (refused_so t mid new next rest denied fails result runs) [
       | inl ends ↦ ends_here ends
-      | inr end ↦ go_on end.mid end.called (chain_after t old mid end.mid (all_granted calls) ((next, Some denied) ∷ []) so_far (end.mid, end.called, same_kernel end.mid)) end.runs
+      | inr end ↦
+          go_on end.mid end.called (chain_after t old mid end.mid (all_granted calls) ((next, Some denied) ∷ []) so_far
+          (end.mid, end.called, same_kernel end.mid)) end.runs
     ]
 
     -- bytes that are a directory
-    pub listed_step : (bytes : List ℕ) (dir : Entries) → IsDirectory bytes dir → (rest : Entries → Program) → Runs (list bytes rest) mid new t result → (Runs (rest dir) mid new t result → Goal) → Goal
-    listed_step bytes dir is rest runs go_on = elim (listed_as t mid new bytes dir is rest result runs) [ inl ends ↦ ends_here ends | inr goes ↦ go_on goes ]
+    pub listed_step : (bytes : List ℕ) (dir : Entries) → IsDirectory bytes dir → (rest : Entries → Program)
+        → Runs (list bytes rest) mid new t result → (Runs (rest dir) mid new t result → Goal) → Goal
+    listed_step bytes dir is rest runs go_on =
+        elim (listed_as t mid new bytes dir is rest result runs) [ inl ends ↦ ends_here ends | inr goes ↦ go_on goes ]
 
     -- a raw call that they refuse since a counter has its greatest value, and that stops the call then
     pub spent_step : (next : RawCall) (rest : Outcome next → Program) → check (state mid) t next ≡ Some TooBig → rest (Err TooBig) ≡ Stops
@@ -176,49 +208,71 @@ module _ (accounts : Accounts) (f : Flat) (me : ProcName) (caller : IsRunning f 
           let here = stopped_here t end.mid new result (subst (λ (program : Program). Runs program end.mid new t result) stops end.runs) in
           let last : Chain mid t ((next, Some TooBig) ∷ []) new = (end.mid, end.called, here.unchanged) in
           let chain = chain_after t old mid new (all_granted calls) ((next, Some TooBig) ∷ []) so_far last in
-          by result here.unanswered (chain_unanswered accounts f me caller call old new t named (all_granted calls ++ (next, Some TooBig) ∷ []) chain (exhausted_broken_off t (reply_to accounts f me call) old mid new old.line calls next so_far last greatest))
+          by result here.unanswered (chain_unanswered accounts f me caller call old new t named
+          (all_granted calls ++ (next, Some TooBig) ∷ []) chain (exhausted_broken_off t
+          (reply_to accounts f me call) old mid new old.line calls next so_far last greatest))
     ]
       where
-        by : (r : Result Reply Stopped) → IsErr r → FollowsRule accounts f me call old new t (Err (record {})) → FollowsRule accounts f me call old new t r
+        by : (r : Result Reply Stopped) → IsErr r → FollowsRule accounts f me call old new t (Err (record {}))
+            → FollowsRule accounts f me call old new t r
         by (Ok reply) err refined = absurd cc
         by (Err stopped) err refined = refined
 
     -- the same of one whose denial is replied, if it has an errno
     counted_out : (next : RawCall) (rest : AnswerOf next → Program) → check (state mid) t next ≡ Some TooBig → errno_for next TooBig ≡ None
         → (has_number (state mid) ≡ false) ⊎ (has_category (state mid) ≡ false) → Runs (ask next rest) mid new t result → Goal
-    counted_out next rest fails unrevealed greatest runs = spent_step next (or_refused (errno_for next) rest) fails (ap refused_with unrevealed) greatest runs
+    counted_out next rest fails unrevealed greatest runs =
+        spent_step next (or_refused (errno_for next) rest) fails (ap refused_with unrevealed) greatest runs
 
     -- one that makes an object, since the next object has no number
-    pub exhausted_step : (next : RawCall) (rest : AnswerOf next → Program) → check (state mid) t next ≡ Some TooBig → errno_for next TooBig ≡ None → has_number (state mid) ≡ false → Runs (ask next rest) mid new t result → Goal
+    pub exhausted_step : (next : RawCall) (rest : AnswerOf next → Program) → check (state mid) t next ≡ Some TooBig
+        → errno_for next TooBig ≡ None → has_number (state mid) ≡ false → Runs (ask next rest) mid new t result → Goal
     exhausted_step next rest fails unrevealed greatest runs = counted_out next rest fails unrevealed (inl greatest) runs
 
     -- and one that makes a category, since the next category has none
-    pub exhausted_category_step : (next : RawCall) (rest : AnswerOf next → Program) → check (state mid) t next ≡ Some TooBig → errno_for next TooBig ≡ None → has_category (state mid) ≡ false → Runs (ask next rest) mid new t result → Goal
+    pub exhausted_category_step : (next : RawCall) (rest : AnswerOf next → Program)
+        → check (state mid) t next ≡ Some TooBig → errno_for next TooBig ≡ None → has_category (state mid) ≡ false
+        → Runs (ask next rest) mid new t result → Goal
     exhausted_category_step next rest fails unrevealed greatest runs = counted_out next rest fails unrevealed (inr greatest) runs
 
-    module _ (stays : state mid ≡ state old) (represents : Represents accounts (state old) f) (errno : Errno) (is : refused accounts f me caller.process call ≡ Some errno) where
+    module _ (stays : state mid ≡ state old) (represents : Represents accounts (state old) f) (errno : Errno)
+        (is : refused accounts f me caller.process call ≡ Some errno) where
       -- a raw call that they refuse, as the flat rules refuse the call
-      pub refused_step : (next : RawCall) (rest : AnswerOf next → Program) (denied : Denied) → check (state mid) t next ≡ Some denied → errno_for next denied ≡ Some errno
-          → ReadsAmong accounts f me caller call old new t named (all_granted calls ++ (next, Some denied) ∷ []) (Refused errno) → Runs (ask next rest) mid new t result → Goal
-      refused_step next rest denied fails revealed reads runs = elim (refused_so t mid new next (or_refused (errno_for next) rest) denied fails result runs) [
-        | inl ends ↦ ends_here ends
-        | inr end ↦
-            let said = replied t end.mid new (Refused errno) result (subst (λ (o : Option Errno). Runs (refused_with o) end.mid new t result) revealed end.runs) in
-            let chain = chain_after t old mid new (all_granted calls) ((next, Some denied) ∷ []) so_far (end.mid, end.called, said.0) in
-            subst (FollowsRule accounts f me call old new t) (sym said.1)
-            (refused_refined accounts f me caller call old new t named (said.0.state ∙ end.called.state ∙ stays) represents calls next denied chain errno (revealed_shown next denied errno revealed) is reads)
-      ]
+      pub refused_step : (next : RawCall) (rest : AnswerOf next → Program) (denied : Denied)
+          → check (state mid) t next ≡ Some denied → errno_for next denied ≡ Some errno
+          → ReadsAmong accounts f me caller call old new t named (all_granted calls ++ (next, Some denied) ∷ [])
+          (Refused errno) → Runs (ask next rest) mid new t result → Goal
+      refused_step next rest denied fails revealed reads runs =
+          elim (refused_so t mid new next (or_refused (errno_for next) rest) denied fails result runs) [
+            | inl ends ↦ ends_here ends
+            | inr end ↦
+                let said =
+                replied t end.mid new (Refused errno) result
+                (subst (λ (o : Option Errno). Runs (refused_with o) end.mid new t result) revealed end.runs) in
+                let chain = chain_after t old mid new (all_granted calls) ((next, Some denied) ∷ []) so_far (end.mid, end.called, said.0) in
+                subst (FollowsRule accounts f me call old new t) (sym said.1)
+                (refused_refined accounts f me caller call old new t named (said.0.state ∙ end.called.state ∙ stays)
+                represents calls next denied chain errno (revealed_shown next denied errno revealed) is reads)
+          ]
 
       -- and a call that is refused with no raw call more
-      pub refused_at_once : is_access errno ≡ false → is_permission errno ≡ false → ReadsAmong accounts f me caller call old new t named (all_granted calls) (Refused errno) → Runs (Answers (Refused errno)) mid new t result → Goal
+      pub refused_at_once : is_access errno ≡ false → is_permission errno ≡ false
+          → ReadsAmong accounts f me caller call old new t named (all_granted calls) (Refused errno)
+          → Runs (Answers (Refused errno)) mid new t result → Goal
       refused_at_once no_access no_permission reads runs =
           let end = replied t mid new (Refused errno) result runs in
           subst (FollowsRule accounts f me call old new t) (sym end.1)
-          (unchanged_refined accounts f me caller call old new t named (end.0.state ∙ stays) represents calls (kept end.0) errno no_access no_permission is reads)
+          (unchanged_refined accounts f me caller call old new t named (end.0.state ∙ stays) represents calls
+          (kept end.0) errno no_access no_permission is reads)
 
     -- a call that replies what the flat rules answer
-    pub answered_step : (reply : Reply) → reply ≡ flat.answer f me caller.process call → refused accounts f me caller.process call ≡ None → IsBacked (state old) (entries_of old.line t (all_granted calls)) (flat.answer f me caller.process call)
-        → ReadsAmong accounts f me caller call old new t named (all_granted calls) (flat.answer f me caller.process call) → Represents accounts (state mid) (changed accounts f me caller.process call) → Runs (Answers reply) mid new t result → Goal
+    pub answered_step : (reply : Reply) → reply ≡ flat.answer f me caller.process call
+        → refused accounts f me caller.process call ≡ None
+        → IsBacked (state old) (entries_of old.line t (all_granted calls)) (flat.answer f me caller.process call)
+        → ReadsAmong accounts f me caller call old new t named (all_granted calls)
+        (flat.answer f me caller.process call)
+        → Represents accounts (state mid) (changed accounts f me caller.process call)
+        → Runs (Answers reply) mid new t result → Goal
     answered_step reply said is backed reads represents runs =
         let end = replied t mid new reply result runs in
         subst (FollowsRule accounts f me call old new t) (sym (end.1 ∙ ap Ok said))

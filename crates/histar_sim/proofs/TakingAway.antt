@@ -66,8 +66,11 @@ use Rattle.histar_sim.proofs.Entries.{object_at, entry_of, object_led_to, object
 
 -- ---- the state between the two raw calls
 
-module _ (accounts : Accounts) (s : State) (f : Flat) (l : ObjectsMatch accounts s f) (ok : AreAccounts accounts) (me : ProcName) (p : Process) (t : ℕ) (runs : RunsAs accounts s f l me p t)
-    (d : Path) (class : Class) (at : get f.files d ≡ Some (record { class = class; content = Dir })) (D N : ℕ) (at_directory : l.naming.number (address_of d) ≡ Some D) (at_listing : l.naming.number (Listing ∷ address_of d) ≡ Some N)
+module _ (accounts : Accounts) (s : State) (f : Flat) (l : ObjectsMatch accounts s f) (ok : AreAccounts accounts)
+    (me : ProcName) (p : Process) (t : ℕ) (runs : RunsAs accounts s f l me p t)
+    (d : Path) (class : Class) (at : get f.files d ≡ Some (record { class = class; content = Dir })) (D N : ℕ)
+    (at_directory : l.naming.number (address_of d) ≡ Some D)
+    (at_listing : l.naming.number (Listing ∷ address_of d) ≡ Some N)
     (m : Name) (O : ℕ) (at_entry : l.naming.number (address_of (m ∷ d)) ≡ Some O) (mid : State) (cuts : CutsOff s D O mid) where
   abbrev top : Address Step
   top = Named m ∷ address_of d
@@ -84,7 +87,9 @@ module _ (accounts : Accounts) (s : State) (f : Flat) (l : ObjectsMatch accounts
   abbrev due : Levels
   due = guard_label l.category guard.0
 
-  thread : s.objects t ≡ object (rights_label l.category (thread_rights accounts me p)) (Thread (rights_clearance l.category (thread_rights accounts me p)))
+  thread : s.objects t
+      ≡ object (rights_label l.category (thread_rights accounts me p))
+      (Thread (rights_clearance l.category (thread_rights accounts me p)))
   thread = thread_found accounts s f l me p runs.0 runs.1 t runs.2
 
   abbrev links : Links
@@ -99,7 +104,9 @@ module _ (accounts : Accounts) (s : State) (f : Flat) (l : ObjectsMatch accounts
   -- what lies elsewhere is as it was, but for the directory's container
   stays : (b : Address Step) (q : ℕ) → l.naming.number b ≡ Some q → under same_step top b ≡ false → q ≢ D → mid.objects q ≡ s.objects q
   stays b q at_q outside other =
-      cuts.is_cut.stays q (not_reached same_step step_tests_equality s.objects s.next_object (objects_at s.objects l.naming) l.naming l.agrees.tree O top (l.agrees.tree.addressed top O at_entry) q
+      cuts.is_cut.stays q
+      (not_reached same_step step_tests_equality s.objects s.next_object (objects_at s.objects l.naming) l.naming
+      l.agrees.tree O top (l.agrees.tree.addressed top O at_entry) q
       (ap (is_under same_step top) (l.agrees.tree.addressed b q at_q) ∙ outside)) other
 
   other_thread : t ≢ D
@@ -120,7 +127,9 @@ module _ (accounts : Accounts) (s : State) (f : Flat) (l : ObjectsMatch accounts
 
   -- the directory segment is another object than the one that was unlinked
   other_object : N ≢ O
-  other_object e = let same = one_address same_step step_tests_equality s l.naming (expected accounts l.category f l.naming.number) l.agrees (Listing ∷ address_of d) top N at_listing (at_entry ∙ ap Some (sym e)) in absurd cc
+  other_object e =
+      let same = one_address same_step step_tests_equality s l.naming (expected accounts l.category f l.naming.number)
+      l.agrees (Listing ∷ address_of d) top N at_listing (at_entry ∙ ap Some (sym e)) in absurd cc
 
   -- and is still linked
   linked_then : set.contains (set.remove links O) N ≡ true
@@ -130,17 +139,22 @@ module _ (accounts : Accounts) (s : State) (f : Flat) (l : ObjectsMatch accounts
       ∙ step_linked accounts s f l Listing (address_of d) D N at_directory at_listing
 
   -- where the directory may be read and written, its segment is written with any directory that can be listed
-  pub written_then : may_read accounts p class ≡ true → may_write accounts p class ≡ true → (entries : Entries) → IsListable entries → check mid t (raw.Write D N 0 (spelling entries)) ≡ None
+  pub written_then : may_read accounts p class ≡ true → may_write accounts p class ≡ true → (entries : Entries)
+      → IsListable entries → check mid t (raw.Write D N 0 (spelling entries)) ≡ None
   written_then sees may entries listable =
       let old = spelling (directory_of f.files l.naming.number d) in
       let observed : is_below_raised due label ≡ true = observes_class accounts me p l.category l.different ok class guard.0 guard.1 ∙ sees in
-      let changes : (is_below label due && is_below_raised due label) ≡ true = modifies_class accounts me p l.category l.different ok class guard.0 guard.1 ∙ may in
-      write_check mid t label clearance thread_then D due (set.remove links O) holder_then observed N linked_then due old listing_then 0 (spelling entries)
+      let changes : (is_below label due && is_below_raised due label) ≡ true =
+      modifies_class accounts me p l.category l.different ok class guard.0 guard.1 ∙ may in
+      write_check mid t label clearance thread_then D due (set.remove links O) holder_then observed N linked_then due
+      old listing_then 0 (spelling entries)
       ∙ (λ i. unless (changes i) Modify orelse unless (fits old (spelling entries) (spelling_fits entries listable) i) TooBig)
 
 -- ---- the two raw calls
 
-module _ (accounts : Accounts) (ok : AreAccounts accounts) (old new : KernelModel) (f : Flat) (me : ProcName) (t : ℕ) (ready : IsReady accounts (state old) f me t) (m : Name) (d : Path) (call : UnixCall) (result : Result Reply Stopped) where
+module _ (accounts : Accounts) (ok : AreAccounts accounts) (old new : KernelModel) (f : Flat) (me : ProcName) (t : ℕ)
+    (ready : IsReady accounts (state old) f me t) (m : Name) (d : Path) (call : UnixCall)
+    (result : Result Reply Stopped) where
   abbrev p : Process
   p = ready.caller.process
 
@@ -163,8 +177,10 @@ module _ (accounts : Accounts) (ok : AreAccounts accounts) (old new : KernelMode
     pub removes : changed accounts f me p call ≡ without_below f (m ∷ d)
     pub answers : flat.answer f me p call ≡ Done
 
-  module _ (rule : TakesAway) (open_so_far : into accounts f p d ≡ None) (class : Class) (content : Content) (at : get f.files (m ∷ d) ≡ Some (record { class = class; content = content }))
-      (calls : List RawCall) (has_reads : (steps : List Made) (r : Reply) → AreAmong calls (entries_of old.line t steps) → ReadsAmong accounts f me ready.caller call old new t ready.thread steps r)
+  module _ (rule : TakesAway) (open_so_far : into accounts f p d ≡ None) (class : Class) (content : Content)
+      (at : get f.files (m ∷ d) ≡ Some (record { class = class; content = content }))
+      (calls : List RawCall) (has_reads : (steps : List Made) (r : Reply) → AreAmong calls (entries_of old.line t steps)
+      → ReadsAmong accounts f me ready.caller call old new t ready.thread steps r)
       (mid : KernelModel) (same : state mid ≡ state old) (chain : Chain old t (all_granted calls) mid) where
     abbrev Refined : Type 0
     Refined = Goal accounts f me ready.caller call old new t ready.thread result
@@ -191,7 +207,10 @@ module _ (accounts : Accounts) (ok : AreAccounts accounts) (old new : KernelMode
     sees = seen accounts ok (state old) f me t ready d open_so_far
 
     refused_so : (may : Bool) → may_write accounts p root ≡ may → refused accounts f me p call ≡ unless may EACCES
-    refused_so may is = rule.refuses ∙ ap (λ (b : Bool). unless b EACCES) (ap (λ (x : Option Node). is_some_and x (λ n. may_write accounts p n.class)) root_at ∙ is)
+    refused_so may is =
+        rule.refuses
+        ∙ ap (λ (b : Bool). unless b EACCES)
+        (ap (λ (x : Option Node). is_some_and x (λ n. may_write accounts p n.class)) root_at ∙ is)
 
     abbrev unlinks : RawCall
     unlinks = raw.Unlink container o
@@ -206,35 +225,47 @@ module _ (accounts : Accounts) (ok : AreAccounts accounts) (old new : KernelMode
     said : (may : Bool) → may_write accounts p root ≡ may → check (state mid) t unlinks ≡ unless may Modify
     said may is =
         ap (λ (s : State). check s t unlinks) same
-        ∙ unlink_said accounts (state old) f ready.represents.matched ok me p t (runs accounts ok (state old) f me t ready) d root root_at container listing at_D at_N sees m o at_O
+        ∙ unlink_said accounts (state old) f ready.represents.matched ok me p t
+        (runs accounts ok (state old) f me t ready) d root root_at container listing at_D at_N sees m o at_O
         ∙ ap (λ (b : Bool). unless b Modify) is
 
     among : (more : List RawCall) → AreAmong calls (entries_of old.line t (all_granted (calls ++ more)))
     among more = among_then old.line t calls calls more (among_granted_all old.line t calls)
 
-    module _ (may : may_write accounts p root ≡ true) (cut : KernelModel) (cuts : CutsOff (state old) container o (state cut)) (so_far : Chain old t (all_granted (calls ++ unlinks ∷ [])) cut) where
+    module _ (may : may_write accounts p root ≡ true) (cut : KernelModel)
+        (cuts : CutsOff (state old) container o (state cut))
+        (so_far : Chain old t (all_granted (calls ++ unlinks ∷ [])) cut) where
       write_said : check (state cut) t writing ≡ None
       write_said =
-          written_then accounts (state old) f ready.represents.matched ok me p t (runs accounts ok (state old) f me t ready) d root root_at container listing at_D at_N m o at_O (state cut) cuts sees may
+          written_then accounts (state old) f ready.represents.matched ok me p t
+          (runs accounts ok (state old) f me t ready) d root root_at container listing at_D at_N m o at_O
+          (state cut) cuts sees may
           (map.remove entries m) (listable_remove entries m (ready.represents.matched.listable d is_dir_here))
 
       matched_after : Represents accounts (with_segment_bytes (state cut) listing (spelling (map.remove entries m))) (without_below f (m ∷ d))
-      matched_after = represents_removed accounts (state old) f ready.represents.matched m d container listing o at_D at_N at_O (state cut) cuts ready.represents.jobs_given is_dir_here
+      matched_after =
+          represents_removed accounts (state old) f ready.represents.matched m d container listing o at_D at_N at_O
+          (state cut) cuts ready.represents.jobs_given is_dir_here
 
       -- the directory is written, and the call is answered
       written : Runs call_error cut new t result → Refined
       written on =
-          granted_step accounts f me ready.caller call old new t ready.thread result (calls ++ unlinks ∷ []) cut so_far writing (λ _. Answers Done) write_said on
+          granted_step accounts f me ready.caller call old new t ready.thread result (calls ++ unlinks ∷ []) cut so_far
+          writing (λ _. Answers Done) write_said on
           (λ end done wrote right whole last.
           let all = (calls ++ unlinks ∷ []) ++ writing ∷ [] in
           let among_all = among_then old.line t calls (calls ++ unlinks ∷ []) (writing ∷ []) (among (unlinks ∷ [])) in
           answered_step accounts f me ready.caller call old new t ready.thread result all end whole Done (sym rule.answers) (refused_so true may)
-          (subst (IsBacked (state old) (entries_of old.line t (all_granted all))) (sym rule.answers) tt) (has_reads (all_granted all) (flat.answer f me p call) among_all)
-          (subst (Represents accounts (state end)) (sym rule.removes) (subst (λ (s : State). Represents accounts s (without_below f (m ∷ d))) (sym wrote.state) matched_after)) last)
+          (subst (IsBacked (state old) (entries_of old.line t (all_granted all))) (sym rule.answers) tt)
+          (has_reads (all_granted all) (flat.answer f me p call) among_all)
+          (subst (Represents accounts (state end)) (sym rule.removes)
+          (subst (λ (s : State). Represents accounts s (without_below f (m ∷ d))) (sym wrote.state)
+          matched_after)) last)
 
     by_right : (may : Bool) → may_write accounts p root ≡ may → Runs (ask unlinks (λ _. call_error)) mid new t result → Refined
     by_right false is on =
-        refused_step accounts f me ready.caller call old new t ready.thread result calls mid chain same ready.represents EACCES (refused_so false is) unlinks (λ _. call_error) Modify (said false is) refl
+        refused_step accounts f me ready.caller call old new t ready.thread result calls mid chain same ready.represents
+        EACCES (refused_so false is) unlinks (λ _. call_error) Modify (said false is) refl
         (has_reads _ _ (among_also old.line t calls calls ((unlinks, Some Modify) ∷ []) (among_granted_all old.line t calls))) on
     by_right true is on =
         granted_step accounts f me ready.caller call old new t ready.thread result calls mid chain unlinks (λ _. call_error) (said true is) on
@@ -243,4 +274,6 @@ module _ (accounts : Accounts) (ok : AreAccounts accounts) (old new : KernelMode
     -- the entry is taken away, or the call is refused
     pub take_away_step : Runs (take_away (entry_of accounts ok (state old) f me t ready m d content) (λ _. Answers Done)) mid new t result → Refined
     unfolding take_away
-    take_away_step run = by_right (may_write accounts p root) refl (subst (λ (q : ℕ). Runs (ask (raw.Unlink container q) (λ _. call_error)) mid new t result) (object_led_to accounts ok (state old) f me t ready m d content) run)
+    take_away_step run =
+        by_right (may_write accounts p root) refl (subst (λ (q : ℕ). Runs (ask (raw.Unlink container q) (λ _. call_error)) mid new t result)
+        (object_led_to accounts ok (state old) f me t ready m d content) run)

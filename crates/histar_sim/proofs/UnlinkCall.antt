@@ -35,7 +35,8 @@ use Rattle.histar_sim.specs.Laws.{UnlinkRefines}
 use Rattle.histar_sim.proofs.Entries.{entry_of, reached, entry_step}
 use Rattle.histar_sim.proofs.TakingAway.{take_away_step}
 
-module _ (accounts : Accounts) (ok : AreAccounts accounts) (old new : KernelModel) (f : Flat) (me : ProcName) (t : ℕ) (ready : IsReady accounts (state old) f me t) (m : Name) (d : Path) (result : Result Reply Stopped) where
+module _ (accounts : Accounts) (ok : AreAccounts accounts) (old new : KernelModel) (f : Flat) (me : ProcName) (t : ℕ)
+    (ready : IsReady accounts (state old) f me t) (m : Name) (d : Path) (result : Result Reply Stopped) where
   abbrev call : UnixCall
   call = calls.Unlink (m ∷ d)
 
@@ -53,33 +54,47 @@ module _ (accounts : Accounts) (ok : AreAccounts accounts) (old new : KernelMode
   abbrev at_entry : FoundEntry → Program
   at_entry entry = given (must_be_file entry.target) (λ _. take_away entry (λ _. Answers Done))
 
-  module _ (open_so_far : into accounts f ready.caller.process d ≡ None) (mid : KernelModel) (stays : state mid ≡ state old) (chain : Chain old t (all_granted walk) mid) where
+  module _ (open_so_far : into accounts f ready.caller.process d ≡ None) (mid : KernelModel)
+      (stays : state mid ≡ state old) (chain : Chain old t (all_granted walk) mid) where
     refused_by : (class : Class) (content : Content) → get f.files (m ∷ d) ≡ Some (record { class = class; content = content })
-        → refused accounts f me ready.caller.process call ≡ (unless (not (is_dir (record { class = class; content = content }))) EISDIR orelse unless (writes accounts f ready.caller.process d) EACCES)
+        → refused accounts f me ready.caller.process call
+        ≡ (unless (not (is_dir (record { class = class; content = content }))) EISDIR
+        orelse unless (writes accounts f ready.caller.process d) EACCES)
     refused_by class content at =
-        reached accounts ok old new f me t ready m d call result refusal refl (λ none steps r among. has_walk accounts ok (state old) f me t ready m d _ among) open_so_far _ at
-        ∙ ap (λ (x : Option Node). unless (is_some_and x (λ n. not (is_dir n))) EISDIR orelse unless (writes accounts f ready.caller.process d) EACCES) at
+        reached accounts ok old new f me t ready m d call result refusal refl
+        (λ none steps r among. has_walk accounts ok (state old) f me t ready m d _ among) open_so_far _ at
+        ∙ ap (λ (x : Option Node). unless (is_some_and x (λ n. not (is_dir n))) EISDIR
+        orelse unless (writes accounts f ready.caller.process d) EACCES) at
 
-    by_content : (class : Class) (content : Content) → get f.files (m ∷ d) ≡ Some (record { class = class; content = content }) → Runs (at_entry (entry_of accounts ok (state old) f me t ready m d content)) mid new t result → Refined
+    by_content : (class : Class) (content : Content)
+        → get f.files (m ∷ d) ≡ Some (record { class = class; content = content })
+        → Runs (at_entry (entry_of accounts ok (state old) f me t ready m d content)) mid new t result → Refined
     by_content class Dir at on =
-        refused_at_once accounts f me ready.caller call old new t ready.thread result walk mid chain stays ready.represents EISDIR (refused_by class Dir at) refl refl
+        refused_at_once accounts f me ready.caller call old new t ready.thread result walk mid chain stays
+        ready.represents EISDIR (refused_by class Dir at) refl refl
         (has_walk accounts ok (state old) f me t ready m d _ (among_granted_all old.line t walk)) on
     by_content class (File bytes) at on =
-        take_away_step accounts ok old new f me t ready m d call result (record { refuses = refused_by class (File bytes) at; removes = refl; answers = refl }) open_so_far class (File bytes) at
+        take_away_step accounts ok old new f me t ready m d call result
+        (record { refuses = refused_by class (File bytes) at; removes = refl; answers = refl }) open_so_far class
+        (File bytes) at
         walk (λ steps r among. has_walk accounts ok (state old) f me t ready m d _ among) mid stays chain on
 
   unlink_is_refined : Runs (unlink_program (roots_of (length accounts.users)) (m ∷ d)) old new t result → Refined
   unfolding unlink_program
   unlink_is_refined run =
-      entry_step accounts ok old new f me t ready m d call result refusal refl (λ none steps r among. has_walk accounts ok (state old) f me t ready m d _ among) at_entry run
+      entry_step accounts ok old new f me t ready m d call result refusal refl
+      (λ none steps r among. has_walk accounts ok (state old) f me t ready m d _ among) at_entry run
       (λ open_so_far class content at mid stays chain on. by_content open_so_far mid stays chain class content at on)
 
 -- an unlink of `/`
-unlink_of_slash : (accounts : Accounts) (old new : KernelModel) (f : Flat) (me : ProcName) (t : ℕ) (result : Result Reply Stopped) (ready : IsReady accounts (state old) f me t) → Runs (unlink_program (roots_of (length accounts.users)) []) old new t result
+unlink_of_slash : (accounts : Accounts) (old new : KernelModel) (f : Flat) (me : ProcName) (t : ℕ)
+    (result : Result Reply Stopped) (ready : IsReady accounts (state old) f me t)
+    → Runs (unlink_program (roots_of (length accounts.users)) []) old new t result
     → Goal accounts f me ready.caller (calls.Unlink []) old new t ready.thread result
 unfolding unlink_program find_entry
 unlink_of_slash accounts old new f me t result ready run =
-    refused_at_once accounts f me ready.caller (calls.Unlink []) old new t ready.thread result [] old (same_kernel old) refl ready.represents EBUSY refl refl refl tt run
+    refused_at_once accounts f me ready.caller (calls.Unlink []) old new t ready.thread result [] old (same_kernel old)
+    refl ready.represents EBUSY refl refl refl tt run
 
 -- an unlink does what its flat rule says
 pub unlink_refines : UnlinkRefines

@@ -1,6 +1,7 @@
 -- The walk into a directory, at a state that represents a flat state: it is refused as the flat rules refuse it, or each directory on
 -- the way is read, and the last one is handed on.
-use Rattle.std.proofs.Common.{◌≡◌, ℕ, ◌&&◌, Bool, true, false, List, [], ◌∷◌, ◌++◌, Option, None, Some, Result, inl, inr, refl, sym, ap, ◌∙◌, subst, append_assoc, length, if◌then◌else◌}
+use Rattle.std.proofs.Common.{◌≡◌, ℕ, ◌&&◌, Bool, true, false, List, [], ◌∷◌, ◌++◌, Option, None, Some, Result, inl, inr, refl, sym, ap, ◌∙◌, subst}
+use Rattle.std.proofs.Common.{append_assoc, length, if◌then◌else◌}
 use Rattle.std.proofs.lemmas.List.{map-append, append-nil}
 use Rattle.std.specs.Prelude.{not, map, is_some, option_map, option_and_then}
 use Rattle.std.specs.List.{AllByRecursion}
@@ -66,7 +67,8 @@ dir_there : (o : Option Node) → is_some_and o is_dir ≡ true → (class : Cla
 dir_there None is = cc
 dir_there (Some node) is = by node.content is node refl
   where
-    by : (c : Content) → elim c as (λ _. Bool) [ Dir ↦ true | File bytes ↦ false ] ≡ true → (n : Node) → n.content ≡ c → (class : Class) × (Some n ≡ Some (record { class = class; content = Dir }))
+    by : (c : Content) → elim c as (λ _. Bool) [ Dir ↦ true | File bytes ↦ false ] ≡ true → (n : Node) → n.content ≡ c
+        → (class : Class) × (Some n ≡ Some (record { class = class; content = Dir }))
     by Dir is n e = (n.class, ap (λ (c : Content). Some (record { class = n.class; content = c })) e)
     by (File bytes) is n e = cc
 
@@ -91,18 +93,24 @@ module _ (line t : ℕ) where
   among_granted_all (call ∷ calls) = inl (refl, among_granted_all calls)
 
   -- what is among the entries of granted calls is among those of more of them
-  pub among_then : (wanted calls more : List RawCall) → AreAmong wanted (entries_of line t (all_granted calls)) → AreAmong wanted (entries_of line t (all_granted (calls ++ more)))
+  pub among_then : (wanted calls more : List RawCall) → AreAmong wanted (entries_of line t (all_granted calls))
+      → AreAmong wanted (entries_of line t (all_granted (calls ++ more)))
   among_then wanted calls more among =
-      subst (AreAmong wanted) (sym (ap (entries_of line t) (map-append (λ (c : RawCall). (c, None)) calls more) ∙ map-append (λ (s : Step). entry_of line t s.0 s.1) (all_granted calls) (all_granted more)))
+      subst (AreAmong wanted) (sym (ap (entries_of line t) (map-append (λ (c : RawCall). (c, None)) calls more)
+      ∙ map-append (λ (s : Step). entry_of line t s.0 s.1) (all_granted calls) (all_granted more)))
       (among_more wanted (entries_of line t (all_granted calls)) (entries_of line t (all_granted more)) among)
 
   -- and among those of these and any steps behind them
-  pub among_also : (wanted calls : List RawCall) (steps : List Step) → AreAmong wanted (entries_of line t (all_granted calls)) → AreAmong wanted (entries_of line t (all_granted calls ++ steps))
+  pub among_also : (wanted calls : List RawCall) (steps : List Step)
+      → AreAmong wanted (entries_of line t (all_granted calls))
+      → AreAmong wanted (entries_of line t (all_granted calls ++ steps))
   among_also wanted calls steps among =
-      subst (AreAmong wanted) (sym (map-append (λ (s : Step). entry_of line t s.0 s.1) (all_granted calls) steps)) (among_more wanted (entries_of line t (all_granted calls)) (entries_of line t steps) among)
+      subst (AreAmong wanted) (sym (map-append (λ (s : Step). entry_of line t s.0 s.1) (all_granted calls) steps))
+      (among_more wanted (entries_of line t (all_granted calls)) (entries_of line t steps) among)
 
   -- a last one that was refused is among them too
-  pub among_refused : (calls : List RawCall) (last : RawCall) (denied : Denied) → AreAmong (calls ++ last ∷ []) (entries_of line t (all_granted calls ++ (last, Some denied) ∷ []))
+  pub among_refused : (calls : List RawCall) (last : RawCall) (denied : Denied)
+      → AreAmong (calls ++ last ∷ []) (entries_of line t (all_granted calls ++ (last, Some denied) ∷ []))
   among_refused [] last denied = inl (refl, tt)
   among_refused (call ∷ calls) last denied = inl (refl, among_refused calls last denied)
 
@@ -112,20 +120,28 @@ module _ (line t : ℕ) where
   among_after (call ∷ wanted) e entries among = inr among
 
   -- and so it is behind more granted calls
-  pub among_behind : (wanted before : List RawCall) (steps : List Step) → AreAmong wanted (entries_of line t steps) → AreAmong wanted (entries_of line t (all_granted before ++ steps))
+  pub among_behind : (wanted before : List RawCall) (steps : List Step) → AreAmong wanted (entries_of line t steps)
+      → AreAmong wanted (entries_of line t (all_granted before ++ steps))
   among_behind wanted [] steps among = among
-  among_behind wanted (call ∷ before) steps among = among_after wanted (entry_of line t call None) (entries_of line t (all_granted before ++ steps)) (among_behind wanted before steps among)
+  among_behind wanted (call ∷ before) steps among =
+      among_after wanted (entry_of line t call None) (entries_of line t (all_granted before ++ steps))
+      (among_behind wanted before steps among)
 
   -- granted calls behind others are among the entries of all
   pub among_granted_behind : (before calls : List RawCall) → AreAmong calls (entries_of line t (all_granted (before ++ calls)))
   among_granted_behind before calls =
-      subst (λ (steps : List Step). AreAmong calls (entries_of line t steps)) (sym (map-append (λ (c : RawCall). (c, None)) before calls)) (among_behind calls before (all_granted calls) (among_granted_all calls))
+      subst (λ (steps : List Step). AreAmong calls (entries_of line t steps))
+      (sym (map-append (λ (c : RawCall). (c, None)) before calls))
+      (among_behind calls before (all_granted calls) (among_granted_all calls))
 
   -- and with a last one that was refused
-  among_refused_behind : (before calls : List RawCall) (last : RawCall) (denied : Denied) → AreAmong (calls ++ last ∷ []) (entries_of line t (all_granted (before ++ calls) ++ (last, Some denied) ∷ []))
+  among_refused_behind : (before calls : List RawCall) (last : RawCall) (denied : Denied)
+      → AreAmong (calls ++ last ∷ []) (entries_of line t (all_granted (before ++ calls) ++ (last, Some denied) ∷ []))
   among_refused_behind [] calls last denied = among_refused calls last denied
   among_refused_behind (call ∷ before) calls last denied =
-      among_after (calls ++ last ∷ []) (entry_of line t call None) (entries_of line t (all_granted (before ++ calls) ++ (last, Some denied) ∷ [])) (among_refused_behind before calls last denied)
+      among_after (calls ++ last ∷ []) (entry_of line t call None)
+      (entries_of line t (all_granted (before ++ calls) ++ (last, Some denied) ∷ []))
+      (among_refused_behind before calls last denied)
 
 module _ (accounts : Accounts) (ok : AreAccounts accounts) (s : State) (f : Flat) (me : ProcName) (t : ℕ) (ready : IsReady accounts s f me t) where
   abbrev pub numbers : AddressNumbers
@@ -169,7 +185,10 @@ module _ (accounts : Accounts) (ok : AreAccounts accounts) (s : State) (f : Flat
     agrees = dir_there (get f.files d) dir
 
     pub at_container : numbers (address_of d) ≡ Some (place_at d).container
-    at_container = is_or_zero (numbers (address_of d)) (numbered_path accounts s f ready.represents.matched d (record { class = agrees.0; content = Dir }) agrees.1)
+    at_container =
+        is_or_zero (numbers (address_of d))
+        (numbered_path accounts s f ready.represents.matched d (record { class = agrees.0; content = Dir })
+        agrees.1)
 
     pub at_listing : numbers (Listing ∷ address_of d) ≡ Some (place_at d).listing
     at_listing = is_or_zero (numbers (Listing ∷ address_of d)) (numbered_listing accounts s f ready.represents.matched d agrees.0 agrees.1)
@@ -186,14 +205,16 @@ module _ (accounts : Accounts) (ok : AreAccounts accounts) (s : State) (f : Flat
     -- its directory segment is read unless the process may not read it
     pub read_said : check s t (read_of d) ≡ unless (reads accounts f p d) Observe
     read_said =
-        read_listing_said accounts s f ready.represents.matched ok me p t runs d agrees.0 agrees.1 (place_at d).container (place_at d).listing at_container at_listing
+        read_listing_said accounts s f ready.represents.matched ok me p t runs d agrees.0 agrees.1
+        (place_at d).container (place_at d).listing at_container at_listing
         ∙ ap (λ (b : Bool). unless b Observe) (sym reads_is)
 
   -- the walk looks whether directories may be read, and nothing else
   tested_dirs : (d : Path) → AllByRecursion (λ (q : Path). is_dir_at f q ≡ true) (tested accounts f p d)
   tested_dirs [] = (slash_is_dir, tt)
   tested_dirs (n ∷ d) =
-      all_joined (λ (q : Path). is_dir_at f q ≡ true) (tested accounts f p d) (if not (is_some (into accounts f p d)) && is_dir_at f (n ∷ d) then (n ∷ d) ∷ [] else []) (tested_dirs d)
+      all_joined (λ (q : Path). is_dir_at f q ≡ true) (tested accounts f p d)
+      (if not (is_some (into accounts f p d)) && is_dir_at f (n ∷ d) then (n ∷ d) ∷ [] else []) (tested_dirs d)
       (by (not (is_some (into accounts f p d))) (is_dir_at f (n ∷ d)) refl)
     where
       by : (a b : Bool) → is_dir_at f (n ∷ d) ≡ b → AllByRecursion (λ (q : Path). is_dir_at f q ≡ true) (if a && b then (n ∷ d) ∷ [] else [])
@@ -218,11 +239,13 @@ module _ (accounts : Accounts) (ok : AreAccounts accounts) (s : State) (f : Flat
   has_walk m d entries among = has_way d entries among
 
   -- they are among the entries of the walk and of raw calls behind it
-  pub walked_then : (m : Name) (d : Path) (line : ℕ) (more : List RawCall) → HasWalk accounts s f p (m ∷ d) (entries_of line t (all_granted (walk_reads d ++ more)))
+  pub walked_then : (m : Name) (d : Path) (line : ℕ) (more : List RawCall)
+      → HasWalk accounts s f p (m ∷ d) (entries_of line t (all_granted (walk_reads d ++ more)))
   walked_then m d line more = has_walk m d _ (among_then line t (walk_reads d) (walk_reads d) more (among_granted_all line t (walk_reads d)))
 
   -- also of one that was refused
-  pub walked_also : (m : Name) (d : Path) (line : ℕ) (steps : List Step) → HasWalk accounts s f p (m ∷ d) (entries_of line t (all_granted (walk_reads d) ++ steps))
+  pub walked_also : (m : Name) (d : Path) (line : ℕ) (steps : List Step)
+      → HasWalk accounts s f p (m ∷ d) (entries_of line t (all_granted (walk_reads d) ++ steps))
   walked_also m d line steps = has_walk m d _ (among_also line t (walk_reads d) (walk_reads d) steps (among_granted_all line t (walk_reads d)))
 
   -- the way into a directory is open: it is one, and the process may read it
@@ -251,12 +274,18 @@ module _ (accounts : Accounts) (ok : AreAccounts accounts) (s : State) (f : Flat
     nothing_there is = target_is None is
 
     -- a file does
-    pub file_number : (class : Class) (bytes : List ℕ) → get f.files (m ∷ d) ≡ Some (record { class = class; content = File bytes }) → numbers (address_of (m ∷ d)) ≡ Some (or_zero (numbers (address_of (m ∷ d))))
-    file_number class bytes is = is_or_zero (numbers (address_of (m ∷ d))) (numbered_path accounts s f ready.represents.matched (m ∷ d) (record { class = class; content = File bytes }) is)
+    pub file_number : (class : Class) (bytes : List ℕ)
+        → get f.files (m ∷ d) ≡ Some (record { class = class; content = File bytes })
+        → numbers (address_of (m ∷ d)) ≡ Some (or_zero (numbers (address_of (m ∷ d))))
+    file_number class bytes is =
+        is_or_zero (numbers (address_of (m ∷ d))) (numbered_path accounts s f ready.represents.matched (m ∷ d)
+        (record { class = class; content = File bytes }) is)
 
     pub file_there : (class : Class) (bytes : List ℕ) → get f.files (m ∷ d) ≡ Some (record { class = class; content = File bytes })
         → finite.get (directory_of f.files numbers d) m ≡ Some (targets.File (or_zero (numbers (address_of (m ∷ d)))))
-    file_there class bytes is = target_is (Some (record { class = class; content = File bytes })) is ∙ ap (option_map targets.File) (file_number class bytes is)
+    file_there class bytes is =
+        target_is (Some (record { class = class; content = File bytes })) is
+        ∙ ap (option_map targets.File) (file_number class bytes is)
 
     -- a directory does
     pub directory_there : (class : Class) → get f.files (m ∷ d) ≡ Some (record { class = class; content = Dir })
@@ -265,7 +294,8 @@ module _ (accounts : Accounts) (ok : AreAccounts accounts) (s : State) (f : Flat
         let dir : is_dir_at f (m ∷ d) ≡ true = ap (λ (o : Option Node). is_some_and o is_dir) is in
         target_is (Some (record { class = class; content = Dir })) is ∙ (λ i. both_numbers (at_container (m ∷ d) dir i) (at_listing (m ∷ d) dir i))
 
-module _ (accounts : Accounts) (ok : AreAccounts accounts) (old new : KernelModel) (f : Flat) (me : ProcName) (t : ℕ) (ready : IsReady accounts (state old) f me t) (call : UnixCall) (result : Result Reply Stopped) where
+module _ (accounts : Accounts) (ok : AreAccounts accounts) (old new : KernelModel) (f : Flat) (me : ProcName) (t : ℕ)
+    (ready : IsReady accounts (state old) f me t) (call : UnixCall) (result : Result Reply Stopped) where
   abbrev Refined : Type 0
   Refined = Goal accounts f me ready.caller call old new t ready.thread result
 
@@ -283,18 +313,23 @@ module _ (accounts : Accounts) (ok : AreAccounts accounts) (old new : KernelMode
 
   -- the call is refused so, and these raw calls are the reads that it cannot do without
   abbrev pub IsRefusedBy : Errno → List Step → Type 0
-  IsRefusedBy errno steps = (refused accounts f me process call ≡ Some errno) × ReadsAmong accounts f me ready.caller call old new t ready.thread steps (Refused errno)
+  IsRefusedBy errno steps =
+      (refused accounts f me process call ≡ Some errno)
+      × ReadsAmong accounts f me ready.caller call old new t ready.thread steps (Refused errno)
 
   -- where the way into the directory is refused, so is the call, once the reads of the walk are made
   abbrev pub Refuses : Path → Type 0
-  Refuses d = (errno : Errno) → into accounts f process d ≡ Some errno → (steps : List Step) → AreAmong (calls_to d) (entries_of old.line t steps) → IsRefusedBy errno steps
+  Refuses d =
+      (errno : Errno) → into accounts f process d ≡ Some errno → (steps : List Step)
+      → AreAmong (calls_to d) (entries_of old.line t steps) → IsRefusedBy errno steps
 
   -- the entries of a directory
   abbrev entries_at : Path → Entries
   entries_at d = directory_of f.files ready.represents.matched.naming.number d
 
   -- the bytes of a directory segment are read after these raw calls
-  bytes_step : (d : Path) → is_dir_at f d ≡ true → (before : List RawCall) (mid : KernelModel) → state mid ≡ state old → Chain old t (all_granted before) mid
+  bytes_step : (d : Path) → is_dir_at f d ≡ true → (before : List RawCall) (mid : KernelModel) → state mid ≡ state old
+      → Chain old t (all_granted before) mid
       → (rest : List ℕ → Program) → Runs (ask (read d) rest) mid new t result
       → (reads accounts f process d ≡ false → IsRefusedBy EACCES (all_granted before ++ (read d, Some Observe) ∷ []))
       → (reads accounts f process d ≡ true → (later : KernelModel) → state later ≡ state old → Chain old t (all_granted (before ++ read d ∷ [])) later
@@ -302,27 +337,42 @@ module _ (accounts : Accounts) (ok : AreAccounts accounts) (old new : KernelMode
   bytes_step d dir before mid stays chain rest run refuses go_on = by (reads accounts f process d) refl
     where
       said : (b : Bool) → reads accounts f process d ≡ b → check (state mid) t (read d) ≡ unless b Observe
-      said b is = ap (λ (s : State). check s t (read d)) stays ∙ read_said accounts ok (state old) f me t ready d dir ∙ ap (λ (b : Bool). unless b Observe) is
+      said b is =
+          ap (λ (s : State). check s t (read d)) stays ∙ read_said accounts ok (state old) f me t ready d dir
+          ∙ ap (λ (b : Bool). unless b Observe) is
 
       by : (b : Bool) → reads accounts f process d ≡ b → Refined
       by false is =
           let end = refuses is in
-          refused_step accounts f me ready.caller call old new t ready.thread result before mid chain stays ready.represents EACCES end.0 (read d) rest Observe (said false is) refl end.1 run
+          refused_step accounts f me ready.caller call old new t ready.thread result before mid chain stays
+          ready.represents EACCES end.0 (read d) rest Observe (said false is) refl end.1 run
       by true is =
           granted_step accounts f me ready.caller call old new t ready.thread result before mid chain (read d) rest (said true is) run
           (λ later bytes called right longer on.
-          let bytes_are : bytes ≡ bytes_in ((state old).objects (place_at accounts ok (state old) f me t ready d).listing) = right ∙ ap (λ (s : State). bytes_in (s.objects (place_at accounts ok (state old) f me t ready d).listing)) stays in
-          go_on is later (called.state ∙ stays) longer bytes (subst (λ (b : List ℕ). IsDirectory b (entries_at d)) (sym bytes_are) (holds accounts ok (state old) f me t ready d dir)) on)
+          let bytes_are : bytes
+          ≡ bytes_in ((state old).objects (place_at accounts ok (state old) f me t ready d).listing) =
+          right
+          ∙ ap (λ (s : State). bytes_in (s.objects (place_at accounts ok (state old) f me t ready d).listing))
+          stays in
+          go_on is later (called.state ∙ stays) longer bytes (subst (λ (b : List ℕ). IsDirectory b (entries_at d)) (sym bytes_are)
+          (holds accounts ok (state old) f me t ready d dir)) on)
 
   -- a directory is read after these raw calls
-  pub read_step : (d : Path) → is_dir_at f d ≡ true → (before : List RawCall) (mid : KernelModel) → state mid ≡ state old → Chain old t (all_granted before) mid
+  pub read_step : (d : Path) → is_dir_at f d ≡ true → (before : List RawCall) (mid : KernelModel)
+      → state mid ≡ state old → Chain old t (all_granted before) mid
       → (rest : Directory → Program) → Runs (read_directory (place_at accounts ok (state old) f me t ready d) rest) mid new t result
       → (reads accounts f process d ≡ false → IsRefusedBy EACCES (all_granted before ++ (read d, Some Observe) ∷ []))
-      → (reads accounts f process d ≡ true → (later : KernelModel) → state later ≡ state old → Chain old t (all_granted (before ++ read d ∷ [])) later → Runs (rest (last_of d)) later new t result → Refined) → Refined
+      → (reads accounts f process d ≡ true → (later : KernelModel) → state later ≡ state old
+      → Chain old t (all_granted (before ++ read d ∷ [])) later → Runs (rest (last_of d)) later new t result
+      → Refined) → Refined
   unfolding read_directory
   read_step d dir before mid stays chain rest run refuses go_on =
-      bytes_step d dir before mid stays chain (λ bytes. list bytes (λ entries. rest (record { place = place_at accounts ok (state old) f me t ready d; entries = entries }))) run refuses
-      (λ seen later same longer bytes is on. listed_step accounts f me ready.caller call old new t ready.thread result (before ++ read d ∷ []) later longer bytes (entries_at d) is _ on (go_on seen later same longer))
+      bytes_step d dir before mid stays chain (λ bytes. list bytes (λ entries.
+      rest (record { place = place_at accounts ok (state old) f me t ready d; entries = entries }))) run
+      refuses
+      (λ seen later same longer bytes is on.
+      listed_step accounts f me ready.caller call old new t ready.thread result (before ++ read d ∷ []) later
+      longer bytes (entries_at d) is _ on (go_on seen later same longer))
 
   -- the walk is made behind raw calls that were granted and have changed nothing
   module _ (before : List RawCall) (start : KernelModel) (unchanged : state start ≡ state old) (begun : Chain old t (all_granted before) start) where
@@ -338,7 +388,8 @@ module _ (accounts : Accounts) (ok : AreAccounts accounts) (old new : KernelMode
     abbrev GoesOnReading : Path → (Place → List ℕ → Program) → Type 0
     GoesOnReading d after =
         into accounts f process d ≡ None → (mid : KernelModel) → state mid ≡ state old → Chain old t (all_granted (reached d)) mid
-        → (bytes : List ℕ) → IsDirectory bytes (entries_at d) → Runs (after (place_at accounts ok (state old) f me t ready d) bytes) mid new t result → Refined
+        → (bytes : List ℕ) → IsDirectory bytes (entries_at d)
+        → Runs (after (place_at accounts ok (state old) f me t ready d) bytes) mid new t result → Refined
 
     -- or with where a name leads in it
     abbrev pub GoesOnLooking : Path → Name → (Place → Option Target → Program) → Type 0
@@ -348,13 +399,19 @@ module _ (accounts : Accounts) (ok : AreAccounts accounts) (old new : KernelMode
 
     -- or with the directory
     abbrev pub GoesOn : Path → (Directory → Program) → Type 0
-    GoesOn d rest = into accounts f process d ≡ None → (mid : KernelModel) → state mid ≡ state old → Chain old t (all_granted (reached d)) mid → Runs (rest (last_of d)) mid new t result → Refined
+    GoesOn d rest =
+        into accounts f process d ≡ None → (mid : KernelModel) → state mid ≡ state old
+        → Chain old t (all_granted (reached d)) mid → Runs (rest (last_of d)) mid new t result → Refined
 
     -- from a directory that may be read on to the next
-    module _ (n : Name) (d : Path) (after : Place → List ℕ → Program) (refuses : Refuses (n ∷ d)) (go_on : GoesOnReading (n ∷ d) after) (open_so_far : into accounts f process d ≡ None) (mid : KernelModel) (stays : state mid ≡ state old) (chain : Chain old t (all_granted (reached d)) mid) where
+    module _ (n : Name) (d : Path) (after : Place → List ℕ → Program) (refuses : Refuses (n ∷ d))
+        (go_on : GoesOnReading (n ∷ d) after) (open_so_far : into accounts f process d ≡ None) (mid : KernelModel)
+        (stays : state mid ≡ state old) (chain : Chain old t (all_granted (reached d)) mid) where
       -- the tests of the next name
       abbrev tests : Option Node → Option Errno
-      tests o = unless (is_some_and o (λ n. true)) ENOENT orelse unless (is_some_and o is_dir) ENOTDIR orelse unless (is_some_and o (λ n. may_read accounts process n.class)) EACCES
+      tests o =
+          unless (is_some_and o (λ n. true)) ENOENT orelse unless (is_some_and o is_dir) ENOTDIR
+          orelse unless (is_some_and o (λ n. may_read accounts process n.class)) EACCES
 
       into_is : (o : Option Node) → get f.files (n ∷ d) ≡ o → into accounts f process (n ∷ d) ≡ tests o
       into_is o is = λ i. open_so_far i orelse tests (is i)
@@ -362,7 +419,8 @@ module _ (accounts : Accounts) (ok : AreAccounts accounts) (old new : KernelMode
       -- the directories that are looked at
       calls_are : (b : Bool) → is_dir_at f (n ∷ d) ≡ b → calls_to (n ∷ d) ≡ calls_to d ++ (if b then read (n ∷ d) ∷ [] else [])
       calls_are b is =
-          map-append read (tested accounts f process d) (if not (is_some (into accounts f process d)) && is_dir_at f (n ∷ d) then (n ∷ d) ∷ [] else [])
+          map-append read (tested accounts f process d)
+          (if not (is_some (into accounts f process d)) && is_dir_at f (n ∷ d) then (n ∷ d) ∷ [] else [])
           ∙ (λ i. calls_to d ++ map read (if not (is_some (open_so_far i)) && is i then (n ∷ d) ∷ [] else [])) ∙ by b
         where
           by : (b : Bool) → calls_to d ++ map read (if b then (n ∷ d) ∷ [] else []) ≡ calls_to d ++ (if b then read (n ∷ d) ∷ [] else [])
@@ -370,82 +428,122 @@ module _ (accounts : Accounts) (ok : AreAccounts accounts) (old new : KernelMode
           by false = refl
 
       -- the walk ends here, with no raw call more
-      breaks_off : (errno : Errno) → into accounts f process (n ∷ d) ≡ Some errno → is_dir_at f (n ∷ d) ≡ false → IsRefusedBy errno (all_granted (reached d))
+      breaks_off : (errno : Errno) → into accounts f process (n ∷ d) ≡ Some errno → is_dir_at f (n ∷ d) ≡ false
+          → IsRefusedBy errno (all_granted (reached d))
       breaks_off errno is no_dir = refuses errno is (all_granted (reached d))
-          (subst (λ (calls : List RawCall). AreAmong calls (entries_of old.line t (all_granted (reached d)))) (sym (calls_are false no_dir ∙ append-nil (calls_to d))) (among_granted_behind old.line t before (calls_to d)))
+          (subst (λ (calls : List RawCall). AreAmong calls (entries_of old.line t (all_granted (reached d))))
+          (sym (calls_are false no_dir ∙ append-nil (calls_to d)))
+          (among_granted_behind old.line t before (calls_to d)))
 
-      enters : (class : Class) → get f.files (n ∷ d) ≡ Some (record { class = class; content = Dir }) → Runs (reading after (place_at accounts ok (state old) f me t ready (n ∷ d))) mid new t result → Refined
+      enters : (class : Class) → get f.files (n ∷ d) ≡ Some (record { class = class; content = Dir })
+          → Runs (reading after (place_at accounts ok (state old) f me t ready (n ∷ d))) mid new t result → Refined
       enters class is on =
           let dir : is_dir_at f (n ∷ d) ≡ true = ap (λ (o : Option Node). is_some_and o is_dir) is in
-          let into_so : into accounts f process (n ∷ d) ≡ unless (reads accounts f process (n ∷ d)) EACCES = λ i. open_so_far i orelse unless (is_some_and (is i) (λ n. true)) ENOENT orelse unless (is_some_and (is i) is_dir) ENOTDIR orelse unless (reads accounts f process (n ∷ d)) EACCES in
+          let into_so : into accounts f process (n ∷ d) ≡ unless (reads accounts f process (n ∷ d)) EACCES =
+          λ i. open_so_far i orelse unless (is_some_and (is i) (λ n. true)) ENOENT
+          orelse unless (is_some_and (is i) is_dir) ENOTDIR
+          orelse unless (reads accounts f process (n ∷ d)) EACCES in
           bytes_step (n ∷ d) dir (reached d) mid stays chain (after (place_at accounts ok (state old) f me t ready (n ∷ d))) on
-          (λ unseen. refuses EACCES (into_so ∙ ap (λ (b : Bool). unless b EACCES) unseen) (all_granted (reached d) ++ (read (n ∷ d), Some Observe) ∷ [])
-          (subst (λ (calls : List RawCall). AreAmong calls (entries_of old.line t (all_granted (reached d) ++ (read (n ∷ d), Some Observe) ∷ []))) (sym (calls_are true dir)) (among_refused_behind old.line t before (calls_to d) (read (n ∷ d)) Observe)))
-          (λ seen later same longer bytes holds end. go_on (into_so ∙ ap (λ (b : Bool). unless b EACCES) seen) later same (subst (λ (calls : List RawCall). Chain old t (all_granted calls) later) (append_assoc before (calls_to d) (read (n ∷ d) ∷ []) ∙ ap (λ (calls : List RawCall). before ++ calls) (sym (calls_are true dir))) longer) bytes holds end)
+          (λ unseen. refuses EACCES (into_so ∙ ap (λ (b : Bool). unless b EACCES) unseen)
+          (all_granted (reached d) ++ (read (n ∷ d), Some Observe) ∷ [])
+          (subst (λ (calls : List RawCall). AreAmong calls
+          (entries_of old.line t (all_granted (reached d) ++ (read (n ∷ d), Some Observe) ∷ [])))
+          (sym (calls_are true dir)) (among_refused_behind old.line t before (calls_to d) (read (n ∷ d)) Observe)))
+          (λ seen later same longer bytes holds end.
+          go_on (into_so ∙ ap (λ (b : Bool). unless b EACCES) seen) later same
+          (subst (λ (calls : List RawCall). Chain old t (all_granted calls) later)
+          (append_assoc before (calls_to d) (read (n ∷ d) ∷ [])
+          ∙ ap (λ (calls : List RawCall). before ++ calls) (sym (calls_are true dir))) longer)
+          bytes holds end)
 
       -- once the name was looked up
       abbrev at_name : Option Target → Program
       at_name target = given (directory_at target) (reading after)
 
-      by_content : (class : Class) (c : Content) → get f.files (n ∷ d) ≡ Some (record { class = class; content = c }) → Runs (at_name (finite.get (entries_at d) n)) mid new t result → Refined
-      by_content class Dir is on = enters class is (subst (λ (target : Option Target). Runs (at_name target) mid new t result) (directory_there accounts ok (state old) f me t ready n d class is) on)
+      by_content : (class : Class) (c : Content) → get f.files (n ∷ d) ≡ Some (record { class = class; content = c })
+          → Runs (at_name (finite.get (entries_at d) n)) mid new t result → Refined
+      by_content class Dir is on =
+          enters class is (subst (λ (target : Option Target). Runs (at_name target) mid new t result)
+          (directory_there accounts ok (state old) f me t ready n d class is) on)
       by_content class (File bytes) is on =
           let end = breaks_off ENOTDIR (into_is _ is) (ap (λ (o : Option Node). is_some_and o is_dir) is) in
-          refused_at_once accounts f me ready.caller call old new t ready.thread result (reached d) mid chain stays ready.represents ENOTDIR end.0 refl refl end.1
-          (subst (λ (target : Option Target). Runs (at_name target) mid new t result) (file_there accounts ok (state old) f me t ready n d class bytes is) on)
+          refused_at_once accounts f me ready.caller call old new t ready.thread result (reached d) mid chain stays
+          ready.represents ENOTDIR end.0 refl refl end.1
+          (subst (λ (target : Option Target). Runs (at_name target) mid new t result)
+          (file_there accounts ok (state old) f me t ready n d class bytes is) on)
 
       next_step : (o : Option Node) → get f.files (n ∷ d) ≡ o → Runs (at_name (finite.get (entries_at d) n)) mid new t result → Refined
       next_step None is on =
           let end = breaks_off ENOENT (into_is _ is) (ap (λ (o : Option Node). is_some_and o is_dir) is) in
-          refused_at_once accounts f me ready.caller call old new t ready.thread result (reached d) mid chain stays ready.represents ENOENT end.0 refl refl end.1
+          refused_at_once accounts f me ready.caller call old new t ready.thread result (reached d) mid chain stays
+          ready.represents ENOENT end.0 refl refl end.1
           (subst (λ (target : Option Target). Runs (at_name target) mid new t result) (nothing_there accounts ok (state old) f me t ready n d is) on)
       next_step (Some node) is on = by_content node.class node.content is on
 
     -- the walk into a directory up to its bytes
-    reading_step : (d : Path) (after : Place → List ℕ → Program) → Runs (find_place (roots_of (length accounts.users)) d (reading after)) start new t result → Refuses d → GoesOnReading d after → Refined
+    reading_step : (d : Path) (after : Place → List ℕ → Program)
+        → Runs (find_place (roots_of (length accounts.users)) d (reading after)) start new t result → Refuses d
+        → GoesOnReading d after → Refined
     unfolding find_place look_in
     reading_step [] after run refuses go_on =
-        bytes_step [] (slash_is_dir accounts ok (state old) f me t ready) before start unchanged begun (after (place_at accounts ok (state old) f me t ready []))
+        bytes_step [] (slash_is_dir accounts ok (state old) f me t ready) before start unchanged begun
+        (after (place_at accounts ok (state old) f me t ready []))
         (subst (λ (place : Place). Runs (reading after place) start new t result) (slash_place accounts ok (state old) f me t ready) run)
-        (λ unseen. refuses EACCES (ap (λ (b : Bool). unless b EACCES) unseen) (all_granted before ++ (read [], Some Observe) ∷ []) (among_behind old.line t (read [] ∷ []) before ((read [], Some Observe) ∷ []) (inl (refl, tt))))
+        (λ unseen. refuses EACCES (ap (λ (b : Bool). unless b EACCES) unseen)
+        (all_granted before ++ (read [], Some Observe) ∷ [])
+        (among_behind old.line t (read [] ∷ []) before ((read [], Some Observe) ∷ []) (inl (refl, tt))))
         (λ seen. go_on (ap (λ (b : Bool). unless b EACCES) seen))
     reading_step (n ∷ d) after run refuses go_on =
         reading_step d (λ above bytes. given (directory_at (found_in bytes n)) (reading after)) run
-        (λ errno is steps among. refuses errno (ap (λ (o : Option Errno). o orelse unless (is_there f (n ∷ d)) ENOENT orelse unless (is_dir_at f (n ∷ d)) ENOTDIR orelse unless (reads accounts f process (n ∷ d)) EACCES) is) steps
+        (λ errno is steps among. refuses errno (ap (λ (o : Option Errno).
+        o orelse unless (is_there f (n ∷ d)) ENOENT orelse unless (is_dir_at f (n ∷ d)) ENOTDIR
+        orelse unless (reads accounts f process (n ∷ d)) EACCES) is) steps
         (subst (λ (calls : List RawCall). AreAmong calls (entries_of old.line t steps)) (sym (stopped_before n d errno is)) among))
         (λ open_so_far mid stays chain bytes is on.
         next_step n d after refuses go_on open_so_far mid stays chain (get f.files (n ∷ d)) refl
-        (subst (λ (target : Option Target). Runs (given (directory_at target) (reading after)) mid new t result) (found_in_directory bytes (entries_at d) n is) on))
+        (subst (λ (target : Option Target). Runs (given (directory_at target) (reading after)) mid new t result)
+        (found_in_directory bytes (entries_at d) n is) on))
       where
         -- a walk that was refused looks at no directory more
         stopped_before : (n : Name) (d : Path) (errno : Errno) → into accounts f process d ≡ Some errno → calls_to (n ∷ d) ≡ calls_to d
         stopped_before n d errno is =
-            map-append read (tested accounts f process d) (if not (is_some (into accounts f process d)) && is_dir_at f (n ∷ d) then (n ∷ d) ∷ [] else [])
+            map-append read (tested accounts f process d)
+            (if not (is_some (into accounts f process d)) && is_dir_at f (n ∷ d) then (n ∷ d) ∷ [] else [])
             ∙ (λ i. calls_to d ++ map read (if not (is_some (is i)) && is_dir_at f (n ∷ d) then (n ∷ d) ∷ [] else [])) ∙ append-nil (calls_to d)
 
     -- The walk into a directory: it is refused as the flat rules refuse the call, or the call goes on with the directory.
-    pub walk_step_behind : (d : Path) (rest : Directory → Program) → Runs (walk_to (roots_of (length accounts.users)) d rest) start new t result → Refuses d → GoesOn d rest → Refined
+    pub walk_step_behind : (d : Path) (rest : Directory → Program)
+        → Runs (walk_to (roots_of (length accounts.users)) d rest) start new t result → Refuses d → GoesOn d rest
+        → Refined
     unfolding walk_to read_directory
     walk_step_behind d rest run refuses go_on =
         reading_step d (λ place bytes. list bytes (λ entries. rest (record { place = place; entries = entries }))) run refuses
         (λ open_so_far mid stays chain bytes is on.
-        listed_step accounts f me ready.caller call old new t ready.thread result (reached d) mid chain bytes (entries_at d) is _ on (go_on open_so_far mid stays chain))
+        listed_step accounts f me ready.caller call old new t ready.thread result (reached d) mid chain bytes
+        (entries_at d) is _ on (go_on open_so_far mid stays chain))
 
     -- The walk to a directory, and a look-up in it: it is refused as the flat rules refuse the call, or the call goes on with where the name leads.
-    pub look_step_behind : (d : Path) (n : Name) (rest : Place → Option Target → Program) → Runs (find_place (roots_of (length accounts.users)) d (λ place. look_in place n (rest place))) start new t result
+    pub look_step_behind : (d : Path) (n : Name) (rest : Place → Option Target → Program)
+        → Runs (find_place (roots_of (length accounts.users)) d (λ place. look_in place n (rest place))) start new t
+        result
         → Refuses d → GoesOnLooking d n rest → Refined
     unfolding look_in
     look_step_behind d n rest run refuses go_on =
         reading_step d (λ place bytes. rest place (found_in bytes n)) run refuses
         (λ open_so_far mid stays chain bytes is on.
         go_on open_so_far mid stays chain
-        (subst (λ (target : Option Target). Runs (rest (place_at accounts ok (state old) f me t ready d) target) mid new t result) (found_in_directory bytes (entries_at d) n is) on))
+        (subst (λ (target : Option Target).
+        Runs (rest (place_at accounts ok (state old) f me t ready d) target) mid new t result)
+        (found_in_directory bytes (entries_at d) n is) on))
 
   -- the same of a walk with which the call begins
-  pub walk_step : (d : Path) (rest : Directory → Program) → Runs (walk_to (roots_of (length accounts.users)) d rest) old new t result → Refuses d → GoesOn [] old refl (same_kernel old) d rest → Refined
+  pub walk_step : (d : Path) (rest : Directory → Program)
+      → Runs (walk_to (roots_of (length accounts.users)) d rest) old new t result → Refuses d
+      → GoesOn [] old refl (same_kernel old) d rest → Refined
   walk_step d rest run refuses go_on = walk_step_behind [] old refl (same_kernel old) d rest run refuses go_on
 
   -- and of a look-up
-  pub look_step : (d : Path) (n : Name) (rest : Place → Option Target → Program) → Runs (find_place (roots_of (length accounts.users)) d (λ place. look_in place n (rest place))) old new t result
+  pub look_step : (d : Path) (n : Name) (rest : Place → Option Target → Program)
+      → Runs (find_place (roots_of (length accounts.users)) d (λ place. look_in place n (rest place))) old new t result
       → Refuses d → GoesOnLooking [] old refl (same_kernel old) d n rest → Refined
   look_step d n rest run refuses go_on = look_step_behind [] old refl (same_kernel old) d n rest run refuses go_on

@@ -36,7 +36,8 @@ use Rattle.histar_refinement.proofs.OwnLabels.{own_user_is, name_of_number}
 use Rattle.histar_refinement.proofs.JobLabels.{none_if_free}
 use Rattle.histar_sim.proofs.Searches.{runs_as}
 
-module _ (accounts : Accounts) (ok : AreAccounts accounts) (old new : KernelModel) (f : Flat) (me : ProcName) (t : ℕ) (ready : IsReady accounts (state old) f me t) (result : Result Reply Stopped) where
+module _ (accounts : Accounts) (ok : AreAccounts accounts) (old new : KernelModel) (f : Flat) (me : ProcName) (t : ℕ)
+    (ready : IsReady accounts (state old) f me t) (result : Result Reply Stopped) where
   abbrev p : Process
   p = ready.caller.process
 
@@ -46,7 +47,9 @@ module _ (accounts : Accounts) (ok : AreAccounts accounts) (old new : KernelMode
   abbrev own : Levels
   own = rights_label l.category (thread_rights accounts me p)
 
-  thread : (state old).objects t ≡ Some (thread_of (rights_label l.category (thread_rights accounts me p)) (rights_clearance l.category (thread_rights accounts me p)))
+  thread : (state old).objects t
+      ≡ Some (thread_of (rights_label l.category (thread_rights accounts me p))
+      (rights_clearance l.category (thread_rights accounts me p)))
   thread = let runs = runs_as accounts (state old) f me t ready in thread_found accounts (state old) f l me p runs.0 runs.1 t runs.2
 
   -- what is replied by a label
@@ -54,7 +57,9 @@ module _ (accounts : Accounts) (ok : AreAccounts accounts) (old new : KernelMode
   reply_by label = replies.User (user_name accounts.users (user_of label (length accounts.users))) (not (is_empty (jobs_in label)))
 
   name_is : user_name accounts.users (user_of own (length accounts.users)) ≡ p.user
-  name_is = ap (user_name accounts.users) (own_user_is accounts (state old) f l me p) ∙ name_of_number accounts p.user ((l.processes me p ready.caller.agrees).someone ready.caller.runs)
+  name_is =
+      ap (user_name accounts.users) (own_user_is accounts (state old) f l me p)
+      ∙ name_of_number accounts p.user ((l.processes me p ready.caller.agrees).someone ready.caller.runs)
 
   revealed : (label : Levels) → Some label ≡ label_there ((state old).objects t) → reply_by label ≡ flat.answer f me p calls.Whoami
   revealed label right =
@@ -64,10 +69,12 @@ module _ (accounts : Accounts) (ok : AreAccounts accounts) (old new : KernelMode
   whoami_is_refined : Runs (whoami_program accounts) old new t result → Goal accounts f me ready.caller calls.Whoami old new t ready.thread result
   unfolding whoami_program
   whoami_is_refined run =
-      granted_step accounts f me ready.caller calls.Whoami old new t ready.thread result [] old (same_kernel old) OwnLabel (λ label. Answers (reply_by label.0))
+      granted_step accounts f me ready.caller calls.Whoami old new t ready.thread result [] old (same_kernel old)
+      OwnLabel (λ label. Answers (reply_by label.0))
       (caller_passes (state old) t own (rights_clearance l.category (thread_rights accounts me p)) thread) run
       (λ later label called right longer on.
-      answered_step accounts f me ready.caller calls.Whoami old new t ready.thread result (OwnLabel ∷ []) later longer (reply_by label.0) (revealed label.0 right.0) refl tt (inl (refl, tt))
+      answered_step accounts f me ready.caller calls.Whoami old new t ready.thread result (OwnLabel ∷ []) later longer
+      (reply_by label.0) (revealed label.0 right.0) refl tt (inl (refl, tt))
       (subst (λ (s : State). Represents accounts s f) (sym called.state) ready.represents) on)
 
 -- a whoami does what its flat rule says

@@ -63,13 +63,16 @@ use Rattle.histar_sim.proofs.GrantedWrap.{job_begun}
 use Rattle.histar_sim.proofs.ScratchChecks.{set_label_said, set_clearance_said, scratch_said}
 
 -- a wrap that has the reads of the walk has those that it cannot do without
-walk_unless_full : (accounts : Accounts) (s : State) (f : Flat) (p : Process) (q : Path) (reply : Reply) (entries : List TraceEntry) → HasWalk accounts s f p q entries → HasWalkUnlessFull accounts s f p q reply entries
+walk_unless_full : (accounts : Accounts) (s : State) (f : Flat) (p : Process) (q : Path) (reply : Reply)
+    (entries : List TraceEntry) → HasWalk accounts s f p q entries → HasWalkUnlessFull accounts s f p q reply entries
 walk_unless_full accounts s f p q (Refused EAGAIN) entries walk = tt
 walk_unless_full accounts s f p q (Refused errno) entries walk = walk
 walk_unless_full accounts s f p q reply entries walk = walk
 
-module _ (accounts : Accounts) (ok : AreAccounts accounts) (me : ProcName) (caller : Caller) (old new : KernelModel) (f : Flat) (result : Result Reply Stopped)
-    (ready : IsReady accounts (state old) f me caller.thread) (found : caller_at (state old) (roots_of (length accounts.users)).home me ≡ Some caller) where
+module _ (accounts : Accounts) (ok : AreAccounts accounts) (me : ProcName) (caller : Caller) (old new : KernelModel)
+    (f : Flat) (result : Result Reply Stopped)
+    (ready : IsReady accounts (state old) f me caller.thread)
+    (found : caller_at (state old) (roots_of (length accounts.users)).home me ≡ Some caller) where
   abbrev t : ℕ
   t = caller.thread
 
@@ -101,7 +104,9 @@ module _ (accounts : Accounts) (ok : AreAccounts accounts) (me : ProcName) (call
 
   abbrev in_job : ProcessStatus → Levels × Levels → Room → ℕ → Program
   in_job revealed labels room job =
-      make_scratch labels (directory_label accounts labels.0 job) room (λ _. birth caller.home revealed (kin_in accounts labels.0 job) (λ _. hold_job labels job (λ _. Answers (Child ((revealed.born + 1) ∷ me)))))
+      make_scratch labels (directory_label accounts labels.0 job) room
+      (λ _. birth caller.home revealed (kin_in accounts labels.0 job)
+      (λ _. hold_job labels job (λ _. Answers (Child ((revealed.born + 1) ∷ me)))))
 
   abbrev with_labels : ProcessStatus → Room → Levels × Levels → Program
   with_labels revealed room labels = ask MakeCategory (in_job revealed labels room)
@@ -135,7 +140,9 @@ module _ (accounts : Accounts) (ok : AreAccounts accounts) (me : ProcName) (call
       before = ((first ++ walk) ++ OwnLabel ∷ []) ++ MakeCategory ∷ []
 
       among_before : AreAmong walk (entries_of old.line t (all_granted before))
-      among_before = among_then old.line t walk ((first ++ walk) ++ OwnLabel ∷ []) (MakeCategory ∷ []) (among_then old.line t walk (first ++ walk) (OwnLabel ∷ []) (among_granted_behind old.line t first walk))
+      among_before =
+          among_then old.line t walk ((first ++ walk) ++ OwnLabel ∷ []) (MakeCategory ∷ [])
+          (among_then old.line t walk (first ++ walk) (OwnLabel ∷ []) (among_granted_behind old.line t first walk))
 
       -- ---- the container of the scratch directory is made
 
@@ -149,71 +156,109 @@ module _ (accounts : Accounts) (ok : AreAccounts accounts) (me : ProcName) (call
       abbrev within : ℕ → Program
       within = granted.within accounts ok me caller old new f result ready found m named d
 
-      module _ (open_so_far : into accounts f p d ≡ None) (absent : get f.files (m ∷ d) ≡ None) (roomy : nat_lt (length (entries_in f d)) most_entries ≡ true)
+      module _ (open_so_far : into accounts f p d ≡ None) (absent : get f.files (m ∷ d) ≡ None)
+          (roomy : nat_lt (length (entries_in f d)) most_entries ≡ true)
           (mid : KernelModel) (counted : state mid ≡ with_category (state old) t) (chain : Chain old t (all_granted before) mid) where
         -- the directory above may be written
         abbrev may : Bool
         may = may_write accounts p (directory_class accounts ok (state old) f me t ready d open_so_far)
 
         refused_is : (can : Bool) → may ≡ can → refused accounts f me p (Wrap (m ∷ d)) ≡ (unless can EACCES orelse not_nobody)
-        refused_is can is = refused_in_room accounts ok old new f me t ready m d (Wrap (m ∷ d)) result not_nobody (needs_room (m ∷ d)) open_so_far absent roomy can is
+        refused_is can is =
+            refused_in_room accounts ok old new f me t ready m d (Wrap (m ∷ d)) result not_nobody (needs_room (m ∷ d))
+            open_so_far absent roomy can is
 
         -- it is refused, and so is the call
-        given_back : (denied : Denied) (errno : Errno) → check (state mid) t next ≡ Some denied → errno_for next denied ≡ Some errno → refused accounts f me p (Wrap (m ∷ d)) ≡ Some errno → Runs (ask_or_give_back (own, clearance) next within) mid new t result → Refined
+        given_back : (denied : Denied) (errno : Errno) → check (state mid) t next ≡ Some denied
+            → errno_for next denied ≡ Some errno → refused accounts f me p (Wrap (m ∷ d)) ≡ Some errno
+            → Runs (ask_or_give_back (own, clearance) next within) mid new t result → Refined
         given_back denied errno fails revealed is on =
-            given_back_step accounts f me ready.caller (Wrap (m ∷ d)) old new t ready.thread result before mid chain errno is (own, clearance) next within denied fails revealed
+            given_back_step accounts f me ready.caller (Wrap (m ∷ d)) old new t ready.thread result before mid chain
+            errno is (own, clearance) next within denied fails revealed
             (ap (λ (s : State). check s t (SetLabel own)) counted ∙ set_label_said accounts ok (state old) f me t ready)
-            (ap (λ (s : State). check (with_changed s t (with_label own)) t (SetClearance clearance)) counted ∙ set_clearance_said accounts ok (state old) f me t ready)
-            (subst (λ (s : State). Represents accounts (own_set t s own clearance) f) (sym counted) (represents_refused accounts (state old) f ready.represents me p ready.caller.agrees ready.caller.runs t (at_thread accounts me caller old new f result ready found)))
-            (has_reads accounts ok old new f me t ready m d (Wrap (m ∷ d)) result not_nobody (needs_room (m ∷ d)) (all_granted before ++ (next, Some denied) ∷ all_granted (SetLabel own ∷ SetClearance clearance ∷ [])) (Refused errno)
+            (ap (λ (s : State). check (with_changed s t (with_label own)) t (SetClearance clearance)) counted
+            ∙ set_clearance_said accounts ok (state old) f me t ready)
+            (subst (λ (s : State). Represents accounts (own_set t s own clearance) f) (sym counted)
+            (represents_refused accounts (state old) f ready.represents me p ready.caller.agrees
+            ready.caller.runs t (at_thread accounts me caller old new f result ready found)))
+            (has_reads accounts ok old new f me t ready m d (Wrap (m ∷ d)) result not_nobody (needs_room (m ∷ d))
+            (all_granted before ++ (next, Some denied) ∷ all_granted (SetLabel own ∷ SetClearance clearance ∷ []))
+            (Refused errno)
             (among_also old.line t walk before ((next, Some denied) ∷ all_granted (SetLabel own ∷ SetClearance clearance ∷ [])) among_before)) on
 
         -- by what the kernel says
         by_right : (can declared has : Bool) → may ≡ can → is_some (user_number accounts p.user) ≡ declared → has_number (state old) ≡ has
-            → check (state mid) t next ≡ (unless can Modify orelse unless declared Range orelse unless has TooBig) → Runs (ask_or_give_back (own, clearance) next within) mid new t result → Refined
+            → check (state mid) t next ≡ (unless can Modify orelse unless declared Range orelse unless has TooBig)
+            → Runs (ask_or_give_back (own, clearance) next within) mid new t result → Refined
         by_right false declared has is_may is_declared is_has said on = given_back Modify EACCES said refl (refused_is false is_may) on
-        by_right true false has is_may is_declared is_has said on = given_back Range EPERM said refl (refused_is true is_may ∙ ap (λ (b : Bool). unless (not b) EPERM) (is_nobody accounts ok (state old) f me t ready is_declared)) on
+        by_right true false has is_may is_declared is_has said on =
+            given_back Range EPERM said refl (refused_is true is_may
+            ∙ ap (λ (b : Bool). unless (not b) EPERM)
+            (is_nobody accounts ok (state old) f me t ready is_declared)) on
         by_right true true false is_may is_declared is_has said on =
-            spent_step accounts f me ready.caller (Wrap (m ∷ d)) old new t ready.thread result before mid chain next (or_given_back (own, clearance) (errno_for next) within) said refl (inl (ap has_number counted ∙ is_has)) on
+            spent_step accounts f me ready.caller (Wrap (m ∷ d)) old new t ready.thread result before mid chain next
+            (or_given_back (own, clearance) (errno_for next) within) said refl
+            (inl (ap has_number counted ∙ is_has)) on
         by_right true true true is_may is_declared is_has said on =
-            allowed_step accounts f me ready.caller (Wrap (m ∷ d)) old new t ready.thread result before mid chain next (or_given_back (own, clearance) (errno_for next) within) said on
+            allowed_step accounts f me ready.caller (Wrap (m ∷ d)) old new t ready.thread result before mid chain next
+            (or_given_back (own, clearance) (errno_for next) within) said on
             (λ linked number called number_is longer rest.
             let user = some_of (user_number accounts p.user) is_declared in
-            job_begun accounts ok me caller old new f result ready found m named d long few open_so_far absent roomy is_may user.0 user.1 is_has (before ++ next ∷ []) (among_then old.line t walk before (next ∷ []) among_before) linked
-            (called.state ∙ ap (λ (s : State). with_object s room.place.container (granted.container accounts ok me caller old new f result ready found m named d)) counted) longer
+            job_begun accounts ok me caller old new f result ready found m named d long few open_so_far absent roomy
+            is_may user.0 user.1 is_has (before ++ next ∷ [])
+            (among_then old.line t walk before (next ∷ []) among_before) linked
+            (called.state
+            ∙ ap (λ (s : State). with_object s room.place.container
+            (granted.container accounts ok me caller old new f result ready found m named d)) counted)
+            longer
             (subst (λ (q : ℕ). Runs (within q) linked new t result) (number_is ∙ ap (λ (s : State). s.next_object) counted) rest))
 
         made_step : Runs (in_job status (own, clearance) room job) mid new t result → Refined
         unfolding make_scratch
-        made_step on = by_right may (is_some (user_number accounts p.user)) (has_number (state old)) refl refl refl (ap (λ (s : State). check s t next) counted ∙ scratch_said accounts ok (state old) f me t ready d open_so_far) on
+        made_step on =
+            by_right may (is_some (user_number accounts p.user)) (has_number (state old)) refl refl refl
+            (ap (λ (s : State). check s t next) counted
+            ∙ scratch_said accounts ok (state old) f me t ready d open_so_far) on
 
       -- ---- there is room
 
       roomed : (open_so_far : into accounts f p d ≡ None) → get f.files (m ∷ d) ≡ None → nat_lt (length (entries_in f d)) most_entries ≡ true
-          → (mid : KernelModel) → state mid ≡ state old → Chain old t (all_granted (first ++ walk)) mid → Runs (with_room status room) mid new t result → Refined
+          → (mid : KernelModel) → state mid ≡ state old → Chain old t (all_granted (first ++ walk)) mid
+          → Runs (with_room status room) mid new t result → Refined
       roomed open_so_far absent roomy mid stays chain on =
           own_label_step accounts me caller old new f result ready found (Wrap (m ∷ d)) (first ++ walk) mid chain stays (with_labels status room) on
           (λ labelled longer still rest.
-          category_step accounts f me ready.caller (Wrap (m ∷ d)) old new t ready.thread result ((first ++ walk) ++ OwnLabel ∷ []) labelled longer MakeCategory (in_job status (own, clearance) room) refl
-          (ap (λ (s : State). check s t MakeCategory) still ∙ category_said (state old) t own clearance (thread accounts ok (state old) f me t ready) ∙ ap (λ (s : State). unless (has_category s) TooBig) (sym still)) rest
+          category_step accounts f me ready.caller (Wrap (m ∷ d)) old new t ready.thread result
+          ((first ++ walk) ++ OwnLabel ∷ []) labelled longer MakeCategory (in_job status (own, clearance) room) refl
+          (ap (λ (s : State). check s t MakeCategory) still
+          ∙ category_said (state old) t own clearance (thread accounts ok (state old) f me t ready)
+          ∙ ap (λ (s : State). unless (has_category s) TooBig) (sym still)) rest
           (λ later number called number_is whole goes.
           made_step open_so_far absent roomy later (called.state ∙ ap (λ (s : State). with_category s t) still) whole
-          (subst (λ (q : ℕ). Runs (in_job status (own, clearance) room q) later new t result) (number_is ∙ ap (λ (s : State). s.next_category) still) goes)))
+          (subst (λ (q : ℕ). Runs (in_job status (own, clearance) room q) later new t result)
+          (number_is ∙ ap (λ (s : State). s.next_category) still) goes)))
 
-      entered : (mid : KernelModel) → Chain old t (all_granted first) mid → state mid ≡ state old → Runs (with_child (m ∷ d) status) mid new t result → Refined
+      entered : (mid : KernelModel) → Chain old t (all_granted first) mid → state mid ≡ state old
+          → Runs (with_child (m ∷ d) status) mid new t result → Refined
       entered mid chain stays on =
-          room_step accounts ok old new f me t ready m d (Wrap (m ∷ d)) result not_nobody (needs_room (m ∷ d)) first mid stays chain (with_room status) on roomed
+          room_step accounts ok old new f me t ready m d (Wrap (m ∷ d)) result not_nobody (needs_room (m ∷ d)) first mid
+          stays chain (with_room status) on roomed
 
   -- a wrap of this path
-  wrapped : (q : Path) → IsTrue (is_path q) → nat_lt (length me) most_numbers ≡ true → nat_lt p.born most_children ≡ true → (mid : KernelModel) → Chain old t (all_granted first) mid → state mid ≡ state old → Runs (with_child q status) mid new t result
+  wrapped : (q : Path) → IsTrue (is_path q) → nat_lt (length me) most_numbers ≡ true
+      → nat_lt p.born most_children ≡ true → (mid : KernelModel) → Chain old t (all_granted first) mid
+      → state mid ≡ state old → Runs (with_child q status) mid new t result
       → Goal accounts f me ready.caller (Wrap q) old new t ready.thread result
-  wrapped [] right long few mid chain stays on = slash_agrees accounts old new f me t ready (Wrap []) result not_nobody (needs_room long few []) first mid stays chain (with_room status) on
+  wrapped [] right long few mid chain stays on =
+      slash_agrees accounts old new f me t ready (Wrap []) result not_nobody (needs_room long few []) first mid stays
+      chain (with_room status) on
   wrapped (m ∷ d) right long few mid chain stays on = entered long few m (last_name m d right) d mid chain stays on
 
 -- A wrap is the row of its call.
 pub wrap_refines : WrapRefines
 unfolding wrap_program
 wrap_refines accounts ok q right me caller old new f result ready found runs =
-    child_room_step accounts me caller old new f result ready found (Wrap q) (no_room accounts f ready.caller.process q orelse unless (not (same ready.caller.process.user nobody)) EPERM)
+    child_room_step accounts me caller old new f result ready found (Wrap q)
+    (no_room accounts f ready.caller.process q orelse unless (not (same ready.caller.process.user nobody)) EPERM)
     (needs_child accounts ok me caller old new f result ready found q) (with_child accounts ok me caller old new f result ready found q) runs
     (λ long few mid chain stays on. wrapped accounts ok me caller old new f result ready found q right long few mid chain stays on)

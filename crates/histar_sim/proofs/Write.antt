@@ -10,13 +10,17 @@ use Rattle.histar_sim.specs.Laws.{WriteRefines}
 use Rattle.histar_sim.proofs.Files.{WritesFile, slash_is_no_file, writing_step}
 
 -- the file has the new bytes then
-write_writes : (accounts : Accounts) (f : Flat) (me : ProcName) (p : Process) (q : Path) (bytes : List ℕ) → WritesFile accounts f me p q (calls.Write q bytes) bytes
-write_writes accounts f me p q bytes = record { reaches = record { refuses = refl; reads = λ s reply entries walk. walk }; changes = refl; answers = refl }
+write_writes : (accounts : Accounts) (f : Flat) (me : ProcName) (p : Process) (q : Path) (bytes : List ℕ)
+    → WritesFile accounts f me p q (calls.Write q bytes) bytes
+write_writes accounts f me p q bytes =
+    record { reaches = record { refuses = refl; reads = λ s reply entries walk. walk }; changes = refl; answers = refl }
 
 -- a write does what its flat rule says
 pub write_refines : WriteRefines
 unfolding write_program
 write_refines accounts ok [] bytes me old new f t result ready run =
-    slash_is_no_file accounts old new f me t ready (calls.Write [] bytes) result _ (write_writes accounts f me ready.caller.process [] bytes).reaches _ run
+    slash_is_no_file accounts old new f me t ready (calls.Write [] bytes) result _
+    (write_writes accounts f me ready.caller.process [] bytes).reaches _ run
 write_refines accounts ok (m ∷ d) bytes me old new f t result ready run =
-    writing_step accounts ok old new f me t ready m d (calls.Write (m ∷ d) bytes) result 0 bytes bytes (write_writes accounts f me ready.caller.process (m ∷ d) bytes) (λ few. refl) run
+    writing_step accounts ok old new f me t ready m d (calls.Write (m ∷ d) bytes) result 0 bytes bytes
+    (write_writes accounts f me ready.caller.process (m ∷ d) bytes) (λ few. refl) run

@@ -1,5 +1,7 @@
 //! Each Unix call refines its rule. Each law is the contract of a function that does nothing.
-ghost use Rattle.histar_sim.specs.Laws.{AppendRefines, CreateRefines, ExitRefines, KillRefines, ListRefines, LoginRefines, MkdirRefines, ReadRefines, RenameRefines, RmdirRefines, RmtreeRefines, SpawnRefines, StatRefines, StatusRefines, UnlinkRefines, WhoamiRefines, WrapRefines, WriteRefines};
+ghost use Rattle.histar_sim.specs.Laws.{AppendRefines, CreateRefines, ExitRefines, KillRefines, ListRefines, LoginRefines};
+ghost use Rattle.histar_sim.specs.Laws.{MkdirRefines, ReadRefines, RenameRefines, RmdirRefines, RmtreeRefines, SpawnRefines};
+ghost use Rattle.histar_sim.specs.Laws.{StatRefines, StatusRefines, UnlinkRefines, WhoamiRefines, WrapRefines, WriteRefines};
 
 /// Says that the program of `read` refines its rule.
 pub fn read_refines()

@@ -19,7 +19,9 @@ root_alone label = record { label = label; kind = Container set.empty }
 
 -- at each number, by whether it is 1 and whether it is 2
 linked_at : (one two : Bool)
-    → (if two then Some boot_thread else (if one then option_map (linking 2) (if one then Some (root_alone (with_level (constant L1) 1 L0)) else None) else (if one then Some (root_alone (with_level (constant L1) 1 L0)) else None)))
+    → (if two then Some boot_thread else (if one then option_map (linking 2)
+    (if one then Some (root_alone (with_level (constant L1) 1 L0)) else None) else
+    (if one then Some (root_alone (with_level (constant L1) 1 L0)) else None)))
     ≡ (if two then Some boot_thread else (if one then Some root_object else None))
 linked_at true true = refl
 linked_at true false = refl
@@ -31,6 +33,11 @@ boot_linked : with_object (with_next nothing_yet (root_alone (with_level (consta
 boot_linked i = record { objects = λ q. linked_at (q == 1) (q == 2) i; next_object = 3; next_category = 2 }
 
 -- the objects of the empty kernel, step by step
-pub empty_made : (first second third : State) → first ≡ nothing_yet → second ≡ with_next first (root_alone (with_level (constant L1) 1 L0)) → third ≡ with_object second 1 boot_thread → third ≡ empty_state
+pub empty_made : (first second third : State) → first ≡ nothing_yet
+    → second ≡ with_next first (root_alone (with_level (constant L1) 1 L0)) → third ≡ with_object second 1 boot_thread
+    → third ≡ empty_state
 empty_made first second third at_first at_second at_third =
-    at_third ∙ (λ i. with_object ((at_second ∙ (λ j. with_next (at_first j) (root_alone (with_level (constant L1) 1 L0)))) i) 1 boot_thread) ∙ boot_linked
+    at_third
+    ∙ (λ i.
+    with_object ((at_second ∙ (λ j. with_next (at_first j) (root_alone (with_level (constant L1) 1 L0)))) i)
+    1 boot_thread) ∙ boot_linked

@@ -10,7 +10,8 @@ use Rattle.histar_container.proofs.Trees.{reached_decided}
 use Rattle.histar_rules.specs.declared.raw.Denied.{Denied}
 use Rattle.histar_rules.specs.declared.raw.Denied.TheVariants.{NoEntry}
 use Rattle.histar_rules.specs.declared.raw.RawCall.{RawCall}
-use Rattle.histar_rules.specs.declared.raw.RawCall.TheVariants.{MakeCategory, OwnLabel, SetLabel, SetClearance, MakeSegment, MakeContainer, MakeThread, MakeGate, Enter, Read, Write, Unlink, LabelOf}
+use Rattle.histar_rules.specs.declared.raw.RawCall.TheVariants.{MakeCategory, OwnLabel, SetLabel, SetClearance, MakeSegment, MakeContainer}
+use Rattle.histar_rules.specs.declared.raw.RawCall.TheVariants.{MakeThread, MakeGate, Enter, Read, Write, Unlink, LabelOf}
 use Rattle.histar_rules.specs.Rules.{check, Changes, Leaves, no_container, no_link}
 use Rattle.histar_rules.specs.Sound.{root_number, IsSound}
 use Rattle.histar_rules.proofs.Passing.{unless_none, first, rest}
@@ -19,7 +20,8 @@ use Rattle.histar_syscall.specs.Laws.{RunsHaveOneEnd}
 use Rattle.histar_syscall.specs.Runs.{IsRun}
 
 -- a cut leaves one object at each number, or none
-cut_at : (s one other : State) (d o : ℕ) → CutsOff s d o one → CutsOff s d o other → ((q : ℕ) → Reached s.objects o q ⊎ (Reached s.objects o q → ⊥)) → (q : ℕ) → one.objects q ≡ other.objects q
+cut_at : (s one other : State) (d o : ℕ) → CutsOff s d o one → CutsOff s d o other
+    → ((q : ℕ) → Reached s.objects o q ⊎ (Reached s.objects o q → ⊥)) → (q : ℕ) → one.objects q ≡ other.objects q
 cut_at s one other d o first second decided q = elim (decided q) [
   | inl r ↦ first.is_cut.gone q r ∙ sym (second.is_cut.gone q r)
   | inr not ↦ elim (eqb_tells q d) [
@@ -41,7 +43,8 @@ cut_once s one other t d o sound e first_cut second_cut =
     }
 
 -- a granted call leaves one state
-changes_once : (s one other : State) (t : ℕ) (call : RawCall) → IsSound s → check s t call ≡ None → Changes s t call one → Changes s t call other → one ≡ other
+changes_once : (s one other : State) (t : ℕ) (call : RawCall) → IsSound s → check s t call ≡ None → Changes s t call one
+    → Changes s t call other → one ≡ other
 changes_once s one other t MakeCategory sound e is was = is ∙ sym was
 changes_once s one other t OwnLabel sound e is was = is ∙ sym was
 changes_once s one other t (SetLabel label) sound e is was = is ∙ sym was
@@ -57,7 +60,8 @@ changes_once s one other t (Unlink d o) sound e is was = cut_once s one other t 
 changes_once s one other t (LabelOf d o) sound e is was = is ∙ sym was
 
 -- and so does a call of any outcome, and the state that it leaves is sound
-leaves_once : (s one other : State) (t : ℕ) (call : RawCall) (denied : Option Denied) → IsSound s → check s t call ≡ denied → Leaves denied s t call one → Leaves denied s t call other → (one ≡ other) × IsSound one
+leaves_once : (s one other : State) (t : ℕ) (call : RawCall) (denied : Option Denied) → IsSound s
+    → check s t call ≡ denied → Leaves denied s t call one → Leaves denied s t call other → (one ≡ other) × IsSound one
 leaves_once s one other t call None sound e is was = (changes_once s one other t call sound e is was, sound_changes s one t call sound e is)
 leaves_once s one other t call (Some denied) sound e is was = (is ∙ sym was, subst IsSound (sym is) sound)
 

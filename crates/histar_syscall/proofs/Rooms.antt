@@ -10,13 +10,17 @@ use Rattle.histar_syscall.specs.declared.trace.TraceEntry.{TraceEntry}
 use Rattle.histar_syscall.specs.KernelModel.{KernelModel, IsUnchanged, Answered, logged}
 
 -- where memory runs out nothing has changed
-pub exits : {A : Type 0} (old new : KernelModel) (t : ℕ) (call : RawCall) (r : Result A Refusal) (P : A → Type 0) → IsErrAnd r (λ e. e ≡ refusals.OutOfMemory) → IsUnchanged old new → Answered old new t call r P
+pub exits : {A : Type 0} (old new : KernelModel) (t : ℕ) (call : RawCall) (r : Result A Refusal) (P : A → Type 0)
+    → IsErrAnd r (λ e. e ≡ refusals.OutOfMemory) → IsUnchanged old new → Answered old new t call r P
 exits old new t call (Ok a) P h u = absurd h
 exits {A} old new t call (Err e) P h u = subst (λ (x : Refusal). Answered {A = A} old new t call (Err x) P) (sym h) u
 
 -- a call that was decided on the objects, and whose entry the trace has
-pub answered : {A : Type 0} (old : KernelModel) (kept : ObjectsModel) (trace : List TraceEntry) (t : ℕ) (call : RawCall) (r : Result A Refusal) (P : A → Type 0) → Decides old.kept kept t call r P
+pub answered : {A : Type 0} (old : KernelModel) (kept : ObjectsModel) (trace : List TraceEntry) (t : ℕ) (call : RawCall)
+    (r : Result A Refusal) (P : A → Type 0) → Decides old.kept kept t call r P
     → trace ≡ logged old.trace old.line t call r → Answered old (record { kept = kept; line = old.line; trace = trace }) t call r P
-answered old kept trace t call (Ok answer) P decided entry = (record { outcome = decided.0; state = decided.1; trace = entry; line = refl }, decided.2)
-answered old kept trace t call (Err (refusals.Denied denied)) P decided entry = record { outcome = decided.0; state = decided.1; trace = entry; line = refl }
+answered old kept trace t call (Ok answer) P decided entry =
+    (record { outcome = decided.0; state = decided.1; trace = entry; line = refl }, decided.2)
+answered old kept trace t call (Err (refusals.Denied denied)) P decided entry =
+    record { outcome = decided.0; state = decided.1; trace = entry; line = refl }
 answered old kept trace t call (Err refusals.OutOfMemory) P decided entry = record { state = decided; trace = entry; line = refl }

@@ -37,7 +37,9 @@ pub call_after : (a b c : KernelModel) (t : ℕ) (call : RawCall) (d : Option De
 call_after a b c t call d same called = record {
   outcome = subst (λ (s : State). check s t call ≡ d) same.state called.outcome;
   state = subst (λ (s : State). Leaves d s t call (state c)) same.state called.state;
-  trace = called.trace ∙ ap (λ (es : List TraceEntry). es ++ entry_of b.line t call d ∷ []) same.trace ∙ ap (λ (l : ℕ). a.trace ++ entry_of l t call d ∷ []) same.line;
+  trace =
+      called.trace ∙ ap (λ (es : List TraceEntry). es ++ entry_of b.line t call d ∷ []) same.trace
+      ∙ ap (λ (l : ℕ). a.trace ++ entry_of l t call d ∷ []) same.line;
   line = called.line ∙ same.line;
 }
 
@@ -60,7 +62,8 @@ module _ (t : ℕ) where
   last_call call (Some denied) k = (same_kernel k, refl)
 
   -- one raw call more, behind calls that were all granted
-  pub made_more : (old mid new : KernelModel) (before : List RawCall) (call : RawCall) (d : Option Denied) → Granted old mid t before → Called mid new t call d → Made old new t (before ++ call ∷ []) (refusal_of call d)
+  pub made_more : (old mid new : KernelModel) (before : List RawCall) (call : RawCall) (d : Option Denied)
+      → Granted old mid t before → Called mid new t call d → Made old new t (before ++ call ∷ []) (refusal_of call d)
   made_more old mid new [] call d granted called = (new, d, call_after old mid new t call d granted.0 called, last_call call d new)
   made_more old mid new (c ∷ before) call d granted called = (
     granted.0,
@@ -74,16 +77,18 @@ module _ (t : ℕ) where
   )
 
   -- a kernel that is as it was has made what it had made
-  pub made_unchanged : (old mid new : KernelModel) (calls : List RawCall) (refusal : Option (RawCall × Denied)) → Made old mid t calls refusal → IsUnchanged mid new → Made old new t calls refusal
+  pub made_unchanged : (old mid new : KernelModel) (calls : List RawCall) (refusal : Option (RawCall × Denied))
+      → Made old mid t calls refusal → IsUnchanged mid new → Made old new t calls refusal
   made_unchanged old mid new [] refusal made same = (still_same old mid new made.0 same, made.1)
   made_unchanged old mid new (c ∷ calls) refusal made same = (
     made.0,
     made.1,
     made.2,
-    (elim made.1 as (λ (x : Option Denied). GoesOn x c (Made made.0 mid t calls refusal) made.0 mid refusal → GoesOn x c (Made made.0 new t calls refusal) made.0 new refusal) [
-      | None ↦ λ rest. made_unchanged made.0 mid new calls refusal rest same
-      | Some denied ↦ λ rest. (still_same made.0 mid new rest.0 same, rest.1)
-    ]) made.3,
+    (elim made.1 as (λ (x : Option Denied). GoesOn x c (Made made.0 mid t calls refusal) made.0 mid refusal
+        → GoesOn x c (Made made.0 new t calls refusal) made.0 new refusal) [
+          | None ↦ λ rest. made_unchanged made.0 mid new calls refusal rest same
+          | Some denied ↦ λ rest. (still_same made.0 mid new rest.0 same, rest.1)
+        ]) made.3,
   )
 
   -- The entries of raw calls that were made: a run of the kernel by this thread on this line, of which one has a property that
@@ -107,11 +112,14 @@ module _ (t : ℕ) where
     some = λ p none. or-false (p (Some denied));
   }
 
-  run_first : (old mid new : KernelModel) (call : RawCall) (refusal : Option (RawCall × Denied)) → Called old mid t call None → HasRun mid new refusal → HasRun old new refusal
+  run_first : (old mid new : KernelModel) (call : RawCall) (refusal : Option (RawCall × Denied))
+      → Called old mid t call None → HasRun mid new refusal → HasRun old new refusal
   run_first old mid new call refusal called later = record {
     entries = entry_of old.line t call None ∷ later.entries;
     ran = record {
-      trace = later.ran.trace ∙ ap (λ (es : List TraceEntry). es ++ later.entries) called.trace ∙ append_assoc old.trace (entry_of old.line t call None ∷ []) later.entries;
+      trace =
+          later.ran.trace ∙ ap (λ (es : List TraceEntry). es ++ later.entries) called.trace
+          ∙ append_assoc old.trace (entry_of old.line t call None ∷ []) later.entries;
       run = (state mid, called.outcome, called.state, later.ran.run);
       own = ((refl, refl), subst (λ (l : ℕ). AllByRecursion (IsBy l t) later.entries) called.line later.ran.own);
       line = later.ran.line ∙ called.line;
@@ -119,13 +127,20 @@ module _ (t : ℕ) where
     some = λ p none. ap (λ (b : Bool). b || list_any (λ (e : TraceEntry). p e.denied) later.entries) none ∙ later.some p none;
   }
 
-  pub made_run : (old new : KernelModel) (calls : List RawCall) (refusal : Option (RawCall × Denied)) → Made old new t calls refusal → HasRun old new refusal
+  pub made_run : (old new : KernelModel) (calls : List RawCall) (refusal : Option (RawCall × Denied))
+      → Made old new t calls refusal → HasRun old new refusal
   made_run old new [] refusal made = subst (HasRun old new) (sym made.1) (run_none old new made.0)
-  made_run old new (c ∷ calls) refusal made = (elim made.1 as (λ (x : Option Denied). Called old made.0 t c x → GoesOn x c (Made made.0 new t calls refusal) made.0 new refusal → HasRun old new refusal) [
-    | None ↦ λ called rest. run_first old made.0 new c refusal called (made_run made.0 new calls refusal rest)
-    | Some denied ↦ λ called rest. subst (HasRun old new) (sym rest.1) (run_one old new c denied (call_before old made.0 new t c (Some denied) called rest.0))
-  ]) made.2 made.3
+  made_run old new (c ∷ calls) refusal made =
+      (elim made.1 as (λ (x : Option Denied).
+      Called old made.0 t c x → GoesOn x c (Made made.0 new t calls refusal) made.0 new refusal
+      → HasRun old new refusal) [
+        | None ↦ λ called rest. run_first old made.0 new c refusal called (made_run made.0 new calls refusal rest)
+        | Some denied ↦
+            λ called rest. subst (HasRun old new) (sym rest.1)
+            (run_one old new c denied (call_before old made.0 new t c (Some denied) called rest.0))
+      ]) made.2 made.3
 
   -- a raw call more that was granted
-  pub granted_more : (old mid new : KernelModel) (before : List RawCall) (call : RawCall) → Granted old mid t before → Called mid new t call None → Granted old new t (before ++ call ∷ [])
+  pub granted_more : (old mid new : KernelModel) (before : List RawCall) (call : RawCall) → Granted old mid t before
+      → Called mid new t call None → Granted old new t (before ++ call ∷ [])
   granted_more old mid new before call granted called = made_more old mid new before call None granted called

@@ -13,7 +13,8 @@ unfolding MadeAll
 all_none k = same_kernel k
 
 -- one call more
-pub all_more : (old mid new : KernelModel) (calls : List (ℕ × RawCall)) (asked : ℕ × RawCall) → MadeAll old calls mid → IsMade mid asked.0 asked.1 new → MadeAll old (calls ++ asked ∷ []) new
+pub all_more : (old mid new : KernelModel) (calls : List (ℕ × RawCall)) (asked : ℕ × RawCall) → MadeAll old calls mid
+    → IsMade mid asked.0 asked.1 new → MadeAll old (calls ++ asked ∷ []) new
 unfolding MadeAll
 all_more old mid new [] asked none made = (new, (made.0, call_after old mid new asked.0 asked.1 made.0 none made.1), same_kernel new)
 all_more old mid new (first ∷ calls) asked all made = (all.0, all.1, all_more all.0 mid new calls asked all.2 made)
@@ -25,16 +26,21 @@ all_unchanged old mid new [] all same = still_same old mid new all same
 all_unchanged old mid new (first ∷ calls) all same = (all.0, all.1, all_unchanged all.0 mid new calls all.2 same)
 
 -- the calls up to a place, and then the one at it
-pub all_next : (old mid new : KernelModel) (calls : List (ℕ × RawCall)) (i : ℕ) (asked : ℕ × RawCall) → i < length calls → asked ≡ get_or calls i asked → MadeAll old (take i calls) mid → IsMade mid asked.0 asked.1 new → MadeAll old (take (i + 1) calls) new
+pub all_next : (old mid new : KernelModel) (calls : List (ℕ × RawCall)) (i : ℕ) (asked : ℕ × RawCall) → i < length calls
+    → asked ≡ get_or calls i asked → MadeAll old (take i calls) mid → IsMade mid asked.0 asked.1 new
+    → MadeAll old (take (i + 1) calls) new
 all_next old mid new calls i asked within is all made =
-    subst (λ (front : List (ℕ × RawCall)). MadeAll old front new) (sym (ap (λ k. take k calls) (add-one i) ∙ take-suc calls i asked within ∙ ap (λ x. take i calls ++ x ∷ []) (sym is))) (all_more old mid new (take i calls) asked all made)
+    subst (λ (front : List (ℕ × RawCall)). MadeAll old front new) (sym (ap (λ k. take k calls) (add-one i) ∙ take-suc calls i asked within
+    ∙ ap (λ x. take i calls ++ x ∷ []) (sym is))) (all_more old mid new (take i calls) asked all made)
 
 -- all calls, once the place is behind the last
-pub all_made : (old new : KernelModel) (calls : List (ℕ × RawCall)) (i : ℕ) → length calls ≤ i → MadeAll old (take i calls) new → MadeAll old calls new
+pub all_made : (old new : KernelModel) (calls : List (ℕ × RawCall)) (i : ℕ) → length calls ≤ i
+    → MadeAll old (take i calls) new → MadeAll old calls new
 all_made old new calls i behind all = subst (λ (front : List (ℕ × RawCall)). MadeAll old front new) (take_all calls i behind) all
 
 -- where memory ran out, the calls up to a place were made, and the one at it was not
-pub stopped_at : {A E : Type 0} (r : Result A E) (old mid new : KernelModel) (calls : List (ℕ × RawCall)) (i : ℕ) → i < length calls → MadeAll old (take i calls) mid → IsUnchanged mid new
+pub stopped_at : {A E : Type 0} (r : Result A E) (old mid new : KernelModel) (calls : List (ℕ × RawCall)) (i : ℕ)
+    → i < length calls → MadeAll old (take i calls) mid → IsUnchanged mid new
     → OnErr r ((made : ℕ) × (made < length calls) × MadeAll old (take made calls) new)
 stopped_at (Ok a) old mid new calls i within all same = tt
 stopped_at (Err e) old mid new calls i within all same = (i, within, all_unchanged old mid new (take i calls) all same)

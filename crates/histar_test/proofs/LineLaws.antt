@@ -154,7 +154,8 @@ module _ (script : ScriptModel) where
     module _ (at : calls_before (Some n) script.calls ≡ done) (before : AreBefore n done) (later : Later) where
       -- a line that expects
       expected : (text : List ℕ) (last : Option Made) → step_of n line ≡ Ok (Some (Expects text)) → open_after is_open (Expects text) ≡ Some opened
-          → script.calls ≡ done ++ calls_in rest → is_some last ≡ is_open → HasLast done last → AreOfLines n (line ∷ lines) done last (Expects text ∷ rest)
+          → script.calls ≡ done ++ calls_in rest → is_some last ≡ is_open → HasLast done last
+          → AreOfLines n (line ∷ lines) done last (Expects text ∷ rest)
       expected text None is opens calls was has =
           absurd (none-some opened (ap (λ (b : Bool). open_after b (Expects text)) was ∙ opens))
       expected text (Some made) is opens calls was has =
@@ -186,9 +187,11 @@ module _ (script : ScriptModel) where
                   (λ asked. IsSomeAnd (question_of n asked) (λ (x : Question). check.wanted ≡ rights_text x.wanted))) (sym w.1)
                   (subst (λ (o : Option Question). IsSomeAnd o (λ (x : Question). check.wanted ≡ rights_text x.wanted)) (sym w.2) refl),
               subst (λ (o : Option (List ℕ)). MatchOption o (IsLastAnswer check.made (meaning script.accounts (calls_before (Some n) script.calls)))
-                  (λ asked. IsSomeAnd (question_of n asked) (λ (x : Question). check.made ≡ asked_in script.accounts (state_before (Some n) script) x)))
+                  (λ asked. IsSomeAnd (question_of n asked)
+                  (λ (x : Question). check.made ≡ asked_in script.accounts (state_before (Some n) script) x)))
                   (sym w.1)
-                  (subst (λ (o : Option Question). IsSomeAnd o (λ (x : Question). check.made ≡ asked_in script.accounts (state_before (Some n) script) x))
+                  (subst (λ (o : Option Question). IsSomeAnd o
+                  (λ (x : Question). check.made ≡ asked_in script.accounts (state_before (Some n) script) x))
                   (sym w.2) (ap (λ (cs : List CallLine). asked_in script.accounts (flat cs) q) (sym at))),
             ),
             later done last calls (before_next n done before) (was ∙ same_Some is_open opened opens) has,

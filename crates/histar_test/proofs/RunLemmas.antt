@@ -205,7 +205,8 @@ goes_further : {accounts : Accounts} {f : Flat} {file : List ℕ} {start now : R
     (later : List Step) (at : IsAt accounts f file start now steps before after)
     → checks_from accounts f start.last (steps ++ step ∷ later)
     ≡ at.done
-    ++ (check_at accounts at.flat now.last step ++ checks_from accounts (flat_at accounts at.flat step) (last_at accounts at.flat now.last step) later)
+    ++ (check_at accounts at.flat now.last step
+    ++ checks_from accounts (flat_at accounts at.flat step) (last_at accounts at.flat now.last step) later)
 goes_further {accounts = accounts} {now = now} step later at =
     at.goes_on (step ∷ later) ∙ ap (λ (cs : List Check). at.done ++ cs) (check_first accounts at.flat now.last step later)
 

@@ -182,7 +182,9 @@ unfolding item_of
 call_says [] p c is = refl
 call_says (b ∷ bs) p c is = by (b == 35) (is_plain (b ∷ bs)) is
   where
-    by : (hash plain : Bool) → (if plain then (if hash then Some items.Comment else words_item (b ∷ bs)) else None) ≡ Some (items.Call p c) → hash ≡ false
+    by : (hash plain : Bool)
+        → (if plain then (if hash then Some items.Comment else words_item (b ∷ bs)) else None) ≡ Some (items.Call p c)
+        → hash ≡ false
     by true true i = absurd cc
     by true false i = absurd cc
     by false plain i = refl
@@ -222,7 +224,8 @@ same_left : (s t : ScriptModel) (calls : List CallLine) → t.calls ≡ s.calls 
 same_left s t calls same none = same ∙ sym (append-nil s.calls) ∙ ap (λ (cs : List CallLine). s.calls ++ cs) (sym none)
 
 -- the calls after a line that says an item
-calls_at_item : (s t : ScriptModel) (n : ℕ) (line : List ℕ) (item : Item) (step : Option Step) → item_of line ≡ Some item → with_item s n item ≡ Some t
+calls_at_item : (s t : ScriptModel) (n : ℕ) (line : List ℕ) (item : Item) (step : Option Step)
+    → item_of line ≡ Some item → with_item s n item ≡ Some t
     → step_by n line (asked_of line) (expectation_of line) (call_in n (Some item)) ≡ Ok step → t.calls ≡ s.calls ++ calls_by step
 unfolding with_item
 calls_at_item s t n line items.Comment step says reads is =

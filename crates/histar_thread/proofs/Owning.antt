@@ -10,7 +10,8 @@ use Rattle.histar_object.specs.State.{State, Found, with_own, with_next_category
 use Rattle.histar_object.proofs.Changes.{put_changed}
 
 -- a thread that owns a category more has these labels
-kind_owned : (own : Levels) (k : Kind Levels) (label clearance : Levels) (c : ℕ) → Some label ≡ Some own → Some clearance ≡ kind_clearance k → kind_is_thread k ≡ true
+kind_owned : (own : Levels) (k : Kind Levels) (label clearance : Levels) (c : ℕ) → Some label ≡ Some own
+    → Some clearance ≡ kind_clearance k → kind_is_thread k ≡ true
     → thread_of (with_level label c Star) (with_level clearance c L3) ≡ record { label = with_level own c Star; kind = kind_with_three_at c k }
 kind_owned own (Segment bytes) label clearance c l k t = cc
 kind_owned own (Container links) label clearance c l k t = cc
@@ -18,13 +19,19 @@ kind_owned own (Thread most) label clearance c l k t = cc
 kind_owned own (Gate most entry) label clearance c l k t = cc
 
 -- so to give the thread these labels is to change it
-owned_at : (objects : Objects Levels) (t : ℕ) (here : Found) (label clearance : Levels) (c : ℕ) → objects t ≡ here → Some label ≡ label_there here → Some clearance ≡ clearance_there here → is_thread here ≡ true
+owned_at : (objects : Objects Levels) (t : ℕ) (here : Found) (label clearance : Levels) (c : ℕ) → objects t ≡ here
+    → Some label ≡ label_there here → Some clearance ≡ clearance_there here → is_thread here ≡ true
     → put objects t (thread_of (with_level label c Star) (with_level clearance c L3)) ≡ changed_at objects t (with_star_at c)
 owned_at objects t None label clearance c at l k thread = cc
-owned_at objects t (Some o) label clearance c at l k thread = ap (put objects t) (kind_owned o.label o.kind label clearance c l k thread) ∙ put_changed objects t (with_star_at c) o (sym at)
+owned_at objects t (Some o) label clearance c at l k thread =
+    ap (put objects t) (kind_owned o.label o.kind label clearance c l k thread)
+    ∙ put_changed objects t (with_star_at c) o (sym at)
 
 -- the state once a thread made a category
-pub category_made : (s : State) (t : ℕ) (label clearance : Levels) → Some label ≡ label_there (s.objects t) → Some clearance ≡ clearance_there (s.objects t) → is_thread (s.objects t) ≡ true
+pub category_made : (s : State) (t : ℕ) (label clearance : Levels) → Some label ≡ label_there (s.objects t)
+    → Some clearance ≡ clearance_there (s.objects t) → is_thread (s.objects t) ≡ true
     → with_next_category (with_own s t (with_level label s.next_category Star) (with_level clearance s.next_category L3)) ≡ with_category s t
 category_made s t label clearance l k thread =
-    ap (λ (objects : Objects Levels). record { objects = objects; next_object = s.next_object; next_category = s.next_category + 1 }) (owned_at s.objects t (s.objects t) label clearance s.next_category refl l k thread)
+    ap (λ (objects : Objects Levels).
+    record { objects = objects; next_object = s.next_object; next_category = s.next_category + 1 })
+    (owned_at s.objects t (s.objects t) label clearance s.next_category refl l k thread)

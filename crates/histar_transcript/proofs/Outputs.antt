@@ -55,7 +55,8 @@ is_script options false text output h = h.1.faults
 long_transcript : (options : Options) (explain : Bool) (old new : Option (List ℕ)) (result : Result (Unit {0}) Fault) (taken input : List ℕ)
     → AreLong taken input → WritesTranscript options explain taken old new result → WritesTranscript options explain input old new result
 long_transcript options explain old new (Ok u) taken input long h = absurd (not_long taken long.one (is_script options explain taken h.0 h.1))
-long_transcript options explain old new (Err WriteFailed) taken input long h = absurd (not_long taken long.one (is_script options explain taken h.0 h.1))
+long_transcript options explain old new (Err WriteFailed) taken input long h =
+    absurd (not_long taken long.one (is_script options explain taken h.0 h.1))
 long_transcript options explain old new (Err OutOfMemory) taken input long h = h
 long_transcript options explain old new (Err (BadScript n)) taken input long h = let same : TooLong ≡ BadScript n = cc in absurd cc
 long_transcript options explain old new (Err TooLong) taken input long h = (long.two, h.1)

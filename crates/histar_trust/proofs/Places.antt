@@ -8,7 +8,8 @@ use Rattle.histar_flat.specs.PathOrder.{path_cmp, same_path}
 use Rattle.histar_flat.specs.Accounts.{Accounts}
 use Rattle.histar_flat.specs.Files.{get}
 use Rattle.histar_flat.specs.Classes.{Class as FlatClass}
-use Rattle.histar_flat.specs.Classes.Class.{Private as FlatPrivate, Readable as FlatReadable, Open as FlatOpen, Scratch as FlatScratch, Grouped as FlatGrouped}
+use Rattle.histar_flat.specs.Classes.Class.{Private as FlatPrivate, Readable as FlatReadable, Open as FlatOpen, Scratch as FlatScratch}
+use Rattle.histar_flat.specs.Classes.Class.{Grouped as FlatGrouped}
 use Rattle.histar_flat.specs.FlatState.{Flat, Node, is_dir}
 use Rattle.histar_flat.proofs.FileLemmas.{same_path_found, ties}
 use Rattle.histar_object.specs.State.{State}

@@ -39,7 +39,8 @@ use Rattle.histar_trust.specs.Secrets.{is_secret, members_text, process_mark, ru
 use Rattle.histar_trust.specs.TrustText.{is_for_everyone}
 use Rattle.histar_trust.proofs.Places.{IsAt, first_of_list, number_of, rest_of_list, same_class, same_everyone}
 use Rattle.histar_trust.proofs.Runners.{AllOf, runners_shown}
-use Rattle.histar_trust.proofs.ShownTrust.{AreMembers, chosen, confined_same, members_are as all_members, is_so, own_tree, same_names, same_tree, trusted_same}
+use Rattle.histar_trust.proofs.ShownTrust.{AreMembers, chosen, confined_same, members_are as all_members, is_so, own_tree, same_names, same_tree}
+use Rattle.histar_trust.proofs.ShownTrust.{trusted_same}
 
 -- ---- entries
 
@@ -89,12 +90,14 @@ adds_more {users} {members} {done} {one} {all} {old} is h k = rw is (record {
 })
 
 -- what was added by equal lists
-pub adds_as : {users others : Accounts} {members all : List Member} {tree nodes : List TreeNode} {old older new : List ℕ} → others ≡ users → all ≡ members
+pub adds_as : {users others : Accounts} {members all : List Member} {tree nodes : List TreeNode}
+    {old older new : List ℕ} → others ≡ users → all ≡ members
     → nodes ≡ tree → older ≡ old → AddsSecrets others all nodes older new → AddsSecrets users members tree old new
 adds_as eu em et eo h = rw (← eu, ← em, ← et, ← eo) h
 
 -- what is printed of one was added
-pub adds_one : {users : Accounts} {members : List Member} {node : TreeNode} {old new : List ℕ} (class : FileClass) → flat_class class ≡ class_flat node.class
+pub adds_one : {users : Accounts} {members : List Member} {node : TreeNode} {old new : List ℕ} (class : FileClass)
+    → flat_class class ≡ class_flat node.class
     → new ≡ old ++ shown_secret users members node → AddsSecrets users members (node ∷ []) old new
 adds_one {users} {members} {node} {old} class of_node e = record {
   classes = class ∷ [];
@@ -156,7 +159,8 @@ secret_added {users} {members} {node} {old} class of_node is_one path shown end 
 
 -- ---- a machine
 
-module _ {accounts : Accounts} {m : MachineModel} {f : Flat} (r : ShowsReached accounts m f) (members : List Member) (found : AreMembers m members) where
+module _ {accounts : Accounts} {m : MachineModel} {f : Flat} (r : ShowsReached accounts m f) (members : List Member)
+    (found : AreMembers m members) where
   abbrev s : State
   s = state m.kernel
 
@@ -180,7 +184,8 @@ module _ {accounts : Accounts} {m : MachineModel} {f : Flat} (r : ShowsReached a
   one_secret : (node : TreeNode) (e : Path × Node) (class : FileClass) → IsAt s category e.0 node e.1 → get f.files e.0 ≡ Some e.1
       → flat_class class ≡ class_flat node.class → shown_secret (without_passwords accounts) members node ≡ secret_text accounts f e
   one_secret node e class is at of_node =
-      let by_number : class_flat node.class ≡ class_by_number (number_of category) e.1.class = ap class_flat is.class ∙ same_class category e.1.class in
+      let by_number : class_flat node.class ≡ class_by_number (number_of category) e.1.class =
+      ap class_flat is.class ∙ same_class category e.1.class in
       let everyone : is_for_everyone (class_flat node.class) ≡ is_for_everyone e.1.class =
       ap (λ c. is_for_everyone (class_flat c)) is.class ∙ same_everyone category e.1.class in
       let readers : shown_members (without_passwords accounts) members (class_flat node.class) ≡ members_text accounts f e.1.class =

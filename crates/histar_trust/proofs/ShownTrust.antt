@@ -1,5 +1,6 @@
 -- What is read off a machine is what the flat state says that it represents.
-use Rattle.std.specs.Prelude.{◌≡◌, ℕ, Bool, length, true, false, not, ◌&&◌, List, [], ◌∷◌, ◌++◌, map, filter, codes, Option, None, Some, option_map, if◌then◌else◌, refl}
+use Rattle.std.specs.Prelude.{◌≡◌, ℕ, Bool, length, true, false, not, ◌&&◌, List, [], ◌∷◌, ◌++◌, map, filter, codes, Option, None, Some, option_map}
+use Rattle.std.specs.Prelude.{if◌then◌else◌, refl}
 use Rattle.std.specs.List.{filter_map}
 use Rattle.std.proofs.Common.{ap, sym, ◌∙◌, subst}
 use Rattle.std.proofs.lemmas.Option.{same_Some}
@@ -28,7 +29,8 @@ use Rattle.histar_secrecy.specs.declared.role.Role.TheVariants.{Trusted, Confine
 use Rattle.histar_secrecy.specs.Roles.{is_bound, is_confined, is_outsider, is_trusted}
 use Rattle.histar_secrecy.specs.Noninterference.{ShowsRole}
 use Rattle.histar_secrecy.specs.Changers.{is_changer}
-use Rattle.histar_secrecy.specs.ShownRoles.{AreClassesTo, AreNumbered, IsShownProcess, ShowsAState, class_by_number, flat_class, has_role, is_same_role, is_shown_changer, member_role, role_in, with_user}
+use Rattle.histar_secrecy.specs.ShownRoles.{AreClassesTo, AreNumbered, IsShownProcess, ShowsAState, class_by_number, flat_class, has_role}
+use Rattle.histar_secrecy.specs.ShownRoles.{is_same_role, is_shown_changer, member_role, role_in, with_user}
 use Rattle.histar_secrecy.proofs.Learning.{roles_are_shown}
 use Rattle.histar_secrecy.proofs.ShownProcesses.{shown_is_so}
 use Rattle.histar_readout.specs.declared.process.ProcessNode.{ProcessNode}
@@ -47,8 +49,10 @@ use Rattle.histar_access.specs.Shown.{AreProcessesIn, HasProcesses}
 use Rattle.histar_access.proofs.SameProcesses.{one_list, processes_unproved}
 use Rattle.histar_access.proofs.ShownTables.{processes_there, tree_there}
 use Rattle.histar_access.proofs.Visiting.{filter_map_map}
-use Rattle.histar_trust.specs.Findings.{ShowsReached, class_flat, classes_to, head_text, node_at, runner_of, running_node, shown_changers, shown_readers, shown_roles}
-use Rattle.histar_trust.specs.TrustText.{changers_text, is_for_everyone, process_lines, readers_text, running_where, roles_text, trust_text, user_lines}
+use Rattle.histar_trust.specs.Findings.{ShowsReached, class_flat, classes_to, head_text, node_at, runner_of, running_node, shown_changers}
+use Rattle.histar_trust.specs.Findings.{shown_readers, shown_roles}
+use Rattle.histar_trust.specs.TrustText.{changers_text, is_for_everyone, process_lines, readers_text, running_where, roles_text, trust_text}
+use Rattle.histar_trust.specs.TrustText.{user_lines}
 use Rattle.histar_trust.proofs.Places.{AreAlike, IsAt, alike, classes_are, found_at, number_of, same_class, same_everyone}
 use Rattle.histar_trust.proofs.Runners.{AllOf, Runs, each_runs, numbered, picked, runners_listed, running_line}
 

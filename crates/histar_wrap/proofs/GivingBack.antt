@@ -37,12 +37,14 @@ module _ (t : ℕ) (call : RawCall) (old new : KernelModel) where
   -- ---- a raw call that may not be refused
 
   -- it was granted
-  pub is_granted : (answer : AnswerOf call) → Called old new t call None → IsAnswer (state old) t call answer → RunsPart (ask_or_stop call) old new t (Ok answer)
+  pub is_granted : (answer : AnswerOf call) → Called old new t call None → IsAnswer (state old) t call answer
+      → RunsPart (ask_or_stop call) old new t (Ok answer)
   unfolding RunsPart
   is_granted answer called right = λ rest. asked t call (or_stops rest) old new (Ok answer) (called, right)
 
   -- it was refused
-  pub is_refused : {A : Type 0} (P : A → Type 0) (refusal : Refusal) → Answered {A = A} old new t call (Err refusal) P → RunsPart (ask_or_stop call) old new t (Err Stopped)
+  pub is_refused : {A : Type 0} (P : A → Type 0) (refusal : Refusal) → Answered {A = A} old new t call (Err refusal) P
+      → RunsPart (ask_or_stop call) old new t (Err Stopped)
   unfolding RunsPart
   is_refused P (refusals.Denied denied) called = λ rest. (asked t call (or_stops rest) old new (Err denied) called).begins new (same_kernel new)
   is_refused P refusals.OutOfMemory same = λ rest. inl same
@@ -51,24 +53,34 @@ module _ (t : ℕ) (call : RawCall) (old new : KernelModel) where
     -- ---- a raw call at whose denial what was taken is given back
 
     -- it was granted
-    pub goes_on : (answer : AnswerOf call) → Called old new t call None → IsAnswer (state old) t call answer → RunsPart (ask_or_give_back own call) old new t (Ok answer)
+    pub goes_on : (answer : AnswerOf call) → Called old new t call None → IsAnswer (state old) t call answer
+        → RunsPart (ask_or_give_back own call) old new t (Ok answer)
     unfolding RunsPart
     goes_on answer called right = λ rest. asked t call (or_given_back own (errno_for call) rest) old new (Ok answer) (called, right)
 
     -- it was denied, and what follows is known by the errno
-    to_give_back : (rest : AnswerOf call → Program) (denied : Denied) (o : Option Errno) → errno_for call denied ≡ o → Called old new t call (Some denied) → LeadsTo (ask_or_give_back own call rest) old (gives_back_with own o) new t
+    to_give_back : (rest : AnswerOf call → Program) (denied : Denied) (o : Option Errno) → errno_for call denied ≡ o
+        → Called old new t call (Some denied)
+        → LeadsTo (ask_or_give_back own call rest) old (gives_back_with own o) new t
     to_give_back rest denied o is called =
-        subst (λ (e : Option Errno). LeadsTo (ask_or_give_back own call rest) old (gives_back_with own e) new t) is (asked t call (or_given_back own (errno_for call) rest) old new (Err denied) called)
+        subst (λ (e : Option Errno). LeadsTo (ask_or_give_back own call rest) old (gives_back_with own e) new t) is
+        (asked t call (or_given_back own (errno_for call) rest) old new (Err denied) called)
 
     -- it was refused, and there is no errno to tell
-    pub stops_there : {A : Type 0} (P : A → Type 0) (refusal : Refusal) → Answered {A = A} old new t call (Err refusal) P → call_error_of (errno_for call) refusal ≡ Stopped → RunsPart (ask_or_give_back own call) old new t (Err Stopped)
+    pub stops_there : {A : Type 0} (P : A → Type 0) (refusal : Refusal)
+        → Answered {A = A} old new t call (Err refusal) P → call_error_of (errno_for call) refusal ≡ Stopped
+        → RunsPart (ask_or_give_back own call) old new t (Err Stopped)
     unfolding RunsPart
-    stops_there P (refusals.Denied denied) called is = λ rest. (to_give_back rest denied None (of_none (errno_for call denied) is) called).begins new (same_kernel new)
+    stops_there P (refusals.Denied denied) called is =
+        λ rest. (to_give_back rest denied None (of_none (errno_for call denied) is) called).begins new (same_kernel new)
     stops_there P refusals.OutOfMemory same is = λ rest. inl same
 
     -- it was denied with this errno
-    pub leads_back : {A : Type 0} (P : A → Type 0) (refusal : Refusal) (errno : Errno) → Answered {A = A} old new t call (Err refusal) P → call_error_of (errno_for call) refusal ≡ Refused errno → (rest : AnswerOf call → Program) → LeadsTo (ask_or_give_back own call rest) old (give_back own errno) new t
-    leads_back P (refusals.Denied denied) errno called is = λ rest. to_give_back rest denied (Some errno) (of_errno (errno_for call denied) errno is) called
+    pub leads_back : {A : Type 0} (P : A → Type 0) (refusal : Refusal) (errno : Errno)
+        → Answered {A = A} old new t call (Err refusal) P → call_error_of (errno_for call) refusal ≡ Refused errno
+        → (rest : AnswerOf call → Program) → LeadsTo (ask_or_give_back own call rest) old (give_back own errno) new t
+    leads_back P (refusals.Denied denied) errno called is =
+        λ rest. to_give_back rest denied (Some errno) (of_errno (errno_for call denied) errno is) called
     leads_back P refusals.OutOfMemory errno same is = absurd cc
 
 -- memory ran out before a raw call that may not be refused
@@ -80,22 +92,28 @@ before_asking t call k = λ rest. inl (same_kernel k)
 
 module _ (t : ℕ) (old new : KernelModel) where
   -- the thread was given the label that is due
-  pub label_given : (label due : Levels) → label ≡ due → (answer : Result (Unit {0}) Refusal) → Answered old new t (SetLabel label) answer (λ _. Unit {0}) → (result : Result (Unit {0}) CallError) → result ≡ stopping answer → RunsPart (ask_or_stop (SetLabel due)) old new t result
+  pub label_given : (label due : Levels) → label ≡ due → (answer : Result (Unit {0}) Refusal)
+      → Answered old new t (SetLabel label) answer (λ _. Unit {0}) → (result : Result (Unit {0}) CallError)
+      → result ≡ stopping answer → RunsPart (ask_or_stop (SetLabel due)) old new t result
   label_given label due same answer answered result is =
       subst (λ (l : Levels). RunsPart {A = Unit {0}} (ask_or_stop (SetLabel l)) old new t result) same
       (subst (RunsPart {A = Unit {0}} (ask_or_stop (SetLabel label)) old new t) (sym is) (by answer answered))
     where
-      by : (outcome : Result (Unit {0}) Refusal) → Answered old new t (SetLabel label) outcome (λ _. Unit {0}) → RunsPart {A = Unit {0}} (ask_or_stop (SetLabel label)) old new t (stopping outcome)
+      by : (outcome : Result (Unit {0}) Refusal) → Answered old new t (SetLabel label) outcome (λ _. Unit {0})
+          → RunsPart {A = Unit {0}} (ask_or_stop (SetLabel label)) old new t (stopping outcome)
       by (Ok done) given = is_granted t (SetLabel label) old new done given.0 tt
       by (Err refusal) given = is_refused t (SetLabel label) old new (λ _. Unit {0}) refusal given
 
   -- and the clearance
-  pub clearance_given : (clearance due : Levels) → clearance ≡ due → (answer : Result (Unit {0}) Refusal) → Answered old new t (SetClearance clearance) answer (λ _. Unit {0}) → (result : Result (Unit {0}) CallError) → result ≡ stopping answer → RunsPart (ask_or_stop (SetClearance due)) old new t result
+  pub clearance_given : (clearance due : Levels) → clearance ≡ due → (answer : Result (Unit {0}) Refusal)
+      → Answered old new t (SetClearance clearance) answer (λ _. Unit {0}) → (result : Result (Unit {0}) CallError)
+      → result ≡ stopping answer → RunsPart (ask_or_stop (SetClearance due)) old new t result
   clearance_given clearance due same answer answered result is =
       subst (λ (l : Levels). RunsPart {A = Unit {0}} (ask_or_stop (SetClearance l)) old new t result) same
       (subst (RunsPart {A = Unit {0}} (ask_or_stop (SetClearance clearance)) old new t) (sym is) (by answer answered))
     where
-      by : (outcome : Result (Unit {0}) Refusal) → Answered old new t (SetClearance clearance) outcome (λ _. Unit {0}) → RunsPart {A = Unit {0}} (ask_or_stop (SetClearance clearance)) old new t (stopping outcome)
+      by : (outcome : Result (Unit {0}) Refusal) → Answered old new t (SetClearance clearance) outcome (λ _. Unit {0})
+          → RunsPart {A = Unit {0}} (ask_or_stop (SetClearance clearance)) old new t (stopping outcome)
       by (Ok done) given = is_granted t (SetClearance clearance) old new done given.0 tt
       by (Err refusal) given = is_refused t (SetClearance clearance) old new (λ _. Unit {0}) refusal given
 
@@ -105,19 +123,26 @@ module _ (t : ℕ) (old new : KernelModel) where
     after_label done = ask_or_stop (SetClearance own.1)
 
     -- the label was not given
-    pub label_fails : (call_error : CallError) → RunsPart (ask_or_stop (SetLabel own.0)) old new t (Err call_error) → RunsPart (restore own) old new t (Err call_error)
+    pub label_fails : (call_error : CallError) → RunsPart (ask_or_stop (SetLabel own.0)) old new t (Err call_error)
+        → RunsPart (restore own) old new t (Err call_error)
     label_fails call_error first = part_fails t (ask_or_stop (SetLabel own.0)) old new after_label call_error first
 
     -- it was
-    pub label_then : (mid : KernelModel) → RunsPart (ask_or_stop (SetLabel own.0)) old mid t (Ok tt) → (result : Result (Unit {0}) CallError) → RunsPart (ask_or_stop (SetClearance own.1)) mid new t result → RunsPart (restore own) old new t result
+    pub label_then : (mid : KernelModel) → RunsPart (ask_or_stop (SetLabel own.0)) old mid t (Ok tt)
+        → (result : Result (Unit {0}) CallError) → RunsPart (ask_or_stop (SetClearance own.1)) mid new t result
+        → RunsPart (restore own) old new t result
     label_then mid first result second = then_part t (ask_or_stop (SetLabel own.0)) old new after_label mid tt first result second
 
     -- what was taken was given back, or that stopped the call
-    pub gives_back : (A : Type 0) (part : Part A) (mid : KernelModel) (errno : Errno) → ((rest : A → Program) → LeadsTo (part rest) old (give_back own errno) mid t) → RunsPart (restore own) mid new t (Ok tt) → RunsPart part old new t (Err (Refused errno))
+    pub gives_back : (A : Type 0) (part : Part A) (mid : KernelModel) (errno : Errno)
+        → ((rest : A → Program) → LeadsTo (part rest) old (give_back own errno) mid t)
+        → RunsPart (restore own) mid new t (Ok tt) → RunsPart part old new t (Err (Refused errno))
     unfolding RunsPart
     gives_back A part mid errno first second = λ rest. onward t (first rest) (second (λ _. Answers (replies.Refused errno)))
 
-    pub gives_back_not : (A : Type 0) (part : Part A) (mid : KernelModel) (errno : Errno) → ((rest : A → Program) → LeadsTo (part rest) old (give_back own errno) mid t) → (call_error : CallError) → RunsPart (restore own) mid new t (Err call_error) → RunsPart part old new t (Err call_error)
+    pub gives_back_not : (A : Type 0) (part : Part A) (mid : KernelModel) (errno : Errno)
+        → ((rest : A → Program) → LeadsTo (part rest) old (give_back own errno) mid t) → (call_error : CallError)
+        → RunsPart (restore own) mid new t (Err call_error) → RunsPart part old new t (Err call_error)
     unfolding RunsPart
     gives_back_not A part mid errno first (Refused other) second = λ rest. onward t (first rest) (second (λ _. Answers (replies.Refused errno)))
     gives_back_not A part mid errno first Stopped second = λ rest. (first rest).begins new (second (λ _. Answers (replies.Refused errno)))

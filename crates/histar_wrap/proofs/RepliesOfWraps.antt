@@ -49,7 +49,8 @@ module _ (own : Levels × Levels) (rest : Program) (obeys : RepliesToRefusals re
     unfolding make_scratch
     scratch_replies = (
       (λ container. ask_replies (MakeSegment container label []) (listed container) (λ listing.
-          ask_replies (Write room.place.container room.place.listing 0 (spelling (map.insert room.entries room.name (Directory container listing)))) (λ _. rest) (λ _. obeys))),
+          ask_replies (Write room.place.container room.place.listing 0
+          (spelling (map.insert room.entries room.name (Directory container listing)))) (λ _. rest) (λ _. obeys))),
       denial_has_reply own,
     )
 
@@ -79,11 +80,14 @@ module _ (accounts : Accounts) (roots : Roots) (name : ProcName) (me : Home) (pa
 
   job_replies : (status : ProcessStatus) (room : Room) (own : Levels × Levels) (job : ℕ) → RepliesToRefusals (scratched status room own job)
   job_replies status room own job =
-      scratch_replies own (born status own job) (birth_replies me status (kin_in accounts own.0 job) (λ _. held status own job) (hold_replies own (Answers (Child ((status.born + 1) ∷ name))) (refl, refl) job)) (directory_label accounts own.0 job) room
+      scratch_replies own (born status own job) (birth_replies me status (kin_in accounts own.0 job) (λ _. held status own job)
+      (hold_replies own (Answers (Child ((status.born + 1) ∷ name))) (refl, refl) job))
+      (directory_label accounts own.0 job) room
 
   found_replies : (status : ProcessStatus) → RepliesToRefusals (found status)
   found_replies status =
-      room_replies roots path _ (λ room. ask_replies OwnLabel (λ own. ask MakeCategory (scratched status room own)) (λ own. ask_replies MakeCategory (scratched status room own) (λ job. job_replies status room own job)))
+      room_replies roots path _ (λ room. ask_replies OwnLabel (λ own. ask MakeCategory (scratched status room own))
+      (λ own. ask_replies MakeCategory (scratched status room own) (λ job. job_replies status room own job)))
 
   wrap_replies : RepliesToRefusals (wrap_program accounts roots name me path)
   unfolding wrap_program

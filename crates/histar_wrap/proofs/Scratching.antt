@@ -28,24 +28,42 @@ module _ (t : ℕ) (own : Levels × Levels) (label : Levels) (room : Room) (old 
   after_container container rest = ask (MakeSegment container label []) (λ listing. after_listing container listing rest)
 
   -- no container was made
-  pub without_container : (call_error : CallError) → RunsPart (ask_or_give_back own (MakeContainer room.place.container label)) old new t (Err call_error) → RunsPart (make_scratch own label room) old new t (Err call_error)
+  pub without_container : (call_error : CallError)
+      → RunsPart (ask_or_give_back own (MakeContainer room.place.container label)) old new t (Err call_error)
+      → RunsPart (make_scratch own label room) old new t (Err call_error)
   unfolding make_scratch
-  without_container call_error first = part_fails t (ask_or_give_back own (MakeContainer room.place.container label)) old new after_container call_error first
+  without_container call_error first =
+      part_fails t (ask_or_give_back own (MakeContainer room.place.container label)) old new after_container call_error
+      first
 
-  module _ (mid : KernelModel) (container : ℕ) (first : RunsPart (ask_or_give_back own (MakeContainer room.place.container label)) old mid t (Ok container)) where
-    -- one was
-    with_container : (result : Result (Unit {0}) CallError) → RunsPart (after_container container) mid new t result → RunsPart (make_scratch own label room) old new t result
-    unfolding make_scratch
-    with_container result second = then_part t (ask_or_give_back own (MakeContainer room.place.container label)) old new after_container mid container first result second
+  module _ (mid : KernelModel) (container : ℕ)
+      (first : RunsPart (ask_or_give_back own (MakeContainer room.place.container label)) old mid t (Ok container))
+    where
+      -- one was
+      with_container : (result : Result (Unit {0}) CallError) → RunsPart (after_container container) mid new t result
+          → RunsPart (make_scratch own label room) old new t result
+      unfolding make_scratch
+      with_container result second =
+          then_part t (ask_or_give_back own (MakeContainer room.place.container label)) old new after_container mid
+          container first result second
 
-    -- no directory segment was made
-    pub without_listing : (call_error : CallError) → RunsPart (ask (MakeSegment container label [])) mid new t (Err call_error) → RunsPart (make_scratch own label room) old new t (Err call_error)
-    without_listing call_error second = with_container (Err call_error) (part_fails t (ask (MakeSegment container label [])) mid new (after_listing container) call_error second)
+      -- no directory segment was made
+      pub without_listing : (call_error : CallError)
+          → RunsPart (ask (MakeSegment container label [])) mid new t (Err call_error)
+          → RunsPart (make_scratch own label room) old new t (Err call_error)
+      without_listing call_error second =
+          with_container (Err call_error)
+          (part_fails t (ask (MakeSegment container label [])) mid new (after_listing container) call_error second)
 
-    -- one was, and the entry is made, or not
-    pub with_listing : (late : KernelModel) (listing : ℕ) → RunsPart (ask (MakeSegment container label [])) mid late t (Ok listing) → (result : Result (Unit {0}) CallError) → RunsPart (write_entries room.place (grown container listing)) late new t result
-        → RunsPart (make_scratch own label room) old new t result
-    with_listing late listing second result third = with_container result (then_part t (ask (MakeSegment container label [])) mid new (after_listing container) late listing second result third)
+      -- one was, and the entry is made, or not
+      pub with_listing : (late : KernelModel) (listing : ℕ)
+          → RunsPart (ask (MakeSegment container label [])) mid late t (Ok listing)
+          → (result : Result (Unit {0}) CallError)
+          → RunsPart (write_entries room.place (grown container listing)) late new t result
+          → RunsPart (make_scratch own label room) old new t result
+      with_listing late listing second result third =
+          with_container result (then_part t (ask (MakeSegment container label [])) mid new (after_listing container) late listing second
+          result third)
 
 module _ (t : ℕ) (own : Levels × Levels) (job : ℕ) (old new : KernelModel) where
   -- what comes after the label of who holds a job
@@ -53,12 +71,17 @@ module _ (t : ℕ) (own : Levels × Levels) (job : ℕ) (old new : KernelModel) 
   after_label done = ask (SetClearance (with_level own.1 job L3))
 
   -- the label was not given
-  pub hold_fails : (call_error : CallError) → RunsPart (ask (SetLabel (with_level own.0 job Star))) old new t (Err call_error) → RunsPart (hold_job own job) old new t (Err call_error)
+  pub hold_fails : (call_error : CallError)
+      → RunsPart (ask (SetLabel (with_level own.0 job Star))) old new t (Err call_error)
+      → RunsPart (hold_job own job) old new t (Err call_error)
   unfolding hold_job
   hold_fails call_error first = part_fails t (ask (SetLabel (with_level own.0 job Star))) old new after_label call_error first
 
   -- it was
-  pub hold_then : (mid : KernelModel) → RunsPart (ask (SetLabel (with_level own.0 job Star))) old mid t (Ok tt) → (result : Result (Unit {0}) CallError) → RunsPart (ask (SetClearance (with_level own.1 job L3))) mid new t result → RunsPart (hold_job own job) old new t result
+  pub hold_then : (mid : KernelModel) → RunsPart (ask (SetLabel (with_level own.0 job Star))) old mid t (Ok tt)
+      → (result : Result (Unit {0}) CallError)
+      → RunsPart (ask (SetClearance (with_level own.1 job L3))) mid new t result
+      → RunsPart (hold_job own job) old new t result
   unfolding hold_job
   hold_then mid first result second = then_part t (ask (SetLabel (with_level own.0 job Star))) old new after_label mid tt first result second
 

@@ -39,7 +39,8 @@ module _ (t : ℕ) (own : Levels × Levels) (label : Levels) (room : Room) (k : 
   pub before_scratch : RunsPart (make_scratch own label room) k k t (Err HasStopped)
   before_scratch = without_container t own label room k k HasStopped before_container
 
-module _ (accounts : Accounts) (own : Levels) (job user : ℕ) (jobs : List ℕ) (is : IsUserOf own (length accounts.users) user) (jobs_are : jobs ≡ jobs_with own job) where
+module _ (accounts : Accounts) (own : Levels) (job user : ℕ) (jobs : List ℕ)
+    (is : IsUserOf own (length accounts.users) user) (jobs_are : jobs ≡ jobs_with own job) where
   -- the label of the scratch directory is what the thread's own label says
   pub directory_is : (label : Levels) → label ≡ scratch_label user jobs → label ≡ directory_label accounts own job
   directory_is label label_is = label_is ∙ (λ i. scratch_label (sym (user_is own (length accounts.users) user is) i) (jobs_are i))
@@ -58,24 +59,35 @@ module _ (t : ℕ) (me : Home) (status : ProcessStatus) (room : Room) (plan : Jo
   born rest = birth me status plan.kin (λ _. hold_job plan.own plan.job rest)
 
   -- no scratch directory is made
-  pub no_scratch : (new : KernelModel) (call_error : CallError) → RunsPart (make_scratch plan.own plan.label room) old new t (Err call_error) → RunsPart (fill_job me status room plan) old new t (Err call_error)
+  pub no_scratch : (new : KernelModel) (call_error : CallError)
+      → RunsPart (make_scratch plan.own plan.label room) old new t (Err call_error)
+      → RunsPart (fill_job me status room plan) old new t (Err call_error)
   no_scratch new call_error first = part_fails t (make_scratch plan.own plan.label room) old new (λ (done : Unit {0}). born) call_error first
 
   module _ (mid : KernelModel) (made : RunsPart (make_scratch plan.own plan.label room) old mid t (Ok tt)) where
-    after_scratch : (new : KernelModel) (result : Result (Unit {0}) CallError) → RunsPart born mid new t result → RunsPart (fill_job me status room plan) old new t result
+    after_scratch : (new : KernelModel) (result : Result (Unit {0}) CallError) → RunsPart born mid new t result
+        → RunsPart (fill_job me status room plan) old new t result
     after_scratch new result rest = then_part t (make_scratch plan.own plan.label room) old new (λ (done : Unit {0}). born) mid tt made result rest
 
     -- no process is born
-    pub no_birth : (new : KernelModel) (call_error : CallError) → RunsPart (birth me status plan.kin) mid new t (Err call_error) → RunsPart (fill_job me status room plan) old new t (Err call_error)
-    no_birth new call_error first = after_scratch new (Err call_error) (part_fails t (birth me status plan.kin) mid new (λ (done : Unit {0}). hold_job plan.own plan.job) call_error first)
+    pub no_birth : (new : KernelModel) (call_error : CallError)
+        → RunsPart (birth me status plan.kin) mid new t (Err call_error)
+        → RunsPart (fill_job me status room plan) old new t (Err call_error)
+    no_birth new call_error first =
+        after_scratch new (Err call_error) (part_fails t (birth me status plan.kin) mid new
+        (λ (done : Unit {0}). hold_job plan.own plan.job) call_error first)
 
     -- the thread holds the job, or doesn't
-    pub held : (late new : KernelModel) → RunsPart (birth me status plan.kin) mid late t (Ok tt) → (result : Result (Unit {0}) CallError) → RunsPart (hold_job plan.own plan.job) late new t result → RunsPart (fill_job me status room plan) old new t result
+    pub held : (late new : KernelModel) → RunsPart (birth me status plan.kin) mid late t (Ok tt)
+        → (result : Result (Unit {0}) CallError) → RunsPart (hold_job plan.own plan.job) late new t result
+        → RunsPart (fill_job me status room plan) old new t result
     held late new first result second =
-        after_scratch new result (then_part t (birth me status plan.kin) mid new (λ (done : Unit {0}). hold_job plan.own plan.job) late tt first result second)
+        after_scratch new result (then_part t (birth me status plan.kin) mid new (λ (done : Unit {0}). hold_job plan.own plan.job) late tt
+        first result second)
 
 -- memory ran out before a job was filled
-pub before_filling : (t : ℕ) (me : Home) (status : ProcessStatus) (room : Room) (plan : JobPlan) (k : KernelModel) → RunsPart (fill_job me status room plan) k k t (Err HasStopped)
+pub before_filling : (t : ℕ) (me : Home) (status : ProcessStatus) (room : Room) (plan : JobPlan) (k : KernelModel)
+    → RunsPart (fill_job me status room plan) k k t (Err HasStopped)
 before_filling t me status room plan k = no_scratch t me status room plan k k HasStopped (before_scratch t plan.own plan.label room k)
 
 module _ (accounts : Accounts) (roots : Roots) (name : ProcName) (me : Home) (path : Path) where

@@ -23,7 +23,8 @@ returns-in_err-write_differences-clause-runs g c =
       exact = subst (AreDifferences before after) (sym c.as_slice-lines.ensures.value) c.in_ok-differences.ensures;
     } in
     rw (p.1, p.2)
-    (changes_begun c.args.at compared c.in_err-write_differences.field-0.0 c.in_err-write_differences.ensures.faults c.in_err-write_differences.ensures.err)
+    (changes_begun c.args.at compared c.in_err-write_differences.field-0.0 c.in_err-write_differences.ensures.faults
+    c.in_err-write_differences.ensures.err)
 
 pub returns-clause-runs : goal.returns-clause-runs
 returns-clause-runs g c =

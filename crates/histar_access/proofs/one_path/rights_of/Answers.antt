@@ -8,7 +8,8 @@ returns-in_default g c =
 
 pub returns-in-Some-spot_at : goal.returns-in-Some-spot_at
 returns-in-Some-spot_at g c =
-    spot_rights c.args.machine.now c.args.path.now c.args.process.now c.in-Some.visitor (sym c.visitor_at.ensures ∙ c.in-Some.is) c.in-Some-spot_at.spot
+    spot_rights c.args.machine.now c.args.path.now c.args.process.now c.in-Some.visitor
+    (sym c.visitor_at.ensures ∙ c.in-Some.is) c.in-Some-spot_at.spot
     (found_there c.args.machine.now c.args.path.now c.kernel.result.now c.roots.result.now c.names.result.now c.in-Some.visitor
     (Some c.in-Some-spot_at.spot) c.kernel.ensures c.roots.ensures c.names.ensures.names c.in-Some-spot_at.ensures)
 

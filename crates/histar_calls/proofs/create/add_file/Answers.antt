@@ -35,7 +35,8 @@ returns-in_err-insert g c =
     (grants t (MakeSegment room.place.container label empty) old k1 file c.in_ok-file.ensures.0 c.in_ok-file.ensures.1.0) in
     let entries = grown t label room old k1 file in
     fails_so t (add_file label room) old k1 Stopped _ c.from_residual-in_err-insert.ensures.1
-    (with_segment t label room old k1 k1 file made (Err Stopped) (before_ask t (Write room.place.container room.place.listing 0 (spelling entries)) k1))
+    (with_segment t label room old k1 k1 file made (Err Stopped)
+    (before_ask t (Write room.place.container room.place.listing 0 (spelling entries)) k1))
 
 pub returns : goal.returns
 returns g c =
@@ -51,4 +52,6 @@ returns g c =
     let end = c.write_entries.new.kernel in
     let entries = grown t label room old end file in
     with_segment t label room old end k1 file made c.write_entries.result
-    (part_as t (write_entries room.place entries) k1 end _ (ap (write_entries room.place) (sym c.in_ok-insert.ensures.ok)) c.write_entries.result c.write_entries.ensures)
+    (part_as t (write_entries room.place entries) k1 end _
+    (ap (write_entries room.place) (sym c.in_ok-insert.ensures.ok)) c.write_entries.result
+    c.write_entries.ensures)

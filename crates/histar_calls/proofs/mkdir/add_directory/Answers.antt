@@ -24,7 +24,8 @@ returns-in_err-container g c =
     let room = c.args.room in
     let k1 = c.make_container.new.self in
     fails_so t (add_directory label room) old k1 _ _ c.from_residual-in_err-container.ensures.1
-    (without_container t label room old k1 _ (refuses t (MakeContainer room.place.container label) old k1 _ c.in_err-container.field-0.0 c.in_err-container.ensures))
+    (without_container t label room old k1 _ (refuses t (MakeContainer room.place.container label) old k1 _ c.in_err-container.field-0.0
+    c.in_err-container.ensures))
 
 pub returns-in_err-listing : goal.returns-in_err-listing
 returns-in_err-listing g c =
@@ -58,7 +59,8 @@ returns-in_err-insert g c =
     (grants t (MakeSegment container same c.new-empty.result) k1 k2 listing c.in_ok-listing.ensures.0 c.in_ok-listing.ensures.1.0) in
     let entries = grown t label room old k2 container listing in
     fails_so t (add_directory label room) old k2 Stopped _ c.from_residual-in_err-insert.ensures.1
-    (with_listing t label room old k2 k1 container made k2 listing listed (Err Stopped) (before_ask t (Write room.place.container room.place.listing 0 (spelling entries)) k2))
+    (with_listing t label room old k2 k1 container made k2 listing listed (Err Stopped)
+    (before_ask t (Write room.place.container room.place.listing 0 (spelling entries)) k2))
 
 pub returns : goal.returns
 returns g c =
@@ -77,4 +79,6 @@ returns g c =
     let entries = grown t label room old k2 container listing in
     let end = c.write_entries.new.kernel in
     with_listing t label room old end k1 container made k2 listing listed c.write_entries.result
-    (part_as t (write_entries room.place entries) k2 end _ (ap (write_entries room.place) (sym c.in_ok-insert.ensures.ok)) c.write_entries.result c.write_entries.ensures)
+    (part_as t (write_entries room.place entries) k2 end _
+    (ap (write_entries room.place) (sym c.in_ok-insert.ensures.ok)) c.write_entries.result
+    c.write_entries.ensures)

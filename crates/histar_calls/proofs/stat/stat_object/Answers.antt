@@ -41,8 +41,10 @@ returns-in_default g c =
     let label = c.in_ok-label.label in
     let call = LabelOf found.container found.object in
     then_call t (find_object c.args.roots.now c.args.path.now) old end _ mid found c.in_ok-found.ensures _
-    (then_call t (ask call) mid end (λ label. class_reply found.is_directory (class_shown c.args.users.now label)) end label (grants t call mid end label c.in_ok-label.ensures.0 c.in_ok-label.ensures.1) _
-    (runs_as t _ (class_reply found.is_directory None) end end _ (ap (class_reply found.is_directory) (sym c.shown_class.ensures ∙ c.in_default.is)) (stops t end)))
+    (then_call t (ask call) mid end (λ label. class_reply found.is_directory (class_shown c.args.users.now label)) end
+    label (grants t call mid end label c.in_ok-label.ensures.0 c.in_ok-label.ensures.1) _
+    (runs_as t _ (class_reply found.is_directory None) end end _
+    (ap (class_reply found.is_directory) (sym c.shown_class.ensures ∙ c.in_default.is)) (stops t end)))
 
 pub returns : goal.returns
 unfolding stat_program
@@ -55,6 +57,8 @@ returns g c =
     let label = c.in_ok-label.label in
     let call = LabelOf found.container found.object in
     then_call t (find_object c.args.roots.now c.args.path.now) old end _ mid found c.in_ok-found.ensures _
-    (then_call t (ask call) mid end (λ label. class_reply found.is_directory (class_shown c.args.users.now label)) end label (grants t call mid end label c.in_ok-label.ensures.0 c.in_ok-label.ensures.1) _
-    (runs_as t _ (class_reply found.is_directory (Some c.in-Some.class)) end end _ (ap (class_reply found.is_directory) (sym c.shown_class.ensures ∙ c.in-Some.is))
+    (then_call t (ask call) mid end (λ label. class_reply found.is_directory (class_shown c.args.users.now label)) end
+    label (grants t call mid end label c.in_ok-label.ensures.0 c.in_ok-label.ensures.1) _
+    (runs_as t _ (class_reply found.is_directory (Some c.in-Some.class)) end end _
+    (ap (class_reply found.is_directory) (sym c.shown_class.ensures ∙ c.in-Some.is))
     (replies_so t end (Stats (stat_of c.in-Some.class found.is_directory)) (Stats c.stat.result) (ap Stats c.stat.ensures))))

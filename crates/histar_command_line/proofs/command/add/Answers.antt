@@ -7,4 +7,6 @@ use Rattle.histar_command_line.proofs.command.add.Goals as goal
 pub returns : goal.returns
 returns c =
     IfOk-weaker c.subcommand.result _ _
-    (λ r adds. adds.shape c.in_ok-subcommand.ensures.local ∙ ap (λ (app : App). with_subcommand (app_of c.args.histar) app.top) c.in_ok-subcommand.ensures.app) c.subcommand.ensures
+    (λ r adds. adds.shape c.in_ok-subcommand.ensures.local
+    ∙ ap (λ (app : App). with_subcommand (app_of c.args.histar) app.top) c.in_ok-subcommand.ensures.app)
+    c.subcommand.ensures

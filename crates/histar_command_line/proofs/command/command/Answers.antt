@@ -10,7 +10,8 @@ returns c =
     let top = λ (app : App). app.top in
     let named : app_of c.in_ok-histar.histar ≡ named_app =
     ap app_of_fields c.in_ok-histar.ensures.0 ∙ ap app_of_fields c.arg_required_else_help-histar.ensures
-    ∙ ap (λ (app : App). record app { top = record app.top { arg_required_else_help = true } }) (ap app_of_fields c.after_help.ensures ∙ ap app_of_fields c.about.ensures ∙ ap app_of_fields c.version.ensures
+    ∙ ap (λ (app : App). record app { top = record app.top { arg_required_else_help = true } })
+    (ap app_of_fields c.after_help.ensures ∙ ap app_of_fields c.about.ensures ∙ ap app_of_fields c.version.ensures
     ∙ ap (λ (app : App). record app { top = record app.top { has_version = true } }) c.new.ensures.app) in
     let with_run = c.in_ok-histar-2.ensures ∙ ap₂ with_subcommand named (ap top c.run.ensures) in
     let with_raw = c.in_ok-histar-3.ensures ∙ ap₂ with_subcommand with_run (ap top c.raw.ensures) in

@@ -22,16 +22,21 @@ returns-then-not-is_started-clause-isolated c quiet =
 pub observe-requires-2 : goal.observe-requires-2
 observe-requires-2 c =
     let script = c.in_ok-read_script.field-0 in
-    subst CanRun (sym c.without-rest.ensures) (rest_runs c.args.job.now script (can_run c.args.job.now c.args.text.now script c.in_ok-read_script.ensures.exact))
+    subst CanRun (sym c.without-rest.ensures) (rest_runs c.args.job.now script
+    (can_run c.args.job.now c.args.text.now script c.in_ok-read_script.ensures.exact))
 
 pub returns-clause-exact : goal.returns-clause-exact
 returns-clause-exact c =
     let job = c.args.job.now in
     let some : c.first.inside.replies.is_started ≡ true = search rules in
     let seen = ap (λ (o : ObservationModel). o.replies.is_started) (sym c.first.view_is) ∙ some in
-    let again = read_again c.args.text.now c.in_ok-script.script c.in_ok-read_script.field-0 c.in_ok-script.ensures.exact c.in_ok-read_script.ensures.exact in
+    let again =
+    read_again c.args.text.now c.in_ok-script.script c.in_ok-read_script.field-0 c.in_ok-script.ensures.exact
+    c.in_ok-read_script.ensures.exact in
     let second = c.in_ok-second.ensures ∙ ap (observation job) (c.without-rest.ensures ∙ ap (without_job job) again) in
-    compared_found job c.args.text.now c.in_ok-script.script c.in_ok-script.ensures.exact finds_first_path c.in_ok-first.first c.in_ok-second.second c.in_ok-first.ensures second seen c.find_difference.result c.find_difference.ensures
+    compared_found job c.args.text.now c.in_ok-script.script c.in_ok-script.ensures.exact finds_first_path
+    c.in_ok-first.first c.in_ok-second.second c.in_ok-first.ensures second seen c.find_difference.result
+    c.find_difference.ensures
 
 pub returns-clause-isolated : goal.returns-clause-isolated
 returns-clause-isolated c quiet = quiet_is_same c.args.job.now isolates_jobs c.args.text.now c.find_difference.result quiet (returns-clause-exact c)

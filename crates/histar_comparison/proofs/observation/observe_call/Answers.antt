@@ -11,6 +11,9 @@ returns g c =
     (λ shown. record {
       reply = c.in-Ok.reply;
       answered = c.in-Ok.ensures.answers;
-      kept = reply_kept c.args.job.now c.args.replies.now c.follow.new.self c.show.new.self (record { call = c.args.call; reply = c.in-Ok.reply }) _ _ c.wrap_path-wraps.ensures directory c.follow.ensures shown;
+      kept =
+          reply_kept c.args.job.now c.args.replies.now c.follow.new.self c.show.new.self
+          (record { call = c.args.call; reply = c.in-Ok.reply }) _ _ c.wrap_path-wraps.ensures directory
+          c.follow.ensures shown;
     })
     c.show.ensures

@@ -5,7 +5,9 @@ use Rattle.histar_container.proofs.Links.{absent_links, kind_links_none, appends
 use Rattle.histar_container.proofs.removal.append_links.Goals as goal
 
 pub returns-in_default : goal.returns-in_default
-returns-in_default g c = appends_none _ _ (λ n. kind_links_none c.in-Some.holder.now.kind n (search rules) ∙ ap (λ o. set.contains (links_in o) n) c.in-Some.ensures)
+returns-in_default g c =
+    appends_none _ _ (λ n. kind_links_none c.in-Some.holder.now.kind n (search rules)
+    ∙ ap (λ o. set.contains (links_in o) n) c.in-Some.ensures)
 
 pub returns-in-None : goal.returns-in-None
 returns-in-None g c = appends_none _ _ (λ n. absent_links _ n c.in-None.ensures)

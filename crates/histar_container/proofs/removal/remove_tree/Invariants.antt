@@ -5,4 +5,7 @@ use Rattle.histar_container.proofs.removal.remove_tree.Given as goal
 
 -- the numbers so far have been taken out
 abbrev pub invariant-loop-number : goal.invariant-loop-number
-invariant-loop-number g l = (q : ℕ) → objects_of l.table q ≡ (if is_member nat_eq (take l.number-index l.number-items) q then None else objects_of l.initial.table q)
+invariant-loop-number g l =
+    (q : ℕ)
+    → objects_of l.table q
+    ≡ (if is_member nat_eq (take l.number-index l.number-items) q then None else objects_of l.initial.table q)

@@ -4,4 +4,7 @@ use Rattle.histar_explain.specs.Tests.{high}
 use Rattle.histar_explain.proofs.derived_labels.owning_high.Given as goal
 
 abbrev pub invariant-loop-exception : goal.invariant-loop-exception
-invariant-loop-exception l = l.label ≡ refilled (λ c. high (level_of l.own c)) (take l.exception-index l.exception-items) (constant (high (default_of l.own)))
+invariant-loop-exception l =
+    l.label
+    ≡ refilled (λ c. high (level_of l.own c)) (take l.exception-index l.exception-items)
+    (constant (high (default_of l.own)))

@@ -17,7 +17,9 @@ categories-preserved c =
     rw (c.after-firsts.ensures, c.after-seconds.ensures, c.after-thirds.ensures) (elim c.if-not-was_made.branch [
       | then-not-was_made+in_ok-push w ↦ rw (ap (λ (v : Vec ℕ). v.items) w.unmade-is ∙ w.in_ok-push.ensures.items)
           (passed_unmade _ _ _ _ _ _ _ cs c.categories.invariant _ low (sym c.was_made.ensures ∙ w.if-not-was_made.true))
-      | else-not-was_made w ↦ rw (ap (λ (v : Vec ℕ). v.items) w.unmade-is) (passed_made _ _ _ _ _ _ _ cs c.categories.invariant _ low (sym c.was_made.ensures ∙ w.if-not-was_made.false))
+      | else-not-was_made w ↦
+          rw (ap (λ (v : Vec ℕ). v.items) w.unmade-is) (passed_made _ _ _ _ _ _ _ cs c.categories.invariant _ low
+          (sym c.was_made.ensures ∙ w.if-not-was_made.false))
     ])
 
 pub returns : goal.returns

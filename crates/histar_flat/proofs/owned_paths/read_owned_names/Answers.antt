@@ -6,22 +6,26 @@ use Rattle.histar_flat.proofs.owned_paths.read_owned_names.Goals as goal
 
 pub returns-in_default : goal.returns-in_default
 returns-in_default c =
-    let none : name_of (split_at_first slash c.loop.rest.now).0 ≡ None = ap name_of (sym c.split_at_first.ensures.before) ∙ sym c.read_name.ensures ∙ c.in_default.is in
+    let none : name_of (split_at_first slash c.loop.rest.now).0 ≡ None =
+    ap name_of (sym c.split_at_first.ensures.before) ∙ sym c.read_name.ensures ∙ c.in_default.is in
     sym (no_name (8 - c.loop.counter) c.loop.path c.loop.rest.now none) ∙ c.loop.invariant.0
 
 pub returns-in-None : goal.returns-in-None
 returns-in-None c =
     let name = c.in-Some.name in
-    let is : name_of (split_at_first slash c.loop.rest.now).0 ≡ Some name = ap name_of (sym c.split_at_first.ensures.before) ∙ sym c.read_name.ensures ∙ c.in-Some.is in
+    let is : name_of (split_at_first slash c.loop.rest.now).0 ≡ Some name =
+    ap name_of (sym c.split_at_first.ensures.before) ∙ sym c.read_name.ensures ∙ c.in-Some.is in
     let end : (split_at_first slash c.loop.rest.now).1 ≡ None = sym c.split_at_first.ensures.after ∙ ap option_copied c.in-None.is in
     let left : 0 < 8 - c.loop.counter = omega (arith, c.loop-test.true) in
-    ap (λ path. Some path) c.in_ok-enter.ensures ∙ sym (last_name (8 - c.loop.counter) c.loop.path c.loop.rest.now name left is end) ∙ c.loop.invariant.0
+    ap (λ path. Some path) c.in_ok-enter.ensures
+    ∙ sym (last_name (8 - c.loop.counter) c.loop.path c.loop.rest.now name left is end) ∙ c.loop.invariant.0
 
 pub loop-preserved : goal.loop-preserved
 loop-preserved c =
     let name = c.in-Some.name in
     let names = c.in-Some-after.names.now in
-    let is : name_of (split_at_first slash c.loop.rest.now).0 ≡ Some name = ap name_of (sym c.split_at_first.ensures.before) ∙ sym c.read_name.ensures ∙ c.in-Some.is in
+    let is : name_of (split_at_first slash c.loop.rest.now).0 ≡ Some name =
+    ap name_of (sym c.split_at_first.ensures.before) ∙ sym c.read_name.ensures ∙ c.in-Some.is in
     let on : (split_at_first slash c.loop.rest.now).1 ≡ Some names = sym c.split_at_first.ensures.after ∙ ap option_copied c.in-Some-after.is in
     let left : 0 < 8 - c.loop.counter = omega (arith, c.loop-test.true) in
     let less : 8 - (c.loop.counter + 1) ≡ 8 - c.loop.counter - 1 = omega arith in

@@ -5,4 +5,10 @@ use Rattle.histar_flat.proofs.paths.padded_names.Goals as goal
 
 pub returns : goal.returns
 unfolding padded
-returns c = rw (c.copy_from_slice.ensures.after, c.unused_name-padded.ensures, ← drop-replicate {X = List ℕ} (length c.args.names.now) 8 unused_name) refl
+returns c =
+    rw (
+      c.copy_from_slice.ensures.after,
+      c.unused_name-padded.ensures,
+      ← drop-replicate {X = List ℕ}
+          (length c.args.names.now) 8 unused_name,
+    ) refl

@@ -6,13 +6,15 @@ use Rattle.histar_flat.proofs.readers.read_names.Goals as goal
 
 pub returns-in_err-read_name : goal.returns-in_err-read_name
 returns-in_err-read_name c =
-    let none : name_of (split_at_first slash c.loop.rest.now).0 ≡ None = ap name_of (sym c.split_at_first.ensures.before) ∙ sym c.read_name.ensures ∙ c.in_err-read_name.was in
+    let none : name_of (split_at_first slash c.loop.rest.now).0 ≡ None =
+    ap name_of (sym c.split_at_first.ensures.before) ∙ sym c.read_name.ensures ∙ c.in_err-read_name.was in
     c.from_residual.ensures ∙ sym (no_name (8 - c.loop.counter) c.loop.path c.loop.rest.now none) ∙ c.loop.invariant.0
 
 pub returns-in-None : goal.returns-in-None
 returns-in-None c =
     let name = c.in_ok-read_name.field-0 in
-    let is : name_of (split_at_first slash c.loop.rest.now).0 ≡ Some name = ap name_of (sym c.split_at_first.ensures.before) ∙ sym c.read_name.ensures ∙ c.in_ok-read_name.was in
+    let is : name_of (split_at_first slash c.loop.rest.now).0 ≡ Some name =
+    ap name_of (sym c.split_at_first.ensures.before) ∙ sym c.read_name.ensures ∙ c.in_ok-read_name.was in
     let end : (split_at_first slash c.loop.rest.now).1 ≡ None = sym c.split_at_first.ensures.after ∙ ap option_copied c.in-None.is in
     let left : 0 < 8 - c.loop.counter = omega (arith, c.loop-test.true) in
     ap (λ path. Some path) c.enter.ensures ∙ sym (last_name (8 - c.loop.counter) c.loop.path c.loop.rest.now name left is end) ∙ c.loop.invariant.0
@@ -21,7 +23,8 @@ pub loop-preserved : goal.loop-preserved
 loop-preserved c =
     let name = c.in_ok-read_name.field-0 in
     let names = c.in-Some.names.now in
-    let is : name_of (split_at_first slash c.loop.rest.now).0 ≡ Some name = ap name_of (sym c.split_at_first.ensures.before) ∙ sym c.read_name.ensures ∙ c.in_ok-read_name.was in
+    let is : name_of (split_at_first slash c.loop.rest.now).0 ≡ Some name =
+    ap name_of (sym c.split_at_first.ensures.before) ∙ sym c.read_name.ensures ∙ c.in_ok-read_name.was in
     let on : (split_at_first slash c.loop.rest.now).1 ≡ Some names = sym c.split_at_first.ensures.after ∙ ap option_copied c.in-Some.is in
     let left : 0 < 8 - c.loop.counter = omega (arith, c.loop-test.true) in
     let less : 8 - (c.loop.counter + 1) ≡ 8 - c.loop.counter - 1 = omega arith in

@@ -10,7 +10,9 @@ pub returns-in-None-clause-after : goal.returns-in-None-clause-after
 returns-in-None-clause-after c = rw (split_whole c.args.separator c.args.text.now c.in-None.ensures) refl
 
 pub returns-in-Some-clause-before : goal.returns-in-Some-clause-before
-returns-in-Some-clause-before c = let h = c.in-Some.ensures in rw (split_found c.args.separator c.args.text.now c.in-Some.at h.0.high h.0.before h.1) refl
+returns-in-Some-clause-before c =
+    let h = c.in-Some.ensures in rw (split_found c.args.separator c.args.text.now c.in-Some.at h.0.high h.0.before h.1)
+    refl
 
 pub returns-in-Some-clause-after : goal.returns-in-Some-clause-after
 returns-in-Some-clause-after c =

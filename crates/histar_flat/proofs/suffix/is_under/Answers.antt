@@ -8,7 +8,8 @@ pub returns-then-above-names : goal.returns-then-above-names
 returns-then-above-names g c =
     let k = length c.args.names.now - length c.args.above.now in
     let whole = take_all (length c.args.names.now - k) (drop k c.args.names.now) (omega (arith, length-drop k c.args.names.now)) in
-    c.eq.ensures ∙ ap (pointwise g.T.PartialEq.eq c.args.above.now) whole ∙ sym (under_is_end g.T.PartialEq.eq c.args.above.now c.args.names.now c.if-above-names.true)
+    c.eq.ensures ∙ ap (pointwise g.T.PartialEq.eq c.args.above.now) whole
+    ∙ sym (under_is_end g.T.PartialEq.eq c.args.above.now c.args.names.now c.if-above-names.true)
 
 pub returns-else-above-names : goal.returns-else-above-names
 returns-else-above-names g c =

@@ -7,4 +7,5 @@ use Rattle.histar_kernel_tests.proofs.containers.cut.Goals as goal
 pub returns : goal.returns
 returns g c =
     let linked : set.contains (links_in (objects_of c.args.table.now c.new-container.result)) c.new-object.result ≡ true = search rules in
-    trees_cut (objects_of c.args.table.now) (objects_of c.remove_tree.new.table) c.new-container.result c.new-object.result c.requires linked c.in_ok-remove_tree.ensures.ok
+    trees_cut (objects_of c.args.table.now) (objects_of c.remove_tree.new.table) c.new-container.result
+    c.new-object.result c.requires linked c.in_ok-remove_tree.ensures.ok

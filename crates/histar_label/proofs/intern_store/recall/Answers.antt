@@ -7,4 +7,6 @@ pub returns-clause-found : goal.returns-clause-found
 returns-clause-found c = found_if c.args.answers.now.entries c.args.comparison c.copied.result (c.copied.ensures ∙ c.get.ensures.value)
 
 pub returns-clause-kept : goal.returns-clause-kept
-returns-clause-kept c e there = Contains-promoted (is_same_comparison c.args.comparison) c.args.answers.now.entries e (rw c.get.follows.holds-at-none at there)
+returns-clause-kept c e there =
+    Contains-promoted (is_same_comparison c.args.comparison) c.args.answers.now.entries e
+    (rw c.get.follows.holds-at-none at there)

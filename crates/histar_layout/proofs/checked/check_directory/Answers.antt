@@ -3,7 +3,8 @@ use Rattle.std.proofs.lemmas.Bool.Decides.{nat_tests}
 use Rattle.histar_layout.proofs.DirectoryLemmas.{shorter, no_entry, no_room, no_order}
 use Rattle.histar_layout.proofs.CheckedDirectories.{comes_after_bytes, name_is_last, nothing_checked, checks_on, whole_checked}
 use Rattle.histar_layout.proofs.checked.check_directory.Goals as goal
-use Rattle.histar_layout.proofs.checked.check_directory.Goals.{then-count-eq-MOST_ENTRIES-via-then-count-eq-MOST_ENTRIES, then-count-eq-MOST_ENTRIES-via-else-count-eq-MOST_ENTRIES+then-not-precedes}
+use Rattle.histar_layout.proofs.checked.check_directory.Goals.{then-count-eq-MOST_ENTRIES-via-then-count-eq-MOST_ENTRIES}
+use Rattle.histar_layout.proofs.checked.check_directory.Goals.{then-count-eq-MOST_ENTRIES-via-else-count-eq-MOST_ENTRIES+then-not-precedes}
 
 pub entries-init : goal.entries-init
 entries-init c = nothing_checked c.args.bytes.now (λ i. omega (arith, c.type_inv.bytes i))
@@ -36,7 +37,10 @@ returns-then-count-eq-MOST_ENTRIES c =
           let most = w.if-count-eq-MOST_ENTRIES.true in
           let is_most : c.entries.count ≡ 64 = grind (arith, nat_tests, most) in
           no_room _ _ _ _ c.entries.invariant.read there (sym c.entries.invariant.count_is ∙ is_most)
-      | then-count-eq-MOST_ENTRIES-via-else-count-eq-MOST_ENTRIES+then-not-precedes w ↦ no_order _ _ _ _ _ _ _ c.entries.invariant.read there c.in-Some.ensures.entry (sym (comes_after_bytes c.entries.last.now c.in-Some.text.now c.in-Some.ensures.named) ∙ sym w.precedes.ensures ∙ w.if-not-precedes.true)
+      | then-count-eq-MOST_ENTRIES-via-else-count-eq-MOST_ENTRIES+then-not-precedes w ↦
+          no_order _ _ _ _ _ _ _ c.entries.invariant.read there c.in-Some.ensures.entry
+          (sym (comes_after_bytes c.entries.last.now c.in-Some.text.now c.in-Some.ensures.named)
+          ∙ sym w.precedes.ensures ∙ w.if-not-precedes.true)
     ]
 
 pub returns : goal.returns

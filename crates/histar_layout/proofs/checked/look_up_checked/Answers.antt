@@ -1,4 +1,9 @@
 use Rattle.histar_layout.proofs.checked.look_up_checked.Goals as goal
 
 pub returns : goal.returns
-returns c = (c.in_ok-check_directory.ensures.0, c.in_ok-check_directory.ensures.1, c.look_up.ensures.entry c.in_ok-check_directory.ensures.0 c.in_ok-check_directory.ensures.1)
+returns c = (
+  c.in_ok-check_directory.ensures.0,
+  c.in_ok-check_directory.ensures.1,
+  c.look_up.ensures.entry
+      c.in_ok-check_directory.ensures.0 c.in_ok-check_directory.ensures.1,
+)

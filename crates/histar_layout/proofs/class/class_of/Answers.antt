@@ -17,4 +17,5 @@ returns-then-branch c =
 pub returns-else-branch : goal.returns-else-branch
 returns-else-branch c =
     let likely : likely_class c.args.users.now c.args.label.now ≡ Some c.in-Some.class = sym c.in_ok-class.ensures ∙ c.in-Some.is in
-    other_label c.args.users.now c.args.label.now c.in-Some.class likely (λ label. true≢false (sym (c.in_ok-has_label.ensures.1 label) ∙ c.if-branch.false))
+    other_label c.args.users.now c.args.label.now c.in-Some.class likely
+    (λ label. true≢false (sym (c.in_ok-has_label.ensures.1 label) ∙ c.if-branch.false))

@@ -14,4 +14,6 @@ pub returns : goal.returns
 returns c =
     made_in_jobs c.scratch_label.result c.args.own.now c.args.users.now c.user_of-user.result c.args.mode c.user_of-user.ensures
     (not_twice (is_empty (jobs_in c.args.own.now)) c.is_in_job.result false c.is_in_job.ensures (ap not c.if-not-is_in_job.false))
-    (subst (λ (jobs : List ℕ). IfOk c.scratch_label.result (λ label. label ≡ scratch_label c.user_of-user.result jobs)) (c.as_slice.ensures.value ∙ c.in_ok-jobs.ensures) c.scratch_label.ensures)
+    (subst
+    (λ (jobs : List ℕ). IfOk c.scratch_label.result (λ label. label ≡ scratch_label c.user_of-user.result jobs))
+    (c.as_slice.ensures.value ∙ c.in_ok-jobs.ensures) c.scratch_label.ensures)

@@ -6,7 +6,11 @@ use Rattle.histar_layout.proofs.labels.user_of.Goals as goal
 
 pub returns-then-is_star : goal.returns-then-is_star
 returns-then-is_star c = record {
-  owner = λ positive. sym (c.is_star.ensures.value ∙ ap is_star (c.get.ensures ∙ ap (level_of c.args.own.now) c.read_category.ensures)) ∙ c.if-is_star.true;
+  owner =
+      λ positive. sym
+      (c.is_star.ensures.value
+      ∙ ap is_star (c.get.ensures ∙ ap (level_of c.args.own.now) c.read_category.ensures))
+      ∙ c.if-is_star.true;
   first = λ other positive before. earlier c.args.own.now c.loop-before.before c.loop-before.invariant other positive (omega arith);
   nobody = λ none. absurd (omega arith);
   known = let few = c.len-count.ensures.len in omega (arith, few);
@@ -16,6 +20,8 @@ pub returns : goal.returns
 returns c = record {
   owner = λ positive. absurd (omega arith);
   first = λ other positive before. absurd (omega arith);
-  nobody = λ none other positive most. earlier c.args.own.now c.loop-before.before c.loop-before.invariant other positive (let few = c.len-count.ensures.len in omega (arith, few, most));
+  nobody =
+      λ none other positive most. earlier c.args.own.now c.loop-before.before c.loop-before.invariant other positive
+      (let few = c.len-count.ensures.len in omega (arith, few, most));
   known = omega arith;
 }

@@ -7,4 +7,5 @@ pub loop-category-preserved : goal.loop-category-preserved
 loop-category-preserved c =
     let category = c.category-item.result in
     c.in_ok-set.ensures.ok ∙ ap (λ (L : Levels). with_level L category c.args.level) c.loop-category.invariant
-    ∙ sym (each_next c.args.label c.args.level c.args.categories.now c.loop-category.category-index category c.loop-category-test.true c.category-item.is)
+    ∙ sym (each_next c.args.label c.args.level c.args.categories.now c.loop-category.category-index category
+    c.loop-category-test.true c.category-item.is)

@@ -6,7 +6,9 @@ use Rattle.histar_layout.proofs.LookingUp.{all_left, leads_nowhere, found_here, 
 use Rattle.histar_layout.proofs.lookup.look_up.Goals as goal
 
 -- a name whose bytes were taken is the same as that of an entry where they are the same as the bytes that lie there
-same_test : (name wanted bytes : List ℕ) (start len end : ℕ) (result : Bool) → wanted ≡ name → end ≡ start + len + 18 → result ≡ same wanted (slice_range bytes (start + 1) (start + 1 + len)) → same name (entry_between bytes start end).0.0 ≡ result
+same_test : (name wanted bytes : List ℕ) (start len end : ℕ) (result : Bool) → wanted ≡ name → end ≡ start + len + 18
+    → result ≡ same wanted (slice_range bytes (start + 1) (start + 1 + len))
+    → same name (entry_between bytes start end).0.0 ≡ result
 same_test name wanted bytes start len end result is ends test =
     let to : end - 17 ≡ start + 1 + len = omega arith in
     (λ i. same (sym is i) (slice_range bytes (start + 1) (to i))) ∙ sym test
@@ -20,7 +22,8 @@ entries-preserved c =
     let entry = entry_between bytes c.entries.start c.in-Some.end in (
       c.in-Some.ensures.measured.1,
       left_behind (drop c.entries.start bytes) c.args.name.now entry c.in-Some.ensures.entry bytes c.entries.invariant.1
-          (same_test c.args.name.now c.as_bytes-wanted.result.now bytes c.entries.start c.in-Some.len c.in-Some.end c.is_same_at.result c.as_bytes-wanted.ensures.value c.in-Some.ensures.measured.0 c.is_same_at.ensures
+          (same_test c.args.name.now c.as_bytes-wanted.result.now bytes c.entries.start c.in-Some.len c.in-Some.end
+          c.is_same_at.result c.as_bytes-wanted.ensures.value c.in-Some.ensures.measured.0 c.is_same_at.ensures
           ∙ c.if-is_same_at.false),
     )
 
@@ -30,7 +33,8 @@ returns-then-is_same_at-clause-found c =
     let entry = entry_between bytes c.entries.start c.in-Some.end in
     c.target_from.ensures
     ∙ sym (found_here (drop c.entries.start bytes) c.args.name.now entry c.in-Some.ensures.entry bytes c.entries.invariant.1
-    (same_test c.args.name.now c.as_bytes-wanted.result.now bytes c.entries.start c.in-Some.len c.in-Some.end c.is_same_at.result c.as_bytes-wanted.ensures.value c.in-Some.ensures.measured.0 c.is_same_at.ensures
+    (same_test c.args.name.now c.as_bytes-wanted.result.now bytes c.entries.start c.in-Some.len c.in-Some.end
+    c.is_same_at.result c.as_bytes-wanted.ensures.value c.in-Some.ensures.measured.0 c.is_same_at.ensures
     ∙ c.if-is_same_at.true))
 
 pub returns-then-is_same_at-clause-entry : goal.returns-then-is_same_at-clause-entry

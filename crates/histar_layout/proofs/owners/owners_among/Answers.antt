@@ -17,9 +17,12 @@ loop-k-preserved c =
       | else-has w ↦
           let stranger : has group.members c.args.name ≡ false = sym c.has.ensures ∙ w.if-has.false in
           ap (λ o. o.items) w.owners-is ∙ c.loop-k.invariant
-          ∙ sym (owners_same c.args.users c.args.groups.now c.loop-k.k c.args.number group c.args.name c.loop-k-test.true c.index-groups-k.is stranger)
+          ∙ sym (owners_same c.args.users c.args.groups.now c.loop-k.k c.args.number group c.args.name c.loop-k-test.true
+          c.index-groups-k.is stranger)
     ]
 
 pub returns : goal.returns
 returns c =
-    c.loop-k.invariant ∙ ap (λ (groups : List Group). owners_among c.args.users groups c.args.number c.args.name) (take_all c.loop-k.k c.args.groups.now c.loop-k-test.false)
+    c.loop-k.invariant
+    ∙ ap (λ (groups : List Group). owners_among c.args.users groups c.args.number c.args.name)
+    (take_all c.loop-k.k c.args.groups.now c.loop-k-test.false)

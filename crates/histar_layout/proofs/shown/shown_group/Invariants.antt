@@ -4,4 +4,5 @@ use Rattle.histar_layout.proofs.shown.shown_group.Given as goal
 
 abbrev pub invariant-loop-place : goal.invariant-loop-place
 invariant-loop-place l =
-    group_class_from l.label (length l.users.users + 1) l.users.groups ≡ group_class_from l.label (length l.users.users + 1 + l.place) (drop l.place l.users.groups)
+    group_class_from l.label (length l.users.users + 1) l.users.groups
+    ≡ group_class_from l.label (length l.users.users + 1 + l.place) (drop l.place l.users.groups)

@@ -20,7 +20,8 @@ entries-preserved c = (
   omega (arith, c.entries.invariant.0, slot_shorter _ _ c.in-Some.ensures),
   λ dir is.
       one_passed c.args.bytes.now c.entries.rest.now c.args.name.now dir (c.entries.invariant.1 dir is) _ c.in-Some.ensures
-      (compares c.in-Some.text.now c.as_bytes-wanted.result.now c.args.name.now c.cmp.result _ c.as_bytes-wanted.ensures.value c.cmp.ensures c.in-Less.is),
+      (compares c.in-Some.text.now c.as_bytes-wanted.result.now c.args.name.now c.cmp.result _
+      c.as_bytes-wanted.ensures.value c.cmp.ensures c.in-Less.is),
 )
 
 pub overflow_sub-result-in-Equal : goal.overflow_sub-result-in-Equal
@@ -29,12 +30,14 @@ overflow_sub-result-in-Equal c = omega (arith, c.entries.invariant.0, slot_short
 pub returns-in-Equal : goal.returns-in-Equal
 returns-in-Equal c dir is =
     span_at_name c.args.bytes.now c.entries.rest.now c.args.name.now dir (c.entries.invariant.1 dir is) _ c.in-Some.ensures
-    (compares c.in-Some.text.now c.as_bytes-wanted.result.now c.args.name.now c.cmp.result _ c.as_bytes-wanted.ensures.value c.cmp.ensures c.in-Equal.is)
+    (compares c.in-Some.text.now c.as_bytes-wanted.result.now c.args.name.now c.cmp.result _
+    c.as_bytes-wanted.ensures.value c.cmp.ensures c.in-Equal.is)
 
 pub returns-in-Greater : goal.returns-in-Greater
 returns-in-Greater c dir is =
     span_before c.args.bytes.now c.entries.rest.now c.args.name.now dir (c.entries.invariant.1 dir is) _ c.in-Some.ensures
-    (compares c.in-Some.text.now c.as_bytes-wanted.result.now c.args.name.now c.cmp.result _ c.as_bytes-wanted.ensures.value c.cmp.ensures c.in-Greater.is)
+    (compares c.in-Some.text.now c.as_bytes-wanted.result.now c.args.name.now c.cmp.result _
+    c.as_bytes-wanted.ensures.value c.cmp.ensures c.in-Greater.is)
 
 pub returns : goal.returns
 returns c dir is = span_at_end c.args.bytes.now c.entries.rest.now c.args.name.now dir (c.entries.invariant.1 dir is) c.in_default.ensures

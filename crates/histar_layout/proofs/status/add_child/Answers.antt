@@ -4,5 +4,10 @@ use Rattle.histar_layout.proofs.WritingStatuses.{more_born, child_added}
 use Rattle.histar_layout.proofs.status.add_child.Goals as goal
 
 pub returns : goal.returns
-returns c = λ status revealed. c.from_vec.ensures ∙ child_added c.args.container c.args.segment c.args.bytes.now c.in-Some.head c.in-Some.children.now _ _ _ status c.in-Some.ensures revealed
-    (c.in_ok-push_head.ensures ∙ ap (λ (t : List ℕ). t ++ head_bytes (more_born c.in-Some.head)) c.in_ok-out.ensures.items) c.in_ok-extend_from_slice.ensures.items c.in_ok-push_child.ensures
+returns c =
+    λ status revealed. c.from_vec.ensures
+    ∙ child_added c.args.container c.args.segment c.args.bytes.now c.in-Some.head c.in-Some.children.now _ _ _
+    status c.in-Some.ensures revealed
+    (c.in_ok-push_head.ensures
+    ∙ ap (λ (t : List ℕ). t ++ head_bytes (more_born c.in-Some.head)) c.in_ok-out.ensures.items)
+    c.in_ok-extend_from_slice.ensures.items c.in_ok-push_child.ensures

@@ -7,7 +7,9 @@ use Rattle.histar_lint.proofs.LinesBefore.{IsAt, at_start, has_line, is_ahead, i
 use Rattle.histar_lint.proofs.session.said_at.Goals as goal
 
 pub right-init : goal.right-init
-right-init c = subst (λ (s : ScriptModel). IsAt c.args.text.now c.args.text.now s 0 c.args.bad) (sym c.new-script.ensures) (at_start c.args.text.now c.args.bad c.requires.bad)
+right-init c =
+    subst (λ (s : ScriptModel). IsAt c.args.text.now c.args.text.now s 0 c.args.bad) (sym c.new-script.ensures)
+    (at_start c.args.text.now c.args.bad c.requires.bad)
 
 pub overflow_add-count : goal.overflow_add-count
 overflow_add-count c =
@@ -20,17 +22,20 @@ split_line-requires c =
       | inl some ↦ some
       | inr none ↦
           let empty : length c.right.rest.now ≡ 0 = omega arith in
-          absurd (has_line c.args.text.now c.right.rest.now c.right.script c.right.count c.args.bad c.right.invariant c.right-test.true (no_lines c.right.rest.now empty))
+          absurd (has_line c.args.text.now c.right.rest.now c.right.script c.right.count c.args.bad c.right.invariant
+          c.right-test.true (no_lines c.right.rest.now empty))
     ]
 
 pub take_line-requires : goal.take_line-requires
 take_line-requires c =
-    is_right c.args.text.now c.right.rest.now c.right.script c.right.count c.args.bad c.split_line.result.0.now c.split_line.result.1.now c.right.invariant c.split_line.ensures.first
+    is_right c.args.text.now c.right.rest.now c.right.script c.right.count c.args.bad c.split_line.result.0.now
+    c.split_line.result.1.now c.right.invariant c.split_line.ensures.first
     c.right-test.true
 
 pub right-preserved : goal.right-preserved
 right-preserved c =
-    went_on c.args.text.now c.right.rest.now c.right.script c.take_line.new.script c.right.count c.args.bad c.split_line.result.0.now c.split_line.result.1.now c.right.invariant
+    went_on c.args.text.now c.right.rest.now c.right.script c.take_line.new.script c.right.count c.args.bad
+    c.split_line.result.0.now c.split_line.result.1.now c.right.invariant
     c.split_line.ensures.first c.in_ok-take_line.ensures.ok
 
 pub said_of-requires : goal.said_of-requires
@@ -38,4 +43,5 @@ said_of-requires c = is_said_of c.args.text.now c.right.rest.now c.right.script 
 
 pub returns-clause-ok : goal.returns-clause-ok
 returns-clause-ok c =
-    is_finding c.args.text.now c.right.rest.now c.right.script c.right.count c.args.bad c.in_ok-said.said.items c.right.invariant c.right-test.false c.in_ok-said.ensures
+    is_finding c.args.text.now c.right.rest.now c.right.script c.right.count c.args.bad c.in_ok-said.said.items
+    c.right.invariant c.right-test.false c.in_ok-said.ensures

@@ -6,4 +6,6 @@ use Rattle.histar_lint.proofs.shapes.nearest.Goals as goal
 
 pub returns : goal.returns
 returns c =
-    IfOk-weaker c.first_near.result _ _ (λ call is. is ∙ ap (λ calls. first_near c.args.word.now (map (λ other. other.now) calls)) c.as_slice.ensures) c.first_near.ensures
+    IfOk-weaker c.first_near.result _ _
+    (λ call is. is ∙ ap (λ calls. first_near c.args.word.now (map (λ other. other.now) calls)) c.as_slice.ensures)
+    c.first_near.ensures

@@ -8,10 +8,14 @@ pub loop-init : goal.loop-init
 loop-init g c = categories_none c.args.kernel.now
 
 pub loop-preserved : goal.loop-preserved
-loop-preserved g c = categories_next c.args.kernel.now c.loop.kernel c.make_two_categories.new.kernel c.loop.counter c.loop.invariant c.in_ok-make_two_categories.ensures.ok
+loop-preserved g c =
+    categories_next c.args.kernel.now c.loop.kernel c.make_two_categories.new.kernel c.loop.counter c.loop.invariant
+    c.in_ok-make_two_categories.ensures.ok
 
 pub make_two_categories-requires : goal.make_two_categories-requires
-make_two_categories-requires g c = categories_room c.args.kernel.now c.loop.kernel c.args.count c.loop.counter c.loop-test.true c.requires c.loop.invariant
+make_two_categories-requires g c =
+    categories_room c.args.kernel.now c.loop.kernel c.args.count c.loop.counter c.loop-test.true c.requires
+    c.loop.invariant
 
 pub returns-clause-ok : goal.returns-clause-ok
 returns-clause-ok g c =
@@ -20,4 +24,5 @@ returns-clause-ok g c =
 
 pub returns-in_err-make_two_categories-clause-err : goal.returns-in_err-make_two_categories-clause-err
 returns-in_err-make_two_categories-clause-err g c =
-    on_err _ _ (categories_begun c.args.kernel.now c.loop.kernel c.make_two_categories.new.kernel c.args.count c.loop.counter c.loop-test.true c.loop.invariant c.in_err-make_two_categories.ensures.err)
+    on_err _ _ (categories_begun c.args.kernel.now c.loop.kernel c.make_two_categories.new.kernel c.args.count c.loop.counter
+    c.loop-test.true c.loop.invariant c.in_err-make_two_categories.ensures.err)

@@ -1,24 +1,29 @@
 use Rattle.std.proofs.Common.{length}
 use Rattle.histar_container.proofs.Keeping.{on_err}
 use Rattle.histar_login.specs.Booting.{BeginsDirectory}
-use Rattle.histar_login.proofs.DirectoryStage.{slash_allowed, listing_allowed, directory_begun_none, directory_begun_one, directory_begun_two, directory_stage}
+use Rattle.histar_login.proofs.DirectoryStage.{slash_allowed, listing_allowed, directory_begun_none, directory_begun_one, directory_begun_two}
+use Rattle.histar_login.proofs.DirectoryStage.{directory_stage}
 use Rattle.histar_login.proofs.boot_calls.make_directory.Goals as goal
 
 pub returns-in_err-make_user_table-clause-err : goal.returns-in_err-make_user_table-clause-err
 returns-in_err-make_user_table-clause-err g c =
     let begun : BeginsDirectory c.args.kernel.now c.make_user_table.new.kernel c.args.accounts.now = λ first p at b.
-    directory_begun_none c.args.accounts.now first c.args.kernel.now p b (length c.args.accounts.now.users) c.make_user_table.new.kernel c.in_err-make_user_table.ensures in
+    directory_begun_none c.args.accounts.now first c.args.kernel.now p b (length c.args.accounts.now.users)
+    c.make_user_table.new.kernel c.in_err-make_user_table.ensures in
     on_err _ _ begun
 
 pub make_slash-requires : goal.make_slash-requires
 make_slash-requires g c =
     let way = c.requires.begins in
-    slash_allowed c.args.accounts.now way.0 c.args.kernel.now way.1 way.3 c.make_user_table.new.kernel c.in_ok-make_user_table.ensures.0 way.2 c.requires.some
+    slash_allowed c.args.accounts.now way.0 c.args.kernel.now way.1 way.3 c.make_user_table.new.kernel
+    c.in_ok-make_user_table.ensures.0 way.2 c.requires.some
 
 pub returns-in_err-container-clause-err : goal.returns-in_err-container-clause-err
 returns-in_err-container-clause-err g c =
     let begun : BeginsDirectory c.args.kernel.now c.make_slash.new.kernel c.args.accounts.now = λ first p at b.
-    directory_begun_one c.args.accounts.now first c.args.kernel.now p b c.make_user_table.new.kernel c.in_ok-make_user_table.ensures.0 (length c.args.accounts.now.users) c.make_slash.new.kernel c.in_err-container.ensures in
+    directory_begun_one c.args.accounts.now first c.args.kernel.now p b c.make_user_table.new.kernel
+    c.in_ok-make_user_table.ensures.0 (length c.args.accounts.now.users) c.make_slash.new.kernel
+    c.in_err-container.ensures in
     on_err _ _ begun
 
 pub make_listing-requires : goal.make_listing-requires
@@ -31,16 +36,22 @@ pub returns-in_err-listing-clause-err : goal.returns-in_err-listing-clause-err
 returns-in_err-listing-clause-err g c =
     let begun : BeginsDirectory c.args.kernel.now c.make_listing.new.kernel c.args.accounts.now = λ first p at b.
     directory_begun_two c.args.accounts.now first c.args.kernel.now p b c.make_user_table.new.kernel c.in_ok-make_user_table.ensures.0
-    c.in_ok-container.container c.make_slash.new.kernel c.in_ok-container.ensures.0 c.in_ok-container.ensures.1.0 (length c.args.accounts.now.users) c.make_listing.new.kernel c.in_err-listing.ensures in
+    c.in_ok-container.container c.make_slash.new.kernel c.in_ok-container.ensures.0 c.in_ok-container.ensures.1.0
+    (length c.args.accounts.now.users) c.make_listing.new.kernel c.in_err-listing.ensures in
     on_err _ _ begun
 
 pub returns-clause-boots : goal.returns-clause-boots
 returns-clause-boots g c = λ first p at b.
-    (directory_stage c.args.accounts.now first c.args.kernel.now p b c.make_user_table.new.kernel c.in_ok-make_user_table.ensures.0 c.in_ok-container.container c.make_slash.new.kernel c.in_ok-container.ensures.0 c.in_ok-container.ensures.1.0
+    (directory_stage c.args.accounts.now first c.args.kernel.now p b c.make_user_table.new.kernel
+    c.in_ok-make_user_table.ensures.0 c.in_ok-container.container c.make_slash.new.kernel
+    c.in_ok-container.ensures.0 c.in_ok-container.ensures.1.0
     c.in_ok-listing.listing c.make_listing.new.kernel c.in_ok-listing.ensures.0 c.in_ok-listing.ensures.1.0 (length c.args.accounts.now.users) at).0
 
 pub returns-clause-slash : goal.returns-clause-slash
 returns-clause-slash g c = λ first p at b.
-    let s = directory_stage c.args.accounts.now first c.args.kernel.now p b c.make_user_table.new.kernel c.in_ok-make_user_table.ensures.0 c.in_ok-container.container c.make_slash.new.kernel c.in_ok-container.ensures.0 c.in_ok-container.ensures.1.0
+    let s =
+    directory_stage c.args.accounts.now first c.args.kernel.now p b c.make_user_table.new.kernel
+    c.in_ok-make_user_table.ensures.0 c.in_ok-container.container c.make_slash.new.kernel
+    c.in_ok-container.ensures.0 c.in_ok-container.ensures.1.0
     c.in_ok-listing.listing c.make_listing.new.kernel c.in_ok-listing.ensures.0 c.in_ok-listing.ensures.1.0 (length c.args.accounts.now.users) at in
     λ j. record { container = s.1 j; listing = s.2 j }

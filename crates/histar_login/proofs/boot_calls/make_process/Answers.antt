@@ -1,6 +1,8 @@
 use Rattle.histar_container.proofs.Keeping.{on_err}
 use Rattle.histar_login.specs.Booting.{BeginsProcess}
-use Rattle.histar_login.proofs.ProcessStage.{read_allowed, write_allowed, outer_allowed, inner_allowed, birth_allowed, status_allowed, process_begun_none, process_begun_one, process_begun_two, process_begun_three, process_begun_four, process_begun_five, process_stage}
+use Rattle.histar_login.proofs.ProcessStage.{read_allowed, write_allowed, outer_allowed, inner_allowed, birth_allowed, status_allowed}
+use Rattle.histar_login.proofs.ProcessStage.{process_begun_none, process_begun_one, process_begun_two, process_begun_three, process_begun_four}
+use Rattle.histar_login.proofs.ProcessStage.{process_begun_five, process_stage}
 use Rattle.histar_login.proofs.boot_calls.make_process.Goals as goal
 
 pub make_category-requires : goal.make_category-requires

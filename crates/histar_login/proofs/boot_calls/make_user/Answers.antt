@@ -4,7 +4,8 @@ use Rattle.histar_flat.proofs.WordLemmas.{short_password}
 use Rattle.histar_syscall.proofs.Runs.{same_kernel}
 use Rattle.histar_layout.specs.Categories.{owners_among, owners_of}
 use Rattle.histar_login.specs.Booting.{BeginsUser}
-use Rattle.histar_login.proofs.Stages.{password_allowed, login_allowed, user_begun_none, user_begun_one, user_boots, password_made, gate_made, gate_allowed_for}
+use Rattle.histar_login.proofs.Stages.{password_allowed, login_allowed, user_begun_none, user_begun_one, user_boots, password_made, gate_made}
+use Rattle.histar_login.proofs.Stages.{gate_allowed_for}
 use Rattle.histar_login.proofs.boot_calls.make_user.Goals as goal
 
 pub returns-in_err-owners-clause-err : goal.returns-in_err-owners-clause-err
@@ -17,20 +18,25 @@ pub make_password-requires : goal.make_password-requires
 make_password-requires g c =
     let way = c.requires.begins in
     rw c.as_bytes.ensures.value
-    (password_allowed c.args.accounts.now c.args.number c.args.user.now way.0 c.args.kernel.now way.1 way.3 way.2 c.ranges.number.fits c.requires.number
+    (password_allowed c.args.accounts.now c.args.number c.args.user.now way.0 c.args.kernel.now way.1 way.3 way.2
+    c.ranges.number.fits c.requires.number
     (omega (arith, short_password c.args.user.now.password c.as_bytes.ensures.right)))
 
 pub returns-in_err-make_password-clause-err : goal.returns-in_err-make_password-clause-err
 returns-in_err-make_password-clause-err g c =
     let begun : BeginsUser c.args.kernel.now c.make_password.new.kernel c.args.accounts.now c.args.number c.args.user.now = λ first p at b.
-    user_begun_none c.args.accounts.now c.args.number c.args.user.now first c.args.kernel.now p b c.make_password.new.kernel c.in_err-make_password.ensures in
+    user_begun_none c.args.accounts.now c.args.number c.args.user.now first c.args.kernel.now p b
+    c.make_password.new.kernel c.in_err-make_password.ensures in
     on_err _ _ begun
 
 pub make_login_gate-requires : goal.make_login_gate-requires
 make_login_gate-requires g c =
     let way = c.requires.begins in
-    gate_allowed_for c.make_password.new.kernel c.args.number c.as_slice.result.now c.in_ok-owners.owners.items (owners_of c.args.accounts.now c.args.number c.args.user.now.name)
-    c.as_slice.ensures.value (c.in_ok-owners.ensures ∙ (λ i. owners_among (length (c.users-users.ensures.users i)) (c.groups-groups.ensures.groups i) c.args.number c.args.user.now.name))
+    gate_allowed_for c.make_password.new.kernel c.args.number c.as_slice.result.now c.in_ok-owners.owners.items
+    (owners_of c.args.accounts.now c.args.number c.args.user.now.name)
+    c.as_slice.ensures.value (c.in_ok-owners.ensures
+    ∙ (λ i. owners_among (length (c.users-users.ensures.users i)) (c.groups-groups.ensures.groups i)
+    c.args.number c.args.user.now.name))
     (login_allowed c.args.accounts.now c.args.number c.args.user.now way.0 c.args.kernel.now way.1 way.3 c.make_password.new.kernel
     (password_made c.args.kernel.now c.make_password.new.kernel c.args.number _ _ c.as_bytes.ensures.value c.in_ok-make_password.ensures.0)
     way.2 c.ranges.number.fits c.requires.number)
@@ -48,4 +54,8 @@ returns-clause-ok g c = λ first p at b.
     user_boots c.args.accounts.now c.args.number c.args.user.now first c.args.kernel.now p b c.make_password.new.kernel
     (password_made c.args.kernel.now c.make_password.new.kernel c.args.number _ _ c.as_bytes.ensures.value c.in_ok-make_password.ensures.0)
     c.make_login_gate.new.kernel at
-    (gate_made c.make_password.new.kernel c.make_login_gate.new.kernel c.args.number c.as_slice.result.now (owners_of c.args.accounts.now c.args.number c.args.user.now.name) (c.as_slice.ensures.value ∙ c.in_ok-owners.ensures ∙ (λ i. owners_among (length (c.users-users.ensures.users i)) (c.groups-groups.ensures.groups i) c.args.number c.args.user.now.name)) c.in_ok-make_login_gate.ensures.0)
+    (gate_made c.make_password.new.kernel c.make_login_gate.new.kernel c.args.number c.as_slice.result.now
+    (owners_of c.args.accounts.now c.args.number c.args.user.now.name)
+    (c.as_slice.ensures.value ∙ c.in_ok-owners.ensures
+    ∙ (λ i. owners_among (length (c.users-users.ensures.users i)) (c.groups-groups.ensures.groups i)
+    c.args.number c.args.user.now.name)) c.in_ok-make_login_gate.ensures.0)

@@ -14,7 +14,8 @@ returns-in_err-kept g c =
     let segment = c.password_segment.result in
     fails_so t (ask_password i c.args.password) old new _ _ c.from_residual.ensures.1
     (asks_none t i c.args.password old new _
-    (reads t old new _ root segment i c.new.ensures c.password_segment.ensures (refuses t (Read root segment) old new _ c.in_err-kept.field-0.0 c.in_err-kept.ensures)))
+    (reads t old new _ root segment i c.new.ensures c.password_segment.ensures
+    (refuses t (Read root segment) old new _ c.in_err-kept.field-0.0 c.in_err-kept.ensures)))
 
 pub returns : goal.returns
 returns g c =
@@ -26,5 +27,6 @@ returns g c =
     let segment = c.password_segment.result in
     let kept = c.in_ok-kept.kept in
     asks_password t i c.args.password old new kept c.is_password.result
-    (reads t old new _ root segment i c.new.ensures c.password_segment.ensures (grants t (Read root segment) old new kept c.in_ok-kept.ensures.0 c.in_ok-kept.ensures.1))
+    (reads t old new _ root segment i c.new.ensures c.password_segment.ensures
+    (grants t (Read root segment) old new kept c.in_ok-kept.ensures.0 c.in_ok-kept.ensures.1))
     c.is_password.ensures

@@ -25,7 +25,8 @@ returns-in_err-entry g c =
     let raw = Enter c.new.result c.new-gate.result labels.wanted labels.clearance labels.verify in
     fails_so t (ask call) old new _ _ c.from_residual-in_err-entry.ensures.1
     (enters t old new _ c.args.owners.now c.args.number own c.new.result c.new-gate.result labels c.new.ensures
-    (c.new-gate.ensures ∙ ap (λ (n : ℕ). 2 + 2 * n) c.from.ensures) c.in_ok-wanted.ensures (refuses t raw old new _ c.in_err-entry.field-0.0 c.in_err-entry.ensures))
+    (c.new-gate.ensures ∙ ap (λ (n : ℕ). 2 + 2 * n) c.from.ensures) c.in_ok-wanted.ensures
+    (refuses t raw old new _ c.in_err-entry.field-0.0 c.in_err-entry.ensures))
 
 pub returns : goal.returns
 returns g c =

@@ -19,8 +19,11 @@ pub returns-in_default : goal.returns-in_default
 returns-in_default g c =
     let accounts = c.args.users.now in
     let caller = c.args.caller.now in
-    runs_as caller.thread (login_program accounts caller c.args.name c.args.password) (Answers (Refused ENOENT)) c.args.kernel.now c.args.kernel.now (Ok (Refused ENOENT))
-    (login_numbered accounts caller c.args.name c.args.password ∙ ap (login_of accounts caller c.args.name c.args.password) (sym c.number_of.ensures.number ∙ c.in_default.is))
+    runs_as caller.thread (login_program accounts caller c.args.name c.args.password) (Answers (Refused ENOENT))
+    c.args.kernel.now c.args.kernel.now (Ok (Refused ENOENT))
+    (login_numbered accounts caller c.args.name c.args.password
+    ∙ ap (login_of accounts caller c.args.name c.args.password)
+    (sym c.number_of.ensures.number ∙ c.in_default.is))
     (says caller.thread c.args.kernel.now (Refused ENOENT))
 
 pub returns-in_err-owners : goal.returns-in_err-owners
@@ -33,7 +36,9 @@ returns-in_err-owners g c =
     let number = c.in-Some.number in
     let program = login_as_program caller number (owners_of accounts number c.args.name) c.args.password in
     let at_number : login_program accounts caller c.args.name c.args.password ≡ program =
-    login_numbered accounts caller c.args.name c.args.password ∙ ap (login_of accounts caller c.args.name c.args.password) (sym c.number_of.ensures.number ∙ c.in-Some.is) in
+    login_numbered accounts caller c.args.name c.args.password
+    ∙ ap (login_of accounts caller c.args.name c.args.password) (sym c.number_of.ensures.number ∙ c.in-Some.is) in
     let error = err_from_is_err_and c.from_residual.result c.from_residual.ensures.1 in
     runs_as t (login_program accounts caller c.args.name c.args.password) program old old c.from_residual.result at_number
-    (subst (λ (result : Result Reply HasStopped). Runs program old old t result) (sym error.1) (call_fails t (ask OwnLabel) old old _ Stopped (before_ask t OwnLabel old)))
+    (subst (λ (result : Result Reply HasStopped). Runs program old old t result) (sym error.1)
+    (call_fails t (ask OwnLabel) old old _ Stopped (before_ask t OwnLabel old)))

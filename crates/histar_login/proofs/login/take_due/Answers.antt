@@ -13,7 +13,8 @@ returns-in_err-label g c =
     let owners = c.args.owners.now in
     let old = c.args.kernel.now in
     fails_so t (take_due c.args.right caller owners c.args.own) old old Stopped _ c.from_residual.ensures.1
-    (takes_none t c.args.right caller owners c.args.own old old Stopped (before_ask t (SetLabel (label_if c.args.right caller owners c.args.own.0)) old))
+    (takes_none t c.args.right caller owners c.args.own old old Stopped
+    (before_ask t (SetLabel (label_if c.args.right caller owners c.args.own.0)) old))
 
 pub returns-in_err-set_label : goal.returns-in_err-set_label
 returns-in_err-set_label g c =
@@ -25,7 +26,8 @@ returns-in_err-set_label g c =
     let label = c.in_ok-label.label in
     fails_so t (take_due c.args.right caller owners c.args.own) old mid _ _ c.from_residual-in_err-set_label.ensures.1
     (takes_none t c.args.right caller owners c.args.own old mid _
-    (takes_label t old mid _ label _ c.in_ok-label.ensures.0 (refuses t (SetLabel label) old mid _ c.in_err-set_label.field-0.0 c.in_err-set_label.ensures)))
+    (takes_label t old mid _ label _ c.in_ok-label.ensures.0
+    (refuses t (SetLabel label) old mid _ c.in_err-set_label.field-0.0 c.in_err-set_label.ensures)))
 
 pub returns-in_err-set_clearance : goal.returns-in_err-set_clearance
 returns-in_err-set_clearance g c =
@@ -55,4 +57,5 @@ returns g c =
     let clearance = c.in_ok-label.clearance in
     takes_due t c.args.right caller owners c.args.own old new mid
     (takes_label t old mid _ label _ c.in_ok-label.ensures.0 (grants t (SetLabel label) old mid tt c.in_ok-set_label.ensures.0 tt)) _
-    (takes_clearance t mid new _ clearance _ c.in_ok-label.ensures.1 (grants t (SetClearance clearance) mid new tt c.in_ok-set_clearance.ensures.0 tt))
+    (takes_clearance t mid new _ clearance _ c.in_ok-label.ensures.1
+    (grants t (SetClearance clearance) mid new tt c.in_ok-set_clearance.ensures.0 tt))

@@ -12,7 +12,9 @@ returns-in_err-unlink g c =
     let old = c.args.kernel.now in
     let end = c.unlink.new.self in
     fails_so t (take_away entry) old end _ _ c.from_residual.ensures.1
-    (unlink_fails t old end entry _ (unlinks t old end entry c.object.result c.object.ensures _ (refuses t (Unlink entry.place.container c.object.result) old end _ c.in_err-unlink.field-0.0 c.in_err-unlink.ensures)))
+    (unlink_fails t old end entry _ (unlinks t old end entry c.object.result c.object.ensures _ (refuses t
+    (Unlink entry.place.container c.object.result) old end _ c.in_err-unlink.field-0.0
+    c.in_err-unlink.ensures)))
 
 pub returns : goal.returns
 returns g c =
@@ -21,5 +23,8 @@ returns g c =
     let old = c.args.kernel.now in
     let mid = c.unlink.new.self in
     let end = c.write_entries.new.kernel in
-    takes_away t old end entry mid (unlinks t old mid entry c.object.result c.object.ensures _ (grants t (Unlink entry.place.container c.object.result) old mid tt c.in_ok-unlink.ensures.0 c.in_ok-unlink.ensures.1)) c.write_entries.result
-    (writes_due t mid end entry.place c.remove.new.self (map.remove entry.entries entry.name) c.remove.ensures.without c.write_entries.result c.write_entries.ensures)
+    takes_away t old end entry mid (unlinks t old mid entry c.object.result c.object.ensures _ (grants t
+    (Unlink entry.place.container c.object.result) old mid tt c.in_ok-unlink.ensures.0
+    c.in_ok-unlink.ensures.1)) c.write_entries.result
+    (writes_due t mid end entry.place c.remove.new.self (map.remove entry.entries entry.name) c.remove.ensures.without
+    c.write_entries.result c.write_entries.ensures)

@@ -30,9 +30,12 @@ returns-in_err-must_be_free g c =
     let end = c.find_entry.new.kernel in
     let name = c.args.name.now in
     let entry = c.in_ok-entry.entry in
-    call_fails_so t (rename_program c.args.roots.now c.args.path.now name) old end (Refused c.in_err-must_be_free.field-0.0) _ c.from_residual-in_err-must_be_free.ensures.1
+    call_fails_so t (rename_program c.args.roots.now c.args.path.now name) old end
+    (Refused c.in_err-must_be_free.field-0.0) _ c.from_residual-in_err-must_be_free.ensures.1
     (then_call t (find_entry c.args.roots.now c.args.path.now) old end _ end entry c.in_ok-entry.ensures.runs _
-    (is_refused t (must_be_free (map.get entry.entries name)) (λ _. write_entries entry.place (map.insert (map.remove entry.entries entry.name) name entry.target) (λ _. Answers Done)) end c.in_err-must_be_free.field-0.0 c.in_err-must_be_free.ensures))
+    (is_refused t (must_be_free (map.get entry.entries name))
+    (λ _. write_entries entry.place (map.insert (map.remove entry.entries entry.name) name entry.target)
+    (λ _. Answers Done)) end c.in_err-must_be_free.field-0.0 c.in_err-must_be_free.ensures))
 
 pub returns-in_err-entries : goal.returns-in_err-entries
 unfolding rename_program
@@ -45,8 +48,10 @@ returns-in_err-entries g c =
     let due = map.insert (map.remove entry.entries entry.name) name entry.target in
     call_fails_so t (rename_program c.args.roots.now c.args.path.now name) old end Stopped _ c.from_residual-in_err-entries.ensures.1
     (then_call t (find_entry c.args.roots.now c.args.path.now) old end _ end entry c.in_ok-entry.ensures.runs _
-    (goes_on t (must_be_free (map.get entry.entries name)) (λ _. write_entries entry.place due (λ _. Answers Done)) end end tt c.in_ok-must_be_free.ensures _
-    (call_fails t (write_entries entry.place due) end end (λ _. Answers Done) Stopped (before_ask t (Write entry.place.container entry.place.listing 0 (spelling due)) end))))
+    (goes_on t (must_be_free (map.get entry.entries name)) (λ _. write_entries entry.place due (λ _. Answers Done)) end
+    end tt c.in_ok-must_be_free.ensures _
+    (call_fails t (write_entries entry.place due) end end (λ _. Answers Done) Stopped
+    (before_ask t (Write entry.place.container entry.place.listing 0 (spelling due)) end))))
 
 pub returns-in_err-write_entries : goal.returns-in_err-write_entries
 unfolding rename_program
@@ -58,11 +63,14 @@ returns-in_err-write_entries g c =
     let name = c.args.name.now in
     let entry = c.in_ok-entry.entry in
     let due = map.insert (map.remove entry.entries entry.name) name entry.target in
-    call_fails_so t (rename_program c.args.roots.now c.args.path.now name) old end c.in_err-write_entries.field-0.0 _ c.from_residual-in_err-write_entries.ensures.1
+    call_fails_so t (rename_program c.args.roots.now c.args.path.now name) old end c.in_err-write_entries.field-0.0 _
+    c.from_residual-in_err-write_entries.ensures.1
     (then_call t (find_entry c.args.roots.now c.args.path.now) old end _ mid entry c.in_ok-entry.ensures.runs _
-    (goes_on t (must_be_free (map.get entry.entries name)) (λ _. write_entries entry.place due (λ _. Answers Done)) mid end tt c.in_ok-must_be_free.ensures _
+    (goes_on t (must_be_free (map.get entry.entries name)) (λ _. write_entries entry.place due (λ _. Answers Done)) mid
+    end tt c.in_ok-must_be_free.ensures _
     (call_fails t (write_entries entry.place due) mid end (λ _. Answers Done) c.in_err-write_entries.field-0.0
-    (writes_due t mid end entry.place c.in_ok-entries.entries due c.in_ok-entries.ensures (Err c.in_err-write_entries.field-0.0) c.in_err-write_entries.ensures))))
+    (writes_due t mid end entry.place c.in_ok-entries.entries due c.in_ok-entries.ensures
+    (Err c.in_err-write_entries.field-0.0) c.in_err-write_entries.ensures))))
 
 pub returns : goal.returns
 unfolding rename_program
@@ -75,6 +83,7 @@ returns g c =
     let entry = c.in_ok-entry.entry in
     let due = map.insert (map.remove entry.entries entry.name) name entry.target in
     then_call t (find_entry c.args.roots.now c.args.path.now) old end _ mid entry c.in_ok-entry.ensures.runs _
-    (goes_on t (must_be_free (map.get entry.entries name)) (λ _. write_entries entry.place due (λ _. Answers Done)) mid end tt c.in_ok-must_be_free.ensures _
+    (goes_on t (must_be_free (map.get entry.entries name)) (λ _. write_entries entry.place due (λ _. Answers Done)) mid
+    end tt c.in_ok-must_be_free.ensures _
     (then_call t (write_entries entry.place due) mid end (λ _. Answers Done) end tt
     (writes_due t mid end entry.place c.in_ok-entries.entries due c.in_ok-entries.ensures (Ok tt) c.in_ok-write_entries.ensures) _ (says t end Done)))

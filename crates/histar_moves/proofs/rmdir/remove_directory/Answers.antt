@@ -25,7 +25,8 @@ returns-in_err-place g c =
     let old = c.args.kernel.now in
     let end = c.find_entry.new.kernel in
     let entry = c.in_ok-entry.entry in
-    call_fails_so t (rmdir_program c.args.roots.now c.args.path.now) old end (Refused c.in_err-place.field-0.0) _ c.from_residual-in_err-place.ensures.1
+    call_fails_so t (rmdir_program c.args.roots.now c.args.path.now) old end (Refused c.in_err-place.field-0.0) _
+    c.from_residual-in_err-place.ensures.1
     (then_call t (find_entry c.args.roots.now c.args.path.now) old end _ end entry c.in_ok-entry.ensures.runs _
     (is_refused t (must_be_directory entry.target) (of_directory entry) end c.in_err-place.field-0.0 c.in_err-place.ensures))
 
@@ -53,11 +54,13 @@ returns-in_err-must_be_empty g c =
     let entry = c.in_ok-entry.entry in
     let place = c.in_ok-place.place in
     let directory = c.in_ok-directory.directory in
-    call_fails_so t (rmdir_program c.args.roots.now c.args.path.now) old end (Refused c.in_err-must_be_empty.field-0.0) _ c.from_residual-in_err-must_be_empty.ensures.1
+    call_fails_so t (rmdir_program c.args.roots.now c.args.path.now) old end (Refused c.in_err-must_be_empty.field-0.0)
+    _ c.from_residual-in_err-must_be_empty.ensures.1
     (then_call t (find_entry c.args.roots.now c.args.path.now) old end _ mid entry c.in_ok-entry.ensures.runs _
     (goes_on t (must_be_directory entry.target) (of_directory entry) mid end place c.in_ok-place.ensures _
     (then_call t (read_directory place) mid end (if_empty entry) end directory c.in_ok-directory.ensures _
-    (is_refused t (must_be_empty directory.entries) (λ _. take_away entry (λ _. Answers Done)) end c.in_err-must_be_empty.field-0.0 c.in_err-must_be_empty.ensures))))
+    (is_refused t (must_be_empty directory.entries) (λ _. take_away entry (λ _. Answers Done)) end
+    c.in_err-must_be_empty.field-0.0 c.in_err-must_be_empty.ensures))))
 
 pub returns-in_err-take_away : goal.returns-in_err-take_away
 unfolding rmdir_program

@@ -22,7 +22,8 @@ returns-in_err-take_away g c =
     let mid = c.find_entry.new.kernel in
     let end = c.take_away.new.kernel in
     let entry = c.in_ok-entry.entry in
-    call_fails_so t (rmtree_program c.args.roots.now c.args.path.now) old end c.in_err-take_away.field-0.0 _ c.from_residual-in_err-take_away.ensures.1
+    call_fails_so t (rmtree_program c.args.roots.now c.args.path.now) old end c.in_err-take_away.field-0.0 _
+    c.from_residual-in_err-take_away.ensures.1
     (then_call t (find_entry c.args.roots.now c.args.path.now) old end _ mid entry c.in_ok-entry.ensures.runs _
     (call_fails t (take_away entry) mid end (λ _. Answers Done) c.in_err-take_away.field-0.0 c.in_err-take_away.ensures))
 

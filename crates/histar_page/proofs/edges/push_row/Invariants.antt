@@ -9,5 +9,6 @@ decreases-cells l = length l.rest
 
 abbrev pub invariant-cells : goal.invariant-cells
 invariant-cells l =
-    (items_of l.pieces.items ++ row_edges l.path l.file l.index (texts l.rest) ≡ items_of l.fn.pieces.items ++ row_edges l.path l.file 0 (texts l.cells))
+    (items_of l.pieces.items ++ row_edges l.path l.file l.index (texts l.rest)
+    ≡ items_of l.fn.pieces.items ++ row_edges l.path l.file 0 (texts l.cells))
     × (l.index + length l.rest ≡ length l.cells)

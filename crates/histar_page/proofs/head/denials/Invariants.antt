@@ -9,4 +9,5 @@ decreases-calls l = length l.rest
 
 abbrev pub invariant-calls : goal.invariant-calls
 invariant-calls l =
-    (l.number + length (filter is_denied (texts l.rest)) ≡ length (filter is_denied (texts l.raw_calls))) × (l.number + length l.rest ≤ length l.raw_calls)
+    (l.number + length (filter is_denied (texts l.rest)) ≡ length (filter is_denied (texts l.raw_calls)))
+    × (l.number + length l.rest ≤ length l.raw_calls)

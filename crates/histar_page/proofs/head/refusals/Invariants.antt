@@ -9,4 +9,5 @@ decreases-replies l = length l.rest
 
 abbrev pub invariant-replies : goal.invariant-replies
 invariant-replies l =
-    (l.number + length (filter is_refused (texts l.rest)) ≡ length (filter is_refused (texts l.replies))) × (l.number + length l.rest ≤ length l.replies)
+    (l.number + length (filter is_refused (texts l.rest)) ≡ length (filter is_refused (texts l.replies)))
+    × (l.number + length l.rest ≤ length l.replies)

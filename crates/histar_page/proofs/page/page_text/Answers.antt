@@ -9,7 +9,8 @@ use Rattle.histar_page.proofs.page.page_text.Goals as goal
 pub returns : goal.returns
 returns c =
     let head =
-    part_written c.in_ok-head.head.items _ (none_written c.new-page.ensures.items) c.in_ok-render.ensures c.as_slice-2.ensures.value c.in_ok-head.ensures in
+    part_written c.in_ok-head.head.items _ (none_written c.new-page.ensures.items) c.in_ok-render.ensures
+    c.as_slice-2.ensures.value c.in_ok-head.ensures in
     let session = part_written c.in_ok-session.session.items _ head c.in_ok-render-2.ensures c.as_slice-3.ensures.value refl in
     let jobs = ap texts c.as_slice.ensures.value ∙ c.in_ok-jobs.ensures in
     let shown =

@@ -25,7 +25,8 @@ replies-preserved c =
       c.own_lines-why.ensures.fits,
       adds_as more c.own_lines-own.ensures.taken c.own_lines-why.ensures.taken refl
           (adds_call _ own why c.replies.invariant.2 c.in_ok-push_call.ensures
-          (subst (P own) c.split_word.ensures.word c.own_lines-own.ensures.own) (subst (P why) c.split_word.ensures.word c.own_lines-why.ensures.own)),
+          (subst (P own) c.split_word.ensures.word c.own_lines-own.ensures.own)
+          (subst (P why) c.split_word.ensures.word c.own_lines-why.ensures.own)),
       left_step _ _ _ more c.split_word.ensures.word c.own_lines-own.ensures.rest c.replies.invariant.3,
       left_step _ _ _ more c.split_word.ensures.word c.own_lines-why.ensures.rest c.replies.invariant.4,
     )

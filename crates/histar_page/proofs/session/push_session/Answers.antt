@@ -27,6 +27,8 @@ returns c =
     ∙ ap (λ k. drop k (texts c.args.raw_calls.now)) (sym (zero-add (length c.own_lines-boot.result.now))) ∙ c.own_lines-boot.ensures.rest in
     let numbers = sym (ap (λ l. codes "0" ∷ other_numbers replies l whys) left) in
     on_ok_weaker c.fix-2.result
-    (λ e. let P : List Item → Type 0 = AddsSession script replies (texts c.args.raw_calls.now) whys (session_numbers replies (texts c.args.raw_calls.now) whys) old in
+    (λ e. let P : List Item
+    → Type 0 = AddsSession script replies (texts c.args.raw_calls.now) whys
+    (session_numbers replies (texts c.args.raw_calls.now) whys) old in
     subst P (sym e) (adds_as refl (sym whole) refl numbers added))
     c.fix-2.ensures

@@ -5,7 +5,8 @@ use Rattle.histar_calls.specs.declared.call_error.CallError.TheVariants.{Stopped
 use Rattle.histar_calls.proofs.Running.{before_ask, fails_so}
 use Rattle.histar_process.specs.Birth.{birth}
 use Rattle.histar_process.specs.Kin.{Kin}
-use Rattle.histar_process.proofs.Births.{with_categories, without_categories, with_containers, without_containers, with_thread, without_thread, with_segment, without_segment, all_written, written_so}
+use Rattle.histar_process.proofs.Births.{with_categories, without_categories, with_containers, without_containers, with_thread, without_thread}
+use Rattle.histar_process.proofs.Births.{with_segment, without_segment, all_written, written_so}
 use Rattle.histar_process.proofs.birth.give_birth.Goals as goal
 
 pub returns-in_err-read : goal.returns-in_err-read
@@ -107,7 +108,9 @@ returns-in_err-grown g c = λ status revealed.
     (with_containers t parent status kin old end k1 k2 read write container internal c.in_ok-container.ensures _
     (with_thread t parent status kin old end k2 k3 read write container internal child c.in_ok-child.ensures _
     (with_segment t parent status kin old end k3 k4 read write container internal child its c.in_ok-its.ensures _
-    (all_written t parent status kin old end k4 container its (Err Stopped) (before_ask t (Write parent.container parent.segment 0 (status_bytes (with_child_listed container its status))) k4))))))
+    (all_written t parent status kin old end k4 container its (Err Stopped)
+    (before_ask t
+    (Write parent.container parent.segment 0 (status_bytes (with_child_listed container its status))) k4))))))
 
 pub returns : goal.returns
 returns g c = λ status revealed.

@@ -28,5 +28,7 @@ returns g c =
     let old = c.args.kernel.now in
     let mid = c.make_category.new.self in
     let end = c.make_category-2.new.self in
-    categories t old end mid c.in_ok-read.read (grants t MakeCategory old mid c.in_ok-read.read c.in_ok-read.ensures.0 c.in_ok-read.ensures.1) c.in_ok-write.write
+    categories t old end mid c.in_ok-read.read
+    (grants t MakeCategory old mid c.in_ok-read.read c.in_ok-read.ensures.0 c.in_ok-read.ensures.1)
+    c.in_ok-write.write
     (grants t MakeCategory mid end c.in_ok-write.write c.in_ok-write.ensures.0 c.in_ok-write.ensures.1)

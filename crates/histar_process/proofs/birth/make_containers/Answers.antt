@@ -29,7 +29,8 @@ returns-in_err-secret g c =
     let write = c.args.write in
     let end = c.make_guarded.new.kernel in
     fails_so t (make_containers parent jobs read write) old end Stopped _ c.from_residual-in_err-secret.ensures.1
-    (no_internal t old end parent jobs read write end c.in_ok-container.container c.in_ok-container.ensures Stopped (before_ask t (MakeContainer c.in_ok-container.container (guarded_by (read ∷ jobs) (write ∷ []))) end))
+    (no_internal t old end parent jobs read write end c.in_ok-container.container c.in_ok-container.ensures Stopped
+    (before_ask t (MakeContainer c.in_ok-container.container (guarded_by (read ∷ jobs) (write ∷ []))) end))
 
 pub returns-in_err-internal : goal.returns-in_err-internal
 returns-in_err-internal g c =
@@ -43,7 +44,9 @@ returns-in_err-internal g c =
     let end = c.make_guarded-2.new.kernel in
     fails_so t (make_containers parent jobs read write) old end c.in_err-internal.field-0.0 _ c.from_residual-in_err-internal.ensures.1
     (no_internal t old end parent jobs read write mid c.in_ok-container.container c.in_ok-container.ensures c.in_err-internal.field-0.0
-    (guarded_so t mid end c.in_ok-container.container _ (read ∷ jobs) write (c.as_slice.ensures.value ∙ c.in_ok-secret.ensures) (Err c.in_err-internal.field-0.0) c.in_err-internal.ensures))
+    (guarded_so t mid end c.in_ok-container.container _ (read ∷ jobs) write
+    (c.as_slice.ensures.value ∙ c.in_ok-secret.ensures) (Err c.in_err-internal.field-0.0)
+    c.in_err-internal.ensures))
 
 pub returns : goal.returns
 returns g c =
@@ -56,4 +59,5 @@ returns g c =
     let mid = c.make_guarded.new.kernel in
     let end = c.make_guarded-2.new.kernel in
     containers t old end parent jobs read write mid c.in_ok-container.container c.in_ok-container.ensures c.in_ok-internal.internal
-    (guarded_so t mid end c.in_ok-container.container _ (read ∷ jobs) write (c.as_slice.ensures.value ∙ c.in_ok-secret.ensures) (Ok c.in_ok-internal.internal) c.in_ok-internal.ensures)
+    (guarded_so t mid end c.in_ok-container.container _ (read ∷ jobs) write
+    (c.as_slice.ensures.value ∙ c.in_ok-secret.ensures) (Ok c.in_ok-internal.internal) c.in_ok-internal.ensures)

@@ -21,7 +21,9 @@ returns-in_err-made g c =
     let end = c.make_container.new.self in
     let due = guarded_by c.args.secret.now (c.args.write ∷ []) in
     fails_so t (ask (MakeContainer c.args.container due)) old end _ _ c.from_residual-in_err-made.ensures.1
-    (container_so t old end c.args.container _ due c.in_ok-label.ensures _ (refuses t (MakeContainer c.args.container c.in_ok-label.label) old end _ c.in_err-made.field-0.0 c.in_err-made.ensures))
+    (container_so t old end c.args.container _ due c.in_ok-label.ensures _
+    (refuses t (MakeContainer c.args.container c.in_ok-label.label) old end _ c.in_err-made.field-0.0
+    c.in_err-made.ensures))
 
 pub returns : goal.returns
 returns g c =
@@ -29,4 +31,6 @@ returns g c =
     let old = c.args.kernel.now in
     let end = c.make_container.new.self in
     let due = guarded_by c.args.secret.now (c.args.write ∷ []) in
-    container_so t old end c.args.container _ due c.in_ok-label.ensures _ (grants t (MakeContainer c.args.container c.in_ok-label.label) old end c.in_ok-made.made c.in_ok-made.ensures.0 c.in_ok-made.ensures.1.0)
+    container_so t old end c.args.container _ due c.in_ok-label.ensures _
+    (grants t (MakeContainer c.args.container c.in_ok-label.label) old end c.in_ok-made.made
+    c.in_ok-made.ensures.0 c.in_ok-made.ensures.1.0)

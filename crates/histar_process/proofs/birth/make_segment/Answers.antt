@@ -30,7 +30,8 @@ returns-in_err-made g c =
     let end = c.make_segment.new.self in
     let made = MakeSegment c.args.container c.in_ok-label.label c.in_ok-bytes.bytes in
     fails_so t (ask call) old end _ _ c.from_residual-in_err-made.ensures.1
-    (segment_so t old end c.args.container _ _ _ _ c.in_ok-label.ensures c.in_ok-bytes.ensures _ (refuses t made old end _ c.in_err-made.field-0.0 c.in_err-made.ensures))
+    (segment_so t old end c.args.container _ _ _ _ c.in_ok-label.ensures c.in_ok-bytes.ensures _
+    (refuses t made old end _ c.in_err-made.field-0.0 c.in_err-made.ensures))
 
 pub returns : goal.returns
 returns g c =
@@ -38,4 +39,5 @@ returns g c =
     let old = c.args.kernel.now in
     let end = c.make_segment.new.self in
     let made = MakeSegment c.args.container c.in_ok-label.label c.in_ok-bytes.bytes in
-    segment_so t old end c.args.container _ _ _ _ c.in_ok-label.ensures c.in_ok-bytes.ensures _ (grants t made old end c.in_ok-made.made c.in_ok-made.ensures.0 c.in_ok-made.ensures.1.0)
+    segment_so t old end c.args.container _ _ _ _ c.in_ok-label.ensures c.in_ok-bytes.ensures _
+    (grants t made old end c.in_ok-made.made c.in_ok-made.ensures.0 c.in_ok-made.ensures.1.0)

@@ -63,7 +63,10 @@ returns-in_err-made g c =
     let end = c.make_thread.new.self in
     let all = c.as_slice.ensures.value ∙ c.in_ok-all.ensures in
     let label_is = c.in_ok-label.ensures ∙ ap (λ (cs : List ℕ). owner_label cs jobs) all in
-    let clearance_is = c.in_ok-clearance.ensures ∙ ap cleared_at (c.as_slice-3.ensures.value ∙ c.in_ok-known.ensures ∙ ap (λ (cs : List ℕ). cs ++ jobs) (c.as_slice-2.ensures.value ∙ c.in_ok-all.ensures)) in
+    let clearance_is =
+    c.in_ok-clearance.ensures
+    ∙ ap cleared_at (c.as_slice-3.ensures.value ∙ c.in_ok-known.ensures
+    ∙ ap (λ (cs : List ℕ). cs ++ jobs) (c.as_slice-2.ensures.value ∙ c.in_ok-all.ensures)) in
     let made = MakeThread c.args.internal c.in_ok-label.label c.in_ok-clearance.clearance in
     fails_so t (ask call) old end _ _ c.from_residual-in_err-made.ensures.1
     (thread_so t old end c.args.internal _ _ _ _ label_is clearance_is _ (refuses t made old end _ c.in_err-made.field-0.0 c.in_err-made.ensures))
@@ -79,6 +82,10 @@ returns g c =
     let end = c.make_thread.new.self in
     let all = c.as_slice.ensures.value ∙ c.in_ok-all.ensures in
     let label_is = c.in_ok-label.ensures ∙ ap (λ (cs : List ℕ). owner_label cs jobs) all in
-    let clearance_is = c.in_ok-clearance.ensures ∙ ap cleared_at (c.as_slice-3.ensures.value ∙ c.in_ok-known.ensures ∙ ap (λ (cs : List ℕ). cs ++ jobs) (c.as_slice-2.ensures.value ∙ c.in_ok-all.ensures)) in
+    let clearance_is =
+    c.in_ok-clearance.ensures
+    ∙ ap cleared_at (c.as_slice-3.ensures.value ∙ c.in_ok-known.ensures
+    ∙ ap (λ (cs : List ℕ). cs ++ jobs) (c.as_slice-2.ensures.value ∙ c.in_ok-all.ensures)) in
     let made = MakeThread c.args.internal c.in_ok-label.label c.in_ok-clearance.clearance in
-    thread_so t old end c.args.internal _ _ _ _ label_is clearance_is _ (grants t made old end c.in_ok-made.made c.in_ok-made.ensures.0 c.in_ok-made.ensures.1.0)
+    thread_so t old end c.args.internal _ _ _ _ label_is clearance_is _
+    (grants t made old end c.in_ok-made.made c.in_ok-made.ensures.0 c.in_ok-made.ensures.1.0)

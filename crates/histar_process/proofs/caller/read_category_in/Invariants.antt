@@ -6,4 +6,6 @@ use Rattle.histar_process.proofs.Scanning.{first_passed}
 use Rattle.histar_process.proofs.caller.read_category_in.Given as goal
 
 abbrev pub invariant-loop-category : goal.invariant-loop-category
-invariant-loop-category l = read_category_in l.outer l.inner ≡ first_passed (λ e. is_three e.1 && not (is_three (level_of l.outer e.0))) (drop l.category-index l.exceptions)
+invariant-loop-category l =
+    read_category_in l.outer l.inner
+    ≡ first_passed (λ e. is_three e.1 && not (is_three (level_of l.outer e.0))) (drop l.category-index l.exceptions)

@@ -37,7 +37,9 @@ returns-in_err-bytes g c =
     let due = status_bytes (once_exited number status) in
     call_fails_so t (exit_program me number) old k1 Stopped _ c.from_residual-in_err-bytes.ensures.1
     (then_call t (read_status me) old k1 _ k1 status c.in_ok-head.ensures.2 _
-    (call_fails t (ask (Write me.container me.segment 0 due)) k1 k1 (λ _. ask (Unlink me.container status.internal) (λ _. Answers Done)) Stopped (before_ask t (Write me.container me.segment 0 due) k1)))
+    (call_fails t (ask (Write me.container me.segment 0 due)) k1 k1
+    (λ _. ask (Unlink me.container status.internal) (λ _. Answers Done)) Stopped
+    (before_ask t (Write me.container me.segment 0 due) k1)))
 
 pub returns-in_err-write_segment : goal.returns-in_err-write_segment
 unfolding exit_program
@@ -55,7 +57,10 @@ returns-in_err-write_segment g c =
     let k2 = c.write_segment.new.kernel in
     call_fails_so t (exit_program me number) old k2 c.in_err-write_segment.field-0.0 _ c.from_residual-in_err-write_segment.ensures.1
     (then_call t (read_status me) old k2 _ k1 status c.in_ok-head.ensures.2 _
-    (call_fails t (ask (Write me.container me.segment 0 due)) k1 k2 (λ _. ask (Unlink me.container status.internal) (λ _. Answers Done)) c.in_err-write_segment.field-0.0 (written_so t k1 k2 me c.in_ok-bytes.bytes due bytes_are (Err c.in_err-write_segment.field-0.0) c.in_err-write_segment.ensures)))
+    (call_fails t (ask (Write me.container me.segment 0 due)) k1 k2
+    (λ _. ask (Unlink me.container status.internal) (λ _. Answers Done)) c.in_err-write_segment.field-0.0
+    (written_so t k1 k2 me c.in_ok-bytes.bytes due bytes_are (Err c.in_err-write_segment.field-0.0)
+    c.in_err-write_segment.ensures)))
 
 pub returns-in_err-unlink : goal.returns-in_err-unlink
 unfolding exit_program
@@ -75,9 +80,13 @@ returns-in_err-unlink g c =
     let end = c.unlink.new.self in
     call_fails_so t (exit_program me number) old end _ _ c.from_residual-in_err-unlink.ensures.1
     (then_call t (read_status me) old end _ k1 status c.in_ok-head.ensures.2 _
-    (then_call t (ask (Write me.container me.segment 0 due)) k1 end (λ _. ask (Unlink me.container status.internal) (λ _. Answers Done)) k2 tt (written_so t k1 k2 me c.in_ok-bytes.bytes due bytes_are (Ok tt) c.in_ok-write_segment.ensures) _
+    (then_call t (ask (Write me.container me.segment 0 due)) k1 end
+    (λ _. ask (Unlink me.container status.internal) (λ _. Answers Done)) k2 tt
+    (written_so t k1 k2 me c.in_ok-bytes.bytes due bytes_are (Ok tt) c.in_ok-write_segment.ensures) _
     (call_fails t (ask (Unlink me.container status.internal)) k2 end (λ _. Answers Done) _
-    (unlinked_so t k2 end me.container me.container _ status.internal refl internal_is _ (refuses t (Unlink me.container c.in_ok-head.field-0.head.internal) k2 end _ c.in_err-unlink.field-0.0 c.in_err-unlink.ensures)))))
+    (unlinked_so t k2 end me.container me.container _ status.internal refl internal_is _
+    (refuses t (Unlink me.container c.in_ok-head.field-0.head.internal) k2 end _ c.in_err-unlink.field-0.0
+    c.in_err-unlink.ensures)))))
 
 pub returns : goal.returns
 unfolding exit_program
@@ -96,6 +105,10 @@ returns g c =
     let internal_is = ap (λ (h : StatusHead). h.internal) segment.head in
     let end = c.unlink.new.self in
     then_call t (read_status me) old end _ k1 status c.in_ok-head.ensures.2 _
-    (then_call t (ask (Write me.container me.segment 0 due)) k1 end (λ _. ask (Unlink me.container status.internal) (λ _. Answers Done)) k2 tt (written_so t k1 k2 me c.in_ok-bytes.bytes due bytes_are (Ok tt) c.in_ok-write_segment.ensures) _
+    (then_call t (ask (Write me.container me.segment 0 due)) k1 end
+    (λ _. ask (Unlink me.container status.internal) (λ _. Answers Done)) k2 tt
+    (written_so t k1 k2 me c.in_ok-bytes.bytes due bytes_are (Ok tt) c.in_ok-write_segment.ensures) _
     (then_call t (ask (Unlink me.container status.internal)) k2 end (λ _. Answers Done) end tt
-    (unlinked_so t k2 end me.container me.container _ status.internal refl internal_is (Ok tt) (grants t (Unlink me.container c.in_ok-head.field-0.head.internal) k2 end tt c.in_ok-unlink.ensures.0 tt)) _ (says t end Done)))
+    (unlinked_so t k2 end me.container me.container _ status.internal refl internal_is (Ok tt)
+    (grants t (Unlink me.container c.in_ok-head.field-0.head.internal) k2 end tt c.in_ok-unlink.ensures.0 tt)) _
+    (says t end Done)))

@@ -27,7 +27,8 @@ returns-in_err-child g c =
     let call = Read home.container home.segment in
     let left = subst (λ (r : Result _ _). ReadsLent old t home.container home.segment r end) c.in_ok-bytes.was c.read.follows.holds-at-none in
     fails_so t (look_up home c.args.number) old end Stopped _ c.from_residual-in_err-child.ensures.1
-    (look_none t old end home c.in_ok-bytes.bytes.now (grants t call old end c.in_ok-bytes.bytes.now left.0 left.1) c.args.number c.in_err-child.field-0.0 c.in_err-child.ensures)
+    (look_none t old end home c.in_ok-bytes.bytes.now (grants t call old end c.in_ok-bytes.bytes.now left.0 left.1)
+    c.args.number c.in_err-child.field-0.0 c.in_err-child.ensures)
 
 pub returns : goal.returns
 returns g c =
@@ -37,4 +38,5 @@ returns g c =
     let home = c.args.home.now in
     let call = Read home.container home.segment in
     let left = subst (λ (r : Result _ _). ReadsLent old t home.container home.segment r end) c.in_ok-bytes.was c.read.follows.holds-at-none in
-    looks t old end home c.in_ok-bytes.bytes.now (grants t call old end c.in_ok-bytes.bytes.now left.0 left.1) c.args.number c.in_ok-child.child c.in_ok-child.ensures
+    looks t old end home c.in_ok-bytes.bytes.now (grants t call old end c.in_ok-bytes.bytes.now left.0 left.1)
+    c.args.number c.in_ok-child.child c.in_ok-child.ensures

@@ -33,5 +33,6 @@ returns g c =
     let end = c.read_copy.new.self in
     let home = c.args.home.now in
     let call = Read home.container home.segment in
-    segment_read t old end home c.in_ok-bytes.bytes (grants t call old end c.in_ok-bytes.bytes c.in_ok-bytes.ensures.0 c.in_ok-bytes.ensures.1) c.in-Some.head
+    segment_read t old end home c.in_ok-bytes.bytes
+    (grants t call old end c.in_ok-bytes.bytes c.in_ok-bytes.ensures.0 c.in_ok-bytes.ensures.1) c.in-Some.head
     (subst (λ (bytes : List ℕ). Some c.in-Some.head ≡ option_map head_of (status_in bytes)) c.as_slice.ensures c.in-Some.ensures)

@@ -67,4 +67,5 @@ returns g c =
     let k3 = c.kill_known.new.kernel in
     then_call t (find_home roots.home c.args.above.now) old k3 _ k1 home c.in_ok-home.ensures _
     (then_call t (read_status home) k1 k3 _ k2 status c.in_ok-bytes.ensures.2 _
-    (then_call t (kill_known home status c.args.number) k2 k3 (λ _. Answers Done) k3 tt (c.in_ok-kill_known.ensures status status_is) _ (says t k3 Done)))
+    (then_call t (kill_known home status c.args.number) k2 k3 (λ _. Answers Done) k3 tt
+    (c.in_ok-kill_known.ensures status status_is) _ (says t k3 Done)))

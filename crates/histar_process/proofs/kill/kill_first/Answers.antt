@@ -20,7 +20,9 @@ returns-in_err-read_head g c =
     let old = c.args.kernel.now in
     let mid = c.read_head.new.kernel in
     call_fails_so t (kill_program roots []) old mid c.in_err-read_head.field-0.0 _ c.from_residual.ensures.1
-    (call_fails t (read_head home) old mid (λ (head : StatusHead). ask (Unlink root_number home.container) (λ _. Answers Done)) c.in_err-read_head.field-0.0 c.in_err-read_head.ensures)
+    (call_fails t (read_head home) old mid
+    (λ (head : StatusHead). ask (Unlink root_number home.container) (λ _. Answers Done))
+    c.in_err-read_head.field-0.0 c.in_err-read_head.ensures)
 
 pub returns-in_err-unlink : goal.returns-in_err-unlink
 unfolding kill_program read_head
@@ -32,9 +34,12 @@ returns-in_err-unlink g c =
     let mid = c.read_head.new.kernel in
     let end = c.unlink.new.self in
     call_fails_so t (kill_program roots []) old end _ _ c.from_residual-in_err-unlink.ensures.1
-    (then_call t (read_head home) old end (λ (head : StatusHead). ask (Unlink root_number home.container) (λ _. Answers Done)) mid c.in_ok-read_head.field-0 c.in_ok-read_head.ensures _
+    (then_call t (read_head home) old end
+    (λ (head : StatusHead). ask (Unlink root_number home.container) (λ _. Answers Done)) mid
+    c.in_ok-read_head.field-0 c.in_ok-read_head.ensures _
     (call_fails t (ask (Unlink root_number home.container)) mid end (λ _. Answers Done) _
-    (unlinked_so t mid end c.new.result root_number home.container home.container c.new.ensures refl _ (refuses t (Unlink c.new.result home.container) mid end _ c.in_err-unlink.field-0.0 c.in_err-unlink.ensures))))
+    (unlinked_so t mid end c.new.result root_number home.container home.container c.new.ensures refl _
+    (refuses t (Unlink c.new.result home.container) mid end _ c.in_err-unlink.field-0.0 c.in_err-unlink.ensures))))
 
 pub returns : goal.returns
 unfolding kill_program read_head
@@ -45,7 +50,10 @@ returns g c =
     let old = c.args.kernel.now in
     let mid = c.read_head.new.kernel in
     let end = c.unlink.new.self in
-    then_call t (read_head home) old end (λ (head : StatusHead). ask (Unlink root_number home.container) (λ _. Answers Done)) mid c.in_ok-read_head.field-0 c.in_ok-read_head.ensures _
+    then_call t (read_head home) old end
+    (λ (head : StatusHead). ask (Unlink root_number home.container) (λ _. Answers Done)) mid
+    c.in_ok-read_head.field-0 c.in_ok-read_head.ensures _
     (then_call t (ask (Unlink root_number home.container)) mid end (λ _. Answers Done) end tt
-    (unlinked_so t mid end c.new.result root_number home.container home.container c.new.ensures refl (Ok tt) (grants t (Unlink c.new.result home.container) mid end tt c.in_ok-unlink.ensures.0 tt)) _
+    (unlinked_so t mid end c.new.result root_number home.container home.container c.new.ensures refl (Ok tt)
+    (grants t (Unlink c.new.result home.container) mid end tt c.in_ok-unlink.ensures.0 tt)) _
     (says t end Done))

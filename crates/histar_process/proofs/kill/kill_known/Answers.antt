@@ -24,7 +24,8 @@ returns-in_err-child g c status is =
     let old = c.args.kernel.now in
     let errno = c.in_err-child.field-0.0 in
     let child_is = c.in_err-child.ensures ∙ ap must_be_there (found_is c.args.bytes.now status n c.in_ok-found.found is c.in_ok-found.ensures) in
-    fails_so t (kill_known home status n) old old (Refused errno) _ c.from_residual-in_err-child.ensures.1 (no_child t home status n old old errno child_is)
+    fails_so t (kill_known home status n) old old (Refused errno) _ c.from_residual-in_err-child.ensures.1
+    (no_child t home status n old old errno child_is)
 
 pub returns-in_err-read_head : goal.returns-in_err-read_head
 returns-in_err-read_head g c status is =
@@ -38,7 +39,8 @@ returns-in_err-read_head g c status is =
     let k1 = c.read_head.new.kernel in
     let call_error = c.in_err-read_head.field-0.0 in
     fails_so t (kill_known home status n) old k1 call_error _ c.from_residual-in_err-read_head.ensures.1
-    (not_read t home status n old k1 child child_is call_error (subst (λ (h : Home). RunsPart (read_head h) old k1 t (Err call_error)) its_is c.in_err-read_head.ensures))
+    (not_read t home status n old k1 child child_is call_error
+    (subst (λ (h : Home). RunsPart (read_head h) old k1 t (Err call_error)) its_is c.in_err-read_head.ensures))
 
 pub returns-in_err-without : goal.returns-in_err-without
 returns-in_err-without g c status is =
@@ -92,4 +94,5 @@ returns g c status is =
     let gone = unlinked_so t k1 k2 home.container home.container _ child.container refl gone_is (Ok tt)
     (grants t (Unlink home.container c.home_of-its.result.container) k1 k2 tt c.in_ok-unlink.ensures.0 tt) in
     unlinked t home status n old k3 child child_is k1 head head_read k2 gone c.write_segment.result
-    (written_so t k2 k3 home c.in_ok-without.without (status_bytes (without_child n status)) (c.in_ok-without.ensures status is) c.write_segment.result c.write_segment.ensures)
+    (written_so t k2 k3 home c.in_ok-without.without (status_bytes (without_child n status))
+    (c.in_ok-without.ensures status is) c.write_segment.result c.write_segment.ensures)

@@ -12,7 +12,8 @@ returns-then-number-len c =
     let users = c.args.users.now.users in
     let user = called c.name_at.result in
     let most : c.args.number ≤ length users = subst (λ (n : ℕ). c.args.number ≤ n) c.len.ensures.len c.if-number-len.true in
-    ap (λ (u : User). u.name) (sym (get_or_from_slice_get users (c.args.number - 1) user user c.name_at.ensures)) ∙ name_at users c.args.number user (omega arith) most
+    ap (λ (u : User). u.name) (sym (get_or_from_slice_get users (c.args.number - 1) user user c.name_at.ensures))
+    ∙ name_at users c.args.number user (omega arith) most
 
 pub returns : goal.returns
 returns c = c.nobody.ensures ∙ elim c.else-number-gt0.branch [

@@ -28,5 +28,8 @@ returns g c status is =
     let me = c.args.caller.now.home in
     let accounts = c.args.users.now in
     let own = c.args.own.now in
-    let kin_so = kin_is own accounts c.user_of.result c.is_in_job.result c.as_slice.result.now c.as_slice-2.result.now c.user_of.ensures c.is_in_job.ensures (c.as_slice.ensures.value ∙ c.in_ok-owned.ensures) (c.as_slice-2.ensures.value ∙ c.in_ok-jobs.ensures) in
+    let kin_so =
+    kin_is own accounts c.user_of.result c.is_in_job.result c.as_slice.result.now c.as_slice-2.result.now
+    c.user_of.ensures c.is_in_job.ensures (c.as_slice.ensures.value ∙ c.in_ok-owned.ensures)
+    (c.as_slice-2.ensures.value ∙ c.in_ok-jobs.ensures) in
     born_so t c.args.kernel.now c.give_birth.new.kernel me status _ (kin_of accounts own) kin_so c.give_birth.result (c.give_birth.ensures status is)

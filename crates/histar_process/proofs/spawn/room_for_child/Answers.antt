@@ -41,7 +41,8 @@ returns-in_err-must_have_room-2-clause-runs g c =
     let status = c.in_ok-segment.ensures.0 in
     let room_is = ap (λ (h : StatusHead). must_have_room (nat_lt h.born most_children)) c.in_ok-segment.ensures.1.head in
     room_fails_so t name home old end (Refused errno) _ c.from_residual-in_err-must_have_room-2.ensures.1
-    (room_fails t name home old end (c.in_ok-must_have_room.ensures ∙ depth_is) status c.in_ok-segment.ensures.2 errno (c.in_err-must_have_room-2.ensures ∙ room_is))
+    (room_fails t name home old end (c.in_ok-must_have_room.ensures ∙ depth_is) status c.in_ok-segment.ensures.2 errno
+    (c.in_err-must_have_room-2.ensures ∙ room_is))
 
 pub returns-clause-runs : goal.returns-clause-runs
 returns-clause-runs g c =
@@ -52,5 +53,9 @@ returns-clause-runs g c =
     let end = c.read_segment.new.kernel in
     let depth_is = ap (λ (ns : List ℕ). must_have_room (nat_lt (length ns) most_numbers)) c.numbers.ensures.value in
     let status = c.in_ok-segment.ensures.0 in
-    let room_is = ap (λ (h : StatusHead). must_have_room (nat_lt h.born most_children)) c.in_ok-segment.ensures.1.head in
-    (status, c.in_ok-segment.ensures.1, room_is_there t name home old end (c.in_ok-must_have_room.ensures ∙ depth_is) status c.in_ok-segment.ensures.2 (c.in_ok-must_have_room-2.ensures ∙ room_is))
+    let room_is = ap (λ (h : StatusHead). must_have_room (nat_lt h.born most_children)) c.in_ok-segment.ensures.1.head in (
+      status,
+      c.in_ok-segment.ensures.1,
+      room_is_there t name home old end (c.in_ok-must_have_room.ensures ∙ depth_is)
+          status c.in_ok-segment.ensures.2 (c.in_ok-must_have_room-2.ensures ∙ room_is),
+    )

@@ -13,7 +13,8 @@ returns-in_err-set_label g c =
     let old = c.args.kernel.now in
     let k1 = c.set_label.new.self in
     fails_so t (take_labels own) old k1 _ _ c.from_residual.ensures.1
-    (part_fails t (ask (SetLabel own.0)) old k1 (λ (done : Unit {0}). ask (SetClearance own.1)) _ (refuses t (SetLabel own.0) old k1 _ c.in_err-set_label.field-0.0 c.in_err-set_label.ensures))
+    (part_fails t (ask (SetLabel own.0)) old k1 (λ (done : Unit {0}). ask (SetClearance own.1)) _
+    (refuses t (SetLabel own.0) old k1 _ c.in_err-set_label.field-0.0 c.in_err-set_label.ensures))
 
 pub returns-in_err-set_clearance : goal.returns-in_err-set_clearance
 returns-in_err-set_clearance g c =
@@ -23,7 +24,8 @@ returns-in_err-set_clearance g c =
     let k1 = c.set_label.new.self in
     let k2 = c.set_clearance.new.self in
     fails_so t (take_labels own) old k2 _ _ c.from_residual-in_err-set_clearance.ensures.1
-    (then_part t (ask (SetLabel own.0)) old k2 (λ (done : Unit {0}). ask (SetClearance own.1)) k1 tt (grants t (SetLabel own.0) old k1 tt c.in_ok-set_label.ensures.0 tt) _
+    (then_part t (ask (SetLabel own.0)) old k2 (λ (done : Unit {0}). ask (SetClearance own.1)) k1 tt
+    (grants t (SetLabel own.0) old k1 tt c.in_ok-set_label.ensures.0 tt) _
     (refuses t (SetClearance own.1) k1 k2 _ c.in_err-set_clearance.field-0.0 c.in_err-set_clearance.ensures))
 
 pub returns : goal.returns
@@ -33,5 +35,6 @@ returns g c =
     let old = c.args.kernel.now in
     let k1 = c.set_label.new.self in
     let k2 = c.set_clearance.new.self in
-    then_part t (ask (SetLabel own.0)) old k2 (λ (done : Unit {0}). ask (SetClearance own.1)) k1 tt (grants t (SetLabel own.0) old k1 tt c.in_ok-set_label.ensures.0 tt) (Ok tt)
+    then_part t (ask (SetLabel own.0)) old k2 (λ (done : Unit {0}). ask (SetClearance own.1)) k1 tt
+    (grants t (SetLabel own.0) old k1 tt c.in_ok-set_label.ensures.0 tt) (Ok tt)
     (grants t (SetClearance own.1) k1 k2 tt c.in_ok-set_clearance.ensures.0 tt)

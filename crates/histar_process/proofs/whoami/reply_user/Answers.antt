@@ -31,5 +31,7 @@ returns g c =
     let number = c.user_of-number.result in
     let number_is = sym (user_is own (length users) number c.user_of-number.ensures) in
     let name_is = c.user_name.ensures ∙ ap (user_name users) number_is in
-    then_call t (ask OwnLabel) old end _ end (own, c.in_ok-own._most) (grants t OwnLabel old end (own, c.in_ok-own._most) c.in_ok-own.ensures.0 c.in_ok-own.ensures.1) _
-    (replies_so t end (User (user_name users (user_of own (length users))) (not (is_empty (jobs_in own)))) (User c.user_name.result c.is_in_job.result) (λ i. User (name_is i) (c.is_in_job.ensures i)))
+    then_call t (ask OwnLabel) old end _ end (own, c.in_ok-own._most)
+    (grants t OwnLabel old end (own, c.in_ok-own._most) c.in_ok-own.ensures.0 c.in_ok-own.ensures.1) _
+    (replies_so t end (User (user_name users (user_of own (length users))) (not (is_empty (jobs_in own))))
+    (User c.user_name.result c.is_in_job.result) (λ i. User (name_is i) (c.is_in_job.ensures i)))

@@ -4,4 +4,7 @@ use Rattle.histar_raw_explain.specs.Texts.{unmade_line}
 use Rattle.histar_raw_explain.proofs.lines.push_all_unmade.Given as goal
 
 abbrev pub invariant-loop-category : goal.invariant-loop-category
-invariant-loop-category g l = l.text.items ≡ l.fn.text.items ++ flat_map (unmade_line (g.V.Wording.words l.words) l.opening) (take l.category-index l.unmade)
+invariant-loop-category g l =
+    l.text.items
+    ≡ l.fn.text.items
+    ++ flat_map (unmade_line (g.V.Wording.words l.words) l.opening) (take l.category-index l.unmade)

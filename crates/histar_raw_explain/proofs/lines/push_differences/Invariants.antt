@@ -4,4 +4,8 @@ use Rattle.histar_raw_explain.specs.Texts.{difference_line}
 use Rattle.histar_raw_explain.proofs.lines.push_differences.Given as goal
 
 abbrev pub invariant-loop-difference : goal.invariant-loop-difference
-invariant-loop-difference g l = l.text.items ≡ l.fn.text.items ++ flat_map (difference_line (g.V.Wording.words l.words) l.opening l.reason.lower l.reason.upper) (take l.difference-index l.difference-items)
+invariant-loop-difference g l =
+    l.text.items
+    ≡ l.fn.text.items
+    ++ flat_map (difference_line (g.V.Wording.words l.words) l.opening l.reason.lower l.reason.upper)
+    (take l.difference-index l.difference-items)

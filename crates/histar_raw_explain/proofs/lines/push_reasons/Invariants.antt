@@ -4,4 +4,7 @@ use Rattle.histar_raw_explain.specs.Texts.{reason_lines}
 use Rattle.histar_raw_explain.proofs.lines.push_reasons.Given as goal
 
 abbrev pub invariant-loop-reason : goal.invariant-loop-reason
-invariant-loop-reason g l = l.text.items ≡ l.fn.text.items ++ flat_map (reason_lines (g.V.Wording.words l.words) l.opening) (take l.reason-index l.reasons)
+invariant-loop-reason g l =
+    l.text.items
+    ≡ l.fn.text.items
+    ++ flat_map (reason_lines (g.V.Wording.words l.words) l.opening) (take l.reason-index l.reasons)

@@ -7,4 +7,6 @@ pub returns-in_err-explain_last-clause-err : goal.returns-in_err-explain_last-cl
 returns-in_err-explain_last-clause-err g c = on_err _ _ (whole_begins _ _ _ _ c.args.asked c.in_ok-answer_call.ensures.ok)
 
 pub returns-clause-explained : goal.returns-clause-explained
-returns-clause-explained g c = one_explained c.args.kernel.now c.answer_call.new.kernel c.args.asked c.in_ok-explain_last.field-0.items c.in_ok-answer_call.ensures.made c.in_ok-explain_last.ensures
+returns-clause-explained g c =
+    one_explained c.args.kernel.now c.answer_call.new.kernel c.args.asked c.in_ok-explain_last.field-0.items
+    c.in_ok-answer_call.ensures.made c.in_ok-explain_last.ensures

@@ -11,7 +11,10 @@ use Rattle.histar_raw_explain.proofs.session.answer_calls.Goals as goal
 pub calls-preserved : goal.calls-preserved
 calls-preserved g c = record {
   answered = answers_more _ _ _ _ _ _ c.calls.yielded c.in-Some.asked c.calls.invariant.answered c.in_ok-lines.ensures.answered;
-  explained = rw (c.in_ok-extend_from_slice.ensures.items, c.as_slice.ensures.value) (explains_more _ _ _ c.calls.yielded c.in-Some.asked _ _ c.calls.invariant.explained c.in_ok-lines.ensures.explained);
+  explained =
+      rw (c.in_ok-extend_from_slice.ensures.items, c.as_slice.ensures.value)
+      (explains_more _ _ _ c.calls.yielded c.in-Some.asked _ _ c.calls.invariant.explained
+      c.in_ok-lines.ensures.explained);
   count = search rules;
 }
 
@@ -20,15 +23,21 @@ returns-in_err-lines-clause-err g c =
     let gives = c.into_iter-asked-iterator.ensures.into_iter_gives in
     let all = YieldsList-from_vec c.args.calls.items gives.0 (search rules) in
     let so_far = YieldsList-so_far all c.calls.yielded c.calls.asked-iterator c.calls.yielded_by in
-    let turn = YieldsList-turn all c.calls.yielded c.calls.asked-iterator c.calls.yielded_by c.next.result c.next.new.self c.in-Some.asked c.in-Some.is c.next.ensures.steps in
+    let turn =
+    YieldsList-turn all c.calls.yielded c.calls.asked-iterator c.calls.yielded_by c.next.result c.next.new.self
+    c.in-Some.asked c.in-Some.is c.next.ensures.steps in
     let parts = parts_at c.args.calls.items c.calls.yielded c.in-Some.asked (sym (map-id c.calls.yielded) ∙ so_far) turn in
-    on_err _ _ (begins_more _ _ _ _ _ _ c.args.calls.items c.calls.yielded _ c.in-Some.asked parts c.calls.invariant.answered c.in_err-lines.ensures.err)
+    on_err _ _ (begins_more _ _ _ _ _ _ c.args.calls.items c.calls.yielded _ c.in-Some.asked parts c.calls.invariant.answered
+    c.in_err-lines.ensures.err)
 
 pub returns-in_err-extend_from_slice-clause-err : goal.returns-in_err-extend_from_slice-clause-err
 returns-in_err-extend_from_slice-clause-err g c =
     let gives = c.into_iter-asked-iterator.ensures.into_iter_gives in
     let all = YieldsList-from_vec c.args.calls.items gives.0 (search rules) in
     let so_far = YieldsList-so_far all c.calls.yielded c.calls.asked-iterator c.calls.yielded_by in
-    let turn = YieldsList-turn all c.calls.yielded c.calls.asked-iterator c.calls.yielded_by c.next.result c.next.new.self c.in-Some.asked c.in-Some.is c.next.ensures.steps in
+    let turn =
+    YieldsList-turn all c.calls.yielded c.calls.asked-iterator c.calls.yielded_by c.next.result c.next.new.self
+    c.in-Some.asked c.in-Some.is c.next.ensures.steps in
     let parts = parts_at c.args.calls.items c.calls.yielded c.in-Some.asked (sym (map-id c.calls.yielded) ∙ so_far) turn in
-    on_err _ _ (begins_more _ _ _ _ _ _ c.args.calls.items c.calls.yielded _ c.in-Some.asked parts c.calls.invariant.answered (whole_begins _ _ _ _ c.in-Some.asked c.in_ok-lines.ensures.answered))
+    on_err _ _ (begins_more _ _ _ _ _ _ c.args.calls.items c.calls.yielded _ c.in-Some.asked parts c.calls.invariant.answered
+    (whole_begins _ _ _ _ c.in-Some.asked c.in_ok-lines.ensures.answered))

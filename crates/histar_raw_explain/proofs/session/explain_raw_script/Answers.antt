@@ -17,10 +17,14 @@ returns-in_err-input-clause-runs g c =
     rw (p.1, p.2) (stops_reading ExplainsSession BeginsExplained c.in_err-input.field-0.0 _ _ _ c.in_err-input.ensures.err)
 
 pub returns-in_err-input-clause-known : goal.returns-in_err-input-clause-known
-returns-in_err-input-clause-known g c = input_known ExplainsSession BeginsExplained short_explained short_begun _ _ _ _ _ (returns-in_err-input-clause-runs g c)
+returns-in_err-input-clause-known g c =
+    input_known ExplainsSession BeginsExplained short_explained short_begun _ _ _ _ _
+    (returns-in_err-input-clause-runs g c)
 
 pub returns-clause-runs : goal.returns-clause-runs
-returns-clause-runs g c = runs_taken ExplainsSession BeginsExplained _ _ _ _ c.in_ok-input.input.items c.as_slice.result.now _ c.in_ok-input.ensures.ok c.as_slice.ensures.value c.explain_text.ensures.runs c.explain_text.ensures.reads
+returns-clause-runs g c =
+    runs_taken ExplainsSession BeginsExplained _ _ _ _ c.in_ok-input.input.items c.as_slice.result.now _
+    c.in_ok-input.ensures.ok c.as_slice.ensures.value c.explain_text.ensures.runs c.explain_text.ensures.reads
 
 pub returns-clause-known : goal.returns-clause-known
 returns-clause-known g c = input_known ExplainsSession BeginsExplained short_explained short_begun _ _ _ _ _ (returns-clause-runs g c)

@@ -9,7 +9,10 @@ loop-rest-preserved-in_ok-push c =
     let counted = c.loop-rest.invariant.counted in
     let shorter = c.split_line.ensures.shorter in
     let line = c.split_line.result.0.now in record {
-      so_far = rw c.in_ok-push.ensures.items (read_one c.args.text.now c.loop-rest.rest.now c.split_line.result.1.now line c.loop-rest.count c.loop-rest.calls.items c.in_ok-read_call.field-0 so c.split_line.ensures.first c.in_ok-read_call.ensures.ok);
+      so_far =
+          rw c.in_ok-push.ensures.items (read_one c.args.text.now c.loop-rest.rest.now c.split_line.result.1.now line c.loop-rest.count
+          c.loop-rest.calls.items c.in_ok-read_call.field-0 so c.split_line.ensures.first
+          c.in_ok-read_call.ensures.ok);
       counted = omega (arith, counted, shorter);
     }
 
@@ -20,7 +23,9 @@ loop-rest-preserved c =
     let shorter = c.split_line.ensures.shorter in
     let line = c.split_line.result.0.now in
     let comment : is_comment line ≡ true = sym c.if-not-is_comment.ensures in record {
-      so_far = read_comment c.args.text.now c.loop-rest.rest.now c.split_line.result.1.now line c.loop-rest.count c.loop-rest.calls.items so c.split_line.ensures.first comment;
+      so_far =
+          read_comment c.args.text.now c.loop-rest.rest.now c.split_line.result.1.now line c.loop-rest.count
+          c.loop-rest.calls.items so c.split_line.ensures.first comment;
       counted = omega (arith, counted, shorter);
     }
 

@@ -18,6 +18,9 @@ returns-in_err-answer_call-clause-err g c =
     let gives = c.into_iter-asked-iterator.ensures.into_iter_gives in
     let all = YieldsList-from_vec c.args.calls.items gives.0 (search rules) in
     let so_far = YieldsList-so_far all c.calls.yielded c.calls.asked-iterator c.calls.yielded_by in
-    let turn = YieldsList-turn all c.calls.yielded c.calls.asked-iterator c.calls.yielded_by c.next.result c.next.new.self c.in-Some.asked c.in-Some.is c.next.ensures.steps in
+    let turn =
+    YieldsList-turn all c.calls.yielded c.calls.asked-iterator c.calls.yielded_by c.next.result c.next.new.self
+    c.in-Some.asked c.in-Some.is c.next.ensures.steps in
     let parts = parts_at c.args.calls.items c.calls.yielded c.in-Some.asked (sym (map-id c.calls.yielded) ∙ so_far) turn in
-    rw p.1 (begins_more _ _ _ _ _ _ c.args.calls.items c.calls.yielded _ c.in-Some.asked parts c.calls.invariant.answered c.in_err-answer_call.ensures.err)
+    rw p.1 (begins_more _ _ _ _ _ _ c.args.calls.items c.calls.yielded _ c.in-Some.asked parts c.calls.invariant.answered
+    c.in_err-answer_call.ensures.err)

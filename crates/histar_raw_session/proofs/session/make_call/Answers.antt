@@ -6,23 +6,35 @@ use Rattle.histar_raw_session.proofs.CallsAnswered.{granted, denied, made_on_lin
 use Rattle.histar_raw_session.proofs.session.make_call.Goals as goal
 
 pub returns-in-Ok-clause-prints : goal.returns-in-Ok-clause-prints
-returns-in-Ok-clause-prints g c = granted (state c.args.kernel.now) c.begin.new.self c.call.new.self c.args.asked c.in-Ok.answer (λ line. line.items) c.answer_line.result (ap state c.begin.ensures) c.in-Ok.ensures.answered.0 c.in-Ok.ensures.answered.1 c.answer_line.ensures
+returns-in-Ok-clause-prints g c =
+    granted (state c.args.kernel.now) c.begin.new.self c.call.new.self c.args.asked c.in-Ok.answer (λ line. line.items)
+    c.answer_line.result (ap state c.begin.ensures) c.in-Ok.ensures.answered.0 c.in-Ok.ensures.answered.1
+    c.answer_line.ensures
 
 pub returns-in-Ok-clause-made : goal.returns-in-Ok-clause-made
-returns-in-Ok-clause-made g c = made_on_line c.args.kernel.now c.begin.new.self c.call.new.self c.args.asked None c.answer_line.result c.begin.ensures c.in-Ok.ensures.answered.0
+returns-in-Ok-clause-made g c =
+    made_on_line c.args.kernel.now c.begin.new.self c.call.new.self c.args.asked None c.answer_line.result
+    c.begin.ensures c.in-Ok.ensures.answered.0
 
 pub returns-in-Err-Denied-clause-prints : goal.returns-in-Err-Denied-clause-prints
 returns-in-Err-Denied-clause-prints g c =
     let old = c.begin.new.self in
     let t = c.args.asked.thread in
     let call = c.args.asked.call in
-    let called = subst (λ (refusal : Refusal). Answered old c.call.new.self t call (Err refusal) (λ revealed. raw_answer (state old) t call ≡ Some revealed)) c.in-Err-Denied.field-0-is c.in-Err-Denied.ensures.answered in
-    denied (state c.args.kernel.now) old c.call.new.self c.args.asked c.in-Err-Denied.denied (λ line. line.items) c.denial_line.result (ap state c.begin.ensures) called c.denial_line.ensures
+    let called =
+    subst (λ (refusal : Refusal). Answered old c.call.new.self t call (Err refusal)
+    (λ revealed. raw_answer (state old) t call ≡ Some revealed)) c.in-Err-Denied.field-0-is
+    c.in-Err-Denied.ensures.answered in
+    denied (state c.args.kernel.now) old c.call.new.self c.args.asked c.in-Err-Denied.denied (λ line. line.items)
+    c.denial_line.result (ap state c.begin.ensures) called c.denial_line.ensures
 
 pub returns-in-Err-Denied-clause-made : goal.returns-in-Err-Denied-clause-made
 returns-in-Err-Denied-clause-made g c =
     let old = c.begin.new.self in
     let t = c.args.asked.thread in
     let call = c.args.asked.call in
-    let called = subst (λ (refusal : Refusal). Answered old c.call.new.self t call (Err refusal) (λ revealed. raw_answer (state old) t call ≡ Some revealed)) c.in-Err-Denied.field-0-is c.in-Err-Denied.ensures.answered in
+    let called =
+    subst (λ (refusal : Refusal). Answered old c.call.new.self t call (Err refusal)
+    (λ revealed. raw_answer (state old) t call ≡ Some revealed)) c.in-Err-Denied.field-0-is
+    c.in-Err-Denied.ensures.answered in
     made_on_line c.args.kernel.now old c.call.new.self c.args.asked (Some c.in-Err-Denied.denied) c.denial_line.result c.begin.ensures called

@@ -20,13 +20,15 @@ pub returns-then-ne : goal.returns-then-ne
 returns-then-ne c t call is =
     let read = ap thread_call_in (sym is.0) ∙ thread_call_again t call is.1 is.2 in
     let same = same_Some c.in-Ok.asked (t, call) (sym c.in-Ok.ensures ∙ read) in
-    let written : c.as_slice.result.now ≡ c.args.line.now = c.as_slice.ensures.value ∙ c.in_ok-text.ensures ∙ ap (λ asked. thread_call_text asked.0 asked.1) same ∙ is.0 in
+    let written : c.as_slice.result.now ≡ c.args.line.now =
+    c.as_slice.ensures.value ∙ c.in_ok-text.ensures ∙ ap (λ asked. thread_call_text asked.0 asked.1) same ∙ is.0 in
     let equal = (bytes_eq-Decides c.as_slice.result.now c.args.line.now).1 written in
     cc (c.if-ne.ensures ∙ ap not equal)
 
 pub returns : goal.returns
 returns c =
-    let equal : bytes_eq c.as_slice.result.now c.args.line.now ≡ true = not-false (bytes_eq c.as_slice.result.now c.args.line.now) (sym c.if-ne.ensures) in
+    let equal : bytes_eq c.as_slice.result.now c.args.line.now ≡ true =
+    not-false (bytes_eq c.as_slice.result.now c.args.line.now) (sym c.if-ne.ensures) in
     let written = (bytes_eq-Decides c.as_slice.result.now c.args.line.now).0 equal in
     let right = thread_call_right c.args.line.now c.in-Ok.asked c.in-Ok.ensures in
     (sym c.in_ok-text.ensures ∙ sym c.as_slice.ensures.value ∙ written, right.0, right.1)

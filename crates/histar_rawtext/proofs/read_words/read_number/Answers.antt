@@ -26,6 +26,9 @@ returns-then-ne c = no_number c.args.word.now (λ n small is.
 
 pub returns : goal.returns
 returns c =
-    let equal : bytes_eq c.as_bytes.result.now c.args.word.now ≡ true = not-false (bytes_eq c.as_bytes.result.now c.args.word.now) (sym c.if-ne.ensures) in
-    let written : c.args.word.now ≡ decimal c.in-Ok-parse.number = sym ((bytes_eq-Decides c.as_bytes.result.now c.args.word.now).0 equal) ∙ c.as_bytes.ensures.value ∙ c.format.ensures.text in
+    let equal : bytes_eq c.as_bytes.result.now c.args.word.now ≡ true =
+    not-false (bytes_eq c.as_bytes.result.now c.args.word.now) (sym c.if-ne.ensures) in
+    let written : c.args.word.now ≡ decimal c.in-Ok-parse.number =
+    sym ((bytes_eq-Decides c.as_bytes.result.now c.args.word.now).0 equal) ∙ c.as_bytes.ensures.value
+    ∙ c.format.ensures.text in
     ap number_in written ∙ number_again c.in-Ok-parse.number (omega arith)

@@ -13,7 +13,12 @@ returns c =
     let own = c.args.own.now in
     let number = c.user_of-number.result in
     let number_is = sym (user_is own (length accounts.users) number c.user_of-number.ensures) in
-    let kin = kin_is own accounts number c.is_in_job.result c.in_ok-as_user.as_user.items (jobs_in own) c.user_of-number.ensures c.is_in_job.ensures c.in_ok-as_user.ensures refl in
-    let known_is = c.as_slice-2.ensures.value ∙ c.in_ok-known.ensures ∙ ap (λ (l : List ℕ). c.args.caller.now.read ∷ c.args.caller.now.write ∷ l) (c.as_slice.ensures.value ∙ ap (λ (k : Kin). k.owned) kin) in
+    let kin =
+    kin_is own accounts number c.is_in_job.result c.in_ok-as_user.as_user.items (jobs_in own)
+    c.user_of-number.ensures c.is_in_job.ensures c.in_ok-as_user.ensures refl in
+    let known_is =
+    c.as_slice-2.ensures.value ∙ c.in_ok-known.ensures
+    ∙ ap (λ (l : List ℕ). c.args.caller.now.read ∷ c.args.caller.now.write ∷ l)
+    (c.as_slice.ensures.value ∙ ap (λ (k : Kin). k.owned) kin) in
     let held_is = c.new.ensures ∙ c.in_ok-held.ensures ∙ ap (λ (l : List ℕ). owned_beside l own) known_is in
     λ i. Running ((c.user_name.ensures ∙ ap (user_name accounts.users) number_is) i) (held_is i)

@@ -5,11 +5,15 @@ use Rattle.histar_readout.proofs.AddingProcesses.{adds_none, adds_nothing, adds_
 use Rattle.histar_readout.proofs.processes.+push_process.Goals as goal
 
 pub births-init : goal.births-init
-births-init g t c = adds_none c.args.users.now (state c.args.kernel.now) c.args.found.now.name c.args.found.now.home.segment c.in_ok-node.node.born c.push.new.self.items
+births-init g t c =
+    adds_none c.args.users.now (state c.args.kernel.now) c.args.found.now.name c.args.found.now.home.segment
+    c.in_ok-node.node.born c.push.new.self.items
 
 pub births-preserved-in_default : goal.births-preserved-in_default
 births-preserved-in_default g t c =
-    adds_nothing c.args.users.now (state c.args.kernel.now) c.args.found.now.name c.args.found.now.home.segment c.in_ok-node.node.born c.births.births c.push.new.self.items c.births.processes.items c.births.processes.items c.births-test.true c.births.invariant
+    adds_nothing c.args.users.now (state c.args.kernel.now) c.args.found.now.name c.args.found.now.home.segment
+    c.in_ok-node.node.born c.births.births c.push.new.self.items c.births.processes.items c.births.processes.items
+    c.births-test.true c.births.invariant
     (sym c.child_of.ensures ∙ c.in_default.is)
 
 pub returns-then-numbers-eq-MOST_NUMBERS : goal.returns-then-numbers-eq-MOST_NUMBERS
@@ -19,8 +23,11 @@ returns-then-numbers-eq-MOST_NUMBERS g t c =
     let me = c.args.found.now.name in
     let home = c.args.found.now.home in
     let node = c.in_ok-node.node in
-    after_node accounts s me home node c.in_ok-node.ensures c.args.processes.now.items c.push.new.self.items c.births.processes.items c.in_ok-push.ensures.items (Err NoProcess)
-    (no_level_more accounts s me home.segment node.born c.births.births c.push.new.self.items c.births.processes.items c.births.processes.items c.births-test.true c.births.invariant c.in-Some.child (sym c.child_of.ensures ∙ c.in-Some.is)
+    after_node accounts s me home node c.in_ok-node.ensures c.args.processes.now.items c.push.new.self.items
+    c.births.processes.items c.in_ok-push.ensures.items (Err NoProcess)
+    (no_level_more accounts s me home.segment node.born c.births.births c.push.new.self.items c.births.processes.items
+    c.births.processes.items c.births-test.true c.births.invariant c.in-Some.child
+    (sym c.child_of.ensures ∙ c.in-Some.is)
     (sym (ap length c.numbers.ensures.value) ∙ c.if-numbers-eq-MOST_NUMBERS.true))
 
 pub returns-in_err-push_process : goal.returns-in_err-push_process
@@ -30,16 +37,24 @@ returns-in_err-push_process g t c =
     let me = c.args.found.now.name in
     let home = c.args.found.now.home in
     let node = c.in_ok-node.node in
-    after_node accounts s me home node c.in_ok-node.ensures c.args.processes.now.items c.push.new.self.items c.push_process.new.processes.items c.in_ok-push.ensures.items c.from_residual-in_err-push_process.result
-    (fails_below accounts s me home.segment node.born c.births.births c.push.new.self.items c.births.processes.items c.push_process.new.processes.items c.births-test.true c.births.invariant c.in-Some.child (sym c.child_of.ensures ∙ c.in-Some.is)
-    c.requires (λ e. c.if-numbers-eq-MOST_NUMBERS.false (ap length c.numbers.ensures.value ∙ e)) c.child.result c.home_of.result c.child.ensures c.home_of.ensures
-    c.in_err-push_process.field-0.0 c.from_residual-in_err-push_process.result c.from_residual-in_err-push_process.ensures.1 c.in_err-push_process.ensures)
+    after_node accounts s me home node c.in_ok-node.ensures c.args.processes.now.items c.push.new.self.items
+    c.push_process.new.processes.items c.in_ok-push.ensures.items c.from_residual-in_err-push_process.result
+    (fails_below accounts s me home.segment node.born c.births.births c.push.new.self.items c.births.processes.items
+    c.push_process.new.processes.items c.births-test.true c.births.invariant c.in-Some.child
+    (sym c.child_of.ensures ∙ c.in-Some.is)
+    c.requires (λ e. c.if-numbers-eq-MOST_NUMBERS.false (ap length c.numbers.ensures.value ∙ e)) c.child.result
+    c.home_of.result c.child.ensures c.home_of.ensures
+    c.in_err-push_process.field-0.0 c.from_residual-in_err-push_process.result
+    c.from_residual-in_err-push_process.ensures.1 c.in_err-push_process.ensures)
 
 pub births-preserved : goal.births-preserved
 births-preserved g t c =
-    child_more c.args.users.now (state c.args.kernel.now) c.args.found.now.name c.args.found.now.home.segment c.in_ok-node.node.born c.births.births c.push.new.self.items c.births.processes.items c.push_process.new.processes.items c.births-test.true c.births.invariant
+    child_more c.args.users.now (state c.args.kernel.now) c.args.found.now.name c.args.found.now.home.segment
+    c.in_ok-node.node.born c.births.births c.push.new.self.items c.births.processes.items
+    c.push_process.new.processes.items c.births-test.true c.births.invariant
     c.in-Some.child (sym c.child_of.ensures ∙ c.in-Some.is)
-    c.requires (λ e. c.if-numbers-eq-MOST_NUMBERS.false (ap length c.numbers.ensures.value ∙ e)) c.child.result c.home_of.result c.child.ensures c.home_of.ensures
+    c.requires (λ e. c.if-numbers-eq-MOST_NUMBERS.false (ap length c.numbers.ensures.value ∙ e)) c.child.result
+    c.home_of.result c.child.ensures c.home_of.ensures
     c.in_ok-push_process.ensures
 
 pub returns : goal.returns
@@ -50,5 +65,6 @@ returns g t c =
     let home = c.args.found.now.home in
     let node = c.in_ok-node.node in
     let last : c.births.births ≡ node.born = omega arith in
-    after_node accounts s me home node c.in_ok-node.ensures c.args.processes.now.items c.push.new.self.items c.births.processes.items c.in_ok-push.ensures.items (Ok tt)
+    after_node accounts s me home node c.in_ok-node.ensures c.args.processes.now.items c.push.new.self.items
+    c.births.processes.items c.in_ok-push.ensures.items (Ok tt)
     (adds_all accounts s me home.segment node.born c.births.births c.push.new.self.items c.births.processes.items last c.births.invariant)

@@ -9,4 +9,6 @@ abbrev pub decreases-push_process : goal.decreases-push_process
 decreases-push_process g l = most_numbers - length l.found.now.name
 
 abbrev pub invariant-births : goal.invariant-births
-invariant-births g l = AddsBirths l.users (state l.kernel) l.found.name l.found.home.segment l.born l.births l.initial.processes.items l.processes.items
+invariant-births g l =
+    AddsBirths l.users (state l.kernel) l.found.name l.found.home.segment l.born l.births l.initial.processes.items
+    l.processes.items

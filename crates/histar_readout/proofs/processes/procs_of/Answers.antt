@@ -4,10 +4,14 @@ use Rattle.histar_readout.proofs.processes.procs_of.Goals as goal
 
 pub returns-in-Ok : goal.returns-in-Ok
 returns-in-Ok g c =
-    processes_added c.args.users.now (state c.args.kernel.now) c.args.roots.now c.zero.result c.zero.ensures c.new-processes.result.items c.push_process.new.processes.items c.push_process.result c.push_process.ensures c.in-Ok.field-0 c.in-Ok.is
+    processes_added c.args.users.now (state c.args.kernel.now) c.args.roots.now c.zero.result c.zero.ensures
+    c.new-processes.result.items c.push_process.new.processes.items c.push_process.result c.push_process.ensures
+    c.in-Ok.field-0 c.in-Ok.is
     c.new-processes.ensures.items
 
 pub returns-in-Err-NoProcess : goal.returns-in-Err-NoProcess
 returns-in-Err-NoProcess g c =
-    no_processes_added c.args.users.now (state c.args.kernel.now) c.args.roots.now c.zero.result c.zero.ensures c.new-processes.result.items c.push_process.new.processes.items c.push_process.result c.push_process.ensures c.in-Err-NoProcess.field-0
+    no_processes_added c.args.users.now (state c.args.kernel.now) c.args.roots.now c.zero.result c.zero.ensures
+    c.new-processes.result.items c.push_process.new.processes.items c.push_process.result c.push_process.ensures
+    c.in-Err-NoProcess.field-0
     c.in-Err-NoProcess.is c.in-Err-NoProcess.field-0-is

@@ -12,4 +12,6 @@ abbrev pub decreases-push_tree : goal.decreases-push_tree
 decreases-push_tree g l = 2 * (most_names - length l.path.now) + 1
 
 abbrev pub invariant-push_below-entries : goal.invariant-push_below-entries
-invariant-push_below-entries g l = AddsEntries l.users (state l.kernel) l.path l.fn.listing (drop l.entry-index l.entry-items) l.fn.tree.items l.tree.items
+invariant-push_below-entries g l =
+    AddsEntries l.users (state l.kernel) l.path l.fn.listing (drop l.entry-index l.entry-items) l.fn.tree.items
+    l.tree.items

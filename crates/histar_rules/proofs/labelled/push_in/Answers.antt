@@ -6,10 +6,14 @@ use Rattle.histar_container.proofs.Keeping.{trans, all_on, shown_on, on_err, non
 use Rattle.histar_rules.proofs.labelled.push_in.Goals as goal
 
 pub returns-in_err-kind-clause-stand : goal.returns-in_err-kind-clause-stand
-returns-in_err-kind-clause-stand g c = all_on (g.S.LabelStore.labels c.args.store.now) (g.S.LabelStore.labels c.put_kind.new.store) c.put_kind.ensures.keeps (objects_of c.args.table.now) c.requires.stand
+returns-in_err-kind-clause-stand g c =
+    all_on (g.S.LabelStore.labels c.args.store.now) (g.S.LabelStore.labels c.put_kind.new.store)
+    c.put_kind.ensures.keeps (objects_of c.args.table.now) c.requires.stand
 
 pub returns-in_err-kind-clause-err : goal.returns-in_err-kind-clause-err
-returns-in_err-kind-clause-err g c = on_err _ _ (shown_on (g.S.LabelStore.labels c.args.store.now) (g.S.LabelStore.labels c.put_kind.new.store) c.put_kind.ensures.keeps c.args.table.now c.requires.stand)
+returns-in_err-kind-clause-err g c =
+    on_err _ _ (shown_on (g.S.LabelStore.labels c.args.store.now) (g.S.LabelStore.labels c.put_kind.new.store)
+    c.put_kind.ensures.keeps c.args.table.now c.requires.stand)
 
 pub returns-in_err-label-clause-stand : goal.returns-in_err-label-clause-stand
 returns-in_err-label-clause-stand g c =
@@ -36,7 +40,8 @@ returns-clause-stand g c =
     let o : Object g.row.S-Id.Denot = record { label = c.in_ok-label.label; kind = c.in_ok-kind.kind } in
     placed_stand three (objects_of c.args.table.now) (objects_of c.add.new.self) c.args.number o c.add.result c.add.ensures.ok c.add.ensures.err
     (all_on one three (trans one two three c.put_kind.ensures.keeps c.put.ensures.keeps) (objects_of c.args.table.now) c.requires.stand)
-    (new_stands two three c.put.ensures.keeps c.in_ok-kind.kind c.in_ok-kind.ensures.stands c.in_ok-label.label c.args.label c.in_ok-label.ensures.stands)
+    (new_stands two three c.put.ensures.keeps c.in_ok-kind.kind c.in_ok-kind.ensures.stands c.in_ok-label.label
+    c.args.label c.in_ok-label.ensures.stands)
 
 pub returns-clause-ok : goal.returns-clause-ok
 returns-clause-ok g c =
@@ -45,7 +50,9 @@ returns-clause-ok g c =
     let three = g.S.LabelStore.labels c.put.new.self in
     let o : Object g.row.S-Id.Denot = record { label = c.in_ok-label.label; kind = c.in_ok-kind.kind } in
     let same = shown_on one three (trans one two three c.put_kind.ensures.keeps c.put.ensures.keeps) c.args.table.now c.requires.stand in
-    let value = new_shown two three c.put.ensures.keeps c.in_ok-kind.kind c.in_ok-kind.ensures.stands c.args.kind c.in_ok-kind.ensures.value c.in_ok-label.label c.args.label c.in_ok-label.ensures.stands in
+    let value =
+    new_shown two three c.put.ensures.keeps c.in_ok-kind.kind c.in_ok-kind.ensures.stands c.args.kind
+    c.in_ok-kind.ensures.value c.in_ok-label.label c.args.label c.in_ok-label.ensures.stands in
     on_ok_weaker c.add.result
     (λ (e : objects_of c.add.new.self ≡ put (objects_of c.args.table.now) c.args.number o).
     shown_put three c.args.table.now c.add.new.self c.args.number o e ∙ (λ i. put (same i) c.args.number (value i)))
@@ -58,5 +65,7 @@ returns-clause-err g c =
     let three = g.S.LabelStore.labels c.put.new.self in
     on_err_weaker c.add.result
     (λ (e : objects_of c.add.new.self ≡ objects_of c.args.table.now).
-    shown_same three c.args.table.now c.add.new.self e ∙ shown_on one three (trans one two three c.put_kind.ensures.keeps c.put.ensures.keeps) c.args.table.now c.requires.stand)
+    shown_same three c.args.table.now c.add.new.self e
+    ∙ shown_on one three (trans one two three c.put_kind.ensures.keeps c.put.ensures.keeps) c.args.table.now
+    c.requires.stand)
     c.add.ensures.err

@@ -10,7 +10,10 @@ pub births-preserved : goal.births-preserved
 births-preserved c =
     let below : length c.births.births.items < c.args.next = subst (λ n. n < c.args.next) (sym c.births.invariant.count) c.births-test.true in
     rw c.in_ok-push.ensures.items
-    (record { count = omega (arith, length-append c.births.births.items, c.births.invariant.count); rest = one_noted c.args.birth.now c.births.births.items c.args.next below ∙ c.births.invariant.rest })
+    (record {
+      count = omega (arith, length-append c.births.births.items, c.births.invariant.count);
+      rest = one_noted c.args.birth.now c.births.births.items c.args.next below ∙ c.births.invariant.rest;
+    })
 
 pub returns : goal.returns
 returns c =

@@ -4,5 +4,6 @@ use Rattle.histar_run_explain.proofs.births.add_births.Given as goal
 abbrev pub invariant-births : goal.invariant-births
 invariant-births l = record {
   count : length l.births.items ≡ l._number;
-  rest : l.births.items ++ replicate (l.next - length l.births.items) l.birth ≡ l.fn.births.items ++ replicate (l.next - length l.fn.births.items) l.birth;
+  rest : l.births.items ++ replicate (l.next - length l.births.items) l.birth
+      ≡ l.fn.births.items ++ replicate (l.next - length l.fn.births.items) l.birth;
 }

@@ -4,4 +4,6 @@ use Rattle.histar_run_explain.proofs.Parts.{one_piece}
 use Rattle.histar_run_explain.proofs.named_words.push_location.Goals as goal
 
 pub returns-in-Users : goal.returns-in-Users
-returns-in-Users c = one_piece c.extend_from_slice-in-Users.result _ c.args.text.now.items (codes "the user table") _ c.extend_from_slice-in-Users.ensures.items (ap (location_text c.args.users.now) (sym c.in-Users.is))
+returns-in-Users c =
+    one_piece c.extend_from_slice-in-Users.result _ c.args.text.now.items (codes "the user table") _
+    c.extend_from_slice-in-Users.ensures.items (ap (location_text c.args.users.now) (sym c.in-Users.is))

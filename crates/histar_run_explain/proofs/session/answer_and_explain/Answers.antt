@@ -8,10 +8,13 @@ use Rattle.histar_run_explain.proofs.session.answer_and_explain.Goals as goal
 
 pub explain_line-requires-clause-within : goal.explain_line-requires-clause-within
 explain_line-requires-clause-within g c =
-    subst (λ n. n ≤ length c.answer_call.new.machine.kernel.trace) (sym (ap length c.trace-before.ensures)) (grown c.args.machine.now c.answer_call.new.machine _ _ c.args.call c.in_ok-answer_call.ensures.ok _ refl)
+    subst (λ n. n ≤ length c.answer_call.new.machine.kernel.trace) (sym (ap length c.trace-before.ensures))
+    (grown c.args.machine.now c.answer_call.new.machine _ _ c.args.call c.in_ok-answer_call.ensures.ok _ refl)
 
 pub explain_line-requires-clause-run : goal.explain_line-requires-clause-run
-explain_line-requires-clause-run g c = runs_on c.args.machine.now c.answer_call.new.machine _ _ c.args.call c.in_ok-answer_call.ensures.ok _ refl _ (ap length c.trace-before.ensures) _ c.requires
+explain_line-requires-clause-run g c =
+    runs_on c.args.machine.now c.answer_call.new.machine _ _ c.args.call c.in_ok-answer_call.ensures.ok _ refl _
+    (ap length c.trace-before.ensures) _ c.requires
 
 pub returns-in_err-explain_line-clause-err : goal.returns-in_err-explain_line-clause-err
 returns-in_err-explain_line-clause-err g c = on_err _ _ (line_begins _ _ _ _ c.args.call c.in_ok-answer_call.ensures.ok)
@@ -25,14 +28,19 @@ returns-clause-ok g c =
     rw c.in_ok-explain_line.ensures.births (
       adds.0,
       adds.1,
-      line_said c.args.machine.now c.answer_call.new.machine _ _ c.args.call c.in_ok-answer_call.ensures.ok _ refl _ (ap length c.trace-before.ensures) _ c.requires _ c.clue_of-clue.result _ adds.0 c.clue_of-clue.ensures
+      line_said c.args.machine.now c.answer_call.new.machine _ _ c.args.call c.in_ok-answer_call.ensures.ok _ refl _
+          (ap length c.trace-before.ensures) _ c.requires _ c.clue_of-clue.result _ adds.0 c.clue_of-clue.ensures
           c.in_ok-explain_line.ensures.ends adds.2,
     )
 
 pub returns-clause-births : goal.returns-clause-births
 returns-clause-births g c =
     c.in_ok-explain_line.ensures.births ∙ c.in_ok-note_births.ensures
-    ∙ ap (λ (clue : Clue). births_after (state c.answer_call.new.machine.kernel) c.answer_call.new.machine.roots clue.caller c.args.explainer.now.births.items) c.clue_of-clue.ensures
+    ∙ ap (λ (clue : Clue).
+    births_after (state c.answer_call.new.machine.kernel) c.answer_call.new.machine.roots clue.caller
+    c.args.explainer.now.births.items) c.clue_of-clue.ensures
 
 pub returns-clause-same : goal.returns-clause-same
-returns-clause-same g c = same_end c.args.machine.now c.answer_call.new.machine _ _ c.args.call c.in_ok-answer_call.ensures.ok _ refl _ (ap length c.trace-before.ensures) _ c.requires _ c.in_ok-explain_line.ensures.ends
+returns-clause-same g c =
+    same_end c.args.machine.now c.answer_call.new.machine _ _ c.args.call c.in_ok-answer_call.ensures.ok _ refl _
+    (ap length c.trace-before.ensures) _ c.requires _ c.in_ok-explain_line.ensures.ends

@@ -14,7 +14,9 @@ pub calls-preserved : goal.calls-preserved
 calls-preserved g c =
     let adds = c.in_ok-answer_and_explain.ensures.ok in
     record {
-      explained = rw adds.1 (explains_more _ _ _ _ _ _ c.calls.yielded c.in-Some.call _ _ _ _ c.calls.invariant.explained c.in_ok-answer_and_explain.ensures.births adds.2);
+      explained =
+          rw adds.1 (explains_more _ _ _ _ _ _ c.calls.yielded c.in-Some.call _ _ _ _ c.calls.invariant.explained
+          c.in_ok-answer_and_explain.ensures.births adds.2);
       same = c.in_ok-answer_and_explain.ensures.same;
       count = search rules;
     }
@@ -24,7 +26,9 @@ returns-in_err-answer_and_explain-clause-err g c =
     let gives = c.into_iter-call-iterator.ensures.into_iter_gives in
     let all = YieldsList-from_vec c.args.calls.items gives.0 (search rules) in
     let so_far = YieldsList-so_far all c.calls.yielded c.calls.call-iterator c.calls.yielded_by in
-    let turn = YieldsList-turn all c.calls.yielded c.calls.call-iterator c.calls.yielded_by c.next.result c.next.new.self c.in-Some.call c.in-Some.is c.next.ensures.steps in
+    let turn =
+    YieldsList-turn all c.calls.yielded c.calls.call-iterator c.calls.yielded_by c.next.result c.next.new.self
+    c.in-Some.call c.in-Some.is c.next.ensures.steps in
     let parts = parts_at c.args.calls.items c.calls.yielded c.in-Some.call (sym (map-id c.calls.yielded) ∙ so_far) turn in
     let done = answers_calls _ _ _ _ c.calls.yielded _ _ c.calls.invariant.explained in
     on_err _ _ (begins_more _ _ _ _ _ _ c.args.calls.items c.calls.yielded _ c.in-Some.call parts done c.in_err-answer_and_explain.ensures.err)

@@ -5,10 +5,16 @@ use Rattle.histar_run_explain.proofs.Turns.{entries_are, ends_are}
 use Rattle.histar_run_explain.proofs.session.explain_line.Goals as goal
 
 pub explain_entries-requires : goal.explain_entries-requires
-explain_entries-requires g c = subst (IsRunFrom (state c.args.explainer.now.second)) (sym (c.entries_behind.ensures ∙ ap (drop c.args.before) c.trace.ensures)) c.requires.run
+explain_entries-requires g c =
+    subst (IsRunFrom (state c.args.explainer.now.second))
+    (sym (c.entries_behind.ensures ∙ ap (drop c.args.before) c.trace.ensures)) c.requires.run
 
 pub returns-clause-explained : goal.returns-clause-explained
-returns-clause-explained g c = rw (sym c.as_slice.ensures.value) (entries_are _ _ _ _ _ (c.entries_behind.ensures ∙ ap (drop c.args.before) c.trace.ensures) c.explain_entries.result _ _ c.explain_entries.ensures.explained)
+returns-clause-explained g c =
+    rw (sym c.as_slice.ensures.value) (entries_are _ _ _ _ _ (c.entries_behind.ensures ∙ ap (drop c.args.before) c.trace.ensures)
+    c.explain_entries.result _ _ c.explain_entries.ensures.explained)
 
 pub returns-clause-ends : goal.returns-clause-ends
-returns-clause-ends g c = ends_are c.explain_entries.result _ _ _ _ (c.entries_behind.ensures ∙ ap (drop c.args.before) c.trace.ensures) c.explain_entries.ensures.ends
+returns-clause-ends g c =
+    ends_are c.explain_entries.result _ _ _ _ (c.entries_behind.ensures ∙ ap (drop c.args.before) c.trace.ensures)
+    c.explain_entries.ensures.ends

@@ -2,11 +2,15 @@ use Rattle.std.proofs.lemmas.Result.{err_from_is_err_and}
 use Rattle.std.proofs.Common.{◌∙◌, refl}
 use Rattle.histar_script.specs.declared.fault.Fault.TheVariants.{OutOfMemory}
 use Rattle.histar_shell.proofs.RunLemmas.{counts_on, sink_called}
-use Rattle.histar_run_explain.proofs.TextRuns.{begun_ending, begun_replies, has_tree, last_written, no_read_failed, no_read_fails, sink_after, start_traced, unwritten_text}
+use Rattle.histar_run_explain.proofs.TextRuns.{begun_ending, begun_replies, has_tree, last_written, no_read_failed, no_read_fails, sink_after}
+use Rattle.histar_run_explain.proofs.TextRuns.{start_traced, unwritten_text}
 use Rattle.histar_run_explain.proofs.session.explain_text.Goals as goal
 
 pub second_kernel-requires : goal.second_kernel-requires
-second_kernel-requires g c = start_traced c.args.options c.args.text.now c.in_ok-script.script c.in_ok-script.ensures.exact _ c.into_parts-accounts.ensures.accounts _ c.into_parts-accounts.ensures.calls c.in-Ok.machine c.in-Ok.ensures.starts
+second_kernel-requires g c =
+    start_traced c.args.options c.args.text.now c.in_ok-script.script c.in_ok-script.ensures.exact _
+    c.into_parts-accounts.ensures.accounts _ c.into_parts-accounts.ensures.calls c.in-Ok.machine
+    c.in-Ok.ensures.starts
 
 pub returns-in_err-second-clause-reads : goal.returns-in_err-second-clause-reads
 returns-in_err-second-clause-reads g c =
@@ -25,7 +29,9 @@ returns-in_err-second-clause-runs g c =
 
 pub write_ending-requires : goal.write_ending-requires
 write_ending-requires g c =
-    has_tree c.args.options c.args.text.now c.in_ok-script.script c.in_ok-script.ensures.exact _ c.into_parts-accounts.ensures.accounts _ c.into_parts-accounts.ensures.calls c.in-Ok.machine c.in-Ok.ensures.starts _ _ _ _ _ c.in_ok-answer_calls.ensures.ok
+    has_tree c.args.options c.args.text.now c.in_ok-script.script c.in_ok-script.ensures.exact _
+    c.into_parts-accounts.ensures.accounts _ c.into_parts-accounts.ensures.calls c.in-Ok.machine
+    c.in-Ok.ensures.starts _ _ _ _ _ c.in_ok-answer_calls.ensures.ok
 
 pub returns-in_err-answer_calls-clause-nothing : goal.returns-in_err-answer_calls-clause-nothing
 returns-in_err-answer_calls-clause-nothing g c =
@@ -41,7 +47,9 @@ pub returns-in_err-answer_calls-clause-runs : goal.returns-in_err-answer_calls-c
 returns-in_err-answer_calls-clause-runs g c =
     let p = err_from_is_err_and c.from_residual-in_err-answer_calls.result c.from_residual-in_err-answer_calls.ensures.1 in
     rw (p.1, p.2)
-    (begun_replies c.args.options c.args.text.now c.in_ok-script.script c.in_ok-script.ensures.exact _ c.into_parts-accounts.ensures.accounts _ c.into_parts-accounts.ensures.calls c.in-Ok.machine c.in-Ok.ensures.starts
+    (begun_replies c.args.options c.args.text.now c.in_ok-script.script c.in_ok-script.ensures.exact _
+    c.into_parts-accounts.ensures.accounts _ c.into_parts-accounts.ensures.calls c.in-Ok.machine
+    c.in-Ok.ensures.starts
     c.in_err-answer_calls.field-0.0 _ _ c.in_err-answer_calls.ensures.faults c.in_err-answer_calls.ensures.err)
 
 pub returns-in_err-write_ending-clause-nothing : goal.returns-in_err-write_ending-clause-nothing
@@ -63,8 +71,11 @@ pub returns-in_err-write_ending-clause-runs : goal.returns-in_err-write_ending-c
 returns-in_err-write_ending-clause-runs g c =
     let p = err_from_is_err_and c.from_residual-in_err-write_ending.result c.from_residual-in_err-write_ending.ensures.1 in
     rw (p.1, p.2)
-    (begun_ending c.args.options c.args.text.now c.in_ok-script.script c.in_ok-script.ensures.exact _ c.into_parts-accounts.ensures.accounts _ c.into_parts-accounts.ensures.calls c.in-Ok.machine c.in-Ok.ensures.starts
-    _ _ _ _ _ c.in_ok-answer_calls.ensures.ok c.in_err-write_ending.field-0.0 _ c.in_err-write_ending.ensures.faults c.in_err-write_ending.ensures.err)
+    (begun_ending c.args.options c.args.text.now c.in_ok-script.script c.in_ok-script.ensures.exact _
+    c.into_parts-accounts.ensures.accounts _ c.into_parts-accounts.ensures.calls c.in-Ok.machine
+    c.in-Ok.ensures.starts
+    _ _ _ _ _ c.in_ok-answer_calls.ensures.ok c.in_err-write_ending.field-0.0 _ c.in_err-write_ending.ensures.faults
+    c.in_err-write_ending.ensures.err)
 
 pub returns-in_err-answer_calls-clause-writes : goal.returns-in_err-answer_calls-clause-writes
 returns-in_err-answer_calls-clause-writes g c =
@@ -72,15 +83,23 @@ returns-in_err-answer_calls-clause-writes g c =
     rw (p.1, p.2) c.in_err-answer_calls.ensures.count
 
 pub returns-clause-nothing : goal.returns-clause-nothing
-returns-clause-nothing g c = sink_after c.args.writer.now c.write_explanations.new.writer c.write_explanations.result c.write_explanations.ensures.faults
+returns-clause-nothing g c =
+    sink_after c.args.writer.now c.write_explanations.new.writer c.write_explanations.result
+    c.write_explanations.ensures.faults
 
 pub returns-clause-reads : goal.returns-clause-reads
 returns-clause-reads g c = no_read_fails c.write_explanations.result c.write_explanations.ensures.faults
 
 pub returns-clause-writes : goal.returns-clause-writes
-returns-clause-writes g c = counts_on _ _ _ _ (c.in_ok-write_ending.ensures.count ∙ c.in_ok-answer_calls.ensures.count) c.write_explanations.ensures.count
+returns-clause-writes g c =
+    counts_on _ _ _ _ (c.in_ok-write_ending.ensures.count ∙ c.in_ok-answer_calls.ensures.count)
+    c.write_explanations.ensures.count
 
 pub returns-clause-runs : goal.returns-clause-runs
 returns-clause-runs g c =
-    last_written c.args.options c.args.text.now c.in_ok-script.script c.in_ok-script.ensures.exact _ c.into_parts-accounts.ensures.accounts _ c.into_parts-accounts.ensures.calls c.in-Ok.machine c.in-Ok.ensures.starts
-    _ _ _ _ _ c.in_ok-answer_calls.ensures.ok _ _ _ c.as_slice.ensures.value c.write_explanations.result c.in_ok-write_ending.ensures.ok c.write_explanations.ensures.ok c.write_explanations.ensures.err c.write_explanations.ensures.faults
+    last_written c.args.options c.args.text.now c.in_ok-script.script c.in_ok-script.ensures.exact _
+    c.into_parts-accounts.ensures.accounts _ c.into_parts-accounts.ensures.calls c.in-Ok.machine
+    c.in-Ok.ensures.starts
+    _ _ _ _ _ c.in_ok-answer_calls.ensures.ok _ _ _ c.as_slice.ensures.value c.write_explanations.result
+    c.in_ok-write_ending.ensures.ok c.write_explanations.ensures.ok c.write_explanations.ensures.err
+    c.write_explanations.ensures.faults

@@ -8,22 +8,27 @@ use Rattle.histar_script.proofs.groups.read_members.Goals as goal
 
 pub returns-in_default-clause-names : goal.returns-in_default-clause-names
 returns-in_default-clause-names c =
-    let none : user_name_of (split_word c.loop.rest.now).0 ≡ None = ap user_name_of (sym c.split_word.ensures.word) ∙ sym c.read_user_name.ensures ∙ c.in_default.is in
+    let none : user_name_of (split_word c.loop.rest.now).0 ≡ None =
+    ap user_name_of (sym c.split_word.ensures.word) ∙ sym c.read_user_name.ensures ∙ c.in_default.is in
     sym (no_member (16 - c.loop.counter) c.loop.members.items c.loop.rest.now none) ∙ c.loop.invariant.so_far
 
 pub returns-in-None-clause-names : goal.returns-in-None-clause-names
 returns-in-None-clause-names c =
     let name = c.in-Some.name in
-    let is : user_name_of (split_word c.loop.rest.now).0 ≡ Some name = ap user_name_of (sym c.split_word.ensures.word) ∙ sym c.read_user_name.ensures ∙ c.in-Some.is in
+    let is : user_name_of (split_word c.loop.rest.now).0 ≡ Some name =
+    ap user_name_of (sym c.split_word.ensures.word) ∙ sym c.read_user_name.ensures ∙ c.in-Some.is in
     let end : (split_word c.loop.rest.now).1 ≡ None = sym c.split_word.ensures.rest ∙ ap option_copied c.in-None.is in
     let left : 0 < 16 - c.loop.counter = omega (arith, c.loop-test.true) in
-    ap (λ members. Some members) c.in_ok-push.ensures.items ∙ sym (last_member (16 - c.loop.counter) c.loop.members.items c.loop.rest.now name left is end) ∙ c.loop.invariant.so_far
+    ap (λ members. Some members) c.in_ok-push.ensures.items
+    ∙ sym (last_member (16 - c.loop.counter) c.loop.members.items c.loop.rest.now name left is end)
+    ∙ c.loop.invariant.so_far
 
 pub loop-preserved : goal.loop-preserved
 loop-preserved c =
     let name = c.in-Some.name in
     let names = c.in-Some-after.names.now in
-    let is : user_name_of (split_word c.loop.rest.now).0 ≡ Some name = ap user_name_of (sym c.split_word.ensures.word) ∙ sym c.read_user_name.ensures ∙ c.in-Some.is in
+    let is : user_name_of (split_word c.loop.rest.now).0 ≡ Some name =
+    ap user_name_of (sym c.split_word.ensures.word) ∙ sym c.read_user_name.ensures ∙ c.in-Some.is in
     let on : (split_word c.loop.rest.now).1 ≡ Some names = sym c.split_word.ensures.rest ∙ ap option_copied c.in-Some-after.is in
     let left : 0 < 16 - c.loop.counter = omega (arith, c.loop-test.true) in
     let less : 16 - (c.loop.counter + 1) ≡ 16 - c.loop.counter - 1 = omega arith in
@@ -35,4 +40,6 @@ loop-preserved c =
 pub returns-clause-names : goal.returns-clause-names
 returns-clause-names c =
     let none : 16 - c.loop.counter ≡ 0 = omega (arith, c.loop-test.false) in
-    sym (no_room c.loop.members.items c.loop.rest.now) ∙ subst (λ left. members_from left c.loop.members.items c.loop.rest.now ≡ members_of c.args.text.now) none c.loop.invariant.so_far
+    sym (no_room c.loop.members.items c.loop.rest.now)
+    ∙ subst (λ left. members_from left c.loop.members.items c.loop.rest.now ≡ members_of c.args.text.now) none
+    c.loop.invariant.so_far

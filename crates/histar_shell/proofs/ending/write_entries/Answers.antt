@@ -7,15 +7,21 @@ use Rattle.histar_shell.proofs.ending.write_entries.Goals as goal
 pub returns-in_err-line-clause-err : goal.returns-in_err-line-clause-err
 returns-in_err-line-clause-err g c =
     let p = err_from_is_err_and c.from_residual.result c.from_residual.ensures.1 in
-    rw p.1 (line_unwritten trace_line c.args.entries.now c.lines.entry-index c.entry-item.result (search rules) (search rules) _ _ c.lines.invariant.written)
+    rw p.1 (line_unwritten trace_line c.args.entries.now c.lines.entry-index c.entry-item.result (search rules)
+    (search rules) _ _ c.lines.invariant.written)
 
 pub returns-in_err-write_bytes-clause-err : goal.returns-in_err-write_bytes-clause-err
 returns-in_err-write_bytes-clause-err g c =
     let p = err_from_is_err_and c.from_residual-in_err-write_bytes.result c.from_residual-in_err-write_bytes.ensures.1 in
-    rw p.1 (line_begun trace_line c.args.entries.now c.lines.entry-index c.entry-item.result (search rules) (search rules) _ _ _ c.in_ok-line.line.items c.as_slice.result.now c.lines.invariant.written c.in_ok-line.ensures c.as_slice.ensures.value c.in_err-write_bytes.ensures.err)
+    rw p.1 (line_begun trace_line c.args.entries.now c.lines.entry-index c.entry-item.result (search rules) (search rules)
+    _ _ _ c.in_ok-line.line.items c.as_slice.result.now c.lines.invariant.written c.in_ok-line.ensures
+    c.as_slice.ensures.value c.in_err-write_bytes.ensures.err)
 
 pub lines-preserved : goal.lines-preserved
 lines-preserved g c = record {
-  written = line_more trace_line c.args.entries.now c.lines.entry-index c.entry-item.result (search rules) (search rules) _ _ _ c.in_ok-line.line.items c.as_slice.result.now c.lines.invariant.written c.in_ok-line.ensures c.as_slice.ensures.value c.in_ok-write_bytes.ensures.ok;
+  written =
+      line_more trace_line c.args.entries.now c.lines.entry-index c.entry-item.result (search rules) (search rules) _ _
+      _ c.in_ok-line.line.items c.as_slice.result.now c.lines.invariant.written c.in_ok-line.ensures
+      c.as_slice.ensures.value c.in_ok-write_bytes.ensures.ok;
   count = search rules;
 }

@@ -7,6 +7,7 @@ use Rattle.histar_shell.proofs.ending.write_nodes.Given as goal
 
 abbrev pub invariant-lines : goal.invariant-lines
 invariant-lines g l = record {
-  written : Appends (g.W.Sink.written l.fn.writer) (g.W.Sink.written l.writer) (flat_map (node_text (state l.machine.kernel)) (take l.node-index l.nodes));
+  written : Appends (g.W.Sink.written l.fn.writer) (g.W.Sink.written l.writer)
+      (flat_map (node_text (state l.machine.kernel)) (take l.node-index l.nodes));
   count : g.W.Sink.failures l.writer ≡ g.W.Sink.failures l.fn.writer;
 }

@@ -11,10 +11,20 @@ returns-in_err-tree-clause-err g c =
 
 pub returns-clause-ok : goal.returns-clause-ok
 returns-clause-ok g c =
-    let is : IsTreeIn c.args.machine.now c.as_slice.result.now = subst (IsTreeIn c.args.machine.now) (sym c.as_slice.ensures.value) c.in_ok-tree.ensures in
-    on_ok_weaker c.write_nodes.result (λ whole. (_, tree_revealed c.args.options.tree c.args.machine.now c.as_slice.result.now (search (rules, tests)) is, whole)) c.write_nodes.ensures.ok
+    let is : IsTreeIn c.args.machine.now c.as_slice.result.now =
+    subst (IsTreeIn c.args.machine.now) (sym c.as_slice.ensures.value) c.in_ok-tree.ensures in
+    on_ok_weaker c.write_nodes.result (λ whole. (
+      _,
+      tree_revealed c.args.options.tree c.args.machine.now c.as_slice.result.now (search (rules, tests)) is,
+      whole,
+    )) c.write_nodes.ensures.ok
 
 pub returns-clause-err : goal.returns-clause-err
 returns-clause-err g c =
-    let is : IsTreeIn c.args.machine.now c.as_slice.result.now = subst (IsTreeIn c.args.machine.now) (sym c.as_slice.ensures.value) c.in_ok-tree.ensures in
-    on_err_weaker c.write_nodes.result (λ front. (_, tree_revealed c.args.options.tree c.args.machine.now c.as_slice.result.now (search (rules, tests)) is, front)) c.write_nodes.ensures.err
+    let is : IsTreeIn c.args.machine.now c.as_slice.result.now =
+    subst (IsTreeIn c.args.machine.now) (sym c.as_slice.ensures.value) c.in_ok-tree.ensures in
+    on_err_weaker c.write_nodes.result (λ front. (
+      _,
+      tree_revealed c.args.options.tree c.args.machine.now c.as_slice.result.now (search (rules, tests)) is,
+      front,
+    )) c.write_nodes.ensures.err

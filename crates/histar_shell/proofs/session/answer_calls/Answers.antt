@@ -18,6 +18,9 @@ returns-in_err-answer_by-clause-err g c =
     let gives = c.into_iter-call-iterator.ensures.into_iter_gives in
     let all = YieldsList-from_vec c.args.calls.items gives.0 (search rules) in
     let so_far = YieldsList-so_far all c.calls.yielded c.calls.call-iterator c.calls.yielded_by in
-    let turn = YieldsList-turn all c.calls.yielded c.calls.call-iterator c.calls.yielded_by c.next.result c.next.new.self c.in-Some.call c.in-Some.is c.next.ensures.steps in
+    let turn =
+    YieldsList-turn all c.calls.yielded c.calls.call-iterator c.calls.yielded_by c.next.result c.next.new.self
+    c.in-Some.call c.in-Some.is c.next.ensures.steps in
     let parts = parts_at c.args.calls.items c.calls.yielded c.in-Some.call (sym (map-id c.calls.yielded) ∙ so_far) turn in
-    rw p.1 (begins_more _ _ _ _ _ _ c.args.calls.items c.calls.yielded _ c.in-Some.call parts c.calls.invariant.answered c.in_err-answer_by.ensures.err)
+    rw p.1 (begins_more _ _ _ _ _ _ c.args.calls.items c.calls.yielded _ c.in-Some.call parts c.calls.invariant.answered
+    c.in_err-answer_by.ensures.err)

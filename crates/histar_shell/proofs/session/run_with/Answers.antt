@@ -18,7 +18,9 @@ pub returns-in_err-input-clause-known : goal.returns-in_err-input-clause-known
 returns-in_err-input-clause-known g c = input_known c.args.options _ _ _ _ _ (returns-in_err-input-clause-runs g c)
 
 pub returns-clause-runs : goal.returns-clause-runs
-returns-clause-runs g c = runs_taken c.args.options _ _ _ _ c.in_ok-input.input.items c.as_slice.result.now _ c.in_ok-input.ensures.ok c.as_slice.ensures.value c.run_text.ensures.runs c.run_text.ensures.reads
+returns-clause-runs g c =
+    runs_taken c.args.options _ _ _ _ c.in_ok-input.input.items c.as_slice.result.now _ c.in_ok-input.ensures.ok
+    c.as_slice.ensures.value c.run_text.ensures.runs c.run_text.ensures.reads
 
 pub returns-clause-known : goal.returns-clause-known
 returns-clause-known g c = input_known c.args.options _ _ _ _ _ (returns-clause-runs g c)

@@ -20,7 +20,9 @@ pub returns-in_err-take_steps-clause-err : goal.returns-in_err-take_steps-clause
 returns-in_err-take_steps-clause-err g c =
     let p = err_from_is_err_and c.from_residual-in_err-take_steps.result c.from_residual-in_err-take_steps.ensures.1 in
     let parts = c.into_parts-accounts.ensures in
-    let begun = test_begun (g.W.Sink.written c.args.writer.now) (g.W.Sink.written c.take_steps.new.writer) c.as_slice.result.now c.into_parts-accounts.result.1.items c.in_ok-run.ensures.ok c.in_err-take_steps.ensures.err in
+    let begun =
+    test_begun (g.W.Sink.written c.args.writer.now) (g.W.Sink.written c.take_steps.new.writer) c.as_slice.result.now
+    c.into_parts-accounts.result.1.items c.in_ok-run.ensures.ok c.in_err-take_steps.ensures.err in
     rw p.1
     (subst (λ (t : List ℕ × (Accounts × List Step)). AppendsFront (g.W.Sink.written c.args.writer.now) (g.W.Sink.written c.take_steps.new.writer)
     (checks_text t.0 (c.args.tally.count + 1) (checks_from t.1.0 (boot t.1.0) None t.1.1)))
@@ -42,7 +44,8 @@ returns-clause-ok g c =
     let new = g.W.Sink.written c.take_steps.new.writer in
     let parts = c.into_parts-accounts.ensures in
     let taken = test_taken old new c.as_slice.result.now c.into_parts-accounts.result.1.items c.in_ok-run.ensures.ok c.in_ok-take_steps.ensures.ok in
-    subst (λ (t : List ℕ × (Accounts × List Step)). Appends old new (checks_text t.0 (c.args.tally.count + 1) (checks_from t.1.0 (boot t.1.0) None t.1.1)))
+    subst (λ (t : List ℕ × (Accounts × List Step)).
+    Appends old new (checks_text t.0 (c.args.tally.count + 1) (checks_from t.1.0 (boot t.1.0) None t.1.1)))
     (λ i. (c.as_slice.ensures i, (parts.accounts i, parts.steps i))) taken.0
 
 pub returns-clause-tally : goal.returns-clause-tally

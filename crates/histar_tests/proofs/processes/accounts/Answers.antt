@@ -5,5 +5,9 @@ use Rattle.histar_tests.proofs.processes.accounts.Goals as goal
 -- one user has a name alone
 pub returns : goal.returns
 returns c =
-    let few = ap (λ (s : Accounts). length s.users) (c.in_ok-add_user.ensures ∙ ap (λ (s : Accounts). with_user s (record { name = c.in_ok-name.name; password = c.in_ok-name.password })) c.new-accounts.ensures) in
+    let few =
+    ap (λ (s : Accounts). length s.users) (c.in_ok-add_user.ensures
+    ∙ ap (λ (s : Accounts).
+    with_user s (record { name = c.in_ok-name.name; password = c.in_ok-name.password }))
+    c.new-accounts.ensures) in
     λ i j d lt below same. absurd (omega (arith, lt, below, few))

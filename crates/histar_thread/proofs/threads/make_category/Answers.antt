@@ -17,6 +17,7 @@ returns g c =
     let clearance = c.in_ok-clearance.ensures.value ∙ ap (λ (n : ℕ). with_level c.in_ok-label.clearance.now n L3) number in (
       c.in_ok-label.ensures.answer,
       c.count_category.ensures ∙ ap with_next_category c.in_ok-set_own.ensures.ok ∙ (λ i. with_next_category (with_own s t (label i) (clearance i)))
-          ∙ category_made s t c.in_ok-label.label.now c.in_ok-label.clearance.now (sym (ap label_there own)) (sym (ap clearance_there own)) (ap is_thread own),
+          ∙ category_made s t c.in_ok-label.label.now c.in_ok-label.clearance.now (sym (ap label_there own))
+          (sym (ap clearance_there own)) (ap is_thread own),
       number,
     )

@@ -14,4 +14,6 @@ returns c =
     let call = with_call_is (map (λ line. line.now) c.args.lines.now) c.args.line.now c.in-Some.number number in
     let rest = c.or_nothing.ensures ∙ ap (λ (o : Option (List ℕ)). unwrap_or o []) c.split_word.ensures.rest in
     let said : List ℕ → List ℕ → List ℕ = λ said reply. decimal c.in-Some.number ++ codes "  " ++ said ++ codes "  " ++ reply in
-    on_ok_weaker c.push_reply.result (λ pushed. pushed ∙ ap (λ l. c.args.text.now.items ++ l) (ap₂ said c.call_on.ensures rest ∙ sym call)) c.push_reply.ensures
+    on_ok_weaker c.push_reply.result
+    (λ pushed. pushed ∙ ap (λ l. c.args.text.now.items ++ l) (ap₂ said c.call_on.ensures rest ∙ sym call))
+    c.push_reply.ensures

@@ -14,5 +14,7 @@ pub returns : goal.returns
 returns c =
     let yes : c.is_secret-secret.result ≡ true = first_of (assumption c, cc, search (rules, from_not_false), grind (arith, from_not_false)) in
     on_ok_weaker c.extend_from_slice.result
-    (λ e. secret_added c.in_ok-class.class c.in_ok-class.ensures (sym c.is_secret-secret.ensures ∙ yes) c.in_ok-push_path.ensures c.in_ok-push_members.ensures e)
-    (done_so _ (c.push_members.new.text.items ++ codes "\n") c.push_members.new.text.items c.extend_from_slice.result c.extend_from_slice.ensures.items)
+    (λ e. secret_added c.in_ok-class.class c.in_ok-class.ensures (sym c.is_secret-secret.ensures ∙ yes)
+    c.in_ok-push_path.ensures c.in_ok-push_members.ensures e)
+    (done_so _ (c.push_members.new.text.items ++ codes "\n") c.push_members.new.text.items c.extend_from_slice.result
+    c.extend_from_slice.ensures.items)

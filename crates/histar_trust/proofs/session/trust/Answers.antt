@@ -20,7 +20,8 @@ returns-in_err-input-clause-known g c = input_known (text_before c.args.at c.arg
 
 pub returns-clause-runs : goal.returns-clause-runs
 returns-clause-runs g c =
-    runs_taken (text_before c.args.at c.args.path.now) c.in_ok-input.ensures.ok c.as_slice.ensures.value c.trust_text.ensures.runs c.trust_text.ensures.reads
+    runs_taken (text_before c.args.at c.args.path.now) c.in_ok-input.ensures.ok c.as_slice.ensures.value
+    c.trust_text.ensures.runs c.trust_text.ensures.reads
 
 pub returns-clause-known : goal.returns-clause-known
 returns-clause-known g c = input_known (text_before c.args.at c.args.path.now) _ _ _ _ _ (returns-clause-runs g c)

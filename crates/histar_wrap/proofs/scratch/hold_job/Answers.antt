@@ -28,7 +28,8 @@ returns-in_err-set_label g c =
     let mid = c.set_label.new.self in
     fails_so t (hold_job (own, own_clearance) job) old mid _ _ c.from_residual-in_err-set_label.ensures.1
     (hold_fails t (own, own_clearance) job old mid _
-    (label_so t old mid _ (with_level own job Star) c.in_ok-label.ensures.value _ (refuses t (SetLabel c.in_ok-label.label) old mid _ c.in_err-set_label.field-0.0 c.in_err-set_label.ensures)))
+    (label_so t old mid _ (with_level own job Star) c.in_ok-label.ensures.value _
+    (refuses t (SetLabel c.in_ok-label.label) old mid _ c.in_err-set_label.field-0.0 c.in_err-set_label.ensures)))
 
 pub returns-in_err-clearance : goal.returns-in_err-clearance
 returns-in_err-clearance g c =
@@ -40,7 +41,8 @@ returns-in_err-clearance g c =
     let mid = c.set_label.new.self in
     fails_so t (hold_job (own, own_clearance) job) old mid Stopped _ c.from_residual-in_err-clearance.ensures.1
     (hold_then t (own, own_clearance) job old mid mid
-    (label_so t old mid _ (with_level own job Star) c.in_ok-label.ensures.value _ (grants t (SetLabel c.in_ok-label.label) old mid tt c.in_ok-set_label.ensures.0 tt)) (Err Stopped)
+    (label_so t old mid _ (with_level own job Star) c.in_ok-label.ensures.value _
+    (grants t (SetLabel c.in_ok-label.label) old mid tt c.in_ok-set_label.ensures.0 tt)) (Err Stopped)
     (before_ask t (SetClearance (with_level own_clearance job L3)) mid))
 
 pub returns-in_err-set_clearance : goal.returns-in_err-set_clearance
@@ -54,8 +56,11 @@ returns-in_err-set_clearance g c =
     let end = c.set_clearance.new.self in
     fails_so t (hold_job (own, own_clearance) job) old end _ _ c.from_residual-in_err-set_clearance.ensures.1
     (hold_then t (own, own_clearance) job old end mid
-    (label_so t old mid _ (with_level own job Star) c.in_ok-label.ensures.value _ (grants t (SetLabel c.in_ok-label.label) old mid tt c.in_ok-set_label.ensures.0 tt)) _
-    (clearance_so t mid end _ (with_level own_clearance job L3) c.in_ok-clearance.ensures.value _ (refuses t (SetClearance c.in_ok-clearance.clearance) mid end _ c.in_err-set_clearance.field-0.0 c.in_err-set_clearance.ensures)))
+    (label_so t old mid _ (with_level own job Star) c.in_ok-label.ensures.value _
+    (grants t (SetLabel c.in_ok-label.label) old mid tt c.in_ok-set_label.ensures.0 tt)) _
+    (clearance_so t mid end _ (with_level own_clearance job L3) c.in_ok-clearance.ensures.value _
+    (refuses t (SetClearance c.in_ok-clearance.clearance) mid end _ c.in_err-set_clearance.field-0.0
+    c.in_err-set_clearance.ensures)))
 
 pub returns : goal.returns
 returns g c =
@@ -67,5 +72,7 @@ returns g c =
     let mid = c.set_label.new.self in
     let end = c.set_clearance.new.self in
     hold_then t (own, own_clearance) job old end mid
-    (label_so t old mid _ (with_level own job Star) c.in_ok-label.ensures.value _ (grants t (SetLabel c.in_ok-label.label) old mid tt c.in_ok-set_label.ensures.0 tt)) _
-    (clearance_so t mid end _ (with_level own_clearance job L3) c.in_ok-clearance.ensures.value _ (grants t (SetClearance c.in_ok-clearance.clearance) mid end tt c.in_ok-set_clearance.ensures.0 tt))
+    (label_so t old mid _ (with_level own job Star) c.in_ok-label.ensures.value _
+    (grants t (SetLabel c.in_ok-label.label) old mid tt c.in_ok-set_label.ensures.0 tt)) _
+    (clearance_so t mid end _ (with_level own_clearance job L3) c.in_ok-clearance.ensures.value _
+    (grants t (SetClearance c.in_ok-clearance.clearance) mid end tt c.in_ok-set_clearance.ensures.0 tt))

@@ -8,12 +8,14 @@ use Rattle.histar_wrap.proofs.scratch.make_or_give_back.Goals as goal
 pub returns-in-Ok-clause-runs : goal.returns-in-Ok-clause-runs
 returns-in-Ok-clause-runs g c =
     let call = MakeContainer c.args.above c.args.label in
-    goes_on c.args.thread call c.args.kernel.now c.make_container.new.self (c.args.own.now, c.args.own_clearance.now) c.in-Ok.container c.in-Ok.ensures.0 c.in-Ok.ensures.1.0
+    goes_on c.args.thread call c.args.kernel.now c.make_container.new.self (c.args.own.now, c.args.own_clearance.now)
+    c.in-Ok.container c.in-Ok.ensures.0 c.in-Ok.ensures.1.0
 
 pub returns-in_default-clause-runs : goal.returns-in_default-clause-runs
 returns-in_default-clause-runs g c =
     let call = MakeContainer c.args.above c.args.label in
-    stops_there c.args.thread call c.args.kernel.now c.make_container.new.self (c.args.own.now, c.args.own_clearance.now) _ c.in-Err.refusal c.in-Err.ensures (sym c.in_default.ensures)
+    stops_there c.args.thread call c.args.kernel.now c.make_container.new.self
+    (c.args.own.now, c.args.own_clearance.now) _ c.in-Err.refusal c.in-Err.ensures (sym c.in_default.ensures)
 
 pub returns-in_err-restore-clause-runs : goal.returns-in_err-restore-clause-runs
 returns-in_err-restore-clause-runs g c =
@@ -27,7 +29,9 @@ returns-in_err-restore-clause-runs g c =
     let errno = c.in-Refused.errno in
     let call_error = c.in_err-restore.field-0.0 in
     fails_so t (ask_or_give_back (own, own_clearance) call) old end call_error _ c.from_residual.ensures.1
-    (gives_back_not t old end (own, own_clearance) ℕ (ask_or_give_back (own, own_clearance) call) mid errno (leads_back t call old mid (own, own_clearance) _ c.in-Err.refusal errno c.in-Err.ensures (sym c.in-Refused.ensures)) call_error c.in_err-restore.ensures)
+    (gives_back_not t old end (own, own_clearance) ℕ (ask_or_give_back (own, own_clearance) call) mid errno
+    (leads_back t call old mid (own, own_clearance) _ c.in-Err.refusal errno c.in-Err.ensures
+    (sym c.in-Refused.ensures)) call_error c.in_err-restore.ensures)
 
 pub returns-clause-runs : goal.returns-clause-runs
 returns-clause-runs g c =
@@ -39,4 +43,6 @@ returns-clause-runs g c =
     let mid = c.make_container.new.self in
     let end = c.restore.new.kernel in
     let errno = c.in-Refused.errno in
-    gives_back t old end (own, own_clearance) ℕ (ask_or_give_back (own, own_clearance) call) mid errno (leads_back t call old mid (own, own_clearance) _ c.in-Err.refusal errno c.in-Err.ensures (sym c.in-Refused.ensures)) c.in_ok-restore.ensures
+    gives_back t old end (own, own_clearance) ℕ (ask_or_give_back (own, own_clearance) call) mid errno
+    (leads_back t call old mid (own, own_clearance) _ c.in-Err.refusal errno c.in-Err.ensures
+    (sym c.in-Refused.ensures)) c.in_ok-restore.ensures

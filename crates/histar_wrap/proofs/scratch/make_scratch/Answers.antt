@@ -46,7 +46,9 @@ returns-in_err-listing g c =
     let k2 = c.make_segment.new.self in
     fails_so t (make_scratch (own, own_clearance) label room) old k2 _ _ c.from_residual-in_err-listing.ensures.1
     (without_listing t (own, own_clearance) label room old k2 k1 container c.in_ok-container.ensures.runs _
-    (makes t k1 k2 container c.in_ok-same.same label c.new-empty.result c.in_ok-same.ensures c.new-empty.ensures _ (refuses t (MakeSegment container c.in_ok-same.same c.new-empty.result) k1 k2 _ c.in_err-listing.field-0.0 c.in_err-listing.ensures)))
+    (makes t k1 k2 container c.in_ok-same.same label c.new-empty.result c.in_ok-same.ensures c.new-empty.ensures _
+    (refuses t (MakeSegment container c.in_ok-same.same c.new-empty.result) k1 k2 _ c.in_err-listing.field-0.0
+    c.in_err-listing.ensures)))
 
 pub returns-in_err-insert : goal.returns-in_err-insert
 returns-in_err-insert g c =
@@ -60,7 +62,10 @@ returns-in_err-insert g c =
     let container = c.in_ok-container.container in
     let k2 = c.make_segment.new.self in
     let listing = c.in_ok-listing.listing in
-    let made = makes t k1 k2 container c.in_ok-same.same label c.new-empty.result c.in_ok-same.ensures c.new-empty.ensures _ (grants t (MakeSegment container c.in_ok-same.same c.new-empty.result) k1 k2 listing c.in_ok-listing.ensures.0 c.in_ok-listing.ensures.1.0) in
+    let made =
+    makes t k1 k2 container c.in_ok-same.same label c.new-empty.result c.in_ok-same.ensures c.new-empty.ensures _
+    (grants t (MakeSegment container c.in_ok-same.same c.new-empty.result) k1 k2 listing
+    c.in_ok-listing.ensures.0 c.in_ok-listing.ensures.1.0) in
     let entries = grown t (own, own_clearance) label room old k2 container listing in
     fails_so t (make_scratch (own, own_clearance) label room) old k2 Stopped _ c.from_residual-in_err-insert.ensures.1
     (with_listing t (own, own_clearance) label room old k2 k1 container c.in_ok-container.ensures.runs k2 listing made (Err Stopped)
@@ -78,8 +83,13 @@ returns g c =
     let container = c.in_ok-container.container in
     let k2 = c.make_segment.new.self in
     let listing = c.in_ok-listing.listing in
-    let made = makes t k1 k2 container c.in_ok-same.same label c.new-empty.result c.in_ok-same.ensures c.new-empty.ensures _ (grants t (MakeSegment container c.in_ok-same.same c.new-empty.result) k1 k2 listing c.in_ok-listing.ensures.0 c.in_ok-listing.ensures.1.0) in
+    let made =
+    makes t k1 k2 container c.in_ok-same.same label c.new-empty.result c.in_ok-same.ensures c.new-empty.ensures _
+    (grants t (MakeSegment container c.in_ok-same.same c.new-empty.result) k1 k2 listing
+    c.in_ok-listing.ensures.0 c.in_ok-listing.ensures.1.0) in
     let entries = grown t (own, own_clearance) label room old k2 container listing in
     let end = c.write_entries.new.kernel in
     with_listing t (own, own_clearance) label room old end k1 container c.in_ok-container.ensures.runs k2 listing made c.write_entries.result
-    (part_as t (write_entries room.place entries) k2 end _ (ap (write_entries room.place) (sym c.in_ok-insert.ensures.ok)) c.write_entries.result c.write_entries.ensures)
+    (part_as t (write_entries room.place entries) k2 end _
+    (ap (write_entries room.place) (sym c.in_ok-insert.ensures.ok)) c.write_entries.result
+    c.write_entries.ensures)

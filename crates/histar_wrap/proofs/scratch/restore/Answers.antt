@@ -24,7 +24,8 @@ returns-in_err-stopping g c =
     let mid = c.set_label.new.self in
     let call_error = c.in_err-stopping.field-0.0 in
     fails_so t (restore (own, own_clearance)) old mid call_error _ c.from_residual-in_err-stopping.ensures.1
-    (label_fails t old mid (own, own_clearance) call_error (label_given t old mid _ own c.in_ok-copy.ensures c.set_label.result c.set_label.ensures (Err call_error) c.in_err-stopping.ensures))
+    (label_fails t old mid (own, own_clearance) call_error (label_given t old mid _ own c.in_ok-copy.ensures
+    c.set_label.result c.set_label.ensures (Err call_error) c.in_err-stopping.ensures))
 
 pub returns-in_err-copy-2 : goal.returns-in_err-copy-2
 returns-in_err-copy-2 g c =
@@ -34,7 +35,8 @@ returns-in_err-copy-2 g c =
     let own_clearance = c.args.own_clearance.now in
     let mid = c.set_label.new.self in
     fails_so t (restore (own, own_clearance)) old mid Stopped _ c.from_residual-in_err-copy-2.ensures.1
-    (label_then t old mid (own, own_clearance) mid (label_given t old mid _ own c.in_ok-copy.ensures c.set_label.result c.set_label.ensures (Ok tt) c.in_ok-stopping.ensures) (Err Stopped)
+    (label_then t old mid (own, own_clearance) mid (label_given t old mid _ own c.in_ok-copy.ensures c.set_label.result
+    c.set_label.ensures (Ok tt) c.in_ok-stopping.ensures) (Err Stopped)
     (before_asking t (SetClearance own_clearance) mid))
 
 pub returns : goal.returns
@@ -45,5 +47,7 @@ returns g c =
     let own_clearance = c.args.own_clearance.now in
     let mid = c.set_label.new.self in
     let end = c.set_clearance.new.self in
-    label_then t old end (own, own_clearance) mid (label_given t old mid _ own c.in_ok-copy.ensures c.set_label.result c.set_label.ensures (Ok tt) c.in_ok-stopping.ensures) c.stopping-2.result
-    (clearance_given t mid end _ own_clearance c.in_ok-copy-2.ensures c.set_clearance.result c.set_clearance.ensures c.stopping-2.result c.stopping-2.ensures)
+    label_then t old end (own, own_clearance) mid (label_given t old mid _ own c.in_ok-copy.ensures c.set_label.result
+    c.set_label.ensures (Ok tt) c.in_ok-stopping.ensures) c.stopping-2.result
+    (clearance_given t mid end _ own_clearance c.in_ok-copy-2.ensures c.set_clearance.result c.set_clearance.ensures
+    c.stopping-2.result c.stopping-2.ensures)

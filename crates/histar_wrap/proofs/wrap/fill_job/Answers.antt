@@ -27,7 +27,10 @@ returns-in_err-give_birth g c status is =
     let k1 = c.make_scratch.new.kernel in
     let k2 = c.give_birth.new.kernel in
     let call_error = c.in_err-give_birth.field-0.0 in
-    let born = born_so t k1 k2 me status _ plan.kin (λ i. record { owned = c.as_slice.ensures.value i; jobs = c.as_slice-2.ensures.value i }) (Err call_error) (c.in_err-give_birth.ensures status is) in
+    let born =
+    born_so t k1 k2 me status _ plan.kin
+    (λ i. record { owned = c.as_slice.ensures.value i; jobs = c.as_slice-2.ensures.value i }) (Err call_error)
+    (c.in_err-give_birth.ensures status is) in
     fails_so t (fill_job me status room plan) old k2 call_error _ c.from_residual-in_err-give_birth.ensures.1
     (no_birth t me status room plan old k1 c.in_ok-make_scratch.ensures k2 call_error born)
 
@@ -39,5 +42,8 @@ returns g c status is =
     let plan = planned c.args.plan in
     let k1 = c.make_scratch.new.kernel in
     let k2 = c.give_birth.new.kernel in
-    let born = born_so t k1 k2 me status _ plan.kin (λ i. record { owned = c.as_slice.ensures.value i; jobs = c.as_slice-2.ensures.value i }) (Ok tt) (c.in_ok-give_birth.ensures status is) in
+    let born =
+    born_so t k1 k2 me status _ plan.kin
+    (λ i. record { owned = c.as_slice.ensures.value i; jobs = c.as_slice-2.ensures.value i }) (Ok tt)
+    (c.in_ok-give_birth.ensures status is) in
     held t me status room plan c.args.kernel.now k1 c.in_ok-make_scratch.ensures k2 c.hold_job.new.kernel born c.hold_job.result c.hold_job.ensures

@@ -10,6 +10,8 @@ returns c =
     let job = c.args.job in
     let user = c.user_of-user.result in
     let jobs = c.in_ok-jobs.jobs.items in
-    let label_is = directory_is accounts own job user jobs c.user_of-user.ensures c.in_ok-jobs.ensures c.in_ok-label.label (c.in_ok-label.ensures ∙ ap (scratch_label user) c.as_slice.ensures.value) in
+    let label_is =
+    directory_is accounts own job user jobs c.user_of-user.ensures c.in_ok-jobs.ensures c.in_ok-label.label
+    (c.in_ok-label.ensures ∙ ap (scratch_label user) c.as_slice.ensures.value) in
     let kin_so = kin_is accounts own job user jobs c.user_of-user.ensures c.in_ok-jobs.ensures c.in_ok-owned.owned.items c.in_ok-owned.ensures in
     λ i. record { own = (own, c.args.clearance); job = job; label = label_is i; kin = kin_so i }

@@ -131,9 +131,12 @@ returns-in_err-plan g c =
     let job = c.in_ok-job.job in
     let plan = plan_for accounts own job in
     let part = fill_job me status room plan in
-    let at_filling = further (ask MakeCategory) to_job at_category k4 job (grants t MakeCategory k3 k4 job c.in_ok-job.ensures.0 c.in_ok-job.ensures.1) in
+    let at_filling =
+    further (ask MakeCategory) to_job at_category k4 job
+    (grants t MakeCategory k3 k4 job c.in_ok-job.ensures.0 c.in_ok-job.ensures.1) in
     call_fails_so t whole old k4 Stopped _ c.from_residual-in_err-plan.ensures.1
-    (ends part (λ (done : Unit {0}). after_filling accounts roots name me path status) at_filling k4 Stopped (before_filling t me status room plan k4))
+    (ends part (λ (done : Unit {0}). after_filling accounts roots name me path status) at_filling k4 Stopped
+    (before_filling t me status room plan k4))
 
 pub returns-in_err-fill_job : goal.returns-in_err-fill_job
 returns-in_err-fill_job g c =
@@ -163,11 +166,15 @@ returns-in_err-fill_job g c =
     let job = c.in_ok-job.job in
     let plan = plan_for accounts own job in
     let part = fill_job me status room plan in
-    let at_filling = further (ask MakeCategory) to_job at_category k4 job (grants t MakeCategory k3 k4 job c.in_ok-job.ensures.0 c.in_ok-job.ensures.1) in
+    let at_filling =
+    further (ask MakeCategory) to_job at_category k4 job
+    (grants t MakeCategory k3 k4 job c.in_ok-job.ensures.0 c.in_ok-job.ensures.1) in
     let k5 = c.fill_job.new.kernel in
     let status_is = subst (λ (bytes : List ℕ). status_in bytes ≡ Some status) (sym c.as_slice.ensures) c.in_ok-head.ensures.runs.1.status_is in
     let call_error = c.in_err-fill_job.field-0.0 in
-    let filled = subst (λ (p : JobPlan). RunsPart {A = Unit {0}} (fill_job me status room p) k4 k5 t (Err call_error)) c.in_ok-plan.ensures (c.in_err-fill_job.ensures status status_is) in
+    let filled =
+    subst (λ (p : JobPlan). RunsPart {A = Unit {0}} (fill_job me status room p) k4 k5 t (Err call_error))
+    c.in_ok-plan.ensures (c.in_err-fill_job.ensures status status_is) in
     call_fails_so t whole old k5 call_error _ c.from_residual-in_err-fill_job.ensures.1
     (ends part (λ (done : Unit {0}). after_filling accounts roots name me path status) at_filling k5 call_error filled)
 
@@ -199,10 +206,14 @@ returns g c =
     let job = c.in_ok-job.job in
     let plan = plan_for accounts own job in
     let part = fill_job me status room plan in
-    let at_filling = further (ask MakeCategory) to_job at_category k4 job (grants t MakeCategory k3 k4 job c.in_ok-job.ensures.0 c.in_ok-job.ensures.1) in
+    let at_filling =
+    further (ask MakeCategory) to_job at_category k4 job
+    (grants t MakeCategory k3 k4 job c.in_ok-job.ensures.0 c.in_ok-job.ensures.1) in
     let k5 = c.fill_job.new.kernel in
     let status_is = subst (λ (bytes : List ℕ). status_in bytes ≡ Some status) (sym c.as_slice.ensures) c.in_ok-head.ensures.runs.1.status_is in
-    let filled = subst (λ (p : JobPlan). RunsPart {A = Unit {0}} (fill_job me status room p) k4 k5 t (Ok tt)) c.in_ok-plan.ensures (c.in_ok-fill_job.ensures status status_is) in
+    let filled =
+    subst (λ (p : JobPlan). RunsPart {A = Unit {0}} (fill_job me status room p) k4 k5 t (Ok tt))
+    c.in_ok-plan.ensures (c.in_ok-fill_job.ensures status status_is) in
     let at_end = further part (λ (done : Unit {0}). after_filling accounts roots name me path status) at_filling k5 tt filled in
     let reply_is = ap (λ (p : List ℕ). Child p) (c.child.ensures ∙ ap (λ (h : StatusHead). (h.born + 1) ∷ name) c.in_ok-head.ensures.runs.1.head) in
     at_end.leads k5 (Ok (Child c.child.result)) (replies_so t k5 (Child ((status.born + 1) ∷ name)) (Child c.child.result) reply_is)

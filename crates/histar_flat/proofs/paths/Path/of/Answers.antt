@@ -9,7 +9,9 @@ use Rattle.histar_flat.proofs.paths.Path.of.Goals as goal
 pub invariant_of-result : goal.invariant_of-result
 invariant_of-result c = rw c.padded_names.ensures (record {
   padded = padded_fits 8 unused_name c.args.names.now (path_is_short c.args.names.now c.requires);
-  named = subst (λ (l : List (List ℕ)). IsTrue (list_all is_name l)) (sym (take-padded 8 unused_name c.args.names.now)) (path_is_named c.args.names.now c.requires);
+  named =
+      subst (λ (l : List (List ℕ)). IsTrue (list_all is_name l)) (sym (take-padded 8 unused_name c.args.names.now))
+      (path_is_named c.args.names.now c.requires);
 })
 
 pub returns : goal.returns

@@ -19,7 +19,9 @@ pub returns-then-depth-eq0 : goal.returns-then-depth-eq0
 returns-then-depth-eq0 c = elim c.then-depth-eq0.branch [
   | then-depth-eq0-via-then-depth-eq0 w ↦
       let root : c.args.old.now ≡ [] = nil_from_length c.args.old.now (search (rules, arith)) in
-      c.self.view_is ∙ sym (ap (λ (old : Path). moved old (c.args.name ∷ parent old) c.args.self.now) root ∙ moved_root (c.args.name ∷ []) c.args.self.now)
+      c.self.view_is
+      ∙ sym (ap (λ (old : Path). moved old (c.args.name ∷ parent old) c.args.self.now) root
+      ∙ moved_root (c.args.name ∷ []) c.args.self.now)
   | then-depth-eq0-via-else-depth-eq0+then-not-is_at_or_below w ↦
       let aside : under_path c.args.old.now c.args.self.now ≡ false = search rules in
       c.self.view_is ∙ sym (moved_aside c.args.old.now (c.args.name ∷ parent c.args.old.now) c.args.self.now aside)
@@ -36,8 +38,19 @@ invariant_of-result-2 c =
     let inside = c.self.inside in
     let below : under_path c.args.old.now c.args.self.now ≡ true = search rules in
     let longer = under_is_longer same same_path_found c.args.old.now c.args.self.now below in
-    let depth : length c.args.self.now ≡ inside.len = ap length (sym c.self.view_is) ∙ length-kept most_names unused_name inside.names inside.len c.self.invariant.padded in
-    let here : c.depth-2.result - c.depth-3.result < inside.len = omega (arith, longer, depth, c.depth.ensures.value, c.depth-2.ensures.value, c.depth-3.ensures.value, c.if-depth-eq0.false) in
+    let depth : length c.args.self.now ≡ inside.len =
+    ap length (sym c.self.view_is)
+    ∙ length-kept most_names unused_name inside.names inside.len c.self.invariant.padded in
+    let here : c.depth-2.result - c.depth-3.result < inside.len =
+    omega (
+      arith,
+      longer,
+      depth,
+      c.depth.ensures.value,
+      c.depth-2.ensures.value,
+      c.depth-3.ensures.value,
+      c.if-depth-eq0.false,
+    ) in
     let i = c.depth-2.result - c.depth-3.result in
     record {
       padded = padded_set most_names unused_name c.args.name inside.names inside.len i c.self.invariant.padded here;
@@ -49,10 +62,14 @@ pub returns : goal.returns
 returns c =
     let inside = c.self.inside in
     let below : under_path c.args.old.now c.args.self.now ≡ true = search rules in
-    let depth : length c.args.self.now ≡ inside.len = ap length (sym c.self.view_is) ∙ length-kept most_names unused_name inside.names inside.len c.self.invariant.padded in
+    let depth : length c.args.self.now ≡ inside.len =
+    ap length (sym c.self.view_is)
+    ∙ length-kept most_names unused_name inside.names inside.len c.self.invariant.padded in
     let longer = under_is_longer same same_path_found c.args.old.now c.args.self.now below in
     let i = c.depth-2.result - c.depth-3.result in
     let here : i < inside.len = omega (arith, depth, c.depth.ensures.value, c.depth-2.ensures.value, c.depth-3.ensures.value, c.if-depth-eq0.false) in
     let at : i ≡ length c.args.self.now - length c.args.old.now = omega (arith, c.depth-2.ensures.value, c.depth-3.ensures.value) in
     let some : 0 < length c.args.old.now = omega (arith, c.depth.ensures.value, c.if-depth-eq0.false) in
-    take-set-lt inside.len inside.names i c.args.name here ∙ ap (λ (l : Path). slice_set l i c.args.name) c.self.view_is ∙ ap (λ n. slice_set c.args.self.now n c.args.name) at ∙ sym (moved_below c.args.old.now c.args.name c.args.self.now some below)
+    take-set-lt inside.len inside.names i c.args.name here ∙ ap (λ (l : Path). slice_set l i c.args.name) c.self.view_is
+    ∙ ap (λ n. slice_set c.args.self.now n c.args.name) at
+    ∙ sym (moved_below c.args.old.now c.args.name c.args.self.now some below)

@@ -16,7 +16,9 @@ returns-then-eq-clause-answer c =
 pub returns-in-Some-clause-answer : goal.returns-in-Some-clause-answer
 returns-in-Some-clause-answer c =
     let there = rw c.deref.ensures.value at c.in-Some.ensures in
-    let right = All-contains (λ o. IfSome o (λ e. IsRight c.self.inside.labels.keys e.0 e.1)) c.self.inside.at_hand.items (Some (c.args.comparison, c.in-Some.answer)) c.self.invariant.right_at_hand there in
+    let right =
+    All-contains (λ o. IfSome o (λ e. IsRight c.self.inside.labels.keys e.0 e.1)) c.self.inside.at_hand.items
+    (Some (c.args.comparison, c.in-Some.answer)) c.self.invariant.right_at_hand there in
     rw (← c.self.view_is) right.right
 
 pub invariant_of-self : goal.invariant_of-self
@@ -27,8 +29,13 @@ invariant_of-self c =
       one_id = c.self-2.invariant.one_id;
       right = c.self-2.invariant.right;
       right_at_hand = rw c.keep_at.ensures (
-          All-set (λ o. IfSome o (λ e. IsRight labels e.0 e.1)) c.self-2.inside.at_hand.items c.place-place.result (Some (c.args.comparison, c.compare_or_recall-answer.result))
-          (rw same (record { lower_stands = c.requires.lower_stands; upper_stands = c.requires.upper_stands; right = c.compare_or_recall-answer.ensures.answer }))
+          All-set (λ o. IfSome o (λ e. IsRight labels e.0 e.1)) c.self-2.inside.at_hand.items c.place-place.result
+          (Some (c.args.comparison, c.compare_or_recall-answer.result))
+          (rw same (record {
+            lower_stands = c.requires.lower_stands;
+            upper_stands = c.requires.upper_stands;
+            right = c.compare_or_recall-answer.ensures.answer;
+          }))
           c.self-2.invariant.right_at_hand
           );
     }

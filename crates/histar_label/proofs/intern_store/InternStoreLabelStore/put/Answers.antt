@@ -19,8 +19,13 @@ returns-in_err-place-clause-known c id is =
 pub invariant_of-self-2 : goal.invariant_of-self-2
 invariant_of-self-2 c = record {
   one_id = HasOneId-distinct is_same own c.insert_full.new.self.keys c.in_ok-place.ensures.unique;
-  right = λ e there. rw c.in_ok-place.ensures.keys (IsRight-insert_key is_same c.self.inside.labels.keys c.args.label e.0 e.1 (c.self.invariant.right e there));
-  right_at_hand = rw c.in_ok-place.ensures.keys (All-weaker _ _ (λ o was. IfSome_then o was (λ e. IsRight-insert_key is_same c.self.inside.labels.keys c.args.label e.0 e.1)) c.self.inside.at_hand.items c.self.invariant.right_at_hand);
+  right =
+      λ e there. rw c.in_ok-place.ensures.keys
+      (IsRight-insert_key is_same c.self.inside.labels.keys c.args.label e.0 e.1 (c.self.invariant.right e there));
+  right_at_hand =
+      rw c.in_ok-place.ensures.keys (All-weaker _ _ (λ o was.
+      IfSome_then o was (λ e. IsRight-insert_key is_same c.self.inside.labels.keys c.args.label e.0 e.1))
+      c.self.inside.at_hand.items c.self.invariant.right_at_hand);
 }
 
 pub returns-clause-stands : goal.returns-clause-stands
@@ -29,7 +34,9 @@ returns-clause-stands c =
     rw (same_label _ _ stored.2) stored.1
 
 pub returns-clause-keeps : goal.returns-clause-keeps
-returns-clause-keeps c id L is = rw c.in_ok-place.ensures.keys (Keeps-insert_key is_same c.self.inside.labels.keys c.args.label id L (rw c.self.view_is is))
+returns-clause-keeps c id L is =
+    rw c.in_ok-place.ensures.keys
+    (Keeps-insert_key is_same c.self.inside.labels.keys c.args.label id L (rw c.self.view_is is))
 
 pub returns-clause-one_id : goal.returns-clause-one_id
 returns-clause-one_id c = HasOneId-distinct is_same own c.insert_full.new.self.keys c.in_ok-place.ensures.unique
@@ -38,4 +45,5 @@ pub returns-clause-known : goal.returns-clause-known
 returns-clause-known c id is =
     let stored = c.in_ok-place.ensures.stored in
     let here : slice_get c.insert_full.new.self.keys c.in_ok-place.place ≡ Some c.args.label = rw (same_label _ _ stored.2) stored.1 in
-    ap Ok (HasOneId-distinct is_same own c.insert_full.new.self.keys c.in_ok-place.ensures.unique c.in_ok-place.place id c.args.label here (returns-clause-keeps c id c.args.label is))
+    ap Ok (HasOneId-distinct is_same own c.insert_full.new.self.keys c.in_ok-place.ensures.unique c.in_ok-place.place id
+    c.args.label here (returns-clause-keeps c id c.args.label is))

@@ -8,14 +8,19 @@ use Rattle.histar_label.proofs.labels.Label.below_as.Goals as goal
 
 pub returns-then-not-fits-clause-value : goal.returns-then-not-fits-clause-value
 returns-then-not-fits-clause-value c = refused _ _ _ (BelowJoin c.args.reading) (λ all. false≢true (sym c.if-not-fits.true ∙ c.fits.ensures.1
-    (rw (c.default_level-own_default.ensures.value, c.default_level-other_default.ensures.value) (defaults_fit (BelowJoin c.args.reading) _ _ _ all))))
+    (rw (c.default_level-own_default.ensures.value, c.default_level-other_default.ensures.value)
+    (defaults_fit (BelowJoin c.args.reading) _ _ _ all))))
 
 pub categories-init : goal.categories-init
-categories-init c = left_at_first (BelowJoin c.args.reading) _ _ _ _ _ _ c.exceptions-own.ensures.rising c.exceptions-others.ensures.rising c.exceptions-others.ensures.rising c.exceptions-own.ensures.value c.exceptions-others.ensures.value c.exceptions-others.ensures.value
+categories-init c =
+    left_at_first (BelowJoin c.args.reading) _ _ _ _ _ _ c.exceptions-own.ensures.rising
+    c.exceptions-others.ensures.rising c.exceptions-others.ensures.rising c.exceptions-own.ensures.value
+    c.exceptions-others.ensures.value c.exceptions-others.ensures.value
 
 pub returns-then-not-fits-2 : goal.returns-then-not-fits-2
 returns-then-not-fits-2 c =
-    let unfit : ((q : ℕ) → Fits c.args.self.now c.args.other.now c.args.other.now (BelowJoin c.args.reading) q) → ⊥ = λ all. false≢true (sym c.if-not-fits-2.true ∙ c.fits-in-Some.ensures.1
+    let unfit : ((q : ℕ) → Fits c.args.self.now c.args.other.now c.args.other.now (BelowJoin c.args.reading) q) → ⊥ = λ all. false≢true
+    (sym c.if-not-fits-2.true ∙ c.fits-in-Some.ensures.1
     (rw (c.in-Some.ensures.first, c.in-Some.ensures.second, c.default_level-own_default.ensures.value, c.default_level-other_default.ensures.value)
     (front_fits (BelowJoin c.args.reading) _ _ _ _ _ _ c.categories.invariant _ (lower_is_lowest _ _ ∙ sym c.in-Some.ensures.category) all))) in
     record { order = (λ t. absurd (false≢true t), λ all. absurd (unfit all)); value = refused _ _ _ (BelowJoin c.args.reading) unfit }
@@ -27,7 +32,13 @@ categories-preserved c =
     rw (c.in-Some.ensures.first_left, c.in-Some.ensures.second_left)
     (left_after (BelowJoin c.args.reading) _ _ _ _ _ _ c.categories.invariant _ (lower_is_lowest _ _ ∙ sym c.in-Some.ensures.category)
     (rw (sym c.default_level-own_default.ensures.value, sym c.default_level-other_default.ensures.value) default_fits)
-    (rw (sym c.default_level-own_default.ensures.value, sym c.default_level-other_default.ensures.value, sym c.in-Some.ensures.first, sym c.in-Some.ensures.second) fits))
+    (rw (
+      sym c.default_level-own_default.ensures.value,
+      sym c.default_level-other_default.ensures.value,
+      sym
+          c.in-Some.ensures.first,
+      sym c.in-Some.ensures.second,
+    ) fits))
 
 pub returns-clause-value : goal.returns-clause-value
 returns-clause-value c =

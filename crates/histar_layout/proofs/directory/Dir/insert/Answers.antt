@@ -8,18 +8,25 @@ use Rattle.histar_layout.proofs.Spellings.{directory_spelled, is_spelled}
 use Rattle.histar_layout.proofs.directory.Dir.insert.Goals as goal
 
 -- three pieces, one behind the other
-pieces : (empty first second third front made rest last : List ℕ) → empty ≡ [] → first ≡ empty ++ front → second ≡ first ++ made → third ≡ second ++ last → last ≡ rest → third ≡ (front ++ made) ++ rest
-pieces empty first second third front made rest last a b c d e = d ∙ (λ i. (c ∙ ap (λ (t : List ℕ). t ++ made) (b ∙ ap (λ (t : List ℕ). t ++ front) a)) i ++ e i)
+pieces : (empty first second third front made rest last : List ℕ) → empty ≡ [] → first ≡ empty ++ front
+    → second ≡ first ++ made → third ≡ second ++ last → last ≡ rest → third ≡ (front ++ made) ++ rest
+pieces empty first second third front made rest last a b c d e =
+    d ∙ (λ i. (c ∙ ap (λ (t : List ℕ). t ++ made) (b ∙ ap (λ (t : List ℕ). t ++ front) a)) i ++ e i)
 
 -- the bytes are the directory with the entry
-with_entry : (c : goal.After-drop-self-inside) → IsDirectory c.extend_from_slice-2.new.self.items (map.insert (entries_of c.self.inside.bytes.items) c.args.name.now c.args.target)
+with_entry : (c : goal.After-drop-self-inside)
+    → IsDirectory c.extend_from_slice-2.new.self.items
+    (map.insert (entries_of c.self.inside.bytes.items) c.args.name.now c.args.target)
 with_entry c =
     let old = c.as_slice-old.result.now in
     let dir = entries_of c.self.inside.bytes.items in
     let is : IsDirectory old dir = subst (λ (b : List ℕ). IsDirectory b dir) (sym c.as_slice-old.ensures.value) c.self.invariant in
     let room = subst (λ (d : Entries). map.len d < 64) (sym c.self.view_is) c.requires.room in
-    entry_made old c.extend_from_slice-2.new.self.items dir c.args.name.now c.args.target c.span_of-span.result.start c.span_of-span.result.end is (c.span_of-span.ensures dir is) room (c.in_ok-push_entry.ensures.entry c.requires.leads)
-    (pieces _ _ _ c.extend_from_slice-2.new.self.items (take c.span_of-span.result.start old) (entry_bytes (c.args.name.now, c.args.target)) (drop c.span_of-span.result.end old) _
+    entry_made old c.extend_from_slice-2.new.self.items dir c.args.name.now c.args.target c.span_of-span.result.start
+    c.span_of-span.result.end is (c.span_of-span.ensures dir is) room
+    (c.in_ok-push_entry.ensures.entry c.requires.leads)
+    (pieces _ _ _ c.extend_from_slice-2.new.self.items (take c.span_of-span.result.start old)
+    (entry_bytes (c.args.name.now, c.args.target)) (drop c.span_of-span.result.end old) _
     c.in_ok-bytes.ensures.items c.in_ok-extend_from_slice.ensures.items c.in_ok-push_entry.ensures.written c.in_ok-extend_from_slice-2.ensures.items
     (take_rest old c.span_of-span.result.end))
 

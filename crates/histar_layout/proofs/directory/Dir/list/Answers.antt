@@ -11,7 +11,9 @@ use Rattle.histar_layout.proofs.directory.Dir.list.Goals as goal
 pub entries-init : goal.entries-init
 entries-init c = (
   [],
-  none_read c.as_slice-rest.result.now c.args.self.now (subst (IsDirectory c.as_slice-rest.result.now) c.self.view_is (subst (λ (b : List ℕ). IsDirectory b (entries_of c.self.inside.bytes.items)) (sym c.as_slice-rest.ensures.value) c.self.invariant)),
+  none_read c.as_slice-rest.result.now c.args.self.now (subst (IsDirectory c.as_slice-rest.result.now) c.self.view_is (subst
+      (λ (b : List ℕ). IsDirectory b (entries_of c.self.inside.bytes.items)) (sym c.as_slice-rest.ensures.value)
+      c.self.invariant)),
   sym (append-nil c.args.names.now.items),
   omega arith,
   refl,
@@ -33,7 +35,8 @@ entries-preserved c =
     let e : Entry = (c.in-Some.found.0, c.in-Some.found.1) in (
       h.0 ++ e ∷ [],
       one_read c.entries.rest.now h.0 c.args.self.now h.1 _ c.in-Some.ensures,
-      c.push_reserved.ensures.items ∙ (λ i. h.2 i ++ (c.in-Some.found.0, c.is_directory.ensures i) ∷ []) ∙ append_assoc c.args.names.now.items (map shown_entry h.0) (shown_entry e ∷ [])
+      c.push_reserved.ensures.items ∙ (λ i. h.2 i ++ (c.in-Some.found.0, c.is_directory.ensures i) ∷ [])
+          ∙ append_assoc c.args.names.now.items (map shown_entry h.0) (shown_entry e ∷ [])
           ∙ ap (λ (shown : List (Name × Bool)). c.args.names.now.items ++ shown) (sym (map-append shown_entry h.0 (e ∷ []))),
       omega (arith, h.3, c.push_reserved.ensures.len, length-append h.0 (e ∷ [])),
       c.push_reserved.ensures.capacity ∙ h.4,
@@ -42,4 +45,6 @@ entries-preserved c =
 pub returns : goal.returns
 returns c =
     let h = c.entries.invariant in
-    h.2 ∙ ap (λ (es : List Entry). c.args.names.now.items ++ map shown_entry es) (sym (all_read c.entries.rest.now h.0 c.args.self.now h.1 c.in_default.ensures))
+    h.2
+    ∙ ap (λ (es : List Entry). c.args.names.now.items ++ map shown_entry es)
+    (sym (all_read c.entries.rest.now h.0 c.args.self.now h.1 c.in_default.ensures))

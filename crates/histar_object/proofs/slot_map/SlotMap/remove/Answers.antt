@@ -1,7 +1,8 @@
 use Rattle.std.proofs.Common.{Option, None, Some, sym, ap, ◌∙◌, arith}
 use Rattle.std.specs.Prelude.{◌++◌, IfNone}
 use Rattle.histar_object.specs.Slots.{numbered, in_place}
-use Rattle.histar_object.proofs.Numbering.{in_place_within, found_in_place, found_in_map, found_put, found_emptied, distinct_in_both, AreApart-put, AreApart-emptied}
+use Rattle.histar_object.proofs.Numbering.{in_place_within, found_in_place, found_in_map, found_put, found_emptied, distinct_in_both, AreApart-put}
+use Rattle.histar_object.proofs.Numbering.{AreApart-emptied}
 use Rattle.histar_object.proofs.slot_map.SlotMap.remove.Goals as goal
 
 -- what follows from a fact holds, where nothing is there
@@ -15,18 +16,26 @@ returns-in_default-clause-unchanged c =
 
 pub invariant_of-self : goal.invariant_of-self
 invariant_of-self c =
-    AreApart-put c.self.inside.listed.items c.self.inside.others.entries c.self.invariant c.args.id c.remove.new.self.entries None (ap (λ l. in_place l c.args.id) (sym c.deref.ensures.value) ∙ sym c.place.ensures ∙ c.in_default.is) c.remove.ensures.unique c.remove.ensures.updates.0
+    AreApart-put c.self.inside.listed.items c.self.inside.others.entries c.self.invariant c.args.id
+    c.remove.new.self.entries None
+    (ap (λ l. in_place l c.args.id) (sym c.deref.ensures.value) ∙ sym c.place.ensures ∙ c.in_default.is)
+    c.remove.ensures.unique c.remove.ensures.updates.0
 
 pub returns-in_default-clause-value : goal.returns-in_default-clause-value
 returns-in_default-clause-value c =
-    rw (← c.self.view_is) (c.remove.ensures.value ∙ sym (found_in_map c.self.inside.listed.items c.self.inside.others.entries c.args.id (ap (λ l. in_place l c.args.id) (sym c.deref.ensures.value) ∙ sym c.place.ensures ∙ c.in_default.is)))
+    rw (← c.self.view_is) (c.remove.ensures.value
+    ∙ sym (found_in_map c.self.inside.listed.items c.self.inside.others.entries c.args.id
+    (ap (λ l. in_place l c.args.id) (sym c.deref.ensures.value) ∙ sym c.place.ensures
+    ∙ c.in_default.is)))
 
 pub returns-in_default-clause-once : goal.returns-in_default-clause-once
 returns-in_default-clause-once c = distinct_in_both c.self.inside.listed.items c.remove.new.self.entries (invariant_of-self c)
 
 pub returns-in_default-clause-updates : goal.returns-in_default-clause-updates
 returns-in_default-clause-updates c q =
-    rw (← c.self.view_is) (found_put c.self.inside.listed.items c.self.inside.others.entries c.args.id c.remove.new.self.entries None (ap (λ l. in_place l c.args.id) (sym c.deref.ensures.value) ∙ sym c.place.ensures ∙ c.in_default.is) q (c.remove.ensures.updates.0 q))
+    rw (← c.self.view_is) (found_put c.self.inside.listed.items c.self.inside.others.entries c.args.id c.remove.new.self.entries None
+    (ap (λ l. in_place l c.args.id) (sym c.deref.ensures.value) ∙ sym c.place.ensures ∙ c.in_default.is) q
+    (c.remove.ensures.updates.0 q))
 
 pub index_mut-requires : goal.index_mut-requires
 index_mut-requires c =
@@ -38,10 +47,14 @@ invariant_of-self-2 c = AreApart-emptied c.self.inside.listed.items c.self.insid
 
 pub returns-clause-value : goal.returns-clause-value
 returns-clause-value c =
-    rw (← c.self.view_is) (sym (found_in_place c.self.inside.listed.items c.self.inside.others.entries c.args.id c.in-Some.slot (ap (λ l. in_place l c.args.id) (sym c.deref.ensures.value) ∙ sym c.place.ensures ∙ c.in-Some.is)))
+    rw (← c.self.view_is) (sym (found_in_place c.self.inside.listed.items c.self.inside.others.entries c.args.id c.in-Some.slot
+    (ap (λ l. in_place l c.args.id) (sym c.deref.ensures.value) ∙ sym c.place.ensures ∙ c.in-Some.is)))
 
 pub returns-clause-once : goal.returns-clause-once
 returns-clause-once c = distinct_in_both _ c.self.inside.others.entries (invariant_of-self-2 c)
 
 pub returns-clause-updates : goal.returns-clause-updates
-returns-clause-updates c = rw (c.number.ensures, ← c.self.view_is) (found_emptied c.self.inside.listed.items c.self.inside.others.entries c.args.id (c.self.invariant.apart c.args.id c.in-Some.slot (ap (λ l. in_place l c.args.id) (sym c.deref.ensures.value) ∙ sym c.place.ensures ∙ c.in-Some.is)))
+returns-clause-updates c =
+    rw (c.number.ensures, ← c.self.view_is) (found_emptied c.self.inside.listed.items c.self.inside.others.entries c.args.id
+    (c.self.invariant.apart c.args.id c.in-Some.slot
+    (ap (λ l. in_place l c.args.id) (sym c.deref.ensures.value) ∙ sym c.place.ensures ∙ c.in-Some.is)))

@@ -11,9 +11,12 @@ invariant_of-self g c =
     let slot = c.insert_reserved-slot.result in
     let updates = c.insert_reserved-slot.ensures.updates in
     let none = no_slot old slots c.self.invariant c.args.id (rw (← c.self.view_is) at c.requires.absent) in
-    let one = added old new slots c.self.invariant c.args.id slot c.insert_reserved.new.self.entries c.args.object none c.insert_reserved.ensures.updates
+    let one =
+    added old new slots c.self.invariant c.args.id slot c.insert_reserved.new.self.entries c.args.object none
+    c.insert_reserved.ensures.updates
     c.insert_reserved-slot.ensures.was_vacant updates.changed updates.others in
-    IsPlaced-changed old new slots c.insert_reserved.new.self.entries c.args.id slot (Some slot) (Some c.args.object) one c.self.invariant c.insert_reserved.ensures.once
+    IsPlaced-changed old new slots c.insert_reserved.new.self.entries c.args.id slot (Some slot) (Some c.args.object)
+    one c.self.invariant c.insert_reserved.ensures.once
 
 pub returns-clause-objects : goal.returns-clause-objects
 returns-clause-objects g c =
@@ -23,13 +26,17 @@ returns-clause-objects g c =
     let slot = c.insert_reserved-slot.result in
     let updates = c.insert_reserved-slot.ensures.updates in
     let none = no_slot old slots c.self.invariant c.args.id (rw (← c.self.view_is) at c.requires.absent) in
-    let one = added old new slots c.self.invariant c.args.id slot c.insert_reserved.new.self.entries c.args.object none c.insert_reserved.ensures.updates
+    let one =
+    added old new slots c.self.invariant c.args.id slot c.insert_reserved.new.self.entries c.args.object none
+    c.insert_reserved.ensures.updates
     c.insert_reserved-slot.ensures.was_vacant updates.changed updates.others in
-    rw (← c.self.view_is) (objects-changed old new slots c.insert_reserved.new.self.entries c.args.id slot (Some slot) (Some c.args.object) one c.self.invariant c.insert_reserved.ensures.once)
+    rw (← c.self.view_is) (objects-changed old new slots c.insert_reserved.new.self.entries c.args.id slot (Some slot)
+    (Some c.args.object) one c.self.invariant c.insert_reserved.ensures.once)
 
 pub returns-clause-slots : goal.returns-clause-slots
 returns-clause-slots g c =
-    rw (← c.self.view_is) (other_slots c.self.inside.slots.entries c.insert_reserved.new.self.entries c.args.id (Some c.insert_reserved-slot.result) c.insert_reserved.ensures.updates)
+    rw (← c.self.view_is) (other_slots c.self.inside.slots.entries c.insert_reserved.new.self.entries c.args.id
+    (Some c.insert_reserved-slot.result) c.insert_reserved.ensures.updates)
 
 pub insert_reserved-requires-clause-absent : goal.insert_reserved-requires-clause-absent
 insert_reserved-requires-clause-absent g c =

@@ -23,7 +23,9 @@ invariant_of-self-2 g c =
     let slot = c.in_ok-slot.slot in
     let here : slot_at slots c.args.id ≡ Some slot = sym c.remove.ensures.value ∙ c.in_ok-slot.was in
     let updates = c.try_remove.ensures.updates in
-    let one = removed old new slots c.self.invariant c.args.id slot c.remove.new.self.entries here c.remove.ensures.updates updates.changed updates.others in
+    let one =
+    removed old new slots c.self.invariant c.args.id slot c.remove.new.self.entries here c.remove.ensures.updates
+    updates.changed updates.others in
     IsPlaced-changed old new slots c.remove.new.self.entries c.args.id slot None None one c.self.invariant c.remove.ensures.once
 
 pub returns-clause-value : goal.returns-clause-value
@@ -40,8 +42,11 @@ returns-clause-without g c =
     let slot = c.in_ok-slot.slot in
     let here : slot_at slots c.args.id ≡ Some slot = sym c.remove.ensures.value ∙ c.in_ok-slot.was in
     let updates = c.try_remove.ensures.updates in
-    let one = removed old new slots c.self.invariant c.args.id slot c.remove.new.self.entries here c.remove.ensures.updates updates.changed updates.others in
-    rw (← c.self.view_is) (objects-changed old new slots c.remove.new.self.entries c.args.id slot None None one c.self.invariant c.remove.ensures.once)
+    let one =
+    removed old new slots c.self.invariant c.args.id slot c.remove.new.self.entries here c.remove.ensures.updates
+    updates.changed updates.others in
+    rw (← c.self.view_is) (objects-changed old new slots c.remove.new.self.entries c.args.id slot None None one c.self.invariant
+    c.remove.ensures.once)
 
 pub returns-clause-slots : goal.returns-clause-slots
 returns-clause-slots g c =

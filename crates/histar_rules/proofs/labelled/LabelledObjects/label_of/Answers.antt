@@ -20,4 +20,5 @@ pub unwrap-requires : goal.unwrap-requires
 unwrap-requires g c =
     copied_some c.get.result _ c.get.ensures
     (subst (λ (labels : g.row.S-Id.Denot → Option Levels). IsSome (labels c.in-Some.label)) (sym c.in_ok-label.ensures.unchanged)
-    (found_stands (g.S.LabelStore.labels c.self.inside.store) c.self.inside.table c.self.invariant.stand c.args.object c.in-Some.label (sym c.in_ok-label.ensures.label ∙ c.in-Some.is)))
+    (found_stands (g.S.LabelStore.labels c.self.inside.store) c.self.inside.table c.self.invariant.stand c.args.object
+    c.in-Some.label (sym c.in_ok-label.ensures.label ∙ c.in-Some.is)))

@@ -5,4 +5,9 @@ pub invariant_of-result : goal.invariant_of-result
 invariant_of-result g c = nothing_kept (g.S.LabelStore.labels c.args.store) c.new.result c.args.next_object c.requires c.new.ensures
 
 pub returns : goal.returns
-returns g c = λ i. record { objects = nothing_shown (g.S.LabelStore.labels c.args.store) c.new.result c.new.ensures i; next_object = c.args.next_object; next_category = c.args.next_category }
+returns g c =
+    λ i. record {
+      objects = nothing_shown (g.S.LabelStore.labels c.args.store) c.new.result c.new.ensures i;
+      next_object = c.args.next_object;
+      next_category = c.args.next_category;
+    }

@@ -6,7 +6,8 @@ use Rattle.histar_rules.proofs.labelled.LabelledObjects.own.Goals as goal
 pub unwrap-label-requires : goal.unwrap-label-requires
 unwrap-label-requires g c =
     copied_some c.get.result _ c.get.ensures
-    (label_stands (g.S.LabelStore.labels c.self.inside.store) c.self.inside.table c.self.invariant.stand c.args.thread (thread_of _ _) c.in-Some.ensures)
+    (label_stands (g.S.LabelStore.labels c.self.inside.store) c.self.inside.table c.self.invariant.stand c.args.thread
+    (thread_of _ _) c.in-Some.ensures)
 
 pub unwrap-clearance-requires : goal.unwrap-clearance-requires
 unwrap-clearance-requires g c =

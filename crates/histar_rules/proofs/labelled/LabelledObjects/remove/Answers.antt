@@ -8,21 +8,27 @@ use Rattle.histar_rules.proofs.labelled.LabelledObjects.remove.Goals as goal
 
 pub remove_tree-requires-clause-tree : goal.remove_tree-requires-clause-tree
 remove_tree-requires-clause-tree g c =
-    trees_there (g.S.LabelStore.labels c.self.inside.store) c.self.inside.table (subst (λ (k : ObjectsModel). AreTree (objects_of k.objects)) (sym c.self.view_is) c.requires.tree)
+    trees_there (g.S.LabelStore.labels c.self.inside.store) c.self.inside.table
+    (subst (λ (k : ObjectsModel). AreTree (objects_of k.objects)) (sym c.self.view_is) c.requires.tree)
 
 pub invariant_of-self : goal.invariant_of-self
 invariant_of-self g c =
-    kept_removed (g.S.LabelStore.labels c.self.inside.store) c.self.inside.table c.remove_tree.new.table c.args.container c.args.object c.self.inside.next_object c.remove_tree.result c.self.invariant
+    kept_removed (g.S.LabelStore.labels c.self.inside.store) c.self.inside.table c.remove_tree.new.table
+    c.args.container c.args.object c.self.inside.next_object c.remove_tree.result c.self.invariant
     (subst (λ (k : ObjectsModel). AreTree (objects_of k.objects)) (sym c.self.view_is) c.requires.tree)
-    (subst (λ (k : ObjectsModel). set.contains (links_in (objects_of k.objects c.args.container)) c.args.object ≡ true) (sym c.self.view_is) c.requires.linked)
+    (subst
+    (λ (k : ObjectsModel). set.contains (links_in (objects_of k.objects c.args.container)) c.args.object ≡ true)
+    (sym c.self.view_is) c.requires.linked)
     c.remove_tree.ensures.ok c.remove_tree.ensures.err
 
 pub returns-clause-ok : goal.returns-clause-ok
 returns-clause-ok g c =
-    removed_ok (g.S.LabelStore.labels c.self.inside.store) c.self.inside.table c.remove_tree.new.table c.args.container c.args.object c.self.inside.next_object c.self.inside.next_category c.args.self.now c.self.view_is
+    removed_ok (g.S.LabelStore.labels c.self.inside.store) c.self.inside.table c.remove_tree.new.table c.args.container
+    c.args.object c.self.inside.next_object c.self.inside.next_category c.args.self.now c.self.view_is
     c.remove_tree.result c.remove_tree.ensures.ok
 
 pub returns-clause-err : goal.returns-clause-err
 returns-clause-err g c =
-    removed_err (g.S.LabelStore.labels c.self.inside.store) c.self.inside.table c.remove_tree.new.table c.args.container c.args.object c.self.inside.next_object c.self.inside.next_category c.args.self.now c.self.view_is
+    removed_err (g.S.LabelStore.labels c.self.inside.store) c.self.inside.table c.remove_tree.new.table c.args.container
+    c.args.object c.self.inside.next_object c.self.inside.next_category c.args.self.now c.self.view_is
     c.remove_tree.result c.remove_tree.ensures.err

@@ -8,6 +8,8 @@ use Rattle.histar_script.proofs.script.Script.without.Goals as goal
 
 pub returns : goal.returns
 returns c =
-    let left = filter_same _ (λ (x : CallLine). not (under_process c.args.job.now x.process)) _ (λ x b f' k. search rules) _ _ c.retain.ensures.filtered in
+    let left =
+    filter_same _ (λ (x : CallLine). not (under_process c.args.job.now x.process)) _ (λ x b f' k. search rules) _ _
+    c.retain.ensures.filtered in
     let seen = ap (λ (calls : List CallLine). record { accounts = c.self.inside.accounts; calls = calls }) left in
     seen ∙ ap (without_job c.args.job.now) c.self.view_is

@@ -12,14 +12,25 @@ use Rattle.histar_shell.proofs.machine.Machine.step.Goals as goal
 -- the trace stays a run from the empty kernel
 pub invariant_of-self : goal.invariant_of-self
 invariant_of-self g c =
-    let made = subst (λ (k : KernelModel). Makes c.self.inside.users c.self.inside.roots c.args.process.now c.in-Some.caller k c.make-result.new.kernel c.args.call c.make-result.result) c.begin.ensures c.make-result.ensures in
-    traced_on c.self.inside.users c.self.inside.roots c.args.process.now c.in-Some.caller (on_line c.args.line c.self.inside.kernel) c.make-result.new.kernel c.args.call c.make-result.result c.self.invariant made
+    let made =
+    subst (λ (k : KernelModel). Makes c.self.inside.users c.self.inside.roots c.args.process.now c.in-Some.caller k
+    c.make-result.new.kernel c.args.call c.make-result.result) c.begin.ensures c.make-result.ensures in
+    traced_on c.self.inside.users c.self.inside.roots c.args.process.now c.in-Some.caller
+    (on_line c.args.line c.self.inside.kernel) c.make-result.new.kernel c.args.call c.make-result.result
+    c.self.invariant made
 
 -- who is not found is answered `gone`
 pub returns-in_default-clause-answers : goal.returns-in_default-clause-answers
 returns-in_default-clause-answers g c =
-    let before : MachineModel = record { kernel = c.self.inside.kernel; roots = c.self.inside.roots; users = c.self.inside.users; is_stopped = c.self.inside.is_stopped } in
-    let lost : caller_at (state c.self.inside.kernel) c.self.inside.roots.home c.args.process.now ≡ None = sym c.find_caller.ensures ∙ c.in_default.is in
+    let before : MachineModel =
+    record {
+      kernel = c.self.inside.kernel;
+      roots = c.self.inside.roots;
+      users = c.self.inside.users;
+      is_stopped = c.self.inside.is_stopped;
+    } in
+    let lost : caller_at (state c.self.inside.kernel) c.self.inside.roots.home c.args.process.now ≡ None =
+    sym c.find_caller.ensures ∙ c.in_default.is in
     subst (λ (m : MachineModel). AnswersLine m m c.args.line c.args.process.now c.args.call (Ok Gone)) c.self.view_is
     (gone_line before c.args.line c.args.process.now c.args.call c.if-self.false lost)
 
@@ -30,13 +41,31 @@ returns-in_default-clause-means g c = line_follows calls_refine c.args.self.now 
 -- who is found has the call made
 pub returns-clause-answers : goal.returns-clause-answers
 returns-clause-answers g c =
-    let before : MachineModel = record { kernel = c.self.inside.kernel; roots = c.self.inside.roots; users = c.self.inside.users; is_stopped = c.self.inside.is_stopped } in
-    let left : MachineModel = record { kernel = c.make-result.new.kernel; roots = c.self.inside.roots; users = c.self.inside.users; is_stopped = c.is_err-self-inside.result } in
-    let found : caller_at (state c.self.inside.kernel) c.self.inside.roots.home c.args.process.now ≡ Some c.in-Some.caller = sym c.find_caller.ensures ∙ c.in-Some.is in
-    let makes = subst (λ (k : KernelModel). Makes c.self.inside.users c.self.inside.roots c.args.process.now c.in-Some.caller k c.make-result.new.kernel c.args.call c.make-result.result) c.begin.ensures c.make-result.ensures in
+    let before : MachineModel =
+    record {
+      kernel = c.self.inside.kernel;
+      roots = c.self.inside.roots;
+      users = c.self.inside.users;
+      is_stopped = c.self.inside.is_stopped;
+    } in
+    let left : MachineModel =
+    record {
+      kernel = c.make-result.new.kernel;
+      roots = c.self.inside.roots;
+      users = c.self.inside.users;
+      is_stopped = c.is_err-self-inside.result;
+    } in
+    let found : caller_at (state c.self.inside.kernel) c.self.inside.roots.home c.args.process.now
+    ≡ Some c.in-Some.caller =
+    sym c.find_caller.ensures ∙ c.in-Some.is in
+    let makes =
+    subst (λ (k : KernelModel). Makes c.self.inside.users c.self.inside.roots c.args.process.now c.in-Some.caller k
+    c.make-result.new.kernel c.args.call c.make-result.result) c.begin.ensures c.make-result.ensures in
     subst (λ (m : MachineModel). AnswersLine m left c.args.line c.args.process.now c.args.call c.make-result.result) c.self.view_is
     (had_made before left c.args.line c.args.process.now c.in-Some.caller c.args.call c.make-result.result c.if-self.false found
     (record { made = makes; roots = refl; users = refl; stops = c.is_err-self-inside.ensures.value }))
 
 pub returns-clause-means : goal.returns-clause-means
-returns-clause-means g c = line_follows calls_refine _ _ c.args.line c.args.process.now c.args.call _ c.each_call_is_right.ensures (returns-clause-answers g c)
+returns-clause-means g c =
+    line_follows calls_refine _ _ c.args.line c.args.process.now c.args.call _ c.each_call_is_right.ensures
+    (returns-clause-answers g c)

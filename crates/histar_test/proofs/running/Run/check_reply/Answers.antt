@@ -22,9 +22,13 @@ returns-clause-ok g c =
 pub returns-clause-written : goal.returns-clause-written
 returns-clause-written g c =
     after_ok c.count_check.result
-    (text_written (g.W.Sink.written c.args.writer.now) (g.W.Sink.written c.count_check.new.writer) c.args.file.now c.args.self.now c.in-Some.made c.args.wanted (sym c.take.ensures.value ∙ c.in-Some.is)) c.count_check.ensures.written
+    (text_written (g.W.Sink.written c.args.writer.now) (g.W.Sink.written c.count_check.new.writer) c.args.file.now
+    c.args.self.now c.in-Some.made c.args.wanted (sym c.take.ensures.value ∙ c.in-Some.is))
+    c.count_check.ensures.written
 
 pub returns-clause-err : goal.returns-clause-err
 returns-clause-err g c =
     after_err c.count_check.result
-    (text_begun (g.W.Sink.written c.args.writer.now) (g.W.Sink.written c.count_check.new.writer) c.args.file.now c.args.self.now c.in-Some.made c.args.wanted (sym c.take.ensures.value ∙ c.in-Some.is)) c.count_check.ensures.err
+    (text_begun (g.W.Sink.written c.args.writer.now) (g.W.Sink.written c.count_check.new.writer) c.args.file.now
+    c.args.self.now c.in-Some.made c.args.wanted (sym c.take.ensures.value ∙ c.in-Some.is))
+    c.count_check.ensures.err

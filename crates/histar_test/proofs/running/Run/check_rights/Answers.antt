@@ -15,9 +15,11 @@ returns-clause-ok g c =
 pub returns-clause-written : goal.returns-clause-written
 returns-clause-written g c =
     after_ok c.count_check.result
-    (rights_written (g.W.Sink.written c.args.writer.now) (g.W.Sink.written c.count_check.new.writer) c.args.file.now c.args.self.now c.args.question c.in_ok-check.check c.in_ok-check.ensures) c.count_check.ensures.written
+    (rights_written (g.W.Sink.written c.args.writer.now) (g.W.Sink.written c.count_check.new.writer) c.args.file.now
+    c.args.self.now c.args.question c.in_ok-check.check c.in_ok-check.ensures) c.count_check.ensures.written
 
 pub returns-clause-err : goal.returns-clause-err
 returns-clause-err g c =
     after_err c.count_check.result
-    (rights_begun (g.W.Sink.written c.args.writer.now) (g.W.Sink.written c.count_check.new.writer) c.args.file.now c.args.self.now c.args.question c.in_ok-check.check c.in_ok-check.ensures) c.count_check.ensures.err
+    (rights_begun (g.W.Sink.written c.args.writer.now) (g.W.Sink.written c.count_check.new.writer) c.args.file.now
+    c.args.self.now c.args.question c.in_ok-check.check c.in_ok-check.ensures) c.count_check.ensures.err

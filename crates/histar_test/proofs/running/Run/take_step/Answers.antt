@@ -5,7 +5,8 @@ use Rattle.histar_test.proofs.running.Run.take_step.Goals as goal
 
 pub returns-in-Expects-clause-ok : goal.returns-in-Expects-clause-ok
 returns-in-Expects-clause-ok g c =
-    subst (λ (s : Step). OnOk c.check_reply.result (TakesStep c.args.self.now c.check_reply.new.self s)) (sym c.in-Expects.is) c.check_reply.ensures.ok
+    subst (λ (s : Step). OnOk c.check_reply.result (TakesStep c.args.self.now c.check_reply.new.self s))
+    (sym c.in-Expects.is) c.check_reply.ensures.ok
 
 pub returns-in-Expects-clause-written : goal.returns-in-Expects-clause-written
 returns-in-Expects-clause-written g c =
@@ -21,7 +22,8 @@ returns-in-Expects-clause-err g c =
 
 pub returns-in-Asks-clause-ok : goal.returns-in-Asks-clause-ok
 returns-in-Asks-clause-ok g c =
-    subst (λ (s : Step). OnOk c.check_rights.result (TakesStep c.args.self.now c.check_rights.new.self s)) (sym c.in-Asks.is) c.check_rights.ensures.ok
+    subst (λ (s : Step). OnOk c.check_rights.result (TakesStep c.args.self.now c.check_rights.new.self s))
+    (sym c.in-Asks.is) c.check_rights.ensures.ok
 
 pub returns-in-Asks-clause-err : goal.returns-in-Asks-clause-err
 returns-in-Asks-clause-err g c =
