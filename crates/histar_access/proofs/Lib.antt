@@ -1,3 +1,4 @@
+-- The lemmas of this crate.
 pub mod Descent
 pub mod Visiting
 pub mod SameProcesses

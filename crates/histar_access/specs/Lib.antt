@@ -1,3 +1,4 @@
+-- The definitions of this crate that contracts cite.
 pub mod Rows
 pub mod Cells
 pub mod Shown

@@ -1,3 +1,4 @@
+-- The lemmas of this crate.
 pub mod Running
 pub mod Exits
 pub mod Directories

@@ -1,3 +1,4 @@
+-- The lemmas of this crate.
 pub mod Kept
 pub mod Observed
 pub mod Verdicts

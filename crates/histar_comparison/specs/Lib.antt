@@ -1,3 +1,4 @@
+-- The definitions of this crate that contracts cite.
 pub mod Replies
 pub mod Observation
 pub mod Compared

@@ -1,3 +1,4 @@
+-- The lemmas of this crate.
 pub mod Links
 pub mod Shows
 pub mod Keeping

@@ -1,3 +1,4 @@
+-- The definitions of this crate that contracts cite.
 pub mod ObjectsModel
 pub mod Shown
 pub mod Tree

@@ -1,3 +1,4 @@
+-- The lemmas of this crate.
 pub mod Steps
 pub mod Joins
 pub mod Listing

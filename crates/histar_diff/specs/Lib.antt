@@ -1,3 +1,4 @@
+-- The definitions of this crate that contracts cite.
 pub mod Joining
 pub mod Tables
 pub mod Columns

@@ -1,3 +1,4 @@
+-- The lemmas of this crate.
 pub mod LeftExceptions
 pub mod Passes
 pub mod UnmadePasses

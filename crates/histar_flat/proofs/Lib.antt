@@ -1,3 +1,4 @@
+-- The lemmas of this crate.
 pub mod PaddingLemmas
 pub mod WordLemmas
 pub mod SplitLemmas

@@ -1,3 +1,4 @@
+-- The definitions of this crate that contracts cite.
 pub mod Padding
 pub mod PaddingLaws
 pub mod Words

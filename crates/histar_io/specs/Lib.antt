@@ -1,3 +1,4 @@
+-- The definitions of this crate that contracts cite.
 pub mod Device
 pub mod Input
 pub mod Writing

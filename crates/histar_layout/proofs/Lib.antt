@@ -1,3 +1,4 @@
+-- The lemmas of this crate.
 pub mod EntryLemmas
 pub mod MapLemmas
 pub mod DirectoryLemmas

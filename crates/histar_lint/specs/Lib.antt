@@ -1,3 +1,4 @@
+-- The definitions of this crate that contracts cite.
 pub mod Lines
 pub mod Calls
 pub mod Rules

@@ -1,3 +1,4 @@
+-- The lemmas of this crate.
 pub mod DirectoryStage
 pub mod FirstAndLast
 pub mod GroupLemmas

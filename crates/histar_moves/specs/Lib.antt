@@ -1,3 +1,4 @@
+-- The definitions of this crate that contracts cite.
 pub mod Parts
 pub mod Unlink
 pub mod Rmdir

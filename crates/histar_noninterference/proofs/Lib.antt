@@ -1,3 +1,4 @@
+-- The lemmas of this crate.
 pub mod Relation
 pub mod TestLemmas
 pub mod Outside

@@ -1,3 +1,4 @@
+-- The definitions of this crate that contracts cite.
 pub mod Comparison
 pub mod Isolation
 pub mod Following

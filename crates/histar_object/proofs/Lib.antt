@@ -1,3 +1,4 @@
+-- The lemmas of this crate.
 pub mod LinkLemmas
 pub mod Changes
 pub mod Placing

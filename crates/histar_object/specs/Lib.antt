@@ -1,3 +1,4 @@
+-- The definitions of this crate that contracts cite.
 pub mod Codes
 pub mod Lending
 pub mod Objects

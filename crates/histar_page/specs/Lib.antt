@@ -1,3 +1,4 @@
+-- The definitions of this crate that contracts cite.
 pub mod Texts
 pub mod Rendering
 pub mod Items

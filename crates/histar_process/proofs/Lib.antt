@@ -1,3 +1,4 @@
+-- The lemmas of this crate.
 pub mod Segments
 pub mod Scanning
 pub mod RepliesOfProcessCalls

@@ -1,3 +1,4 @@
+-- The definitions of this crate that contracts cite.
 pub mod Caller
 pub mod Parts
 pub mod Kin

@@ -1,3 +1,4 @@
+-- The lemmas of this crate.
 pub mod Errors
 pub mod Pieces
 pub mod CallsExplained

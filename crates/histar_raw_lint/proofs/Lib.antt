@@ -1,3 +1,4 @@
+-- The lemmas of this crate.
 mod Rules
 mod Sayings
 mod Steps

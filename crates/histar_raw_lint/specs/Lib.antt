@@ -1,3 +1,4 @@
+-- The definitions of this crate that contracts cite.
 pub mod Values
 pub mod Rules
 pub mod Laws

@@ -1,3 +1,4 @@
+-- The lemmas of this crate.
 pub mod Parting
 pub mod WordTexts
 pub mod LabelTexts

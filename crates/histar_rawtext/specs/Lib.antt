@@ -1,3 +1,4 @@
+-- The definitions of this crate that contracts cite.
 pub mod RawText
 pub mod RawTextLaws
 pub mod Readable

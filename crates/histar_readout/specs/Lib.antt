@@ -1,3 +1,4 @@
+-- The definitions of this crate that contracts cite.
 pub mod Tree
 pub mod TreeEntries
 pub mod TreeLines

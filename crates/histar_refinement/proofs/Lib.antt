@@ -1,3 +1,4 @@
+-- The lemmas of this crate.
 pub mod Levelled
 pub mod CategoryTests
 pub mod AmongNames

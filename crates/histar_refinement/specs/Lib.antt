@@ -1,3 +1,4 @@
+-- The definitions of this crate that contracts cite.
 pub mod Accounts
 pub mod Categories
 pub mod Guards

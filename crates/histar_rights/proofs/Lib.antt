@@ -1,3 +1,4 @@
+-- The lemmas of this crate.
 pub mod Passing
 pub mod Giving
 pub mod Answered

@@ -1,3 +1,4 @@
+-- The definitions of this crate that contracts cite.
 pub mod Rights
 pub mod Running
 pub mod Table

@@ -1,3 +1,4 @@
+-- The definitions of this crate that contracts cite.
 pub mod Finds
 pub mod Kinds
 pub mod RawAnswers

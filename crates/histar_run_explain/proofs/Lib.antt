@@ -1,3 +1,4 @@
+-- The lemmas of this crate.
 pub mod Parts
 pub mod Remembering
 pub mod Replays

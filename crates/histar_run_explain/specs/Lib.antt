@@ -1,3 +1,4 @@
+-- The definitions of this crate that contracts cite.
 pub mod Births
 pub mod Clues
 pub mod Purposes

@@ -1,3 +1,4 @@
+-- The lemmas of this crate.
 pub mod Chains
 pub mod LineLemmas
 pub mod ReadingLemmas

@@ -1,3 +1,4 @@
+-- The definitions of this crate that contracts cite.
 pub mod Logins
 pub mod Roles
 pub mod Noninterference

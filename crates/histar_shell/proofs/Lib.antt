@@ -1,3 +1,4 @@
+-- The lemmas of this crate.
 pub mod AnswerLemmas
 pub mod EachLine
 pub mod RunLemmas

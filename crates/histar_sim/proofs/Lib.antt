@@ -1,3 +1,4 @@
+-- The lemmas of this crate.
 pub mod ReadsByCall
 pub mod Chains
 pub mod CallErrors

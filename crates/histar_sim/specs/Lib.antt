@@ -1,3 +1,4 @@
+-- The definitions of this crate that contracts cite.
 pub mod Reads
 pub mod Simulation
 pub mod Refines

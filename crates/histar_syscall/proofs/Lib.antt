@@ -1,3 +1,4 @@
+-- The lemmas of this crate.
 pub mod Rooms
 pub mod Runs
 pub mod Sessions

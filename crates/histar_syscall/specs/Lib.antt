@@ -1,3 +1,4 @@
+-- The definitions of this crate that contracts cite.
 pub mod Answers
 pub mod Laws
 pub mod Runs

@@ -1,3 +1,4 @@
+-- The lemmas of this crate.
 pub mod StepLemmas
 pub mod StepLaws
 pub mod LineLaws

@@ -1,3 +1,4 @@
+-- The definitions of this crate that contracts cite.
 pub mod Steps
 pub mod Checks
 pub mod Running

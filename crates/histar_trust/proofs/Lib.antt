@@ -1,3 +1,4 @@
+-- The lemmas of this crate.
 pub mod Pieces
 pub mod Runners
 pub mod Places

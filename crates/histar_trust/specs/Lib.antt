@@ -1,3 +1,4 @@
+-- The definitions of this crate that contracts cite.
 pub mod TrustText
 pub mod Secrets
 pub mod Findings

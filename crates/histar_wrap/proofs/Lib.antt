@@ -1,3 +1,4 @@
+-- The lemmas of this crate.
 pub mod GivingBack
 pub mod Scratching
 pub mod Wrapping

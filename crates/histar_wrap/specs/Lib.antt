@@ -1,3 +1,4 @@
+-- The definitions of this crate that contracts cite.
 pub mod Scratch
 pub mod Filling
 pub mod WrapCall

@@ -1,3 +1,4 @@
+-- The invariants and measures of `push_cells` of src/cells.rt.
 use Rattle.std.proofs.Common.{◌≡◌, ◌++◌, take}
 use Rattle.std.specs.List.{flat_map}
 use Rattle.histar_access.specs.Cells.{shown_text}

@@ -1,3 +1,4 @@
+-- The invariants and measures of `row_below` of src/cells.rt.
 use Rattle.std.proofs.Common.{◌≡◌, take}
 use Rattle.std.specs.Prelude.{map}
 use Rattle.histar_syscall.specs.KernelModel.{state}

@@ -1,3 +1,4 @@
+-- Proves the goals of `compare_texts` of src/changes.rt that the search leaves open.
 use Rattle.std.proofs.Common.{subst, sym}
 use Rattle.std.proofs.lemmas.Result.{err_from_is_err_and}
 use Rattle.histar_diff.specs.Differences.{AreDifferences}

@@ -1,3 +1,4 @@
+-- Proves the goals of `diff` of src/changes.rt that the search leaves open.
 use Rattle.std.proofs.Common.{ℕ, List, subst}
 use Rattle.std.proofs.lemmas.Result.{err_from_is_err_and}
 use Rattle.histar_script.specs.Outcome.{input_fault}

@@ -1,3 +1,4 @@
+-- Proves the goals of `write_differences` of src/changes.rt that the search leaves open.
 use Rattle.std.proofs.Common.{◌+◌, ◌++◌, drop, rules, sym, ap, ◌∙◌, refl}
 use Rattle.std.proofs.lemmas.Result.{err_from_is_err_and}
 use Rattle.histar_diff.specs.Texts.{difference_text, differences_text}

@@ -1,3 +1,4 @@
+-- The invariants and measures of `write_differences` of src/changes.rt.
 use Rattle.std.proofs.Common.{◌≡◌, drop}
 use Rattle.histar_diff.specs.Texts.{differences_text}
 use Rattle.histar_access.proofs.Pieces.{IsBegun}

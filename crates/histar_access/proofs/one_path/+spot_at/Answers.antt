@@ -1,3 +1,4 @@
+-- Proves the goals of `+spot_at` of src/one_path.rt that the search leaves open.
 use Rattle.histar_syscall.specs.KernelModel.{state}
 use Rattle.histar_access.proofs.Spots.{nowhere_above, nowhere_listed, slash_found, spot_found}
 use Rattle.histar_access.proofs.one_path.+spot_at.Goals as goal

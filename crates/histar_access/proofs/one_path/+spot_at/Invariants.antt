@@ -1,3 +1,4 @@
+-- The invariants and measures of `+spot_at` of src/one_path.rt.
 use Rattle.std.proofs.Common.{length}
 use Rattle.histar_access.proofs.one_path.+spot_at.Given as goal
 

@@ -1,3 +1,4 @@
+-- Proves the goals of `entry_at` of src/one_path.rt that the search leaves open.
 use Rattle.histar_syscall.specs.KernelModel.{state}
 use Rattle.histar_access.proofs.Spots.{entry_found, none_in_file, none_unlisted}
 use Rattle.histar_access.proofs.one_path.entry_at.Goals as goal

@@ -1,3 +1,4 @@
+-- Proves the goals of `rights_of` of src/one_path.rt that the search leaves open.
 use Rattle.std.proofs.Common.{None, Some, sym, ◌∙◌}
 use Rattle.histar_access.proofs.SpotRights.{found_there, not_running, nowhere, spot_rights}
 use Rattle.histar_access.proofs.one_path.rights_of.Goals as goal

@@ -1,3 +1,4 @@
+-- The invariants and measures of `rights_in` of src/rights_table.rt.
 use Rattle.std.proofs.Common.{◌≡◌, take}
 use Rattle.std.specs.Prelude.{map}
 use Rattle.histar_access.specs.Cells.{cell_rights}

@@ -1,3 +1,4 @@
+-- The invariants and measures of `runners_among` of src/rights_table.rt.
 use Rattle.std.proofs.Common.{◌≡◌, take}
 use Rattle.std.specs.List.{filter_map}
 use Rattle.histar_access.specs.RightsTable.{runner_of}

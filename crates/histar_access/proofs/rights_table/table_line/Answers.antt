@@ -1,3 +1,4 @@
+-- Proves the goals of `table_line` of src/rights_table.rt that the search leaves open.
 use Rattle.std.proofs.Common.{sym, ◌∙◌}
 use Rattle.histar_rights.specs.Table.{Cell as NamedRights}
 use Rattle.histar_access.specs.Cells.{shown}

@@ -1,3 +1,4 @@
+-- Proves the goals of `table_lines` of src/rights_table.rt that the search leaves open.
 use Rattle.std.proofs.Common.{take, length, rules, ap, ◌∙◌}
 use Rattle.std.specs.Prelude.{map}
 use Rattle.histar_syscall.specs.KernelModel.{state}

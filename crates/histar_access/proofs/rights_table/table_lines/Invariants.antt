@@ -1,3 +1,4 @@
+-- The invariants and measures of `table_lines` of src/rights_table.rt.
 use Rattle.std.proofs.Common.{drop}
 use Rattle.std.specs.Prelude.{map}
 use Rattle.histar_syscall.specs.KernelModel.{state}

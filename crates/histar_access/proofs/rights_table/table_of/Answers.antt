@@ -1,3 +1,4 @@
+-- Proves the goals of `table_of` of src/rights_table.rt that the search leaves open.
 use Rattle.std.proofs.Common.{[], ap, ◌∙◌}
 use Rattle.std.specs.Prelude.{map}
 use Rattle.std.specs.List.{filter_map}

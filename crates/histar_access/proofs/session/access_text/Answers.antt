@@ -1,3 +1,4 @@
+-- Proves the goals of `access_text` of src/session.rt that the search leaves open.
 use Rattle.histar_access.proofs.Runs.{is_shown, no_read_fails, sink_after, text_run}
 use Rattle.histar_access.proofs.session.access_text.Goals as goal
 

@@ -1,3 +1,4 @@
+-- Proves the goals of `make_call` of src/session.rt that the search leaves open.
 use Rattle.histar_access.proofs.Calling.{after_call}
 use Rattle.histar_access.proofs.session.make_call.Goals as goal
 

@@ -1,3 +1,4 @@
+-- Proves the goals of `make_calls` of src/session.rt that the search leaves open.
 use Rattle.std.proofs.Common.{sym, ◌∙◌}
 use Rattle.histar_access.proofs.Calling.{left_more, made_more}
 use Rattle.histar_access.proofs.session.make_calls.Goals as goal

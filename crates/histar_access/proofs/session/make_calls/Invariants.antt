@@ -1,3 +1,4 @@
+-- The invariants and measures of `make_calls` of src/session.rt.
 use Rattle.histar_access.specs.Session.{ShowsAfter, calls_before}
 use Rattle.histar_access.proofs.session.make_calls.Given as goal
 

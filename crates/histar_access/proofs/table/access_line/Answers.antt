@@ -1,3 +1,4 @@
+-- Proves the goals of `access_line` of src/table.rt that the search leaves open.
 use Rattle.std.proofs.Common.{arith}
 use Rattle.std.proofs.lemmas.Grind.{common_steps}
 use Rattle.histar_access.proofs.Writing.{texts_shown}

@@ -1,3 +1,4 @@
+-- Proves the goals of `last_row` of src/table.rt that the search leaves open.
 use Rattle.std.proofs.Common.{sym, ◌∙◌}
 use Rattle.histar_access.proofs.RowLemmas.{last_found}
 use Rattle.histar_access.proofs.table.last_row.Goals as goal

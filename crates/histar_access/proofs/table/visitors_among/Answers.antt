@@ -1,3 +1,4 @@
+-- Proves the goals of `visitors_among` of src/table.rt that the search leaves open.
 use Rattle.std.proofs.Common.{rules, sym, ap, ◌∙◌, ◌++◌, [], append-nil}
 use Rattle.std.specs.List.{cons_option}
 use Rattle.std.specs.Global.{Vec}

@@ -1,3 +1,4 @@
+-- The invariants and measures of `visitors_among` of src/table.rt.
 use Rattle.std.proofs.Common.{◌≡◌, take}
 use Rattle.std.specs.List.{filter_map}
 use Rattle.histar_syscall.specs.KernelModel.{state}

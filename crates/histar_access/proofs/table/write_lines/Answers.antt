@@ -1,3 +1,4 @@
+-- Proves the goals of `write_lines` of src/table.rt that the search leaves open.
 use Rattle.std.proofs.Common.{◌+◌, List, [], drop, take, length, rules, sym, ap, ◌∙◌, subst, refl}
 use Rattle.std.specs.Prelude.{map}
 use Rattle.std.proofs.KnownBytes.{Appends-nil}

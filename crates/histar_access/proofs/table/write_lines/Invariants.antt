@@ -1,3 +1,4 @@
+-- The invariants and measures of `write_lines` of src/table.rt.
 use Rattle.std.proofs.Common.{◌≡◌, drop}
 use Rattle.std.specs.Global.{Vec}
 use Rattle.std.specs.Prelude.{map}

@@ -1,3 +1,4 @@
+-- Proves the goals of `write_table` of src/table.rt that the search leaves open.
 use Rattle.std.proofs.Common.{sym, ◌∙◌, ap, subst}
 use Rattle.std.proofs.lemmas.Result.{err_from_is_err_and, on_ok_weaker, on_err_weaker}
 use Rattle.histar_syscall.specs.KernelModel.{state}

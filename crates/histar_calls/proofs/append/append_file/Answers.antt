@@ -1,3 +1,4 @@
+-- Proves the goals of `append_file` of src/append.rt that the search leaves open.
 use Rattle.histar_flat.specs.declared.replies.Reply.TheVariants.{Done}
 use Rattle.histar_rules.specs.declared.raw.RawCall.TheVariants.{Write}
 use Rattle.histar_calls.specs.Programs.Program.{Answers}

@@ -1,3 +1,4 @@
+-- Proves the goals of `add_file` of src/create.rt that the search leaves open.
 use Rattle.std.proofs.Common.{Err, sym, ap, refl}
 use Rattle.histar_rules.specs.declared.raw.RawCall.TheVariants.{MakeSegment, Write}
 use Rattle.histar_layout.specs.Directory.{spelling}

@@ -1,3 +1,4 @@
+-- Proves the goals of `create_file` of src/create.rt that the search leaves open.
 use Rattle.std.proofs.Common.{Ok, Err}
 use Rattle.histar_flat.specs.declared.replies.Reply.TheVariants.{Done}
 use Rattle.histar_label.specs.Levels.{Levels}

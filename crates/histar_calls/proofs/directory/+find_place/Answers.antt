@@ -1,3 +1,4 @@
+-- Proves the goals of `+find_place` of src/directory.rt that the search leaves open.
 use Rattle.std.proofs.Common.{◌-◌, length, take, drop, Ok, Err, arith}
 use Rattle.histar_calls.specs.declared.call_error.CallError.TheVariants.{Refused}
 use Rattle.histar_calls.specs.Parts.{find_place}

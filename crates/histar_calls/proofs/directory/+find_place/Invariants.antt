@@ -1,3 +1,4 @@
+-- The invariants and measures of `+find_place` of src/directory.rt.
 use Rattle.std.proofs.Common.{length}
 use Rattle.histar_calls.proofs.directory.+find_place.Given as goal
 

@@ -1,3 +1,4 @@
+-- Proves the goals of `walk` of src/directory.rt that the search leaves open.
 use Rattle.histar_calls.specs.Parts.{walk_to}
 use Rattle.histar_calls.proofs.Running.{fails_so}
 use Rattle.histar_calls.proofs.Directories.{walk_fails, walk_ends}

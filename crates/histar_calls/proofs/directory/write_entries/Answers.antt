@@ -1,3 +1,4 @@
+-- Proves the goals of `write_entries` of src/directory.rt that the search leaves open.
 use Rattle.histar_calls.proofs.Directories.{writes}
 use Rattle.histar_calls.proofs.directory.write_entries.Goals as goal
 

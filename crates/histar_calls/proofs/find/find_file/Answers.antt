@@ -1,3 +1,4 @@
+-- Proves the goals of `find_file` of src/find.rt that the search leaves open.
 use Rattle.std.proofs.Common.{◌∙◌, ℕ, ◌-◌, [], length, take, drop, refl, sym, ap, arith, Ok, Err}
 use Rattle.histar_flat.specs.declared.replies.Errno.TheVariants.{EISDIR}
 use Rattle.histar_calls.specs.declared.roots.Place.{Place}

@@ -1,3 +1,4 @@
+-- Proves the goals of `find_room` of src/find.rt that the search leaves open.
 use Rattle.std.proofs.Common.{◌∙◌, ◌-◌, [], length, take, drop, refl, sym, ap, arith, Err}
 use Rattle.std.specs.Prelude.{◌==◌}
 use Rattle.std.specs.FinMap as map

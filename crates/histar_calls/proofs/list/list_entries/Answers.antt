@@ -1,3 +1,4 @@
+-- Proves the goals of `list_entries` of src/list.rt that the search leaves open.
 use Rattle.std.proofs.Common.{ap, ◌∙◌, ◌++◌}
 use Rattle.histar_flat.specs.declared.replies.Reply.TheVariants.{Entries}
 use Rattle.histar_layout.specs.Listing.{names_in}

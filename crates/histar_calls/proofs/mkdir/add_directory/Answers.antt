@@ -1,3 +1,4 @@
+-- Proves the goals of `add_directory` of src/mkdir.rt that the search leaves open.
 use Rattle.std.proofs.Common.{Err, sym, ap, refl}
 use Rattle.histar_rules.specs.declared.raw.RawCall.TheVariants.{MakeContainer, MakeSegment, Write}
 use Rattle.histar_layout.specs.Directory.{spelling}

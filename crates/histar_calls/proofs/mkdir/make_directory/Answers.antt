@@ -1,3 +1,4 @@
+-- Proves the goals of `make_directory` of src/mkdir.rt that the search leaves open.
 use Rattle.std.proofs.Common.{Ok, Err}
 use Rattle.histar_flat.specs.declared.replies.Reply.TheVariants.{Done}
 use Rattle.histar_label.specs.Levels.{Levels}

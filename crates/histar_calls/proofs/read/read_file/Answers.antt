@@ -1,3 +1,4 @@
+-- Proves the goals of `read_file` of src/read.rt that the search leaves open.
 use Rattle.histar_flat.specs.declared.replies.Reply.TheVariants.{Data}
 use Rattle.histar_rules.specs.declared.raw.RawCall.TheVariants.{Read}
 use Rattle.histar_calls.specs.Programs.Program.{Answers}

@@ -1,3 +1,4 @@
+-- Proves the goals of `stat_object` of src/stat.rt that the search leaves open.
 use Rattle.std.proofs.Common.{None, Some, sym, ap, ◌∙◌}
 use Rattle.histar_flat.specs.declared.replies.Reply.TheVariants.{Stats}
 use Rattle.histar_rules.specs.declared.raw.RawCall.TheVariants.{LabelOf}

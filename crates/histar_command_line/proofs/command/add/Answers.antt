@@ -1,3 +1,4 @@
+-- Proves the goals of `add` of src/command.rt that the search leaves open.
 use Rattle.std.proofs.Common.{◌∙◌}
 use Rattle.std.proofs.lemmas.Result.{IfOk-weaker}
 use Rattle.std.proofs.Common.{ap}

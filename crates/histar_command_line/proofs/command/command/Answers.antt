@@ -1,3 +1,4 @@
+-- Proves the goals of `command` of src/command.rt that the search leaves open.
 use Rattle.std.proofs.Common.{◌≡◌, true, ap, ap₂, ◌∙◌}
 use Rattle.std.proofs.lemmas.Result.{IfOk-weaker}
 use Rattle.clap.specs.Simple.{app_of_fields}

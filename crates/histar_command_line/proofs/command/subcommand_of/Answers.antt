@@ -1,3 +1,4 @@
+-- Proves the goals of `subcommand_of` of src/command.rt that the search leaves open.
 use Rattle.std.proofs.Common.{sym, subst, ap, ◌∙◌}
 use Rattle.std.specs.Prelude.{fold, map}
 use Rattle.std.proofs.lemmas.List.{take_more, take_all}

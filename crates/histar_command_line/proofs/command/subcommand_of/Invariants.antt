@@ -1,3 +1,4 @@
+-- The invariants and measures of `subcommand_of` of src/command.rt.
 use Rattle.std.proofs.Common.{take}
 use Rattle.clap.specs.Words.{new_app}
 use Rattle.histar_command_line.proofs.Arguments.{Has}

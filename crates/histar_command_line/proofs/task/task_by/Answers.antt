@@ -1,3 +1,4 @@
+-- Proves the goals of `task_by` of src/task.rt that the search leaves open.
 use Rattle.std.proofs.Common.{refl, ap, ap₂, subst, ◌∙◌, rules}
 use Rattle.clap.specs.Words.{is_simple, subcommand_of}
 use Rattle.histar_command_line.specs.Tasks.{IsTaskOf}

@@ -1,3 +1,4 @@
+-- Proves the goals of `task_of` of src/task.rt that the search leaves open.
 use Rattle.std.proofs.Common.{Some, refl, sym, ap, ◌∙◌, codes}
 use Rattle.std.proofs.lemmas.Option.{IfSome_then}
 use Rattle.clap.specs.Words.{Text, rows_of, found_of}

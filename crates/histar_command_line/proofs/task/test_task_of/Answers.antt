@@ -1,3 +1,4 @@
+-- Proves the goals of `test_task_of` of src/task.rt that the search leaves open.
 use Rattle.std.proofs.Common.{ℕ, List, Some, map, refl, sym, ap, ◌∙◌, codes}
 use Rattle.std.specs.Borrow.{Bor}
 use Rattle.clap.specs.Words.{rows_of, found_of}

@@ -1,3 +1,4 @@
+-- Proves the goals of `text_task_of` of src/task.rt that the search leaves open.
 use Rattle.std.proofs.Common.{refl, sym, ap, ◌∙◌, codes}
 use Rattle.clap.specs.Words.{rows_of, found_of}
 use Rattle.clap.proofs.WalkLemmas.{first_value-rows}

@@ -1,3 +1,4 @@
+-- Proves the goals of `compare` of src/comparison.rt that the search leaves open.
 use Rattle.std.proofs.Common.{◌≡◌, true, false, sym, ap, subst, ◌∙◌, rules}
 use Rattle.histar_script.specs.Script.{without_job}
 use Rattle.histar_noninterference.proofs.Isolated.{isolates_jobs}

@@ -1,3 +1,4 @@
+-- Proves the goals of `explain_comparison` of src/explained.rt that the search leaves open.
 use Rattle.std.proofs.Common.{◌≡◌, true, false, sym, ap, subst, ◌∙◌, rules}
 use Rattle.histar_script.specs.Script.{without_job}
 use Rattle.histar_noninterference.proofs.TreeLines.{finds_first_path}

@@ -1,3 +1,4 @@
+-- The invariants and measures of `line_at` of src/explained.rt.
 use Rattle.std.proofs.Common.{◌≡◌, drop}
 use Rattle.histar_comparison.specs.Explained.{line_at_path}
 use Rattle.histar_comparison.proofs.explained.line_at.Given as goal

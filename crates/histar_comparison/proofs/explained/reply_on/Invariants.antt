@@ -1,3 +1,4 @@
+-- The invariants and measures of `reply_on` of src/explained.rt.
 use Rattle.std.proofs.Common.{◌≡◌, drop}
 use Rattle.histar_comparison.specs.Explained.{kept_on}
 use Rattle.histar_comparison.proofs.explained.reply_on.Given as goal

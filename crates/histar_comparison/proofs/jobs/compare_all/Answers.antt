@@ -1,3 +1,4 @@
+-- Proves the goals of `compare_all` of src/jobs.rt that the search leaves open.
 use Rattle.std.proofs.Common.{[]}
 use Rattle.histar_comparison.proofs.Verdicts.{can_run}
 use Rattle.histar_comparison.proofs.jobs.compare_all.Goals as goal

@@ -1,3 +1,4 @@
+-- The invariants and measures of `compare_each` of src/jobs.rt.
 use Rattle.std.proofs.Common.{◌≡◌, map, take, Ok}
 use Rattle.histar_script.specs.Script.{ScriptModel}
 use Rattle.histar_script.specs.Reading.{script_of}

@@ -1,3 +1,4 @@
+-- Proves the goals of `make_calls` of src/jobs.rt that the search leaves open.
 use Rattle.histar_comparison.proofs.KeptJobs.{keeps_job}
 use Rattle.histar_comparison.proofs.jobs.make_calls.Goals as goal
 

@@ -1,3 +1,4 @@
+-- The invariants and measures of `make_calls` of src/jobs.rt.
 use Rattle.histar_comparison.specs.Jobs.{KeepsJobs}
 use Rattle.histar_comparison.proofs.jobs.make_calls.Given as goal
 

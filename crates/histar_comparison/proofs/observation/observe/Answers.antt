@@ -1,3 +1,4 @@
+-- Proves the goals of `observe` of src/observation.rt that the search leaves open.
 use Rattle.std.proofs.Common.{List, subst}
 use Rattle.histar_flat.specs.declared.calls.CallLine.{CallLine}
 use Rattle.histar_flat.specs.Accounts.{Accounts}

@@ -1,3 +1,4 @@
+-- Proves the goals of `observe_call` of src/observation.rt that the search leaves open.
 use Rattle.std.proofs.Common.{◌∙◌, ap}
 use Rattle.std.proofs.lemmas.Result.{on_ok_weaker}
 use Rattle.histar_comparison.specs.Replies.{once_done}

@@ -1,3 +1,4 @@
+-- Proves the goals of `observe_calls` of src/observation.rt that the search leaves open.
 use Rattle.histar_comparison.proofs.Kept.{keeps_more}
 use Rattle.histar_comparison.proofs.observation.observe_calls.Goals as goal
 

@@ -1,3 +1,4 @@
+-- The invariants and measures of `observe_calls` of src/observation.rt.
 use Rattle.histar_comparison.specs.Observation.{KeepsReplies}
 use Rattle.histar_comparison.proofs.observation.observe_calls.Given as goal
 

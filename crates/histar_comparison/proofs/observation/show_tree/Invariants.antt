@@ -1,3 +1,4 @@
+-- The invariants and measures of `show_tree` of src/observation.rt.
 use Rattle.std.proofs.Common.{◌≡◌, map, take}
 use Rattle.histar_syscall.specs.KernelModel.{state}
 use Rattle.histar_readout.specs.TreeLines.{line_at}

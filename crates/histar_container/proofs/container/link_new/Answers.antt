@@ -1,3 +1,4 @@
+-- Proves the goals of `link_new` of src/container.rt that the search leaves open.
 use Rattle.std.proofs.Common.{ap, ◌∙◌}
 use Rattle.histar_object.specs.Objects.{Objects, objects_of, put, changed_at, linking}
 use Rattle.histar_object.proofs.Changes.{none_changed}

@@ -1,3 +1,4 @@
+-- Proves the goals of `linked` of src/container.rt that the search leaves open.
 use Rattle.std.proofs.Common.{rules, ap, ◌∙◌}
 use Rattle.std.specs.FinSet as set
 use Rattle.histar_object.specs.Objects.{links_in}

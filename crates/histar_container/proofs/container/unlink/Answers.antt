@@ -1,3 +1,4 @@
+-- Proves the goals of `unlink` of src/container.rt that the search leaves open.
 use Rattle.std.proofs.Common.{rules}
 use Rattle.histar_object.specs.declared.objects.Object.{Object}
 use Rattle.histar_object.specs.declared.objects.Kind.TheVariants.{Container}

@@ -1,3 +1,4 @@
+-- Proves the goals of `reached_from` of src/removal.rt that the search leaves open.
 use Rattle.std.proofs.Common.{arith}
 use Rattle.histar_object.specs.Objects.{objects_of}
 use Rattle.histar_container.proofs.Removals.{gathers_init, step_gathers, step_in_list, step_fewer, gathers_end}

@@ -1,3 +1,4 @@
+-- The invariants and measures of `reached_from` of src/removal.rt.
 use Rattle.std.proofs.Common.{◌≤◌, length, take}
 use Rattle.histar_object.specs.Objects.{objects_of}
 use Rattle.histar_container.proofs.Gathering.{Gathers, unread}

@@ -1,3 +1,4 @@
+-- Proves the goals of `remove_tree` of src/removal.rt that the search leaves open.
 use Rattle.std.proofs.Common.{◌≡◌, nat_eq, true, subst, sym, arith}
 use Rattle.std.specs.Prelude.{◌↔◌}
 use Rattle.std.specs.Set.{is_member}

@@ -1,3 +1,4 @@
+-- The invariants and measures of `remove_tree` of src/removal.rt.
 use Rattle.std.proofs.Common.{◌≡◌, ℕ, nat_eq, None, take, if◌then◌else◌}
 use Rattle.std.specs.Set.{is_member}
 use Rattle.histar_object.specs.Objects.{objects_of}

@@ -1,3 +1,4 @@
+-- Proves the goals of `columns_of` of src/columns.rt that the search leaves open.
 use Rattle.std.proofs.Common.{◌++◌, ◌∷◌, ◌-◌, [], ap, append_assoc, arith, length, sym, ◌∙◌}
 use Rattle.histar_diff.specs.Columns.{columns_from}
 use Rattle.histar_diff.proofs.Steps.{column_of, columns_step}

@@ -1,3 +1,4 @@
+-- The invariants and measures of `columns_of` of src/columns.rt.
 use Rattle.std.proofs.Common.{◌≡◌, ◌+◌, ◌-◌, ◌++◌, ◌≤◌, length}
 use Rattle.histar_diff.specs.Columns.{columns_from}
 use Rattle.histar_diff.proofs.columns.columns_of.Given as goal

@@ -1,3 +1,4 @@
+-- Proves the goals of `compare` of src/columns.rt that the search leaves open.
 use Rattle.std.proofs.Common.{◌≡◌, refl}
 use Rattle.std.proofs.lemmas.Iterator.Adapters.{YieldsList-from_rev_slice}
 use Rattle.std.proofs.lemmas.Iterator.Search.{cmp_from_yields_List}

@@ -1,3 +1,4 @@
+-- Proves the goals of `nobody_is_answered_otherwise` of src/diff_laws.rt that the search leaves open.
 use Rattle.histar_diff.proofs.Changes.{nobody_is_answered_otherwise}
 use Rattle.histar_diff.proofs.diff_laws.nobody_is_answered_otherwise.Goals as goal
 

@@ -1,3 +1,4 @@
+-- Proves the goals of `tables_show_rights` of src/diff_laws.rt that the search leaves open.
 use Rattle.histar_diff.proofs.ShownTables.{tables_show_rights}
 use Rattle.histar_diff.proofs.diff_laws.tables_show_rights.Goals as goal
 

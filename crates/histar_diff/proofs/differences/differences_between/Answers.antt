@@ -1,3 +1,4 @@
+-- Proves the goals of `differences_between` of src/differences.rt that the search leaves open.
 use Rattle.std.proofs.Common.{◌∙◌, ◌≡◌, subst, sym}
 use Rattle.std.proofs.lemmas.Result.{IfOk-weaker}
 use Rattle.histar_diff.specs.Columns.{columns_from}

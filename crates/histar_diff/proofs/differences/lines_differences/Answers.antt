@@ -1,3 +1,4 @@
+-- Proves the goals of `lines_differences` of src/differences.rt that the search leaves open.
 use Rattle.std.proofs.Common.{◌++◌, ap, append_assoc, sym, ◌∙◌}
 use Rattle.histar_diff.specs.Lines.{line_differences, lines_differences}
 use Rattle.histar_diff.proofs.Steps.{fewer_lines, lines_step}

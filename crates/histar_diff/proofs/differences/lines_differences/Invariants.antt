@@ -1,3 +1,4 @@
+-- The invariants and measures of `lines_differences` of src/differences.rt.
 use Rattle.std.proofs.Common.{◌≡◌, ◌+◌, ◌++◌, length}
 use Rattle.histar_diff.specs.Lines.{lines_differences}
 use Rattle.histar_diff.proofs.differences.lines_differences.Given as goal

@@ -1,3 +1,4 @@
+-- Proves the goals of `push_differences` of src/differences.rt that the search leaves open.
 use Rattle.std.proofs.Common.{arith}
 use Rattle.std.proofs.lemmas.Grind.{common_steps}
 use Rattle.std.proofs.lemmas.List.Elements.{filter_map-append}

@@ -1,3 +1,4 @@
+-- The invariants and measures of `push_differences` of src/differences.rt.
 use Rattle.std.proofs.Common.{◌≡◌, ◌++◌, take}
 use Rattle.histar_diff.specs.Lines.{line_differences}
 use Rattle.histar_diff.proofs.differences.push_differences.Given as goal

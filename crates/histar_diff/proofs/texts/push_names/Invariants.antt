@@ -1,3 +1,4 @@
+-- The invariants and measures of `push_names` of src/texts.rt.
 use Rattle.std.proofs.Common.{◌≡◌, ◌++◌, ◌-◌, drop, length}
 use Rattle.histar_flat.specs.Texts.{names_text}
 use Rattle.histar_diff.proofs.texts.push_names.Given as goal

@@ -1,3 +1,4 @@
+-- Proves the goals of `owning_high` of src/derived_labels.rt that the search leaves open.
 use Rattle.std.proofs.Common.{◌≡◌, ℕ, ◌+◌, ◌<◌, List, [], ◌∷◌, ◌++◌, length, get_or, take, refl, sym, ap, ◌∙◌}
 use Rattle.std.proofs.lemmas.List.{take_more, take_all}
 use Rattle.histar_label.specs.declared.levels.Level.{Level}

@@ -1,3 +1,4 @@
+-- The invariants and measures of `owning_high` of src/derived_labels.rt.
 use Rattle.std.proofs.Common.{◌≡◌, take}
 use Rattle.histar_label.specs.Levels.{level_of, default_of, constant, refilled}
 use Rattle.histar_explain.specs.Tests.{high}

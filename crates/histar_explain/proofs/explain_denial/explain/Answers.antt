@@ -1,3 +1,4 @@
+-- Proves the goals of `explain` of src/explain_denial.rt that the search leaves open.
 use Rattle.histar_explain.proofs.Shown.{all_shown}
 use Rattle.histar_explain.proofs.Keys.{keys_are_lacking}
 use Rattle.histar_explain.proofs.Grounds.{denials_have_grounds}

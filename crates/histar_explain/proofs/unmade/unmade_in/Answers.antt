@@ -1,3 +1,4 @@
+-- Proves the goals of `unmade_in` of src/unmade.rt that the search leaves open.
 use Rattle.std.proofs.Common.{ℕ, sym, ap, ◌∙◌}
 use Rattle.std.specs.Global.{Vec}
 use Rattle.histar_explain.proofs.UnmadePasses.{passed_at_first, passed_unmade, passed_made, unmade_at_end}

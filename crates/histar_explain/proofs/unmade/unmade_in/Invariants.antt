@@ -1,3 +1,4 @@
+-- The invariants and measures of `unmade_in` of src/unmade.rt.
 use Rattle.std.proofs.Common.{◌+◌, length}
 use Rattle.histar_explain.proofs.UnmadePasses.{IsPassed}
 use Rattle.histar_explain.proofs.unmade.unmade_in.Given as goal

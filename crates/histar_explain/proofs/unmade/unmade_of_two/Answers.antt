@@ -1,3 +1,4 @@
+-- Proves the goals of `unmade_of_two` of src/unmade.rt that the search leaves open.
 use Rattle.histar_explain.proofs.UnmadePasses.{unmade_of_both}
 use Rattle.histar_explain.proofs.unmade.unmade_of_two.Goals as goal
 

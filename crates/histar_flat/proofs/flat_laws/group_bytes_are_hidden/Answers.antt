@@ -1,3 +1,4 @@
+-- Proves the goals of `group_bytes_are_hidden` of src/flat_laws.rt that the search leaves open.
 use Rattle.histar_flat.proofs.Secrecy.{group_bytes_are_hidden}
 use Rattle.histar_flat.proofs.flat_laws.group_bytes_are_hidden.Goals as goal
 

@@ -1,3 +1,4 @@
+-- Proves the goals of `read_owned_names` of src/owned_paths.rt that the search leaves open.
 use Rattle.std.proofs.Common.{◌≡◌, ◌+◌, ◌-◌, ◌<◌, [], Some, None, sym, ap, subst, ◌∙◌, arith}
 use Rattle.std.specs.Option.{option_copied}
 use Rattle.histar_flat.specs.Words.{slash, split_at_first, name_of, path_from}

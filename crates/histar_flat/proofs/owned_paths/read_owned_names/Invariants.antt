@@ -1,3 +1,4 @@
+-- The invariants and measures of `read_owned_names` of src/owned_paths.rt.
 use Rattle.std.proofs.Common.{◌≡◌, ◌-◌, [], length}
 use Rattle.histar_flat.specs.Words.{path_from}
 use Rattle.histar_flat.proofs.owned_paths.read_owned_names.Given as goal

@@ -1,3 +1,4 @@
+-- Proves the goals of `read_digits` of src/readers.rt that the search leaves open.
 use Rattle.std.proofs.Common.{sym, ap, subst, ◌∙◌}
 use Rattle.std.proofs.lemmas.Bool.{false≢true}
 use Rattle.histar_flat.specs.Words.{BeginsPlainly}

@@ -1,3 +1,4 @@
+-- The invariants and measures of `read_names` of src/readers.rt.
 use Rattle.std.proofs.Common.{◌≡◌, ◌-◌, [], length}
 use Rattle.histar_flat.specs.Words.{path_from}
 use Rattle.histar_flat.proofs.readers.read_names.Given as goal

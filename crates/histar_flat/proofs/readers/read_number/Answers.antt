@@ -1,3 +1,4 @@
+-- Proves the goals of `read_number` of src/readers.rt that the search leaves open.
 use Rattle.std.proofs.Common.{leb, refl, sym, ap, ◌∙◌}
 use Rattle.std.proofs.lemmas.Bool.{le-leb, lt-leb}
 use Rattle.histar_flat.proofs.Numbers.{if_passes, number_within}

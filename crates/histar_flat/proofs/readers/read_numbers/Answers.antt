@@ -1,3 +1,4 @@
+-- Proves the goals of `read_numbers` of src/readers.rt that the search leaves open.
 use Rattle.std.proofs.Common.{◌≡◌, ◌+◌, ◌-◌, ◌<◌, Some, None, sym, ap, ◌∙◌, arith}
 use Rattle.std.specs.Option.{option_copied}
 use Rattle.histar_flat.specs.Words.{dot, split_at_first, number_of, is_child_number, process_from}

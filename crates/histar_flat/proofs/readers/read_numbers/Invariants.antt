@@ -1,3 +1,4 @@
+-- The invariants and measures of `read_numbers` of src/readers.rt.
 use Rattle.std.proofs.Common.{◌≡◌, ◌-◌, [], length}
 use Rattle.std.specs.Option.{option_copied}
 use Rattle.histar_flat.specs.Words.{process_from}

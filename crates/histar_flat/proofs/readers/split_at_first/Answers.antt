@@ -1,3 +1,4 @@
+-- Proves the goals of `split_at_first` of src/readers.rt that the search leaves open.
 use Rattle.std.proofs.Common.{◌+◌, refl, add-one}
 use Rattle.std.proofs.lemmas.List.{take_rest}
 use Rattle.histar_flat.proofs.SplitLemmas.{split_found, split_whole}

@@ -1,3 +1,4 @@
+-- Proves the goals of `is_under` of src/suffix.rt that the search leaves open.
 use Rattle.std.proofs.Common.{rules, tests, ◌≡◌, ◌-◌, false, leb, length, drop, arith, ap, sym, ◌∙◌}
 use Rattle.std.specs.Cmp.Lexicographic.{pointwise}
 use Rattle.std.proofs.lemmas.List.{take_all, length-drop}

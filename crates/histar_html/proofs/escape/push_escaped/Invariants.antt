@@ -1,3 +1,4 @@
+-- The invariants and measures of `push_escaped` of src/escape.rt.
 use Rattle.std.proofs.Common.{◌≡◌, ◌++◌, length}
 use Rattle.histar_html.specs.Escape.{escaped}
 use Rattle.histar_html.proofs.escape.push_escaped.Given as goal

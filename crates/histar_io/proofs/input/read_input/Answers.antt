@@ -1,3 +1,4 @@
+-- Proves the goals of `read_input` of src/input.rt that the search leaves open.
 use Rattle.std.proofs.Common.{◌+◌, ◌≤◌, length, take, rules}
 use Rattle.std.proofs.lemmas.List.{length-take}
 use Rattle.std.proofs.lemmas.Result.{err_from_is_err_and}

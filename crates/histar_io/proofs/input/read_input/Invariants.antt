@@ -1,3 +1,4 @@
+-- The invariants and measures of `read_input` of src/input.rt.
 use Rattle.std.proofs.Common.{◌≡◌, ◌-◌, ◌≤◌, length, vec_len}
 use Rattle.std.specs.Io.KnownBytes.{Consumes}
 use Rattle.histar_io.specs.Input.{most_taken}

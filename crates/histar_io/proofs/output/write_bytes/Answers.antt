@@ -1,3 +1,4 @@
+-- Proves the goals of `write_bytes` of src/output.rt that the search leaves open.
 use Rattle.std.proofs.Common.{◌≡◌, refl, length, rules}
 use Rattle.histar_io.proofs.WritingLemmas.{sent_none, sent_more, sent_kept, sent_all}
 use Rattle.histar_io.proofs.output.write_bytes.Goals as goal

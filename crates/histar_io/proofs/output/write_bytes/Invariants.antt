@@ -1,3 +1,4 @@
+-- The invariants and measures of `write_bytes` of src/output.rt.
 use Rattle.std.proofs.Common.{◌≡◌, length}
 use Rattle.histar_io.specs.Writing.{AppendsUpTo}
 use Rattle.histar_io.proofs.output.write_bytes.Given as goal

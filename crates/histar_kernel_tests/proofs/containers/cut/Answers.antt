@@ -1,3 +1,4 @@
+-- Proves the goals of `cut` of src/containers.rt that the search leaves open.
 use Rattle.std.proofs.Common.{◌≡◌, true, rules}
 use Rattle.std.specs.FinSet as set
 use Rattle.histar_object.specs.Objects.{objects_of, links_in}

@@ -1,3 +1,4 @@
+-- Proves the goals of `empty_container` of src/containers.rt that the search leaves open.
 use Rattle.std.proofs.Common.{ap, ◌∙◌}
 use Rattle.std.specs.FinSet as set
 use Rattle.std.specs.Ordering.{nat_cmp}

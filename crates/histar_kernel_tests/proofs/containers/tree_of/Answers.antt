@@ -1,3 +1,4 @@
+-- Proves the goals of `tree_of` of src/containers.rt that the search leaves open.
 use Rattle.std.proofs.Common.{◌≡◌, true, rules, lit<, ap, ◌∙◌}
 use Rattle.histar_object.specs.Objects.{objects_of, put, is_container}
 use Rattle.histar_container.proofs.Trees.{tree_linked}

@@ -1,3 +1,4 @@
+-- The invariants and measures of `tree_of` of src/containers.rt.
 use Rattle.histar_object.specs.Objects.{objects_of}
 use Rattle.histar_container.specs.Tree.{IsTree}
 use Rattle.histar_kernel_tests.proofs.containers.tree_of.Given as goal

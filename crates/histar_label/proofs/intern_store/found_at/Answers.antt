@@ -1,3 +1,4 @@
+-- Proves the goals of `found_at` of src/intern_store.rt that the search leaves open.
 use Rattle.std.proofs.Common.{◌≡◌, Some, sym, ◌∙◌, rules}
 use Rattle.histar_label.proofs.Remembered.{same_comparison}
 use Rattle.histar_label.proofs.intern_store.found_at.Goals as goal

@@ -1,3 +1,4 @@
+-- Proves the goals of `recall` of src/intern_store.rt that the search leaves open.
 use Rattle.std.proofs.Common.{◌∙◌}
 use Rattle.lru.proofs.CallerLemmas.{Contains-promoted}
 use Rattle.histar_label.proofs.Remembered.{is_same_comparison, found_if}

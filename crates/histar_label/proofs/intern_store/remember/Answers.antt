@@ -1,3 +1,4 @@
+-- Proves the goals of `remember` of src/intern_store.rt that the search leaves open.
 use Rattle.histar_label.proofs.Remembered.{put_or_not}
 use Rattle.histar_label.proofs.intern_store.remember.Goals as goal
 

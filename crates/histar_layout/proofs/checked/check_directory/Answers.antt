@@ -1,3 +1,4 @@
+-- Proves the goals of `check_directory` of src/checked.rt that the search leaves open.
 use Rattle.std.proofs.Common.{◌≡◌, ◌<◌, length, arith, sym, ◌∙◌}
 use Rattle.std.proofs.lemmas.Bool.Decides.{nat_tests}
 use Rattle.histar_layout.proofs.DirectoryLemmas.{shorter, no_entry, no_room, no_order}

@@ -1,3 +1,4 @@
+-- The invariants and measures of `check_directory` of src/checked.rt.
 use Rattle.std.proofs.Common.{length}
 use Rattle.histar_layout.proofs.CheckedDirectories.{IsCheckedUpTo, last_name}
 use Rattle.histar_layout.proofs.checked.check_directory.Given as goal

@@ -1,3 +1,4 @@
+-- Proves the goals of `look_up_checked` of src/checked.rt that the search leaves open.
 use Rattle.histar_layout.proofs.checked.look_up_checked.Goals as goal
 
 pub returns : goal.returns

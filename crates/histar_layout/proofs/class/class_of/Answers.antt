@@ -1,3 +1,4 @@
+-- Proves the goals of `class_of` of src/class.rt that the search leaves open.
 use Rattle.std.proofs.Common.{◌≡◌, None, Some, sym, ◌∙◌}
 use mathlib.Core.Bool.{true≢false}
 use Rattle.histar_layout.specs.ClassLabels.{likely_class}

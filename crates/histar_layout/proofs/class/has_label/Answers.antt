@@ -1,3 +1,4 @@
+-- Proves the goals of `has_label` of src/class.rt that the search leaves open.
 use Rattle.std.proofs.Common.{◌≡◌, Option, Some, sym, ap, ◌∙◌}
 use Rattle.std.proofs.lemmas.Option.{same_Some}
 use Rattle.histar_label.specs.Levels.{Levels}

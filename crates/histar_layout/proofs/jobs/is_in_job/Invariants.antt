@@ -1,3 +1,4 @@
+-- The invariants and measures of `is_in_job` of src/jobs.rt.
 use Rattle.std.proofs.Common.{◌≡◌, not, drop}
 use Rattle.histar_layout.specs.Jobs.{is_empty, is_three, jobs_in}
 use Rattle.histar_layout.proofs.Scanning.{passed}

@@ -1,3 +1,4 @@
+-- The invariants and measures of `jobs_in` of src/jobs.rt.
 use Rattle.std.proofs.Common.{◌≡◌, ◌++◌, drop}
 use Rattle.histar_layout.specs.Jobs.{is_three, jobs_in}
 use Rattle.histar_layout.proofs.Scanning.{passed}

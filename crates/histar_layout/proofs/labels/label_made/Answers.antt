@@ -1,3 +1,4 @@
+-- Proves the goals of `label_made` of src/labels.rt that the search leaves open.
 use Rattle.std.proofs.Common.{◌≡◌, List, ℕ, true, false, not, subst, ap, ◌∙◌}
 use Rattle.std.specs.Prelude.{IfOk}
 use Rattle.histar_layout.specs.Categories.{scratch_label}

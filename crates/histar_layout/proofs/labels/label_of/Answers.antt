@@ -1,3 +1,4 @@
+-- Proves the goals of `label_of` of src/labels.rt that the search leaves open.
 use Rattle.std.proofs.Common.{ap, sym, ◌∙◌}
 use Rattle.histar_label.specs.Levels.{Levels, with_level}
 use Rattle.histar_layout.proofs.LabellingLemmas.{labelled_next}

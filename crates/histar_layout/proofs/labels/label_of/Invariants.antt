@@ -1,3 +1,4 @@
+-- The invariants and measures of `label_of` of src/labels.rt.
 use Rattle.std.proofs.Common.{◌≡◌, take}
 use Rattle.histar_layout.specs.Labelling.{labelled}
 use Rattle.histar_layout.proofs.labels.label_of.Given as goal

@@ -1,3 +1,4 @@
+-- Proves the goals of `owner_label` of src/labels.rt that the search leaves open.
 use Rattle.histar_label.specs.declared.levels.Level.TheVariants.{L1, L3, Star}
 use Rattle.histar_layout.specs.Labelling.{each_at}
 use Rattle.histar_layout.proofs.LabellingLemmas.{made_by_both}

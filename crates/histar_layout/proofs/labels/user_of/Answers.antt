@@ -1,3 +1,4 @@
+-- Proves the goals of `user_of` of src/labels.rt that the search leaves open.
 use Rattle.std.proofs.Common.{arith, sym, ap, ◌∙◌}
 use Rattle.histar_label.specs.Level.{is_star}
 use Rattle.histar_label.specs.Levels.{level_of}

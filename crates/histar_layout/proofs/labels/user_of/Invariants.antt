@@ -1,3 +1,4 @@
+-- The invariants and measures of `user_of` of src/labels.rt.
 use Rattle.std.proofs.Common.{◌≡◌, ℕ, ◌+◌, ◌<◌, false}
 use Rattle.histar_layout.specs.Categories.{owns}
 use Rattle.histar_layout.proofs.labels.user_of.Given as goal

@@ -1,3 +1,4 @@
+-- The invariants and measures of `with_each` of src/labels.rt.
 use Rattle.std.proofs.Common.{◌≡◌, take}
 use Rattle.histar_layout.specs.Labelling.{each_at, with_levels}
 use Rattle.histar_layout.proofs.labels.with_each.Given as goal

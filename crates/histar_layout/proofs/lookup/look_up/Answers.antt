@@ -1,3 +1,4 @@
+-- Proves the goals of `look_up` of src/lookup.rt that the search leaves open.
 use Rattle.std.proofs.Common.{◌≡◌, ℕ, ◌+◌, ◌-◌, List, Bool, drop, sym, ◌∙◌, arith}
 use Rattle.std.specs.Prelude.{slice_range}
 use Rattle.histar_flat.specs.PathOrder.{same}

@@ -1,3 +1,4 @@
+-- The invariants and measures of `look_up` of src/lookup.rt.
 use Rattle.std.proofs.Common.{◌-◌, ◌≤◌, drop, length}
 use Rattle.histar_layout.proofs.LookingUp.{IsLeft}
 use Rattle.histar_layout.proofs.lookup.look_up.Given as goal

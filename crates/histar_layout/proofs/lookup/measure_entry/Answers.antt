@@ -1,3 +1,4 @@
+-- Proves the goals of `measure_entry` of src/lookup.rt that the search leaves open.
 use Rattle.std.proofs.Common.{refl}
 use Rattle.std.proofs.lemmas.Option.{slice_get_read}
 use Rattle.histar_layout.proofs.LookingUp.{entry_there, entry_broken, entry_past}

@@ -1,3 +1,4 @@
+-- Proves the goals of `owners_among` of src/owners.rt that the search leaves open.
 use Rattle.std.proofs.Common.{◌≡◌, ◌++◌, List, [], ◌∷◌, true, false, ap, sym, ◌∙◌}
 use Rattle.histar_flat.specs.Accounts.{Group, has}
 use Rattle.std.proofs.lemmas.List.{take_all}

@@ -1,3 +1,4 @@
+-- The invariants and measures of `owners_among` of src/owners.rt.
 use Rattle.std.proofs.Common.{◌≡◌, take}
 use Rattle.histar_layout.specs.Categories.{owners_among}
 use Rattle.histar_layout.proofs.owners.owners_among.Given as goal

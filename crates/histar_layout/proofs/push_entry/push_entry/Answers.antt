@@ -1,3 +1,4 @@
+-- Proves the goals of `push_entry` of src/push_entry.rt that the search leaves open.
 use Rattle.std.proofs.Common.{length, ap, arith}
 use Rattle.histar_flat.proofs.WordLemmas.{short_name}
 use Rattle.histar_layout.proofs.push_entry.push_entry.Goals as goal

@@ -1,3 +1,4 @@
+-- Proves the goals of `push_target` of src/push_entry.rt that the search leaves open.
 use Rattle.histar_layout.proofs.WritingLemmas.{target_written}
 use Rattle.histar_layout.proofs.push_entry.push_target.Goals as goal
 

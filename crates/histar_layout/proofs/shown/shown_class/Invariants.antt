@@ -1,3 +1,4 @@
+-- The invariants and measures of `shown_class` of src/shown.rt.
 use Rattle.std.proofs.Common.{◌≡◌, ◌+◌, drop}
 use Rattle.histar_layout.specs.ShownClass.{class_from}
 use Rattle.histar_layout.proofs.shown.shown_class.Given as goal

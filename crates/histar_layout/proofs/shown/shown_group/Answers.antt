@@ -1,3 +1,4 @@
+-- Proves the goals of `shown_group` of src/shown.rt that the search leaves open.
 use Rattle.std.proofs.Common.{◌≡◌, ℕ, ◌+◌, ◌<◌, ◌≤◌, length, get_or, drop, List, true, false, arith, sym, ap, ◌∙◌, subst}
 use Rattle.std.specs.Prelude.{◌&&◌}
 use Rattle.histar_flat.specs.Accounts.{Group}

@@ -1,3 +1,4 @@
+-- The invariants and measures of `shown_group` of src/shown.rt.
 use Rattle.std.proofs.Common.{◌≡◌, ◌+◌, drop, length}
 use Rattle.histar_layout.specs.ShownClass.{group_class_from}
 use Rattle.histar_layout.proofs.shown.shown_group.Given as goal

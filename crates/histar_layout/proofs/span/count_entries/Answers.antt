@@ -1,3 +1,4 @@
+-- Proves the goals of `count_entries` of src/span.rt that the search leaves open.
 use Rattle.std.proofs.Common.{◌∷◌, [], ap, sym, ◌∙◌, refl, length, length-append, arith}
 use Rattle.std.specs.FinMap as map
 use Rattle.histar_layout.proofs.LookingUp.{slot_shorter}

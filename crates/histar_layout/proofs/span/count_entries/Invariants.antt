@@ -1,3 +1,4 @@
+-- The invariants and measures of `count_entries` of src/span.rt.
 use Rattle.std.proofs.Common.{◌≡◌, ◌≤◌, ◌+◌, List, length}
 use Rattle.histar_layout.specs.Directory.{Entries, IsDirectory}
 use Rattle.histar_layout.proofs.DirectoryLemmas.{Entry}

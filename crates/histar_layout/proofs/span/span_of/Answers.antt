@@ -1,3 +1,4 @@
+-- Proves the goals of `span_of` of src/span.rt that the search leaves open.
 use Rattle.std.proofs.Common.{◌≡◌, List, ℕ, ap, sym, ◌∙◌, arith}
 use Rattle.std.specs.declared.cmp.Ordering.{Ordering}
 use Rattle.histar_layout.proofs.LookingUp.{slot_shorter}

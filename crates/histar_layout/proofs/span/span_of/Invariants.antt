@@ -1,3 +1,4 @@
+-- The invariants and measures of `span_of` of src/span.rt.
 use Rattle.std.proofs.Common.{◌≤◌, length}
 use Rattle.histar_layout.specs.Directory.{Entries, IsDirectory}
 use Rattle.histar_layout.proofs.Spans.{IsPassed}

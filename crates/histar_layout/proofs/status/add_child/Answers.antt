@@ -1,3 +1,4 @@
+-- Proves the goals of `add_child` of src/status.rt that the search leaves open.
 use Rattle.std.proofs.Common.{ℕ, List, ◌++◌, ap, ◌∙◌}
 use Rattle.histar_layout.specs.StatusParts.{head_bytes}
 use Rattle.histar_layout.proofs.WritingStatuses.{more_born, child_added}

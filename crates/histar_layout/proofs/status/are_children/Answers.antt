@@ -1,3 +1,4 @@
+-- Proves the goals of `are_children` of src/status.rt that the search leaves open.
 use Rattle.std.proofs.Common.{List, ℕ, Some, refl, sym, ap, ◌∙◌, arith}
 use Rattle.std.specs.Prelude.{is_some}
 use Rattle.std.proofs.lemmas.Bool.Decides.{nat_tests}

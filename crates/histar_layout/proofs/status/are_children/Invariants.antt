@@ -1,3 +1,4 @@
+-- The invariants and measures of `are_children` of src/status.rt.
 use Rattle.std.proofs.Common.{◌≡◌, length, is_some}
 use Rattle.histar_flat.specs.Words.{most_children}
 use Rattle.histar_layout.specs.Status.{children_in}

@@ -1,3 +1,4 @@
+-- Proves the goals of `find_child` of src/status.rt that the search leaves open.
 use Rattle.std.proofs.Common.{Ok, ap, sym, ◌∙◌, arith}
 use Rattle.histar_layout.specs.Status.{look_for}
 use Rattle.histar_layout.proofs.ReadingStatuses.{no_head, not_split, seek_on, sought_first, sought_here, sought_nowhere}

@@ -1,3 +1,4 @@
+-- The invariants and measures of `find_child` of src/status.rt.
 use Rattle.std.proofs.Common.{length}
 use Rattle.histar_layout.specs.Status.{look_for, status_in}
 use Rattle.histar_layout.proofs.ReadingStatuses.{IsSought}

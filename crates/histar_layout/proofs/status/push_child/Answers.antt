@@ -1,3 +1,4 @@
+-- Proves the goals of `push_child` of src/status.rt that the search leaves open.
 use Rattle.std.proofs.Common.{ap, ◌∙◌}
 use Rattle.std.specs.Int.{w64, to_be_bytes}
 use Rattle.histar_layout.proofs.WritingStatuses.{child_written}

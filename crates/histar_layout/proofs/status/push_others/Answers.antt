@@ -1,3 +1,4 @@
+-- Proves the goals of `push_others` of src/status.rt that the search leaves open.
 use Rattle.std.proofs.Common.{List, ℕ, ◌++◌, true, false, refl, sym, subst, eq-eqb, arith}
 use Rattle.std.specs.List.{flat_map}
 use Rattle.histar_layout.specs.Status.{child_bytes}

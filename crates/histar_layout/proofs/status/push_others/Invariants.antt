@@ -1,3 +1,4 @@
+-- The invariants and measures of `push_others` of src/status.rt.
 use Rattle.std.proofs.Common.{◌≡◌, ◌++◌, List, length}
 use Rattle.std.specs.List.{flat_map}
 use Rattle.histar_layout.specs.Status.{child_bytes}

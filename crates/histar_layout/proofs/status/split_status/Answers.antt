@@ -1,3 +1,4 @@
+-- Proves the goals of `split_status` of src/status.rt that the search leaves open.
 use Rattle.std.proofs.Common.{arith, sym, ◌∙◌}
 use Rattle.histar_layout.proofs.ReadingStatuses.{no_head, not_split, is_split}
 use Rattle.histar_layout.proofs.status.split_status.Goals as goal

@@ -1,3 +1,4 @@
+-- The invariants and measures of `copies_of` of src/user_table.rt.
 use Rattle.std.proofs.Common.{◌≡◌, take}
 use Rattle.histar_layout.proofs.user_table.copies_of.Given as goal
 

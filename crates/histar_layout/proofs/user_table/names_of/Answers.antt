@@ -1,3 +1,4 @@
+-- Proves the goals of `names_of` of src/user_table.rt that the search leaves open.
 use Rattle.std.proofs.Common.{◌∙◌}
 use Rattle.histar_layout.proofs.Lookups.{names_more}
 use Rattle.histar_layout.proofs.user_table.names_of.Goals as goal

@@ -1,3 +1,4 @@
+-- The invariants and measures of `names_of` of src/user_table.rt.
 use Rattle.std.proofs.Common.{◌≡◌, take}
 use Rattle.std.specs.Prelude.{map}
 use Rattle.histar_layout.proofs.Lookups.{key}

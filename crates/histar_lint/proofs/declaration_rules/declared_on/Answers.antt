@@ -1,3 +1,4 @@
+-- Proves the goals of `declared_on` of src/declaration_rules.rt that the search leaves open.
 use Rattle.std.proofs.Common.{◌≡◌, length, sym, ap, ◌∙◌, rules}
 use Rattle.histar_script.proofs.LineLemmas.{no_lines}
 use Rattle.histar_lint.specs.Rules.{declared_from}

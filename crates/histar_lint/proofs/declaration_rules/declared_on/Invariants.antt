@@ -1,3 +1,4 @@
+-- The invariants and measures of `declared_on` of src/declaration_rules.rt.
 use Rattle.std.proofs.Common.{◌≡◌, ◌+◌, ◌≤◌, length}
 use Rattle.histar_script.specs.Lines.{lines_of}
 use Rattle.histar_lint.specs.Rules.{declared_from, declared_on}

@@ -1,3 +1,4 @@
+-- Proves the goals of `call_sentence` of src/findings.rt that the search leaves open.
 use Rattle.std.proofs.Common.{◌∙◌}
 use Rattle.std.proofs.lemmas.Result.{IfOk-weaker}
 use Rattle.histar_script.specs.Lines.{lines_of}

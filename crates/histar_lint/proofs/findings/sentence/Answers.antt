@@ -1,3 +1,4 @@
+-- Proves the goals of `sentence` of src/findings.rt that the search leaves open.
 use Rattle.std.proofs.Common.{◌++◌}
 use Rattle.histar_script.specs.Lines.{lines_of}
 use Rattle.histar_lint.specs.Lines.{byte_rules, word_rules}

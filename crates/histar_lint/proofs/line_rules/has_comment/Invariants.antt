@@ -1,3 +1,4 @@
+-- The invariants and measures of `has_comment` of src/line_rules.rt.
 use Rattle.std.proofs.Common.{◌≡◌, length}
 use Rattle.histar_lint.specs.Lines.{has_comment}
 use Rattle.histar_lint.proofs.line_rules.has_comment.Given as goal

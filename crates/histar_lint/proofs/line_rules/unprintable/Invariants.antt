@@ -1,3 +1,4 @@
+-- The invariants and measures of `unprintable` of src/line_rules.rt.
 use Rattle.std.proofs.Common.{◌≡◌, ◌+◌, drop}
 use Rattle.histar_lint.specs.Lines.{unprintable_from}
 use Rattle.histar_lint.proofs.line_rules.unprintable.Given as goal

@@ -1,3 +1,4 @@
+-- Proves the goals of `lint` of src/session.rt that the search leaves open.
 use Rattle.std.proofs.Common.{rules}
 use Rattle.histar_lint.proofs.KnownInputs.{lints_known}
 use Rattle.histar_lint.proofs.session.lint.Goals as goal

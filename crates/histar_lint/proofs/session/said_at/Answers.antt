@@ -1,3 +1,4 @@
+-- Proves the goals of `said_at` of src/session.rt that the search leaves open.
 use Rattle.std.proofs.Common.{◌≡◌, ℕ, List, [], suc, ◌+◌, ◌<◌, ◌≤◌, length, sym, ap, subst, ◌∙◌, rules, arith}
 use Rattle.std.proofs.lemmas.Bool.{cases_lt}
 use Rattle.std.proofs.Common.{inl, inr}

@@ -1,3 +1,4 @@
+-- The invariants and measures of `said_at` of src/session.rt.
 use Rattle.std.proofs.Common.{◌-◌}
 use Rattle.histar_lint.proofs.LinesBefore.{IsAt}
 use Rattle.histar_lint.proofs.session.said_at.Given as goal

@@ -1,3 +1,4 @@
+-- Proves the goals of `said_of` of src/session.rt that the search leaves open.
 use Rattle.std.proofs.Common.{◌≡◌, length, Some, List, ℕ, sym, ap, ◌∙◌, rules}
 use Rattle.std.proofs.lemmas.Result.{IfOk-weaker}
 use Rattle.histar_script.specs.Lines.{lines_of}

@@ -1,3 +1,4 @@
+-- Proves the goals of `take_line` of src/session.rt that the search leaves open.
 use Rattle.std.proofs.Common.{sym, ◌∙◌}
 use Rattle.histar_lint.proofs.Steps.{is_memory, is_taken, line_is, says_something}
 use Rattle.histar_lint.proofs.session.take_line.Goals as goal

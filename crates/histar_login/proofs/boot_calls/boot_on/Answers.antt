@@ -1,3 +1,4 @@
+-- Proves the goals of `boot_on` of src/boot_calls.rt that the search leaves open.
 use Rattle.std.proofs.Common.{◌≡◌, ℕ, ◌+◌, List, length, ap, subst, arith}
 use Rattle.histar_container.proofs.Keeping.{on_err}
 use Rattle.histar_flat.specs.declared.calls.User.{User}

@@ -1,3 +1,4 @@
+-- Proves the goals of `make_categories` of src/boot_calls.rt that the search leaves open.
 use Rattle.std.proofs.Common.{◌≡◌, ℕ, subst, arith}
 use Rattle.histar_container.proofs.Keeping.{on_err}
 use Rattle.histar_login.specs.Booting.{BootsOn, IsAnywhere, categories_part}

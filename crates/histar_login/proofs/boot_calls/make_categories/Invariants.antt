@@ -1,3 +1,4 @@
+-- The invariants and measures of `make_categories` of src/boot_calls.rt.
 use Rattle.histar_login.specs.Booting.{BootsOn, IsAnywhere, categories_part}
 use Rattle.histar_login.proofs.boot_calls.make_categories.Given as goal
 

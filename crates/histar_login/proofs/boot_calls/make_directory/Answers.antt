@@ -1,3 +1,4 @@
+-- Proves the goals of `make_directory` of src/boot_calls.rt that the search leaves open.
 use Rattle.std.proofs.Common.{length}
 use Rattle.histar_container.proofs.Keeping.{on_err}
 use Rattle.histar_login.specs.Booting.{BeginsDirectory}

@@ -1,3 +1,4 @@
+-- Proves the goals of `make_process` of src/boot_calls.rt that the search leaves open.
 use Rattle.histar_container.proofs.Keeping.{on_err}
 use Rattle.histar_login.specs.Booting.{BeginsProcess}
 use Rattle.histar_login.proofs.ProcessStage.{read_allowed, write_allowed, outer_allowed, inner_allowed, birth_allowed, status_allowed}

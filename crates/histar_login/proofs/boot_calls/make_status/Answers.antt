@@ -1,3 +1,4 @@
+-- Proves the goals of `make_status` of src/boot_calls.rt that the search leaves open.
 use Rattle.histar_rules.specs.declared.raw.RawCall.TheVariants.{MakeSegment}
 use Rattle.histar_login.proofs.Parts.{undenied_as, grants_as}
 use Rattle.histar_login.proofs.boot_calls.make_status.Goals as goal

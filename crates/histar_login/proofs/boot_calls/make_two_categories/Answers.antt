@@ -1,3 +1,4 @@
+-- Proves the goals of `make_two_categories` of src/boot_calls.rt that the search leaves open.
 use Rattle.histar_container.proofs.Keeping.{on_err}
 use Rattle.histar_login.specs.Booting.{BeginsOn, IsAnywhere, two_categories}
 use Rattle.histar_login.proofs.Stages.{first_allowed, second_allowed, two_begun_none, two_begun_one, two_boot}

@@ -1,3 +1,4 @@
+-- Proves the goals of `make_user_table` of src/boot_calls.rt that the search leaves open.
 use Rattle.std.proofs.Common.{◌≡◌, ◌≤◌, length, ap, ◌∙◌, subst}
 use Rattle.histar_rules.specs.declared.raw.RawCall.TheVariants.{MakeSegment}
 use Rattle.histar_layout.specs.Labelling.{written_by}

@@ -1,3 +1,4 @@
+-- Proves the goals of `make_users` of src/boot_calls.rt that the search leaves open.
 use Rattle.std.proofs.Common.{◌≡◌, ◌<◌, ◌≤◌, List, length, get_or, ap, subst, arith}
 use Rattle.std.proofs.lemmas.List.{take_all}
 use Rattle.histar_container.proofs.Keeping.{on_err}

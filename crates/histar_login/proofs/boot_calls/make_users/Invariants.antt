@@ -1,3 +1,4 @@
+-- The invariants and measures of `make_users` of src/boot_calls.rt.
 use Rattle.std.proofs.Common.{take}
 use Rattle.histar_login.specs.Booting.{BootsOn, IsBefore, users_part}
 use Rattle.histar_login.proofs.boot_calls.make_users.Given as goal

@@ -1,3 +1,4 @@
+-- Proves the goals of `label_at_both` of src/gates.rt that the search leaves open.
 use Rattle.std.proofs.Common.{sym, ◌∙◌}
 use Rattle.histar_label.specs.Levels.{with_level}
 use Rattle.histar_login.proofs.GroupLemmas.{both_next}

@@ -1,3 +1,4 @@
+-- The invariants and measures of `label_at_both` of src/gates.rt.
 use Rattle.std.proofs.Common.{◌≡◌, take}
 use Rattle.histar_layout.specs.Labelling.{labelled}
 use Rattle.histar_login.specs.Start.{at_both}

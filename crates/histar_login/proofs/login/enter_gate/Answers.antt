@@ -1,3 +1,4 @@
+-- Proves the goals of `enter_gate` of src/login.rt that the search leaves open.
 use Rattle.std.proofs.Common.{ℕ, ◌+◌, ◌*◌, ap, ◌∙◌}
 use Rattle.histar_rules.specs.declared.raw.RawCall.TheVariants.{Enter}
 use Rattle.histar_calls.specs.declared.call_error.CallError.TheVariants.{Stopped}

@@ -1,3 +1,4 @@
+-- Proves the goals of `login` of src/login.rt that the search leaves open.
 use Rattle.std.proofs.Common.{◌≡◌, Ok, Result, sym, ap, ◌∙◌, subst}
 use Rattle.std.proofs.lemmas.Result.{err_from_is_err_and}
 use Rattle.histar_flat.specs.declared.replies.Errno.TheVariants.{ENOENT}

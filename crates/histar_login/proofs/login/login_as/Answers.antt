@@ -1,3 +1,4 @@
+-- Proves the goals of `login_as` of src/login.rt that the search leaves open.
 use Rattle.std.proofs.Common.{Bool, Ok, ap}
 use Rattle.histar_label.specs.Levels.{Levels}
 use Rattle.histar_rules.specs.declared.raw.RawCall.TheVariants.{OwnLabel}

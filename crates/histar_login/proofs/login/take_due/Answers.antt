@@ -1,3 +1,4 @@
+-- Proves the goals of `take_due` of src/login.rt that the search leaves open.
 use Rattle.std.proofs.Common.{Err}
 use Rattle.histar_rules.specs.declared.raw.RawCall.TheVariants.{SetLabel, SetClearance}
 use Rattle.histar_calls.specs.declared.call_error.CallError.TheVariants.{Stopped}

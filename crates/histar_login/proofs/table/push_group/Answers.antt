@@ -1,3 +1,4 @@
+-- Proves the goals of `push_group` of src/table.rt that the search leaves open.
 use Rattle.std.proofs.Common.{◌≡◌, ◌≤◌, ◌++◌, [], ◌∷◌, List, length, ap, sym, ◌∙◌}
 use Rattle.histar_flat.specs.declared.calls.User.{User}
 use Rattle.std.specs.Int.{w64, to_be_bytes}

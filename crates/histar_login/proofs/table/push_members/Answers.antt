@@ -1,3 +1,4 @@
+-- Proves the goals of `push_members` of src/table.rt that the search leaves open.
 use Rattle.std.proofs.Common.{ap, sym, ◌∙◌}
 use Rattle.histar_login.proofs.GroupLemmas.{member_more, member_same}
 use Rattle.histar_login.proofs.table.push_members.Goals.{then-has+in_ok-push, else-has}

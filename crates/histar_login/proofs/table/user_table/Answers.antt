@@ -1,3 +1,4 @@
+-- Proves the goals of `user_table` of src/table.rt that the search leaves open.
 use Rattle.std.proofs.Common.{◌≡◌, ◌<◌, List, length, get_or, ap, subst, arith, rules}
 use Rattle.histar_flat.specs.declared.calls.User.{User}
 use Rattle.histar_flat.proofs.WordLemmas.{short_name}

@@ -1,3 +1,4 @@
+-- Proves the goals of `take_away` of src/entry.rt that the search leaves open.
 use Rattle.std.specs.FinMap as map
 use Rattle.histar_rules.specs.declared.raw.RawCall.TheVariants.{Unlink}
 use Rattle.histar_calls.proofs.Running.{grants, refuses, fails_so}

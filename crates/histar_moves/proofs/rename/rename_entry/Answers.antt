@@ -1,3 +1,4 @@
+-- Proves the goals of `rename_entry` of src/rename.rt that the search leaves open.
 use Rattle.std.proofs.Common.{Ok, Err}
 use Rattle.std.specs.FinMap as map
 use Rattle.histar_flat.specs.declared.replies.Reply.TheVariants.{Done}

@@ -1,3 +1,4 @@
+-- Proves the goals of `remove_directory` of src/rmdir.rt that the search leaves open.
 use Rattle.histar_flat.specs.declared.replies.Reply.TheVariants.{Done}
 use Rattle.histar_calls.specs.declared.call_error.CallError.TheVariants.{Refused}
 use Rattle.histar_calls.specs.Parts.{read_directory}

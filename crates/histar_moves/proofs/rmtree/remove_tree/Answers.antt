@@ -1,3 +1,4 @@
+-- Proves the goals of `remove_tree` of src/rmtree.rt that the search leaves open.
 use Rattle.histar_flat.specs.declared.replies.Reply.TheVariants.{Done}
 use Rattle.histar_calls.specs.Programs.Program.{Answers}
 use Rattle.histar_calls.proofs.Running.{then_call, call_fails, call_fails_so, says}

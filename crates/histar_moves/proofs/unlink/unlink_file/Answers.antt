@@ -1,3 +1,4 @@
+-- Proves the goals of `unlink_file` of src/unlink.rt that the search leaves open.
 use Rattle.histar_flat.specs.declared.replies.Reply.TheVariants.{Done}
 use Rattle.histar_calls.specs.declared.call_error.CallError.TheVariants.{Refused}
 use Rattle.histar_calls.specs.Programs.Program.{Answers}

@@ -1,3 +1,4 @@
+-- Proves the goals of `first_line` of src/replies.rt that the search leaves open.
 use Rattle.std.proofs.Common.{arith, ap, sym, ◌∙◌, [], ◌≡◌}
 use Rattle.std.proofs.lemmas.List.{nil_from_length}
 use Rattle.histar_noninterference.specs.Replies.{first_shown}

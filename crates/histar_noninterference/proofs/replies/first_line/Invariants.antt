@@ -1,3 +1,4 @@
+-- The invariants and measures of `first_line` of src/replies.rt.
 use Rattle.std.proofs.Common.{◌≡◌, length}
 use Rattle.histar_noninterference.specs.Replies.{first_shown}
 use Rattle.histar_noninterference.proofs.replies.first_line.Given as goal

@@ -1,3 +1,4 @@
+-- Proves the goals of `first_difference` of src/trees.rt that the search leaves open.
 use Rattle.std.proofs.Common.{[], ap, arith, sym, ◌∙◌, ◌≡◌}
 use Rattle.std.proofs.lemmas.List.{nil_from_length}
 use Rattle.histar_noninterference.specs.Trees.{first_difference, is_below_either}

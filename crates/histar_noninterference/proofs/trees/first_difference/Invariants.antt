@@ -1,3 +1,4 @@
+-- The invariants and measures of `first_difference` of src/trees.rt.
 use Rattle.std.proofs.Common.{◌≡◌, ◌+◌, length}
 use Rattle.histar_noninterference.specs.Trees.{first_difference, is_below_either}
 use Rattle.histar_noninterference.proofs.trees.first_difference.Given as goal

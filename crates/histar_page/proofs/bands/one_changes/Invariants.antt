@@ -1,3 +1,4 @@
+-- The invariants and measures of `one_changes` of src/bands.rt.
 use Rattle.std.proofs.Common.{◌≡◌, length}
 use Rattle.std.specs.List.{list_any}
 use Rattle.histar_page.specs.Texts.{texts}

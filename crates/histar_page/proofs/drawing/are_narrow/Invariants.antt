@@ -1,3 +1,4 @@
+-- The invariants and measures of `are_narrow` of src/drawing.rt.
 use Rattle.std.proofs.Common.{◌≡◌, length}
 use Rattle.std.specs.List.{list_all}
 use Rattle.histar_page.specs.Texts.{texts}

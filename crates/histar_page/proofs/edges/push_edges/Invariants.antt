@@ -1,3 +1,4 @@
+-- The invariants and measures of `push_edges` of src/edges.rt.
 use Rattle.std.proofs.Common.{◌≡◌, ◌++◌, ◌+◌, length, true}
 use Rattle.std.specs.List.{list_all}
 use Rattle.histar_page.specs.Items.{items_of}

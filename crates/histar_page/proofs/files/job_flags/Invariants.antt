@@ -1,3 +1,4 @@
+-- The invariants and measures of `job_flags` of src/files.rt.
 use Rattle.std.proofs.Common.{◌≡◌, ◌++◌, length, map}
 use Rattle.histar_page.specs.Texts.{texts}
 use Rattle.histar_page.specs.Files.{is_job_cell}

@@ -1,3 +1,4 @@
+-- The invariants and measures of `push_short` of src/files.rt.
 use Rattle.std.proofs.Common.{◌≡◌, ◌++◌, length, map}
 use Rattle.histar_page.specs.Items.{items_of}
 use Rattle.histar_page.specs.Texts.{texts}

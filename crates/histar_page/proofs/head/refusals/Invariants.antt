@@ -1,3 +1,4 @@
+-- The invariants and measures of `refusals` of src/head.rt.
 use Rattle.std.proofs.Common.{◌≡◌, ◌+◌, ◌≤◌, length}
 use Rattle.std.specs.Prelude.{filter}
 use Rattle.histar_page.specs.Texts.{texts}

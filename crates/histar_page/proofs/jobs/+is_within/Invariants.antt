@@ -1,3 +1,4 @@
+-- The invariants and measures of `+is_within` of src/jobs.rt.
 use Rattle.std.proofs.Common.{length}
 use Rattle.histar_page.proofs.jobs.+is_within.Given as goal
 

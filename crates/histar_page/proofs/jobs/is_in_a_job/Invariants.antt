@@ -1,3 +1,4 @@
+-- The invariants and measures of `is_in_a_job` of src/jobs.rt.
 use Rattle.std.proofs.Common.{◌≡◌, length}
 use Rattle.histar_page.specs.Texts.{texts}
 use Rattle.histar_page.specs.Drawing.{is_in_a_job}

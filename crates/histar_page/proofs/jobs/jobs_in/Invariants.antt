@@ -1,3 +1,4 @@
+-- The invariants and measures of `jobs_in` of src/jobs.rt.
 use Rattle.std.proofs.Common.{◌≡◌, ◌++◌, length}
 use Rattle.std.specs.List.{flat_map}
 use Rattle.histar_page.specs.Texts.{texts}

@@ -1,3 +1,4 @@
+-- Proves the goals of `next_word` of src/lines.rt that the search leaves open.
 use Rattle.std.proofs.Common.{◌<◌, ℕ, List, [], ◌∷◌, length, Option, sym, ap, ap₂, ◌∙◌, subst}
 use Rattle.std.specs.Prelude.{unwrap_or}
 use Rattle.histar_page.specs.Lines.{words_of}

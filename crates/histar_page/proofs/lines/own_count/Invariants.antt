@@ -1,3 +1,4 @@
+-- The invariants and measures of `own_count` of src/lines.rt.
 use Rattle.std.proofs.Common.{◌≡◌, ◌+◌, ◌≤◌, length}
 use Rattle.std.specs.List.{prefix_len}
 use Rattle.histar_page.specs.Texts.{texts}

@@ -1,3 +1,4 @@
+-- Proves the goals of `words_in` of src/lines.rt that the search leaves open.
 use Rattle.std.proofs.Common.{◌≡◌, ◌++◌, length, sym, ap, ◌∙◌, rules, append-nil}
 use Rattle.histar_page.specs.Texts.{texts}
 use Rattle.histar_page.proofs.WordLemmas.{no_words}

@@ -1,3 +1,4 @@
+-- The invariants and measures of `words_in` of src/lines.rt.
 use Rattle.std.proofs.Common.{◌≡◌, ◌++◌, length}
 use Rattle.histar_page.specs.Texts.{texts}
 use Rattle.histar_page.specs.Lines.{words_of}

@@ -1,3 +1,4 @@
+-- Proves the goals of `page_text` of src/page.rt that the search leaves open.
 use Rattle.std.proofs.Common.{◌∙◌, ap, refl}
 use Rattle.histar_script.specs.Lines.{lines_of}
 use Rattle.histar_page.specs.Texts.{texts}

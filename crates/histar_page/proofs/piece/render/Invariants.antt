@@ -1,3 +1,4 @@
+-- The invariants and measures of `render` of src/piece.rt.
 use Rattle.std.proofs.Common.{◌≡◌, ◌++◌, length}
 use Rattle.histar_page.specs.Rendering.{rendered}
 use Rattle.histar_page.proofs.piece.render.Given as goal

@@ -1,3 +1,4 @@
+-- Proves the goals of `nodes_are_apart` of src/places.rt that the search leaves open.
 use Rattle.std.proofs.Common.{◌≢◌, ℕ, inl, inr, arith}
 use Rattle.std.proofs.lemmas.Bool.{cases_lt}
 use Rattle.histar_page.specs.Places.{AreApart, file_band, file_box, process_band, process_box}

@@ -1,3 +1,4 @@
+-- The invariants and measures of `push_secrets` of src/secrets.rt.
 use Rattle.std.proofs.Common.{◌≡◌, ◌++◌, length}
 use Rattle.std.specs.List.{flat_map}
 use Rattle.histar_page.specs.Items.{items_of}

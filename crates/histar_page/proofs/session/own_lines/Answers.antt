@@ -1,3 +1,4 @@
+-- Proves the goals of `own_lines` of src/session.rt that the search leaves open.
 use Rattle.std.proofs.Common.{ℕ, List, ◌++◌, length, take, arith, ◌∙◌, ap, sym}
 use Rattle.std.specs.Borrow.{Bor}
 use Rattle.std.specs.List.{list_all, prefix_len}

@@ -1,3 +1,4 @@
+-- Proves the goals of `push_calls` of src/session.rt that the search leaves open.
 use Rattle.std.proofs.Common.{◌≡◌, ◌∙◌, ◌++◌, ℕ, List, true, refl, rules, ap, ap₂, map, sym, subst}
 use Rattle.std.specs.Borrow.{Bor}
 use Rattle.std.specs.List.{list_all}

@@ -1,3 +1,4 @@
+-- The invariants and measures of `push_calls` of src/session.rt.
 use Rattle.std.proofs.Common.{◌≡◌, ◌≤◌, [], drop, length, take}
 use Rattle.histar_page.specs.Texts.{texts}
 use Rattle.histar_page.specs.Items.{items_of}

@@ -1,3 +1,4 @@
+-- The invariants and measures of `push_other_calls` of src/session.rt.
 use Rattle.std.proofs.Common.{◌≡◌, ◌++◌, length}
 use Rattle.std.specs.List.{flat_map}
 use Rattle.histar_page.specs.Items.{items_of}

@@ -1,3 +1,4 @@
+-- Proves the goals of `push_session` of src/session.rt that the search leaves open.
 use Rattle.std.proofs.Common.{ℕ, List, refl, ◌∷◌, ◌++◌, ◌∙◌, ap, drop, length, sym, subst, zero-add}
 use Rattle.std.specs.Borrow.{Bor}
 use Rattle.std.specs.Prelude.{codes}

@@ -1,3 +1,4 @@
+-- Proves the goals of `session_pieces` of src/session.rt that the search leaves open.
 use Rattle.std.proofs.Common.{◌∙◌, ap}
 use Rattle.std.specs.Prelude.{filter}
 use Rattle.histar_page.specs.Texts.{texts}

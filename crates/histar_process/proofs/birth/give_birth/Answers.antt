@@ -1,3 +1,4 @@
+-- Proves the goals of `give_birth` of src/birth.rt that the search leaves open.
 use Rattle.std.proofs.Common.{Err}
 use Rattle.histar_rules.specs.declared.raw.RawCall.TheVariants.{Write}
 use Rattle.histar_layout.specs.Status.{status_bytes, with_child_listed}

@@ -1,3 +1,4 @@
+-- Proves the goals of `make_categories` of src/birth.rt that the search leaves open.
 use Rattle.histar_rules.specs.declared.raw.RawCall.TheVariants.{MakeCategory}
 use Rattle.histar_calls.proofs.Running.{grants, refuses, fails_so}
 use Rattle.histar_process.specs.Births.{make_categories}

@@ -1,3 +1,4 @@
+-- Proves the goals of `make_containers` of src/birth.rt that the search leaves open.
 use Rattle.std.proofs.Common.{[], ◌∷◌, Ok, Err, ◌∙◌}
 use Rattle.histar_rules.specs.declared.raw.RawCall.TheVariants.{MakeContainer}
 use Rattle.histar_layout.specs.Labelling.{guarded_by}

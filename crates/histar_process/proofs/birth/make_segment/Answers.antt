@@ -1,3 +1,4 @@
+-- Proves the goals of `make_segment` of src/birth.rt that the search leaves open.
 use Rattle.std.proofs.Common.{[], ◌∷◌}
 use Rattle.histar_rules.specs.declared.raw.RawCall.TheVariants.{MakeSegment}
 use Rattle.histar_layout.specs.Status.{started, status_bytes}

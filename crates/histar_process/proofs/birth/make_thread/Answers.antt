@@ -1,3 +1,4 @@
+-- Proves the goals of `make_thread` of src/birth.rt that the search leaves open.
 use Rattle.std.proofs.Common.{ℕ, List, ◌∷◌, ◌++◌, ap, ◌∙◌}
 use Rattle.histar_rules.specs.declared.raw.RawCall.TheVariants.{MakeThread}
 use Rattle.histar_layout.specs.Labelling.{owner_label, cleared_at}

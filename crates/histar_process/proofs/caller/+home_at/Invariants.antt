@@ -1,3 +1,4 @@
+-- The invariants and measures of `+home_at` of src/caller.rt.
 use Rattle.std.proofs.Common.{length}
 use Rattle.histar_process.proofs.caller.+home_at.Given as goal
 

@@ -1,3 +1,4 @@
+-- The invariants and measures of `read_category_in` of src/caller.rt.
 use Rattle.std.proofs.Common.{◌≡◌, ◌&&◌, not, drop}
 use Rattle.histar_label.specs.Levels.{level_of}
 use Rattle.histar_process.specs.Caller.{read_category_in}

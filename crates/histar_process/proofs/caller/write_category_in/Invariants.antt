@@ -1,3 +1,4 @@
+-- The invariants and measures of `write_category_in` of src/caller.rt.
 use Rattle.std.proofs.Common.{◌≡◌, drop}
 use Rattle.histar_process.specs.Caller.{is_zero, write_category_in}
 use Rattle.histar_process.proofs.Scanning.{first_passed}

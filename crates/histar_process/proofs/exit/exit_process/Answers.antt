@@ -1,3 +1,4 @@
+-- Proves the goals of `exit_process` of src/exit.rt that the search leaves open.
 use Rattle.std.proofs.Common.{◌≡◌, ℕ, List, Some, Ok, Err, refl, sym, ap, subst}
 use Rattle.histar_flat.specs.declared.replies.Reply.TheVariants.{Done}
 use Rattle.histar_rules.specs.declared.raw.RawCall.TheVariants.{Write, Unlink}

@@ -1,3 +1,4 @@
+-- Proves the goals of `+find_home` of src/find.rt that the search leaves open.
 use Rattle.std.proofs.Common.{◌-◌, length, get_or, take, drop, Ok, Err, sym, subst, arith}
 use Rattle.histar_calls.specs.declared.call_error.CallError.TheVariants.{Refused}
 use Rattle.histar_calls.proofs.Running.{fails_so}

@@ -1,3 +1,4 @@
+-- The invariants and measures of `+find_home` of src/find.rt.
 use Rattle.std.proofs.Common.{length}
 use Rattle.histar_process.proofs.find.+find_home.Given as goal
 

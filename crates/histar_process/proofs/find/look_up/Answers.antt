@@ -1,3 +1,4 @@
+-- Proves the goals of `look_up` of src/find.rt that the search leaves open.
 use Rattle.std.proofs.Common.{Result, subst}
 use Rattle.histar_rules.specs.declared.raw.RawCall.TheVariants.{Read}
 use Rattle.histar_syscall.specs.KernelModel.{ReadsLent}

@@ -1,3 +1,4 @@
+-- Proves the goals of `read_segment` of src/find.rt that the search leaves open.
 use Rattle.std.proofs.Common.{ℕ, List, None, Some, ◌≡◌, subst}
 use Rattle.std.specs.Prelude.{option_map}
 use Rattle.histar_rules.specs.declared.raw.RawCall.TheVariants.{Read}

@@ -1,3 +1,4 @@
+-- Proves the goals of `kill_known` of src/kill.rt that the search leaves open.
 use Rattle.std.proofs.Common.{ℕ, Ok, Err, refl, ap, ◌∙◌, subst}
 use Rattle.histar_rules.specs.declared.raw.RawCall.TheVariants.{Unlink}
 use Rattle.histar_layout.specs.Status.{status_bytes, without_child}

@@ -1,3 +1,4 @@
+-- Proves the goals of `kill_process` of src/kill.rt that the search leaves open.
 use Rattle.std.proofs.Common.{◌∷◌, ◌-◌, [], length, get_or, take, drop, ap, sym, ◌∙◌, arith}
 use Rattle.histar_calls.specs.Refusals.{settled}
 use Rattle.histar_calls.proofs.Running.{runs_as}

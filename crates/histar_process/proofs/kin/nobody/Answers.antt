@@ -1,3 +1,4 @@
+-- Proves the goals of `nobody` of src/kin.rt that the search leaves open.
 use Rattle.std.proofs.Common.{ap, ◌∙◌}
 use Rattle.std.specs.Prelude.{is_some}
 use Rattle.histar_flat.specs.Words.{is_name, name_of}

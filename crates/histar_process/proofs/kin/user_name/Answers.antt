@@ -1,3 +1,4 @@
+-- Proves the goals of `user_name` of src/kin.rt that the search leaves open.
 use Rattle.std.proofs.Common.{◌≡◌, ◌-◌, ◌≤◌, ℕ, length, ap, sym, subst, ◌∙◌, arith}
 use Rattle.std.proofs.lemmas.Option.{get_or_from_slice_get}
 use Rattle.histar_flat.specs.declared.calls.User.{User}

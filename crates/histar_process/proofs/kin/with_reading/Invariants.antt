@@ -1,3 +1,4 @@
+-- The invariants and measures of `with_reading` of src/kin.rt.
 use Rattle.std.proofs.Common.{◌≡◌, ◌++◌, map, take}
 use Rattle.histar_layout.specs.Categories.{read_category}
 use Rattle.histar_process.proofs.kin.with_reading.Given as goal

@@ -1,3 +1,4 @@
+-- The invariants and measures of `with_writing` of src/kin.rt.
 use Rattle.std.proofs.Common.{◌≡◌, ◌++◌, map, take}
 use Rattle.histar_layout.specs.Categories.{write_category}
 use Rattle.histar_process.proofs.kin.with_writing.Given as goal

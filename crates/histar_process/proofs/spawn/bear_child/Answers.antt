@@ -1,3 +1,4 @@
+-- Proves the goals of `bear_child` of src/spawn.rt that the search leaves open.
 use Rattle.std.proofs.Common.{◌∙◌}
 use Rattle.histar_calls.proofs.Running.{fails_so}
 use Rattle.histar_calls.specs.declared.call_error.CallError.TheVariants.{Stopped}

@@ -1,3 +1,4 @@
+-- Proves the goals of `room_for_child` of src/spawn.rt that the search leaves open.
 use Rattle.std.proofs.Common.{ℕ, List, length, ap, ◌∙◌}
 use Rattle.std.specs.Prelude.{nat_lt}
 use Rattle.histar_flat.specs.Words.{most_children, most_numbers}

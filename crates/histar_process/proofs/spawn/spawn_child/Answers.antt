@@ -1,3 +1,4 @@
+-- Proves the goals of `spawn_child` of src/spawn.rt that the search leaves open.
 use Rattle.std.proofs.Common.{◌≡◌, ℕ, ◌+◌, List, ◌∷◌, Some, Ok, Err, sym, ap, ◌∙◌, subst}
 use Rattle.histar_flat.specs.declared.replies.Reply.TheVariants.{Child}
 use Rattle.histar_label.specs.Levels.{Levels}

@@ -1,3 +1,4 @@
+-- Proves the goals of `take_labels` of src/spawn.rt that the search leaves open.
 use Rattle.std.proofs.Common.{Ok}
 use Rattle.histar_label.specs.Levels.{Levels}
 use Rattle.histar_rules.specs.declared.raw.RawCall.TheVariants.{SetLabel, SetClearance}

@@ -1,3 +1,4 @@
+-- Proves the goals of `reply_status` of src/status.rt that the search leaves open.
 use Rattle.std.proofs.Common.{ℕ, List, Ok, Err, subst}
 use Rattle.histar_calls.specs.Programs.{RunsPart}
 use Rattle.histar_calls.specs.Programs.Program.{Answers}

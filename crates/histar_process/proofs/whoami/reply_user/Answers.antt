@@ -1,3 +1,4 @@
+-- Proves the goals of `reply_user` of src/whoami.rt that the search leaves open.
 use Rattle.std.proofs.Common.{length, not, sym, ap, ◌∙◌}
 use Rattle.histar_flat.specs.declared.replies.Reply.TheVariants.{User}
 use Rattle.histar_rules.specs.declared.raw.RawCall.TheVariants.{OwnLabel}

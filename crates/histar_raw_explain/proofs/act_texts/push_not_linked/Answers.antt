@@ -1,3 +1,4 @@
+-- Proves the goals of `push_not_linked` of src/act_texts.rt that the search leaves open.
 use Rattle.std.proofs.Common.{codes}
 use Rattle.std.specs.Fmt.{decimal}
 use Rattle.histar_raw_explain.proofs.Pieces.{three_pieces}

@@ -1,3 +1,4 @@
+-- Proves the goals of `push_but` of src/lines.rt that the search leaves open.
 use Rattle.std.proofs.Common.{codes}
 use Rattle.std.specs.List.{flat_map}
 use Rattle.histar_raw_explain.specs.Texts.{spared_text}

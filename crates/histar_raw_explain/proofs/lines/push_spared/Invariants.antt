@@ -1,3 +1,4 @@
+-- The invariants and measures of `push_spared` of src/lines.rt.
 use Rattle.std.proofs.Common.{◌≡◌, ◌++◌, take}
 use Rattle.std.specs.List.{flat_map}
 use Rattle.histar_raw_explain.specs.Texts.{spared_text}

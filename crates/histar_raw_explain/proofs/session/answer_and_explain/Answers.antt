@@ -1,3 +1,4 @@
+-- Proves the goals of `answer_and_explain` of src/session.rt that the search leaves open.
 use Rattle.histar_raw_explain.proofs.Errors.{on_err}
 use Rattle.histar_raw_explain.proofs.CallsExplained.{one_explained}
 use Rattle.histar_raw_explain.proofs.SessionExplained.{whole_begins}

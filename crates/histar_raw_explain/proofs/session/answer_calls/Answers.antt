@@ -1,3 +1,4 @@
+-- Proves the goals of `answer_calls` of src/session.rt that the search leaves open.
 use Rattle.std.proofs.Common.{sym, ◌∙◌, rules}
 use Rattle.std.proofs.lemmas.List.{map-id}
 use Rattle.std.proofs.lemmas.Iterator.Adapters.{YieldsList-from_vec}

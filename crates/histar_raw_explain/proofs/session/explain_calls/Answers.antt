@@ -1,3 +1,4 @@
+-- Proves the goals of `explain_calls` of src/session.rt that the search leaves open.
 use Rattle.histar_raw_explain.proofs.Errors.{on_err}
 use Rattle.histar_raw_explain.proofs.SessionExplained.{all_written, front_written}
 use Rattle.histar_raw_explain.proofs.session.explain_calls.Goals as goal

@@ -1,3 +1,4 @@
+-- Proves the goals of `explain_last` of src/session.rt that the search leaves open.
 use Rattle.std.proofs.Common.{ap, ◌++◌, ◌∙◌}
 use Rattle.histar_raw_explain.specs.Texts.{raw_words, explanation_text}
 use Rattle.histar_raw_explain.proofs.CallsExplained.{last_denied}

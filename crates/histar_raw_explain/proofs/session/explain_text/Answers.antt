@@ -1,3 +1,4 @@
+-- Proves the goals of `explain_text` of src/session.rt that the search leaves open.
 use Rattle.histar_raw_session.proofs.SessionRuns.{no_read, sink_called}
 use Rattle.histar_raw_explain.proofs.SessionExplained.{explained_text}
 use Rattle.histar_raw_explain.proofs.session.explain_text.Goals as goal

@@ -1,3 +1,4 @@
+-- Proves the goals of `argument_sentence` of src/call_rules.rt that the search leaves open.
 use Rattle.std.proofs.Common.{◌+◌, Option, List, ℕ, Bor, drop, sym, ap, ◌∙◌}
 use Rattle.std.specs.Option.{option_copied}
 use Rattle.histar_lint.specs.Lines.{first_sentence}

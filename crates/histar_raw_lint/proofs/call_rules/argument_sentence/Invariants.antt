@@ -1,3 +1,4 @@
+-- The invariants and measures of `argument_sentence` of src/call_rules.rt.
 use Rattle.std.proofs.Common.{◌≡◌, drop}
 use Rattle.std.specs.Option.{option_copied}
 use Rattle.histar_lint.specs.Lines.{first_sentence}

@@ -1,3 +1,4 @@
+-- Proves the goals of `first_near` of src/call_rules.rt that the search leaves open.
 use Rattle.std.proofs.Common.{sym, ◌∙◌}
 use Rattle.histar_raw_lint.proofs.Steps.{near_behind, near_end, near_front}
 use Rattle.histar_raw_lint.proofs.call_rules.first_near.Goals as goal

@@ -1,3 +1,4 @@
+-- The invariants and measures of `first_near` of src/call_rules.rt.
 use Rattle.std.proofs.Common.{◌≡◌, drop}
 use Rattle.std.specs.Prelude.{map}
 use Rattle.histar_lint.specs.Calls.{first_near}

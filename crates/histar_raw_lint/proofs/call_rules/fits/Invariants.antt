@@ -1,3 +1,4 @@
+-- The invariants and measures of `fits` of src/call_rules.rt.
 use Rattle.std.proofs.Common.{◌≡◌, drop}
 use Rattle.std.specs.Option.{option_copied}
 use Rattle.histar_raw_lint.specs.Rules.{fits}

@@ -1,3 +1,4 @@
+-- Proves the goals of `nearest` of src/call_rules.rt that the search leaves open.
 use Rattle.std.proofs.Common.{ap, ◌∙◌}
 use Rattle.std.specs.Prelude.{map}
 use Rattle.std.proofs.lemmas.Result.{IfOk-weaker}

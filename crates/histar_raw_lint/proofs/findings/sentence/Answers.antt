@@ -1,3 +1,4 @@
+-- Proves the goals of `sentence` of src/findings.rt that the search leaves open.
 use Rattle.std.proofs.Common.{◌++◌}
 use Rattle.histar_lint.specs.Lines.{byte_rules, rest_of, word_of}
 use Rattle.histar_raw_lint.specs.Rules.{call_rules, thread_rules, word_rules}

@@ -1,3 +1,4 @@
+-- Proves the goals of `thread_call_sentence` of src/findings.rt that the search leaves open.
 use Rattle.std.proofs.Common.{List, ℕ, ap, ◌∙◌}
 use Rattle.std.proofs.lemmas.Result.{IfOk-weaker}
 use Rattle.histar_lint.specs.Lines.{first_sentence, rest_of, word_of}

@@ -1,3 +1,4 @@
+-- The invariants and measures of `push_kinds` of src/kinds.rt.
 use Rattle.std.proofs.Common.{◌≡◌, ◌++◌, codes, drop}
 use Rattle.std.specs.List.{flat_map}
 use Rattle.histar_raw_lint.specs.Rules.{kind_name}

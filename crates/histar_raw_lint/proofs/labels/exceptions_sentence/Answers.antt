@@ -1,3 +1,4 @@
+-- Proves the goals of `exceptions_sentence` of src/labels.rt that the search leaves open.
 use Rattle.std.proofs.Common.{◌+◌, ℕ, drop, map, sym, ap, ◌∙◌}
 use Rattle.histar_lint.specs.Lines.{first_sentence}
 use Rattle.histar_raw_lint.specs.Values.{exceptions_rules}

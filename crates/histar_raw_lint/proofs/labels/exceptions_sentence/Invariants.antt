@@ -1,3 +1,4 @@
+-- The invariants and measures of `exceptions_sentence` of src/labels.rt.
 use Rattle.std.proofs.Common.{◌≡◌, drop}
 use Rattle.std.specs.Prelude.{map}
 use Rattle.histar_lint.specs.Lines.{first_sentence}

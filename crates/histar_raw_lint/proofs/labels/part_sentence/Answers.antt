@@ -1,3 +1,4 @@
+-- Proves the goals of `part_sentence` of src/labels.rt that the search leaves open.
 use Rattle.std.proofs.Common.{ℕ, List, map, Bor, sym, ap, ◌∙◌, rules}
 use Rattle.std.proofs.lemmas.Result.{IfOk-weaker}
 use Rattle.histar_lint.specs.Lines.{first_sentence}

@@ -1,3 +1,4 @@
+-- Proves the goals of `split_at_commas` of src/labels.rt that the search leaves open.
 use Rattle.std.proofs.Common.{rules, tests}
 use Rattle.std.proofs.lemmas.Iterator.Consumers.{map_from_collect}
 use Rattle.std.proofs.lemmas.Iterator.Splits.{YieldsList-from_slice_split}

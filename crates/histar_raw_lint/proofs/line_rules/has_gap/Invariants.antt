@@ -1,3 +1,4 @@
+-- The invariants and measures of `has_gap` of src/line_rules.rt.
 use Rattle.std.proofs.Common.{◌≡◌, length}
 use Rattle.histar_raw_lint.specs.Rules.{has_gap}
 use Rattle.histar_raw_lint.proofs.line_rules.has_gap.Given as goal

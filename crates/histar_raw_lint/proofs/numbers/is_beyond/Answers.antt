@@ -1,3 +1,4 @@
+-- Proves the goals of `is_beyond` of src/numbers.rt that the search leaves open.
 use Rattle.std.proofs.Common.{◌≡◌, false, ltb, leb, not, ℕ, Option, sym, ap, ◌∙◌, arith}
 use Rattle.std.specs.Option.{option_map_or}
 use Rattle.std.proofs.lemmas.Bool.Decides.{nat_tests}

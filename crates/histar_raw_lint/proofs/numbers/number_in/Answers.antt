@@ -1,3 +1,4 @@
+-- Proves the goals of `number_in` of src/numbers.rt that the search leaves open.
 use Rattle.std.proofs.Common.{◌≡◌, true, not, subst, sym, ap, ◌∙◌, arith}
 use Rattle.std.specs.Fmt.{decimal}
 use Rattle.std.specs.Str.{IsUtf8, bytes_eq}

@@ -1,3 +1,4 @@
+-- Proves the goals of `no_right_raw_line_breaks_one` of src/raw_lint_laws.rt that the search leaves open.
 use Rattle.histar_raw_lint.proofs.LinesRight.{no_right_raw_line_breaks_one}
 use Rattle.histar_raw_lint.proofs.raw_lint_laws.no_right_raw_line_breaks_one.Goals as goal
 

@@ -1,3 +1,4 @@
+-- Proves the goals of `bad_line` of src/session.rt that the search leaves open.
 use Rattle.std.proofs.Common.{length, inl, inr, arith}
 use Rattle.std.proofs.lemmas.Bool.{cases_lt}
 use Rattle.histar_raw_lint.proofs.FirstBadLine.{bad_is, one_less, some_left}

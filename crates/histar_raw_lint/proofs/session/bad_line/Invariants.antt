@@ -1,3 +1,4 @@
+-- The invariants and measures of `bad_line` of src/session.rt.
 use Rattle.std.proofs.Common.{◌-◌}
 use Rattle.histar_raw_lint.proofs.FirstBadLine.{IsAt}
 use Rattle.histar_raw_lint.proofs.session.bad_line.Given as goal

@@ -1,3 +1,4 @@
+-- Proves the goals of `lint_raw` of src/session.rt that the search leaves open.
 use Rattle.std.proofs.Common.{rules}
 use Rattle.histar_raw_lint.proofs.KnownInputs.{lints_known}
 use Rattle.histar_raw_lint.proofs.session.lint_raw.Goals as goal

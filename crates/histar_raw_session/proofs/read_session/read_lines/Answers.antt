@@ -1,3 +1,4 @@
+-- Proves the goals of `read_lines` of src/read_session.rt that the search leaves open.
 use Rattle.std.proofs.Common.{◌≡◌, true, length, sym, arith, rules}
 use Rattle.histar_raw_session.specs.Session.{is_comment}
 use Rattle.histar_raw_session.proofs.LinesRead.{read_comment, read_one, all_read}

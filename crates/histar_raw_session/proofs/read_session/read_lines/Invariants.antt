@@ -1,3 +1,4 @@
+-- The invariants and measures of `read_lines` of src/read_session.rt.
 use Rattle.std.proofs.Common.{◌+◌, ◌≤◌, length}
 use Rattle.histar_raw_session.proofs.LinesRead.{IsReadSoFar}
 use Rattle.histar_raw_session.proofs.read_session.read_lines.Given as goal

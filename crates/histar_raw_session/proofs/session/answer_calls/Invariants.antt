@@ -1,3 +1,4 @@
+-- The invariants and measures of `answer_calls` of src/session.rt.
 use Rattle.std.proofs.Common.{◌≡◌}
 use Rattle.histar_syscall.specs.KernelModel.{state}
 use Rattle.histar_raw_session.specs.Answers.{AnswersCalls}

@@ -1,3 +1,4 @@
+-- Proves the goals of `run_text` of src/session.rt that the search leaves open.
 use Rattle.histar_raw_session.proofs.SessionRuns.{answered_text, no_read, sink_called}
 use Rattle.histar_raw_session.proofs.session.run_text.Goals as goal
 

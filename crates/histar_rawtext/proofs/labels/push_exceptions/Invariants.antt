@@ -1,3 +1,4 @@
+-- The invariants and measures of `push_exceptions` of src/labels.rt.
 use Rattle.std.proofs.Common.{◌≡◌, ◌++◌, take}
 use Rattle.std.specs.List.{flat_map}
 use Rattle.histar_rawtext.specs.RawText.{exception_text}

@@ -1,3 +1,4 @@
+-- Proves the goals of `read_raw` of src/read_calls.rt that the search leaves open.
 use Rattle.std.proofs.Common.{◌≡◌, true, not, Err, sym, ap, subst, ◌∙◌}
 use Rattle.std.specs.Str.{bytes_eq}
 use Rattle.std.proofs.lemmas.Slice.Eq.{bytes_eq-Decides}

@@ -1,3 +1,4 @@
+-- Proves the goals of `read_label` of src/read_labels.rt that the search leaves open.
 use Rattle.std.proofs.Common.{Some, map, sym, ap, ◌∙◌}
 use Rattle.histar_label.specs.Levels.{constant}
 use Rattle.histar_rawtext.specs.Reading.{level_in, exception_in, ◌>>=◌}

@@ -1,3 +1,4 @@
+-- The invariants and measures of `read_label` of src/read_labels.rt.
 use Rattle.std.proofs.Common.{◌≡◌, Some, length, map}
 use Rattle.histar_rawtext.specs.Reading.{label_in}
 use Rattle.histar_rawtext.proofs.LabelsRead.{with_exceptions}

@@ -1,3 +1,4 @@
+-- Proves the goals of `read_number` of src/read_words.rt that the search leaves open.
 use Rattle.std.proofs.Common.{◌≡◌, true, not, subst, sym, ap, ◌∙◌, arith}
 use Rattle.std.specs.Fmt.{decimal}
 use Rattle.std.specs.Str.{IsUtf8, bytes_eq}

@@ -1,3 +1,4 @@
+-- The invariants and measures of `push_digits` of src/words.rt.
 use Rattle.std.proofs.Common.{◌≡◌, ◌++◌, take}
 use Rattle.std.specs.List.{flat_map}
 use Rattle.histar_rawtext.specs.RawText.{byte_text}

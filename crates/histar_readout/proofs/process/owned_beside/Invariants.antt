@@ -1,3 +1,4 @@
+-- The invariants and measures of `owned_beside` of src/process.rt.
 use Rattle.std.proofs.Common.{◌≡◌, ◌&&◌, ◌++◌, drop}
 use Rattle.std.specs.Prelude.{nat_eq, not}
 use Rattle.std.specs.Set.{is_member}

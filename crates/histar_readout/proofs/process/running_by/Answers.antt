@@ -1,3 +1,4 @@
+-- Proves the goals of `running_by` of src/process.rt that the search leaves open.
 use Rattle.std.proofs.Common.{ℕ, List, ◌∷◌, length, refl, sym, ap, ◌∙◌}
 use Rattle.histar_layout.specs.Jobs.{jobs_in}
 use Rattle.histar_layout.proofs.UserOf.{user_is}

@@ -1,3 +1,4 @@
+-- Proves the goals of `+push_process` of src/processes.rt that the search leaves open.
 use Rattle.std.proofs.Common.{◌≡◌, Ok, Err, length, arith, sym, ap, ◌∙◌}
 use Rattle.histar_syscall.specs.KernelModel.{state}
 use Rattle.histar_readout.specs.declared.process.ProcessError.TheVariants.{NoProcess}

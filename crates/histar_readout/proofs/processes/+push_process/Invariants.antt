@@ -1,3 +1,4 @@
+-- The invariants and measures of `+push_process` of src/processes.rt.
 use Rattle.std.proofs.Common.{◌-◌, length}
 use Rattle.histar_flat.specs.Words.{most_numbers}
 use Rattle.histar_syscall.specs.KernelModel.{state}

@@ -1,3 +1,4 @@
+-- Proves the goals of `procs_of` of src/processes.rt that the search leaves open.
 use Rattle.histar_syscall.specs.KernelModel.{state}
 use Rattle.histar_readout.proofs.AddingProcesses.{processes_added, no_processes_added}
 use Rattle.histar_readout.proofs.processes.procs_of.Goals as goal

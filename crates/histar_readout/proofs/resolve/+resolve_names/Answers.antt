@@ -1,3 +1,4 @@
+-- Proves the goals of `+resolve_names` of src/resolve.rt that the search leaves open.
 use Rattle.histar_syscall.specs.KernelModel.{state}
 use Rattle.histar_readout.proofs.Resolving.{slash_resolved, nowhere_above, nowhere_below_file, nowhere_unlisted, leads_on}
 use Rattle.histar_readout.proofs.resolve.+resolve_names.Goals as goal

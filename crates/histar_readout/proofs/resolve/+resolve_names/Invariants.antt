@@ -1,3 +1,4 @@
+-- The invariants and measures of `+resolve_names` of src/resolve.rt.
 use Rattle.std.proofs.Common.{length}
 use Rattle.histar_readout.proofs.resolve.+resolve_names.Given as goal
 

@@ -1,3 +1,4 @@
+-- Proves the goals of `+tree` of src/tree.rt that the search leaves open.
 use Rattle.std.proofs.Common.{◌≡◌, ℕ, ◌<◌, ◌≤◌, ◌+◌, List, [], ◌∷◌, drop, length, get_or, Ok, Err, sym, ap, ◌∙◌, subst, arith}
 use Rattle.std.proofs.lemmas.List.{drop_more, length-drop, nil_from_length}
 use Rattle.std.specs.FinMap as map

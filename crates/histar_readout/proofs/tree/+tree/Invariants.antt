@@ -1,3 +1,4 @@
+-- The invariants and measures of `+tree` of src/tree.rt.
 use Rattle.std.proofs.Common.{◌+◌, ◌-◌, ◌*◌, drop, length}
 use Rattle.histar_flat.specs.Words.{most_names}
 use Rattle.histar_syscall.specs.KernelModel.{state}

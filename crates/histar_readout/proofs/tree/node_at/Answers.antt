@@ -1,3 +1,4 @@
+-- Proves the goals of `node_at` of src/tree.rt that the search leaves open.
 use Rattle.std.proofs.Common.{ℕ, refl, sym, ap, ◌∙◌}
 use Rattle.std.proofs.lemmas.Option.{MatchOption-at_some}
 use Rattle.histar_object.specs.Objects.{label_there}

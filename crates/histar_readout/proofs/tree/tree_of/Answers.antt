@@ -1,3 +1,4 @@
+-- Proves the goals of `tree_of` of src/tree.rt that the search leaves open.
 use Rattle.histar_syscall.specs.KernelModel.{state}
 use Rattle.histar_readout.proofs.Adding.{tree_added, no_tree_added}
 use Rattle.histar_readout.proofs.tree.tree_of.Goals as goal

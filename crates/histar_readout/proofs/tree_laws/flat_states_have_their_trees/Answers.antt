@@ -1,3 +1,4 @@
+-- Proves the goals of `flat_states_have_their_trees` of src/tree_laws.rt that the search leaves open.
 use Rattle.histar_readout.proofs.TreeMatched.{flat_states_have_their_trees}
 use Rattle.histar_readout.proofs.tree_laws.flat_states_have_their_trees.Goals as goal
 

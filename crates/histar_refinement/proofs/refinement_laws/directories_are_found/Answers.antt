@@ -1,3 +1,4 @@
+-- Proves the goals of `directories_are_found` of src/refinement_laws.rt that the search leaves open.
 use Rattle.histar_refinement.proofs.LinesMatched.{directory_found, directory_back}
 use Rattle.histar_refinement.proofs.refinement_laws.directories_are_found.Goals as goal
 

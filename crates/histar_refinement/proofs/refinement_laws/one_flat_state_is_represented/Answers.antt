@@ -1,3 +1,4 @@
+-- Proves the goals of `one_flat_state_is_represented` of src/refinement_laws.rt that the search leaves open.
 use Rattle.histar_refinement.proofs.OneFlatState.{same_files, same_processes}
 use Rattle.histar_refinement.proofs.refinement_laws.one_flat_state_is_represented.Goals as goal
 

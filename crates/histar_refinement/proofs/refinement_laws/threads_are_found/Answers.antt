@@ -1,3 +1,4 @@
+-- Proves the goals of `threads_are_found` of src/refinement_laws.rt that the search leaves open.
 use Rattle.histar_refinement.proofs.StatusFound.{thread_led, thread_back}
 use Rattle.histar_refinement.proofs.refinement_laws.threads_are_found.Goals as goal
 

@@ -1,3 +1,4 @@
+-- Proves the goals of `threads_modify_what_is_written` of src/refinement_laws.rt that the search leaves open.
 use Rattle.histar_refinement.proofs.ClassLaws.{modifies_path}
 use Rattle.histar_refinement.proofs.refinement_laws.threads_modify_what_is_written.Goals as goal
 

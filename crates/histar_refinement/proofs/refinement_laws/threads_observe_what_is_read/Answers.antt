@@ -1,3 +1,4 @@
+-- Proves the goals of `threads_observe_what_is_read` of src/refinement_laws.rt that the search leaves open.
 use Rattle.histar_refinement.proofs.ClassLaws.{observes_path}
 use Rattle.histar_refinement.proofs.refinement_laws.threads_observe_what_is_read.Goals as goal
 

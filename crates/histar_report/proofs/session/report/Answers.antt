@@ -1,3 +1,4 @@
+-- Proves the goals of `report` of src/session.rt that the search leaves open.
 use Rattle.std.proofs.Common.{rules}
 use Rattle.histar_report.proofs.Pages.{page_known}
 use Rattle.histar_report.proofs.session.report.Goals as goal

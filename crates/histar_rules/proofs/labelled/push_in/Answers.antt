@@ -1,3 +1,4 @@
+-- Proves the goals of `push_in` of src/labelled.rt that the search leaves open.
 use Rattle.std.proofs.Common.{◌≡◌, ◌∙◌}
 use Rattle.std.proofs.lemmas.Result.{on_ok_weaker, on_err_weaker}
 use Rattle.histar_object.specs.declared.objects.Object.{Object}

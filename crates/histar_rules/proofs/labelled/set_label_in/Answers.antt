@@ -1,3 +1,4 @@
+-- Proves the goals of `set_label_in` of src/labelled.rt that the search leaves open.
 use Rattle.std.proofs.Common.{ap, ◌∙◌}
 use Rattle.histar_object.specs.declared.objects.Object.{Object}
 use Rattle.histar_object.specs.Objects.{objects_of}

@@ -1,3 +1,4 @@
+-- Proves the goals of `set_own_in` of src/labelled.rt that the search leaves open.
 use Rattle.std.proofs.Common.{◌≡◌, sym, ap, ◌∙◌, subst}
 use Rattle.std.specs.Prelude.{is_some}
 use Rattle.std.specs.Option.{option_copied_mut}

@@ -1,3 +1,4 @@
+-- Proves the goals of `splice_in` of src/labelled.rt that the search leaves open.
 use Rattle.std.proofs.Common.{rules, ℕ, List, ap, ◌++◌, ◌∙◌}
 use Rattle.std.specs.Prelude.{take}
 use Rattle.histar_object.specs.declared.objects.Kind.TheVariants.{Segment}

@@ -1,3 +1,4 @@
+-- Proves the goals of `label_in` of src/linked.rt that the search leaves open.
 use Rattle.std.proofs.Common.{Option, sym, subst}
 use Rattle.histar_rules.specs.declared.raw.Denied.{Denied}
 use Rattle.histar_rules.specs.Rules.{FailsAt}

@@ -1,3 +1,4 @@
+-- Proves the goals of `modified_in` of src/lookup.rt that the search leaves open.
 use Rattle.std.proofs.Common.{Option, IsSome, sym, ap, ◌∙◌, subst}
 use Rattle.histar_base.specs.Refusals.{unless}
 use Rattle.histar_label.specs.Levels.{Levels, is_below}

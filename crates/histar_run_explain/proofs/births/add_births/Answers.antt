@@ -1,3 +1,4 @@
+-- Proves the goals of `add_births` of src/births.rt that the search leaves open.
 use Rattle.std.proofs.Common.{◌<◌, ◌≤◌, length, refl, sym, ◌∙◌, subst, arith, rules}
 use Rattle.std.proofs.lemmas.List.{length-append}
 use Rattle.histar_run_explain.proofs.Remembering.{all_noted, one_noted}

@@ -1,3 +1,4 @@
+-- The invariants and measures of `add_births` of src/births.rt.
 use Rattle.std.proofs.Common.{◌≡◌, ◌-◌, ◌++◌, length, replicate}
 use Rattle.histar_run_explain.proofs.births.add_births.Given as goal
 

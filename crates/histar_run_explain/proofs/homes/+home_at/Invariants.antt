@@ -1,3 +1,4 @@
+-- The invariants and measures of `+home_at` of src/homes.rt.
 use Rattle.std.proofs.Common.{length}
 use Rattle.histar_run_explain.proofs.homes.+home_at.Given as goal
 

@@ -1,3 +1,4 @@
+-- The invariants and measures of `+name_of` of src/homes.rt.
 use Rattle.std.proofs.Common.{length}
 use Rattle.histar_run_explain.proofs.homes.+name_of.Given as goal
 

@@ -1,3 +1,4 @@
+-- The invariants and measures of `+path_among` of src/location.rt.
 use Rattle.std.proofs.Common.{length}
 use Rattle.histar_run_explain.proofs.location.+path_among.Given as goal
 

@@ -1,3 +1,4 @@
+-- The invariants and measures of `+process_up` of src/location.rt.
 use Rattle.std.proofs.Common.{length}
 use Rattle.histar_run_explain.proofs.location.+process_up.Given as goal
 

@@ -1,3 +1,4 @@
+-- The invariants and measures of `+target_at` of src/location.rt.
 use Rattle.std.proofs.Common.{length}
 use Rattle.histar_run_explain.proofs.location.+target_at.Given as goal
 

@@ -1,3 +1,4 @@
+-- Proves the goals of `path_up` of src/location.rt that the search leaves open.
 use Rattle.std.proofs.Common.{sym, ap, ◌∙◌}
 use Rattle.histar_flat.specs.Words.{Path}
 use Rattle.histar_syscall.specs.KernelModel.{state}

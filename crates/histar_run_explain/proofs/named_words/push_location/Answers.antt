@@ -1,3 +1,4 @@
+-- Proves the goals of `push_location` of src/named_words.rt that the search leaves open.
 use Rattle.std.proofs.Common.{codes, sym, ap}
 use Rattle.histar_run_explain.specs.Location.{location_text}
 use Rattle.histar_run_explain.proofs.Parts.{one_piece}

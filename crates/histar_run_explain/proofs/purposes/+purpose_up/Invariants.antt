@@ -1,3 +1,4 @@
+-- The invariants and measures of `+purpose_up` of src/purposes.rt.
 use Rattle.std.proofs.Common.{length}
 use Rattle.histar_run_explain.proofs.purposes.+purpose_up.Given as goal
 

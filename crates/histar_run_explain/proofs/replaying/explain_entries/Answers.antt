@@ -1,3 +1,4 @@
+-- Proves the goals of `explain_entries` of src/replaying.rt that the search leaves open.
 use Rattle.histar_syscall.specs.KernelModel.{state}
 use Rattle.histar_run_explain.proofs.Replays.{replayed_none, replayed_more, replayed_all, replayed_end}
 use Rattle.histar_run_explain.proofs.replaying.explain_entries.Goals as goal

@@ -1,3 +1,4 @@
+-- The invariants and measures of `explain_entries` of src/replaying.rt.
 use Rattle.histar_syscall.specs.KernelModel.{state}
 use Rattle.histar_run_explain.proofs.Replays.{IsReplayed}
 use Rattle.histar_run_explain.proofs.replaying.explain_entries.Given as goal

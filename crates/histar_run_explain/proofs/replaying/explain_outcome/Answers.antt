@@ -1,3 +1,4 @@
+-- Proves the goals of `explain_outcome` of src/replaying.rt that the search leaves open.
 use Rattle.histar_syscall.specs.KernelModel.{state}
 use Rattle.histar_run_explain.proofs.Replays.{denied_adds, granted_adds}
 use Rattle.histar_run_explain.proofs.replaying.explain_outcome.Goals as goal

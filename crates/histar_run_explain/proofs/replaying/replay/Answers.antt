@@ -1,3 +1,4 @@
+-- Proves the goals of `replay` of src/replaying.rt that the search leaves open.
 use Rattle.std.proofs.Common.{sym, ◌∙◌}
 use Rattle.histar_run_explain.proofs.Replays.{made_or_failed, skipped}
 use Rattle.histar_run_explain.proofs.replaying.replay.Goals as goal

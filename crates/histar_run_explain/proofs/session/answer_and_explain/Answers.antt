@@ -1,3 +1,4 @@
+-- Proves the goals of `answer_and_explain` of src/session.rt that the search leaves open.
 use Rattle.std.proofs.Common.{◌≤◌, length, refl, sym, ap, ◌∙◌, subst}
 use Rattle.histar_syscall.specs.KernelModel.{state}
 use Rattle.histar_raw_explain.proofs.Errors.{on_err}

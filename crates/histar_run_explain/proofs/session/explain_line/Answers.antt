@@ -1,3 +1,4 @@
+-- Proves the goals of `explain_line` of src/session.rt that the search leaves open.
 use Rattle.std.proofs.Common.{◌∙◌, sym, ap, drop, subst}
 use Rattle.histar_syscall.specs.KernelModel.{state}
 use Rattle.histar_run_explain.specs.Entries.{IsRunFrom}

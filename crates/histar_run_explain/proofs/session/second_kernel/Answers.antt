@@ -1,3 +1,4 @@
+-- Proves the goals of `second_kernel` of src/session.rt that the search leaves open.
 use Rattle.histar_run_explain.proofs.Turns.{boot_runs, boot_end}
 use Rattle.histar_run_explain.proofs.session.second_kernel.Goals as goal
 

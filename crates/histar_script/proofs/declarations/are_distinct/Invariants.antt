@@ -1,3 +1,4 @@
+-- The invariants and measures of `are_distinct` of src/declarations.rt.
 use Rattle.std.proofs.Common.{◌≡◌, length}
 use Rattle.histar_script.specs.Reading.{are_distinct}
 use Rattle.histar_script.proofs.declarations.are_distinct.Given as goal

@@ -1,3 +1,4 @@
+-- Proves the goals of `read_members` of src/groups.rt that the search leaves open.
 use Rattle.std.proofs.Common.{◌≡◌, ◌+◌, ◌-◌, ◌<◌, [], ◌∷◌, Some, None, sym, ap, subst, ◌∙◌, arith, length-append}
 use Rattle.std.specs.Option.{option_copied}
 use Rattle.histar_flat.specs.Words.{user_name_of}

@@ -1,3 +1,4 @@
+-- The invariants and measures of `read_members` of src/groups.rt.
 use Rattle.std.proofs.Common.{◌≡◌, ◌-◌, length}
 use Rattle.histar_script.specs.Reading.{members_from, members_of}
 use Rattle.histar_script.proofs.groups.read_members.Given as goal

@@ -1,3 +1,4 @@
+-- The invariants and measures of `has_plain_bytes` of src/lines.rt.
 use Rattle.std.proofs.Common.{◌≡◌, take}
 use Rattle.std.specs.List.{list_all}
 use Rattle.histar_script.specs.Lines.{is_plain_byte}

@@ -1,3 +1,4 @@
+-- Proves the goals of `split_line` of src/lines.rt that the search leaves open.
 use Rattle.std.proofs.Common.{◌+◌, length, add-one, arith}
 use Rattle.std.proofs.lemmas.List.{take_rest, drop_all}
 use Rattle.histar_script.proofs.LineLemmas.{lines_at, lines_whole}

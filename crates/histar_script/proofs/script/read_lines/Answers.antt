@@ -1,3 +1,4 @@
+-- Proves the goals of `read_lines` of src/script.rt that the search leaves open.
 use Rattle.std.proofs.Common.{◌≡◌, eqb, true, false, length, refl, rules}
 use Rattle.histar_script.proofs.ReadingLemmas.{at_end}
 use Rattle.histar_script.proofs.script.read_lines.Goals as goal

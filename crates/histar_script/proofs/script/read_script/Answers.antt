@@ -1,3 +1,4 @@
+-- Proves the goals of `read_script` of src/script.rt that the search leaves open.
 use Rattle.histar_script.proofs.Answered.{is_found, is_read, declares, is_numbered, is_first_bad}
 use Rattle.histar_script.proofs.script.read_script.Goals as goal
 

@@ -1,3 +1,4 @@
+-- Proves the goals of `may_write` of src/rights.rt that the search leaves open.
 use Rattle.std.specs.Prelude.{Bool, ◌&&◌, List, ℕ, nat_eq}
 use Rattle.std.specs.List.{list_all, list_any}
 use Rattle.std.proofs.Common.{ap, sym, ◌∙◌}

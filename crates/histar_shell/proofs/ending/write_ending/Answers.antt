@@ -1,3 +1,4 @@
+-- Proves the goals of `write_ending` of src/ending.rt that the search leaves open.
 use Rattle.std.proofs.lemmas.Result.{err_from_is_err_and, on_ok_weaker, on_err_weaker}
 use Rattle.std.proofs.Common.{ap}
 use Rattle.histar_shell.specs.Ending.{asked_trace}

@@ -1,3 +1,4 @@
+-- Proves the goals of `write_entries` of src/ending.rt that the search leaves open.
 use Rattle.std.proofs.Common.{rules}
 use Rattle.std.proofs.lemmas.Result.{err_from_is_err_and}
 use Rattle.histar_rawtext.specs.RawText.{trace_line}

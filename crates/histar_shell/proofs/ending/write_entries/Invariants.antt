@@ -1,3 +1,4 @@
+-- The invariants and measures of `write_entries` of src/ending.rt.
 use Rattle.std.proofs.Common.{◌≡◌, take}
 use Rattle.std.specs.Io.KnownBytes.{Appends}
 use Rattle.histar_rawtext.specs.RawText.{trace_text}

@@ -1,3 +1,4 @@
+-- The invariants and measures of `write_nodes` of src/ending.rt.
 use Rattle.std.proofs.Common.{◌≡◌, take}
 use Rattle.std.specs.Io.KnownBytes.{Appends}
 use Rattle.std.specs.List.{flat_map}

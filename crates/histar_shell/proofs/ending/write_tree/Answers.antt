@@ -1,3 +1,4 @@
+-- Proves the goals of `write_tree` of src/ending.rt that the search leaves open.
 use Rattle.std.proofs.Common.{rules, tests, subst, sym}
 use Rattle.std.proofs.lemmas.Result.{err_from_is_err_and, on_ok_weaker, on_err_weaker}
 use Rattle.histar_shell.specs.Ending.{IsTreeIn}

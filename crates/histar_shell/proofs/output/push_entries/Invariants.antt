@@ -1,3 +1,4 @@
+-- The invariants and measures of `push_entries` of src/output.rt.
 use Rattle.std.proofs.Common.{◌≡◌, ◌++◌, take}
 use Rattle.std.specs.List.{flat_map}
 use Rattle.histar_flat.specs.Texts.{entry_text}

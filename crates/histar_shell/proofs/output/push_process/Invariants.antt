@@ -1,3 +1,4 @@
+-- The invariants and measures of `push_process` of src/output.rt.
 use Rattle.std.proofs.Common.{◌≡◌, ◌++◌, ◌-◌, drop, length}
 use Rattle.histar_flat.specs.Texts.{process_text}
 use Rattle.histar_shell.proofs.output.push_process.Given as goal

@@ -1,3 +1,4 @@
+-- Proves the goals of `answer_by` of src/session.rt that the search leaves open.
 use Rattle.std.proofs.Common.{Result, subst}
 use Rattle.std.proofs.lemmas.Result.{err_from_is_err_and}
 use Rattle.histar_calls.specs.declared.call_error.Stopped.{Stopped}

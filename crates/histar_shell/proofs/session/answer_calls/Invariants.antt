@@ -1,3 +1,4 @@
+-- The invariants and measures of `answer_calls` of src/session.rt.
 use Rattle.std.proofs.Common.{◌≡◌}
 use Rattle.histar_shell.specs.AnsweredCalls.{AnswersCalls}
 use Rattle.histar_shell.proofs.session.answer_calls.Given as goal

@@ -1,3 +1,4 @@
+-- Proves the goals of `run` of src/session.rt that the search leaves open.
 use Rattle.std.proofs.lemmas.Result.{err_from_is_err_and}
 use Rattle.histar_shell.proofs.RunLemmas.{gives_up_first, input_known}
 use Rattle.histar_shell.proofs.session.run.Goals as goal

@@ -1,3 +1,4 @@
+-- Proves the goals of `run_text` of src/session.rt that the search leaves open.
 use Rattle.std.proofs.lemmas.Result.{err_from_is_err_and}
 use Rattle.histar_script.proofs.Sinks.{sink_left}
 use Rattle.histar_shell.proofs.CallRefinements.{calls_refine}

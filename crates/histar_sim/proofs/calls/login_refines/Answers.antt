@@ -1,3 +1,4 @@
+-- Proves the goals of `login_refines` of src/calls.rt that the search leaves open.
 use Rattle.histar_sim.proofs.Login.{login_refines}
 use Rattle.histar_sim.proofs.calls.login_refines.Goals as goal
 

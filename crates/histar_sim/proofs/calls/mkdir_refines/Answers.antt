@@ -1,3 +1,4 @@
+-- Proves the goals of `mkdir_refines` of src/calls.rt that the search leaves open.
 use Rattle.histar_sim.proofs.Mkdir as refined
 use Rattle.histar_sim.proofs.calls.mkdir_refines.Goals as goal
 

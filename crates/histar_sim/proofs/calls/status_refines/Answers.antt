@@ -1,3 +1,4 @@
+-- Proves the goals of `status_refines` of src/calls.rt that the search leaves open.
 use Rattle.histar_sim.proofs.StatusCall as refined
 use Rattle.histar_sim.proofs.calls.status_refines.Goals as goal
 

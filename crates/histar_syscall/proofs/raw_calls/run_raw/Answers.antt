@@ -1,3 +1,4 @@
+-- Proves the goals of `run_raw` of src/raw_calls.rt that the search leaves open.
 use Rattle.std.proofs.Common.{arith}
 use Rattle.histar_syscall.proofs.Confined.{confinement, confinement_stopped, sound_before}
 use Rattle.histar_syscall.proofs.Sessions.{all_none, all_next, all_made, stopped_at}

@@ -1,3 +1,4 @@
+-- The invariants and measures of `run_raw` of src/raw_calls.rt.
 use Rattle.std.proofs.Common.{◌<◌, take}
 use Rattle.histar_rules.specs.Sound.{IsSound}
 use Rattle.histar_syscall.specs.KernelModel.{state}

@@ -1,3 +1,4 @@
+-- The invariants and measures of `push_escaped` of src/checks.rt.
 use Rattle.std.proofs.Common.{◌≡◌, ◌++◌, take}
 use Rattle.std.specs.List.{flat_map}
 use Rattle.histar_test.specs.Checks.{escaped_byte}

@@ -1,3 +1,4 @@
+-- Proves the goals of `ask` of src/questions.rt that the search leaves open.
 use Rattle.histar_test.proofs.RunLemmas.{asked_so}
 use Rattle.histar_test.proofs.questions.ask.Goals as goal
 

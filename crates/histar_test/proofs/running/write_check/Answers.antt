@@ -1,3 +1,4 @@
+-- Proves the goals of `write_check` of src/running.rt that the search leaves open.
 use Rattle.std.proofs.Common.{subst, ◌∙◌}
 use Rattle.std.proofs.lemmas.Result.{err_from_is_err_and}
 use Rattle.histar_io.specs.Writing.{AppendsFront}

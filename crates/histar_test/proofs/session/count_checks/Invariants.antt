@@ -1,3 +1,4 @@
+-- The invariants and measures of `count_checks` of src/session.rt.
 use Rattle.std.proofs.Common.{◌≡◌, take}
 use Rattle.histar_test.specs.Session.{expectations_in}
 use Rattle.histar_test.proofs.session.count_checks.Given as goal

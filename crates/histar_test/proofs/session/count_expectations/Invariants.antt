@@ -1,3 +1,4 @@
+-- The invariants and measures of `count_expectations` of src/session.rt.
 use Rattle.std.proofs.Common.{◌≡◌, ◌≤◌, take}
 use Rattle.histar_test.specs.Steps.{expectation_count}
 use Rattle.histar_test.proofs.session.count_expectations.Given as goal

@@ -1,3 +1,4 @@
+-- Proves the goals of `read_tests` of src/session.rt that the search leaves open.
 use Rattle.std.proofs.Common.{ℕ, Err, List, subst, sym, ap, rules, ◌∙◌, ◌<◌, length}
 use Rattle.std.specs.List.{AllZip}
 use Rattle.std.specs.Prelude.{take, ◌+◌}

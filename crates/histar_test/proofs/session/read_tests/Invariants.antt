@@ -1,3 +1,4 @@
+-- The invariants and measures of `read_tests` of src/session.rt.
 use Rattle.std.proofs.Common.{take}
 use Rattle.std.specs.List.{AllZip}
 use Rattle.histar_test.specs.Session.{IsTestOf}

@@ -1,3 +1,4 @@
+-- Proves the goals of `report` of src/session.rt that the search leaves open.
 use Rattle.std.proofs.Common.{◌∙◌, subst}
 use Rattle.std.specs.Prelude.{map}
 use Rattle.std.specs.Io.KnownBytes.{Appends}

@@ -1,3 +1,4 @@
+-- Proves the goals of `test` of src/session.rt that the search leaves open.
 use Rattle.histar_test.proofs.FileLemmas.{files_tested}
 use Rattle.histar_test.proofs.session.test.Goals as goal
 

@@ -1,3 +1,4 @@
+-- Proves the goals of `test_files` of src/session.rt that the search leaves open.
 use Rattle.std.proofs.Common.{sym, ◌∙◌, refl, rules}
 use Rattle.std.proofs.lemmas.List.{map-id}
 use Rattle.std.proofs.lemmas.Result.{err_from_is_err_and}

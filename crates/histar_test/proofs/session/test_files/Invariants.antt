@@ -1,3 +1,4 @@
+-- The invariants and measures of `test_files` of src/session.rt.
 use Rattle.std.proofs.Common.{◌≡◌}
 use Rattle.histar_test.proofs.FileLemmas.{AreRun}
 use Rattle.histar_test.proofs.session.test_files.Given as goal

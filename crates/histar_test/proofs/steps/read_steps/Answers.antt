@@ -1,3 +1,4 @@
+-- Proves the goals of `read_steps` of src/steps.rt that the search leaves open.
 use Rattle.std.proofs.Common.{◌≡◌, length, rules}
 use Rattle.histar_test.proofs.StepLemmas.{all_read}
 use Rattle.histar_test.proofs.steps.read_steps.Goals as goal

@@ -1,3 +1,4 @@
+-- The invariants and measures of `read_steps` of src/steps.rt.
 use Rattle.std.proofs.Common.{◌+◌, ◌≤◌, false, length}
 use Rattle.histar_script.specs.Lines.{lines_of}
 use Rattle.histar_test.specs.Steps.{steps_from}

@@ -1,3 +1,4 @@
+-- Proves the goals of `take_line` of src/steps.rt that the search leaves open.
 use Rattle.std.proofs.Common.{◌≡◌, Bool, List, None, Ok, Option, Result, Some, ap, refl, rules, subst, sym, ◌∙◌}
 use Rattle.std.proofs.lemmas.Result.{err_from_is_err_and}
 use Rattle.histar_test.specs.declared.steps.Step.{Step}

@@ -1,3 +1,4 @@
+-- Proves the goals of `make_category` of src/threads.rt that the search leaves open.
 use Rattle.std.proofs.Common.{ℕ, ap, sym, ◌∙◌}
 use Rattle.histar_label.specs.declared.levels.Level.TheVariants.{Star, L3}
 use Rattle.histar_label.specs.Levels.{with_level}

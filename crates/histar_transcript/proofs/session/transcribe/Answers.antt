@@ -1,3 +1,4 @@
+-- Proves the goals of `transcribe` of src/session.rt that the search leaves open.
 use Rattle.std.proofs.Common.{rules}
 use Rattle.histar_transcript.proofs.Outputs.{transcript_known}
 use Rattle.histar_transcript.proofs.session.transcribe.Goals as goal

@@ -1,3 +1,4 @@
+-- Proves the goals of `lines_in` of src/transcript.rt that the search leaves open.
 use Rattle.std.proofs.Common.{◌≡◌, ◌++◌, length, map, sym, ap, ◌∙◌, rules, append-nil}
 use Rattle.histar_script.proofs.LineLemmas.{no_lines}
 use Rattle.histar_transcript.proofs.transcript.lines_in.Goals as goal

@@ -1,3 +1,4 @@
+-- The invariants and measures of `lines_in` of src/transcript.rt.
 use Rattle.std.proofs.Common.{◌≡◌, ◌++◌, length, map}
 use Rattle.histar_script.specs.Lines.{lines_of}
 use Rattle.histar_transcript.proofs.transcript.lines_in.Given as goal

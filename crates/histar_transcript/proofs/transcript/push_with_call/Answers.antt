@@ -1,3 +1,4 @@
+-- Proves the goals of `push_with_call` of src/transcript.rt that the search leaves open.
 use Rattle.std.proofs.Common.{◌≡◌, ℕ, List, [], ◌++◌, Option, Some, codes, map, sym, ap, ap₂, ◌∙◌}
 use Rattle.std.specs.Prelude.{decimal, nat_le, unwrap_or}
 use Rattle.std.proofs.lemmas.Result.{on_ok_weaker}

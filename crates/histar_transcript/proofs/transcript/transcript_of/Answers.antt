@@ -1,3 +1,4 @@
+-- Proves the goals of `transcript_of` of src/transcript.rt that the search leaves open.
 use Rattle.std.proofs.Common.{◌≡◌, ℕ, List, ◌++◌, length, codes, sym, ap, ◌∙◌, rules, append-nil}
 use Rattle.std.specs.List.{flat_map}
 use Rattle.histar_script.specs.Lines.{lines_of}

@@ -1,3 +1,4 @@
+-- The invariants and measures of `transcript_of` of src/transcript.rt.
 use Rattle.std.proofs.Common.{◌≡◌, ◌++◌, length, codes}
 use Rattle.std.specs.List.{flat_map}
 use Rattle.histar_script.specs.Lines.{lines_of}

@@ -1,3 +1,4 @@
+-- The invariants and measures of `read_calls` of src/raw.rt.
 use Rattle.std.proofs.Common.{length}
 use Rattle.histar_trials.proofs.raw.read_calls.Given as goal
 

@@ -1,3 +1,4 @@
+-- The invariants and measures of `push_processes` of src/files.rt.
 use Rattle.std.proofs.Common.{◌≡◌, ◌++◌, take}
 use Rattle.std.specs.List.{flat_map}
 use Rattle.histar_trust.specs.Secrets.{process_mark}

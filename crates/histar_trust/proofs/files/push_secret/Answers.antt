@@ -1,3 +1,4 @@
+-- Proves the goals of `push_secret` of src/files.rt that the search leaves open.
 use Rattle.std.proofs.Common.{◌≡◌, ◌∙◌, ◌++◌, true, false, arith, rules, sym}
 use Rattle.std.specs.Prelude.{codes}
 use Rattle.std.proofs.lemmas.Result.{on_ok_weaker}

@@ -1,3 +1,4 @@
+-- Proves the goals of `push_secrets` of src/files.rt that the search leaves open.
 use Rattle.std.proofs.Common.{[], ◌∷◌, ◌++◌, ◌∙◌, List, ap, sym, subst, take}
 use Rattle.std.proofs.lemmas.List.{take_all, take_more}
 use Rattle.histar_readout.specs.declared.tree.TreeNode.{TreeNode}

@@ -1,3 +1,4 @@
+-- The invariants and measures of `push_secrets` of src/files.rt.
 use Rattle.std.proofs.Common.{take}
 use Rattle.histar_trust.specs.Findings.{AddsSecrets}
 use Rattle.histar_trust.proofs.files.push_secrets.Given as goal

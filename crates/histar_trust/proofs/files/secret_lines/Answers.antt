@@ -1,3 +1,4 @@
+-- Proves the goals of `secret_lines` of src/files.rt that the search leaves open.
 use Rattle.std.proofs.Common.{◌≡◌, ap, ◌∙◌, ◌++◌}
 use Rattle.std.specs.List.{filter_map}
 use Rattle.histar_trust.specs.Findings.{running_node, shown_runners}

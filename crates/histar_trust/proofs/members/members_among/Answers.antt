@@ -1,3 +1,4 @@
+-- Proves the goals of `members_among` of src/members.rt that the search leaves open.
 use Rattle.std.proofs.Common.{rules, sym, ap, ◌∙◌, ◌++◌, [], append-nil}
 use Rattle.std.specs.Prelude.{Option}
 use Rattle.std.specs.Global.{Vec}

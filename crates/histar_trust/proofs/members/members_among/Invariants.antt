@@ -1,3 +1,4 @@
+-- The invariants and measures of `members_among` of src/members.rt.
 use Rattle.std.proofs.Common.{◌≡◌, take}
 use Rattle.std.specs.Prelude.{map}
 use Rattle.std.specs.List.{filter_map}

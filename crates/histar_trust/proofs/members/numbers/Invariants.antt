@@ -1,3 +1,4 @@
+-- The invariants and measures of `numbers` of src/members.rt.
 use Rattle.std.proofs.Common.{◌≡◌, take}
 use Rattle.histar_trust.proofs.members.numbers.Given as goal
 

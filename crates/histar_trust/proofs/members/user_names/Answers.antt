@@ -1,3 +1,4 @@
+-- Proves the goals of `user_names` of src/members.rt that the search leaves open.
 use Rattle.histar_trust.proofs.Pieces.{names_more}
 use Rattle.histar_trust.proofs.members.user_names.Goals as goal
 

@@ -1,3 +1,4 @@
+-- The invariants and measures of `user_names` of src/members.rt.
 use Rattle.std.proofs.Common.{◌≡◌, take}
 use Rattle.histar_trust.specs.Findings.{names_of}
 use Rattle.histar_trust.proofs.members.user_names.Given as goal

@@ -1,3 +1,4 @@
+-- The invariants and measures of `push_users` of src/output.rt.
 use Rattle.std.proofs.Common.{◌≡◌, ◌++◌, take}
 use Rattle.histar_trust.specs.TrustText.{user_lines}
 use Rattle.histar_trust.proofs.output.push_users.Given as goal

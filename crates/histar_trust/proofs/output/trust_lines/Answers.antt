@@ -1,3 +1,4 @@
+-- Proves the goals of `trust_lines` of src/output.rt that the search leaves open.
 use Rattle.std.proofs.Common.{◌≡◌, ◌++◌, sym, ap, ◌∙◌}
 use Rattle.std.specs.Prelude.{Some, None, map, option_copied}
 use Rattle.std.specs.List.{filter_map}

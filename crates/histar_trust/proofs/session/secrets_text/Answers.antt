@@ -1,3 +1,4 @@
+-- Proves the goals of `secrets_text` of src/session.rt that the search leaves open.
 use Rattle.std.proofs.Common.{◌≡◌, ◌∙◌, None, refl}
 use Rattle.std.proofs.lemmas.Result.{err_from_is_err_and}
 use Rattle.histar_access.specs.Session.{state_before}

@@ -1,3 +1,4 @@
+-- Proves the goals of `trust` of src/session.rt that the search leaves open.
 use Rattle.std.proofs.lemmas.Result.{err_from_is_err_and}
 use Rattle.histar_script.specs.Outcome.{input_fault}
 use Rattle.histar_script.proofs.Sinks.{sink_left}

@@ -1,3 +1,4 @@
+-- The invariants and measures of `+push_classes` of src/way.rt.
 use Rattle.std.proofs.Common.{length}
 use Rattle.histar_trust.proofs.way.+push_classes.Given as goal
 

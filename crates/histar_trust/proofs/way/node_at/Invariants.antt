@@ -1,3 +1,4 @@
+-- The invariants and measures of `node_at` of src/way.rt.
 use Rattle.std.proofs.Common.{◌≡◌, drop}
 use Rattle.histar_trust.specs.Findings.{node_at}
 use Rattle.histar_trust.proofs.way.node_at.Given as goal

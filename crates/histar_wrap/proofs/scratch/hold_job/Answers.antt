@@ -1,3 +1,4 @@
+-- Proves the goals of `hold_job` of src/scratch.rt that the search leaves open.
 use Rattle.std.proofs.Common.{Err}
 use Rattle.histar_label.specs.declared.levels.Level.TheVariants.{Star, L3}
 use Rattle.histar_label.specs.Levels.{with_level}

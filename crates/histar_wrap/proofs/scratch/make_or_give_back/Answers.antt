@@ -1,3 +1,4 @@
+-- Proves the goals of `make_or_give_back` of src/scratch.rt that the search leaves open.
 use Rattle.std.proofs.Common.{ℕ, sym}
 use Rattle.histar_rules.specs.declared.raw.RawCall.TheVariants.{MakeContainer}
 use Rattle.histar_calls.proofs.Running.{fails_so}

@@ -1,3 +1,4 @@
+-- Proves the goals of `fill_job` of src/wrap.rt that the search leaves open.
 use Rattle.std.proofs.Common.{Ok, Err}
 use Rattle.histar_calls.proofs.Running.{fails_so}
 use Rattle.histar_process.proofs.Calling.{born_so}

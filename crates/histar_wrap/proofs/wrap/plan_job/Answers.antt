@@ -1,3 +1,4 @@
+-- Proves the goals of `plan_job` of src/wrap.rt that the search leaves open.
 use Rattle.std.proofs.Common.{ap, ◌∙◌}
 use Rattle.histar_layout.specs.Categories.{scratch_label}
 use Rattle.histar_wrap.proofs.Wrapping.{directory_is, kin_is}

@@ -1,3 +1,4 @@
+-- Proves the goals of `start_job` of src/wrap.rt that the search leaves open.
 use Rattle.std.proofs.Common.{◌≡◌, ℕ, ◌+◌, List, ◌∷◌, Some, Result, Ok, Err, sym, ap, ◌∙◌, subst}
 use Rattle.histar_flat.specs.declared.replies.Reply.TheVariants.{Child}
 use Rattle.histar_label.specs.Levels.{Levels}

@@ -1,3 +1,4 @@
+-- Proves the goals of `Directory::read` of src/directory.rt that the search leaves open.
 use Rattle.std.proofs.Common.{Option, subst}
 use Rattle.std.specs.Prelude.{MatchOption}
 use Rattle.std.proofs.lemmas.Option.{MatchOption-at_some}

@@ -1,3 +1,4 @@
+-- Proves the goals of `Name::as_str` of src/names.rt that the search leaves open.
 use Rattle.std.proofs.Common.{subst, sym}
 use Rattle.std.specs.Str.{IsUtf8}
 use Rattle.histar_flat.proofs.NameTexts.{name_is_text}

@@ -1,3 +1,4 @@
+-- Proves the goals of `Path::enter` of src/paths.rt that the search leaves open.
 use Rattle.std.proofs.Common.{◌≡◌, ◌≤◌, ℕ, List, IsTrue, length, take, ap, subst, sym, ◌∙◌, arith}
 use Rattle.std.specs.List.{list_all}
 use Rattle.histar_flat.proofs.NamedPaths.{pass_both}

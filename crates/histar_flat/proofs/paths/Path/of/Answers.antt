@@ -1,3 +1,4 @@
+-- Proves the goals of `Path::of` of src/paths.rt that the search leaves open.
 use Rattle.std.proofs.Common.{IsTrue, List, ℕ, refl, subst, sym}
 use Rattle.std.specs.List.{list_all}
 use Rattle.histar_flat.proofs.NamedPaths.{path_is_short, path_is_named}

@@ -1,3 +1,4 @@
+-- Proves the goals of `Path::renamed` of src/paths.rt that the search leaves open.
 use Rattle.std.specs.List.{list_all}
 use Rattle.std.proofs.Common.{rules, IsTrue, subst, take, ◌≡◌, ◌<◌, ◌-◌, ◌∷◌, [], true, false, length, slice_set, ap, sym, ◌∙◌, arith}
 use Rattle.std.proofs.lemmas.List.{nil_from_length}

@@ -1,3 +1,4 @@
+-- Proves the goals of `Path::root` of src/paths.rt that the search leaves open.
 use Rattle.std.proofs.Common.{[], refl, arith}
 use Rattle.histar_flat.proofs.PaddingLemmas.{padded_fits}
 use Rattle.histar_flat.specs.Padding.{padded, unused_name}

@@ -1,3 +1,4 @@
+-- The invariants and measures of `PathDisplay::fmt` of src/paths.rt.
 use Rattle.std.proofs.Common.{◌-◌, drop, length}
 use Rattle.std.specs.Fmt.{HasWritten, IsPlainFormatter}
 use Rattle.histar_flat.specs.Texts.{names_text}

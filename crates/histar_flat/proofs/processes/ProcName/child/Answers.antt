@@ -1,3 +1,4 @@
+-- Proves the goals of `ProcName::child` of src/processes.rt that the search leaves open.
 use Rattle.std.proofs.Common.{◌≡◌, ◌≤◌, length, ap, sym, ◌∙◌, arith}
 use Rattle.histar_flat.proofs.PaddingLemmas.{padded_front}
 use Rattle.histar_flat.specs.PaddingLaws.{length-kept}

@@ -1,3 +1,4 @@
+-- Proves the goals of `ProcName::zero` of src/processes.rt that the search leaves open.
 use Rattle.std.proofs.Common.{[], arith}
 use Rattle.histar_flat.proofs.PaddingLemmas.{padded_fits}
 use Rattle.histar_flat.specs.Padding.{padded}

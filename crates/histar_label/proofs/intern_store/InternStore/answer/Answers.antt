@@ -1,3 +1,4 @@
+-- Proves the goals of `InternStore::answer` of src/intern_store.rt that the search leaves open.
 use Rattle.std.proofs.Common.{◌≡◌, Some, sym, ◌∙◌, arith}
 use Rattle.std.specs.Prelude.{IfSome}
 use Rattle.std.proofs.lemmas.Bool.Decides.{nat_tests}

@@ -1,3 +1,4 @@
+-- Proves the goals of `InternStore::compare_or_recall` of src/intern_store.rt that the search leaves open.
 use Rattle.std.proofs.Common.{rules, inl, inr}
 use Rattle.histar_label.proofs.intern_store.InternStore.compare_or_recall.Goals as goal
 

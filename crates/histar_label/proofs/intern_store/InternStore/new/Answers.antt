@@ -1,3 +1,4 @@
+-- Proves the goals of `InternStore::new` of src/intern_store.rt that the search leaves open.
 use Rattle.std.proofs.Common.{◌≡◌, rules, Bool, Option, None, sym, subst}
 use Rattle.std.specs.Prelude.{IfSome}
 use Rattle.std.proofs.lemmas.List.Elements.{All-weaker}

@@ -1,3 +1,4 @@
+-- Proves the goals of `InternStoreLabelStore::get` of src/intern_store.rt that the search leaves open.
 use Rattle.histar_label.proofs.intern_store.InternStoreLabelStore.get.Goals as goal
 
 pub returns-clause-one_id : goal.returns-clause-one_id

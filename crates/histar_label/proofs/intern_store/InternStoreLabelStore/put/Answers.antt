@@ -1,3 +1,4 @@
+-- Proves the goals of `InternStoreLabelStore::put` of src/intern_store.rt that the search leaves open.
 use Rattle.std.proofs.Common.{◌≡◌, true, Some, Ok, refl, sym, ap, ◌∙◌}
 use mathlib.Core.Bool.{false≢true}
 use Rattle.std.specs.List.{slice_get}

@@ -1,3 +1,4 @@
+-- Proves the goals of `Label::below_as` of src/labels.rt that the search leaves open.
 use Rattle.std.proofs.Common.{ℕ, refl, sym, ◌∙◌}
 use mathlib.Core.Bool.{false≢true}
 use Rattle.histar_label.specs.declared.levels.Test.TheVariants.{BelowJoin}

@@ -1,3 +1,4 @@
+-- The invariants and measures of `Label::below_as` of src/labels.rt.
 use Rattle.std.proofs.Common.{◌+◌, length}
 use Rattle.histar_label.specs.declared.levels.Test.TheVariants.{BelowJoin}
 use Rattle.histar_label.proofs.Fronts.{IsLeft}

@@ -1,3 +1,4 @@
+-- The invariants and measures of `Label::combined` of src/labels.rt.
 use Rattle.std.proofs.Common.{◌+◌, length}
 use Rattle.histar_label.proofs.CombiningPass.{IsCombined}
 use Rattle.histar_label.proofs.labels.Label.combined.Given as goal

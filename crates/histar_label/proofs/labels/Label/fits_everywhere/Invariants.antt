@@ -1,3 +1,4 @@
+-- The invariants and measures of `Label::fits_everywhere` of src/labels.rt.
 use Rattle.std.proofs.Common.{◌+◌, length}
 use Rattle.histar_label.proofs.Fronts.{IsLeft}
 use Rattle.histar_label.proofs.labels.Label.fits_everywhere.Given as goal

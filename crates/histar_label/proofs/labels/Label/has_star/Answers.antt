@@ -1,3 +1,4 @@
+-- Proves the goals of `Label::has_star` of src/labels.rt that the search leaves open.
 use Rattle.std.proofs.Common.{◌≡◌, rules}
 use Rattle.histar_label.specs.Levels.{has_star}
 use Rattle.histar_label.proofs.Stars.{star_answer}

@@ -1,3 +1,4 @@
+-- Proves the goals of `Label::names_only_made` of src/labels.rt that the search leaves open.
 use Rattle.std.proofs.Common.{◌≡◌, rules}
 use Rattle.histar_label.specs.Levels.{is_made}
 use Rattle.histar_label.proofs.Made.{made_answer}

@@ -1,3 +1,4 @@
+-- Proves the goals of `Dir::entries` of src/directory.rt that the search leaves open.
 use Rattle.std.proofs.Common.{ℕ, List, sym, subst}
 use Rattle.histar_layout.specs.Directory.{IsDirectory}
 use Rattle.histar_layout.specs.Spelled.{entries_of}

@@ -1,3 +1,4 @@
+-- The invariants and measures of `Dir::entries` of src/directory.rt.
 use Rattle.std.proofs.Common.{length}
 use Rattle.histar_layout.proofs.EntriesRead.{IsReadTo}
 use Rattle.histar_layout.proofs.directory.Dir.entries.Given as goal

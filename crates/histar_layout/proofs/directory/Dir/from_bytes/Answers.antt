@@ -1,3 +1,4 @@
+-- Proves the goals of `Dir::from_bytes` of src/directory.rt that the search leaves open.
 use Rattle.std.proofs.Common.{List, ℕ, sym, subst, ◌∙◌}
 use Rattle.histar_layout.specs.Directory.{IsDirectory}
 use Rattle.histar_layout.specs.Spelled.{entries_of}

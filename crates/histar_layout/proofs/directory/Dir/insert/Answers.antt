@@ -1,3 +1,4 @@
+-- Proves the goals of `Dir::insert` of src/directory.rt that the search leaves open.
 use Rattle.std.proofs.Common.{◌≡◌, ◌<◌, ◌++◌, List, [], ℕ, take, drop, sym, ap, subst, ◌∙◌}
 use Rattle.std.specs.FinMap as map
 use Rattle.std.proofs.lemmas.List.{take_rest}

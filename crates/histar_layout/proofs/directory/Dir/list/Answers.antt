@@ -1,3 +1,4 @@
+-- Proves the goals of `Dir::list` of src/directory.rt that the search leaves open.
 use Rattle.std.proofs.Common.{ℕ, ◌++◌, ◌∷◌, List, [], Bool, map, refl, sym, ap, subst, ◌∙◌, append_assoc, append-nil, length-append, arith}
 use Rattle.std.proofs.lemmas.List.{map-append}
 use Rattle.histar_flat.specs.Words.{Name}

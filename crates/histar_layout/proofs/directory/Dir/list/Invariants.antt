@@ -1,3 +1,4 @@
+-- The invariants and measures of `Dir::list` of src/directory.rt.
 use Rattle.std.proofs.Common.{◌≡◌, ◌+◌, ◌++◌, List, map, length}
 use Rattle.std.specs.Vec.{vec_len, vec_capacity}
 use Rattle.histar_layout.specs.Listing.{shown_entry}

@@ -1,3 +1,4 @@
+-- Proves the goals of `Dir::remove` of src/directory.rt that the search leaves open.
 use Rattle.std.proofs.Common.{List, ℕ, sym, ap, subst, ◌∙◌}
 use Rattle.std.specs.FinMap as map
 use Rattle.std.specs.List.{remove_range}

@@ -1,3 +1,4 @@
+-- Proves the goals of `UserTable::number_of` of src/user_table.rt that the search leaves open.
 use Rattle.std.proofs.Common.{ℕ, ◌+◌, sym, ap, ◌∙◌}
 use Rattle.std.specs.Prelude.{option_map}
 use Rattle.histar_flat.specs.Accounts.{Accounts, user_number}

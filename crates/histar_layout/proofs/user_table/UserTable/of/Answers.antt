@@ -1,3 +1,4 @@
+-- Proves the goals of `UserTable::of` of src/user_table.rt that the search leaves open.
 use Rattle.std.proofs.Common.{◌≡◌, ap, ◌∙◌}
 use Rattle.std.specs.Prelude.{map}
 use Rattle.histar_layout.specs.UserTable.{without_password}

@@ -1,3 +1,4 @@
+-- Proves the goals of `FoundEntry::renamed` of src/entry.rt that the search leaves open.
 use Rattle.std.proofs.Common.{◌<◌, sym, subst}
 use Rattle.std.specs.FinMap as map
 use Rattle.histar_layout.specs.Directory.{Entries}

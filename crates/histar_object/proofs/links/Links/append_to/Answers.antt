@@ -1,3 +1,4 @@
+-- Proves the goals of `Links::append_to` of src/links.rt that the search leaves open.
 use Rattle.histar_object.proofs.LinkLemmas.{appended}
 use Rattle.histar_object.proofs.links.Links.append_to.Goals as goal
 

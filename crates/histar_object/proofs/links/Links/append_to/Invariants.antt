@@ -1,3 +1,4 @@
+-- The invariants and measures of `Links::append_to` of src/links.rt.
 use Rattle.std.proofs.Common.{◌≡◌, ◌++◌}
 use Rattle.histar_object.proofs.links.Links.append_to.Given as goal
 

@@ -1,3 +1,4 @@
+-- Proves the goals of `Links::contains` of src/links.rt that the search leaves open.
 use Rattle.std.proofs.Common.{sym, ap, ◌∙◌}
 use Rattle.std.specs.FinSet as set
 use Rattle.histar_object.proofs.LinkLemmas.{is_listed, contains_listed}

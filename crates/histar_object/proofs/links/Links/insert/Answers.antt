@@ -1,3 +1,4 @@
+-- Proves the goals of `Links::insert` of src/links.rt that the search leaves open.
 use Rattle.histar_object.proofs.LinkLemmas.{inserted}
 use Rattle.histar_object.proofs.links.Links.insert.Goals as goal
 

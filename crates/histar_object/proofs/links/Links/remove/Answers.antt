@@ -1,3 +1,4 @@
+-- Proves the goals of `Links::remove` of src/links.rt that the search leaves open.
 use Rattle.histar_object.proofs.LinkLemmas.{removed}
 use Rattle.histar_object.proofs.links.Links.remove.Goals as goal
 

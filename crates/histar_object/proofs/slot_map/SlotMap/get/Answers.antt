@@ -1,3 +1,4 @@
+-- Proves the goals of `SlotMap::get` of src/slot_map.rt that the search leaves open.
 use Rattle.std.proofs.Common.{◌≡◌, sym, ap, ◌∙◌}
 use Rattle.histar_object.specs.Slots.{in_place}
 use Rattle.histar_object.proofs.Numbering.{found_in_place, found_in_map}

@@ -1,3 +1,4 @@
+-- Proves the goals of `SlotMap::insert_reserved` of src/slot_map.rt that the search leaves open.
 use Rattle.std.proofs.Common.{Some, rules}
 use Rattle.histar_object.proofs.Numbering.{none_in_place, none_in_map, found_pushed, found_put, distinct_in_both, AreApart-pushed, AreApart-put}
 use Rattle.histar_object.proofs.slot_map.SlotMap.insert_reserved.Goals as goal

@@ -1,3 +1,4 @@
+-- Proves the goals of `SlotMap::new` of src/slot_map.rt that the search leaves open.
 use Rattle.std.proofs.Common.{◌++◌, ap}
 use Rattle.std.specs.List.{IsDistinct}
 use Rattle.histar_object.specs.Slots.{numbered}

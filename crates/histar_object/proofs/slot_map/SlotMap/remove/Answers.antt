@@ -1,3 +1,4 @@
+-- Proves the goals of `SlotMap::remove` of src/slot_map.rt that the search leaves open.
 use Rattle.std.proofs.Common.{Option, None, Some, sym, ap, ◌∙◌, arith}
 use Rattle.std.specs.Prelude.{◌++◌, IfNone}
 use Rattle.histar_object.specs.Slots.{numbered, in_place}

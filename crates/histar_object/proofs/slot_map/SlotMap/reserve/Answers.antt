@@ -1,3 +1,4 @@
+-- Proves the goals of `SlotMap::reserve` of src/slot_map.rt that the search leaves open.
 use Rattle.histar_object.proofs.Numbering.{found_alike, distinct_in_both, AreApart-alike}
 use Rattle.histar_object.proofs.slot_map.SlotMap.reserve.Goals as goal
 

@@ -1,3 +1,4 @@
+-- Proves the goals of `Table::add` of src/table.rt that the search leaves open.
 use Rattle.std.proofs.Common.{◌∙◌}
 use Rattle.histar_object.proofs.table.Table.add.Goals as goal
 

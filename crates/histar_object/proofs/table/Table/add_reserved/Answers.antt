@@ -1,3 +1,4 @@
+-- Proves the goals of `Table::add_reserved` of src/table.rt that the search leaves open.
 use Rattle.std.proofs.Common.{Some}
 use Rattle.slab.specs.Slab.{get}
 use Rattle.histar_object.proofs.Placing.{no_slot, other_slots, added, IsPlaced-changed, objects-changed}

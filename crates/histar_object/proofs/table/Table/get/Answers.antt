@@ -1,3 +1,4 @@
+-- Proves the goals of `Table::get` of src/table.rt that the search leaves open.
 use Rattle.std.proofs.Common.{◌≡◌, None, Some, sym, ap, ◌∙◌}
 use Rattle.std.specs.Option.{option_copied}
 use Rattle.slab.specs.Slab.{get}

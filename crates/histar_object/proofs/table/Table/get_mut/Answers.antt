@@ -1,3 +1,4 @@
+-- Proves the goals of `Table::get_mut` of src/table.rt that the search leaves open.
 use Rattle.std.proofs.Common.{◌≡◌, None, Some, refl, sym, ap, ◌∙◌}
 use Rattle.std.specs.Prelude.{Option, OnSome, ◌-◌, min}
 use Rattle.std.specs.Option.{option_copied}

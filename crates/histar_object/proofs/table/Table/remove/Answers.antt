@@ -1,3 +1,4 @@
+-- Proves the goals of `Table::remove` of src/table.rt that the search leaves open.
 use Rattle.std.proofs.Common.{◌≡◌, None, Some, sym, ◌∙◌}
 use Rattle.slab.specs.Slab.{get}
 use Rattle.histar_object.proofs.Placing.{slot_at, found_at, none_at, none_without, other_slots, removed, IsPlaced-changed, objects-changed}

@@ -1,3 +1,4 @@
+-- Proves the goals of `Table::reserve` of src/table.rt that the search leaves open.
 use Rattle.std.proofs.Common.{ap}
 use Rattle.slab.specs.Slab.{get}
 use Rattle.histar_object.specs.Slots.{placed}

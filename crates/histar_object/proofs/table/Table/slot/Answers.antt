@@ -1,3 +1,4 @@
+-- Proves the goals of `Table::slot` of src/table.rt that the search leaves open.
 use Rattle.histar_object.proofs.table.Table.slot.Goals as goal
 
 pub returns : goal.returns

@@ -1,3 +1,4 @@
+-- Proves the goals of `LabelledObjects::add` of src/labelled.rt that the search leaves open.
 use Rattle.std.proofs.Common.{ℕ, ◌+◌, subst}
 use Rattle.histar_object.specs.declared.objects.Object.{Object}
 use Rattle.histar_label.specs.Levels.{Levels}

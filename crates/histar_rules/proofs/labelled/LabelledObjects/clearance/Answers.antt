@@ -1,3 +1,4 @@
+-- Proves the goals of `LabelledObjects::clearance` of src/labelled.rt that the search leaves open.
 use Rattle.std.proofs.Common.{sym, ap, subst, ◌∙◌}
 use Rattle.std.specs.Option.{option_copied}
 use Rattle.histar_container.specs.Shown.{KindStands}

@@ -1,3 +1,4 @@
+-- Proves the goals of `LabelledObjects::label` of src/labelled.rt that the search leaves open.
 use Rattle.std.proofs.Common.{sym, ap, ◌∙◌}
 use Rattle.std.specs.Option.{option_copied}
 use Rattle.histar_container.proofs.Keeping.{copied_some}

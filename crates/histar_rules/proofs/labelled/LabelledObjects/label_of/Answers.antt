@@ -1,3 +1,4 @@
+-- Proves the goals of `LabelledObjects::label_of` of src/labelled.rt that the search leaves open.
 use Rattle.std.proofs.Common.{Option, IsSome, sym, ◌∙◌, subst}
 use Rattle.histar_label.specs.Levels.{Levels}
 use Rattle.histar_object.specs.Objects.{objects_of}

@@ -1,3 +1,4 @@
+-- Proves the goals of `LabelledObjects::new` of src/labelled.rt that the search leaves open.
 use Rattle.histar_container.proofs.Keeping.{nothing_kept, nothing_shown}
 use Rattle.histar_rules.proofs.labelled.LabelledObjects.new.Goals as goal
 

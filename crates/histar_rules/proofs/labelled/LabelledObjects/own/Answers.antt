@@ -1,3 +1,4 @@
+-- Proves the goals of `LabelledObjects::own` of src/labelled.rt that the search leaves open.
 use Rattle.histar_object.specs.Objects.{thread_of}
 use Rattle.histar_container.proofs.Keeping.{copied_some}
 use Rattle.histar_rules.proofs.Observed.{label_stands, clearance_stands}

@@ -1,3 +1,4 @@
+-- Proves the goals of `LabelledObjects::remove` of src/labelled.rt that the search leaves open.
 use Rattle.std.proofs.Common.{◌≡◌, true, sym, subst}
 use Rattle.std.specs.FinSet as set
 use Rattle.histar_object.specs.Objects.{objects_of, links_in}

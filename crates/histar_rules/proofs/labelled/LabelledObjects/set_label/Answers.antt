@@ -1,3 +1,4 @@
+-- Proves the goals of `LabelledObjects::set_label` of src/labelled.rt that the search leaves open.
 use Rattle.histar_object.specs.Objects.{objects_of}
 use Rattle.histar_container.specs.Shown.{shown}
 use Rattle.histar_container.proofs.Keeping.{kept_changed}

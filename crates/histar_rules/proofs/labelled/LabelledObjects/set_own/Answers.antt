@@ -1,3 +1,4 @@
+-- Proves the goals of `LabelledObjects::set_own` of src/labelled.rt that the search leaves open.
 use Rattle.std.proofs.Common.{ap, ◌∙◌}
 use Rattle.histar_object.specs.Objects.{objects_of, is_thread, thread_of}
 use Rattle.histar_container.specs.ObjectsModel.{ObjectsModel}

@@ -1,3 +1,4 @@
+-- Proves the goals of `LabelledObjects::splice` of src/labelled.rt that the search leaves open.
 use Rattle.std.proofs.Common.{ap, ◌++◌, ◌∙◌}
 use Rattle.std.specs.Prelude.{take}
 use Rattle.std.proofs.lemmas.Result.{on_ok_weaker, on_err_weaker}

@@ -1,3 +1,4 @@
+-- Proves the goals of `Script::without` of src/script.rt that the search leaves open.
 use Rattle.std.proofs.Common.{◌∙◌, List, ap, rules}
 use Rattle.std.specs.Prelude.{not}
 use Rattle.std.proofs.lemmas.Fn.{filter_same}

@@ -1,3 +1,4 @@
+-- Proves the goals of `Machine::boot` of src/machine.rt that the search leaves open.
 use Rattle.std.proofs.Common.{refl}
 use Rattle.histar_login.proofs.LastStage.{booted_line}
 use Rattle.histar_shell.proofs.Starts.{start_shows}

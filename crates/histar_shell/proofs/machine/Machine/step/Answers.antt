@@ -1,3 +1,4 @@
+-- Proves the goals of `Machine::step` of src/machine.rt that the search leaves open.
 use Rattle.std.proofs.Common.{◌≡◌, None, Some, Ok, refl, sym, ◌∙◌, subst}
 use Rattle.histar_flat.specs.declared.replies.Reply.TheVariants.{Gone}
 use Rattle.histar_process.specs.Caller.{caller_at}

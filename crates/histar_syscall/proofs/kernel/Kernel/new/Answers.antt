@@ -1,3 +1,4 @@
+-- Proves the goals of `Kernel::new` of src/kernel.rt that the search leaves open.
 use Rattle.std.proofs.Common.{sym, subst}
 use Rattle.histar_rules.specs.Sound.{IsSound}
 use Rattle.histar_rules.proofs.Sound.{sound_empty}

@@ -1,3 +1,4 @@
+-- Proves the goals of `Kernel::read` of src/kernel.rt that the search leaves open.
 use Rattle.std.proofs.Common.{refl, ap, ◌∙◌}
 use Rattle.histar_object.specs.Objects.{bytes_in}
 use Rattle.histar_object.specs.State.{State}

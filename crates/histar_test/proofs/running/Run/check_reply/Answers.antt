@@ -1,3 +1,4 @@
+-- Proves the goals of `Run::check_reply` of src/running.rt that the search leaves open.
 use Rattle.std.proofs.Common.{refl, sym, ◌∙◌}
 use Rattle.histar_test.specs.declared.running.Run.{Run}
 use Rattle.histar_test.proofs.RunLemmas.{after_err, after_ok, nothing_counted, nothing_written, text_begun, text_counted, text_written}

@@ -1,3 +1,4 @@
+-- Proves the goals of `Run::check_rights` of src/running.rt that the search leaves open.
 use Rattle.std.proofs.lemmas.Result.{err_from_is_err_and}
 use Rattle.histar_test.proofs.RunLemmas.{after_err, after_ok, rights_begun, rights_taken, rights_unwritten, rights_written}
 use Rattle.histar_test.proofs.running.Run.check_rights.Goals as goal

@@ -1,3 +1,4 @@
+-- Proves the goals of `Run::count_check` of src/running.rt that the search leaves open.
 use Rattle.std.proofs.Common.{◌≡◌, ◌+◌, subst, rules}
 use Rattle.std.specs.Prelude.{ℕ}
 use Rattle.std.specs.Io.KnownBytes.{Appends}

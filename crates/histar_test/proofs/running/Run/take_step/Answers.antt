@@ -1,3 +1,4 @@
+-- Proves the goals of `Run::take_step` of src/running.rt that the search leaves open.
 use Rattle.std.proofs.Common.{OnErr, OnOk, subst, sym}
 use Rattle.histar_test.specs.declared.steps.Step.{Step}
 use Rattle.histar_test.specs.Running.{BeginsStep, TakesStep, WritesStep}

@@ -1,3 +1,4 @@
+-- Proves the goals of `Run::take_steps` of src/running.rt that the search leaves open.
 use Rattle.std.proofs.Common.{◌≡◌, List, None, sym, subst, ◌∙◌, refl, rules}
 use Rattle.std.proofs.lemmas.List.{map-id}
 use Rattle.std.proofs.lemmas.Result.{err_from_is_err_and}

@@ -1,3 +1,4 @@
+-- The invariants and measures of `Run::take_steps` of src/running.rt.
 use Rattle.std.proofs.Common.{◌≡◌}
 use Rattle.histar_test.proofs.RunLemmas.{HasCome}
 use Rattle.histar_test.proofs.running.Run.take_steps.Given as goal
