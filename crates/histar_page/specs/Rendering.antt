@@ -4,17 +4,9 @@ use Rattle.std.specs.List.{flat_map}
 use Rattle.histar_html.specs.Escape.{escaped}
 use Rattle.histar_page.specs.declared.markup.TheConstants.{STYLE}
 use Rattle.histar_page.specs.declared.kind.Kind.{Kind}
-use Rattle.histar_page.specs.declared.kind.Kind.TheVariants.{Title, FileName, Calls, Refusals, Denials, Version, LineNumber, OtherLine, Call, Reply}
-use Rattle.histar_page.specs.declared.kind.Kind.TheVariants.{Refusal, RawCall, DeniedCall, Explanation, ColumnUser, Column, JobColumn, Path, Stat}
-use Rattle.histar_page.specs.declared.kind.Kind.TheVariants.{Process, JobProcess, Granted, Withheld, Secret, Trusted, Confined, LoginReader}
-use Rattle.histar_page.specs.declared.kind.Kind.TheVariants.{DrawnHeight, ProcessBand, FileBand, ReadEdge, WriteEdge, BothEdge, EdgeEnd, EdgeProcess}
-use Rattle.histar_page.specs.declared.kind.Kind.TheVariants.{EdgeFile, ProcessNode, FileNode, NodeName}
+use Rattle.histar_page.specs.declared.kind.Kind.TheVariants.{Title, FileName, Calls, Refusals, Denials, Version, LineNumber, OtherLine, Call, Reply, Refusal, RawCall, DeniedCall, Explanation, ColumnUser, Column, JobColumn, Path, Stat, Process, JobProcess, Granted, Withheld, Secret, Trusted, Confined, LoginReader, DrawnHeight, ProcessBand, FileBand, ReadEdge, WriteEdge, BothEdge, EdgeEnd, EdgeProcess, EdgeFile, ProcessNode, FileNode, NodeName}
 use Rattle.histar_page.specs.declared.markup.Markup.{Markup}
-use Rattle.histar_page.specs.declared.markup.Markup.TheVariants.{Begin, Style, BeginCounts, EndHead, BeginSession, BeginBoot, BeginOther, BeginCall}
-use Rattle.histar_page.specs.declared.markup.Markup.TheVariants.{BeginBehind, EndCall, BeginBare, EndBare, EndSession, BeginFiles, EndUsers}
-use Rattle.histar_page.specs.declared.markup.Markup.TheVariants.{EndColumns, BeginRow, EndCell, EndRow, EndFiles, BeginSecrets, NoSecrets, OnSecrets}
-use Rattle.histar_page.specs.declared.markup.Markup.TheVariants.{BeginSecret, EndSecret, EndSecrets, BeginLabels, NotDrawn, BeginDrawing, Arrows}
-use Rattle.histar_page.specs.declared.markup.Markup.TheVariants.{EndDrawing, End}
+use Rattle.histar_page.specs.declared.markup.Markup.TheVariants.{Begin, Style, BeginCounts, EndHead, BeginSession, BeginBoot, BeginOther, BeginCall, BeginBehind, EndCall, BeginBare, EndBare, EndSession, BeginFiles, EndUsers, EndColumns, BeginRow, EndCell, EndRow, EndFiles, BeginSecrets, NoSecrets, OnSecrets, BeginSecret, EndSecret, EndSecrets, BeginLabels, NotDrawn, BeginDrawing, Arrows, EndDrawing, End}
 use Rattle.histar_page.specs.declared.piece.Piece.{Piece}
 use Rattle.histar_page.specs.declared.piece.Piece.TheVariants.{Fixed, Shown, Counted, Letter}
 
@@ -104,15 +96,10 @@ closing NodeName = codes "</text></g>\n"
 
 -- a fixed text
 abbrev pub markup_text : Markup → List ℕ
-markup_text Begin =
-    codes
-        "<!DOCTYPE html>\n<html lang=\"en\">\n<head>\n<meta charset=\"utf-8\">\n<meta name=\"viewport\" content=\"width=device-width,
-        initial-scale=1\">\n"
+markup_text Begin = codes "<!DOCTYPE html>\n<html lang=\"en\">\n<head>\n<meta charset=\"utf-8\">\n<meta name=\"viewport\" content=\"width=device-width, initial-scale=1\">\n"
 markup_text Style = STYLE.now
 markup_text BeginCounts = codes "<p>\n"
-markup_text EndHead =
-    codes
-        "</p>\n<nav><a href=\"#session\">Session</a> <a href=\"#files\">Files</a> <a href=\"#secrets\">Secrets</a> <a href=\"#labels\">Labels</a></nav>\n</header>\n<main>\n"
+markup_text EndHead = codes "</p>\n<nav><a href=\"#session\">Session</a> <a href=\"#files\">Files</a> <a href=\"#secrets\">Secrets</a> <a href=\"#labels\">Labels</a></nav>\n</header>\n<main>\n"
 markup_text BeginSession = codes "<section id=\"session\">\n<h2>Session</h2>\n"
 markup_text BeginBoot = codes "<details class=\"other\">\n<summary>Boot, line "
 markup_text BeginOther = codes "<details class=\"other\">\n<summary>Raw calls of line "
@@ -123,9 +110,7 @@ markup_text BeginBare = codes "<div class=\"bare\">"
 markup_text EndBare = codes "</div>\n"
 markup_text EndSession = codes "</section>\n"
 markup_text BeginFiles = codes "<section id=\"files\">\n<h2>Files</h2>\n<p>Who may do what at the end: s to see it, r to read it, w to write it, d to take it away. Above each process is its user; the tinted columns are of processes in jobs.</p>\n<div class=\"wide\">\n<table>\n<thead>\n<tr class=\"users\"><td colspan=\"4\"></td>"
-markup_text EndUsers =
-    codes
-        "</tr>\n<tr><th scope=\"col\">Path</th><th scope=\"col\">Kind</th><th scope=\"col\">Owner</th><th scope=\"col\">Mode</th>"
+markup_text EndUsers = codes "</tr>\n<tr><th scope=\"col\">Path</th><th scope=\"col\">Kind</th><th scope=\"col\">Owner</th><th scope=\"col\">Mode</th>"
 markup_text EndColumns = codes "</tr>\n</thead>\n<tbody>\n"
 markup_text BeginRow = codes "<tr>"
 markup_text EndCell = codes "</td>"
@@ -139,17 +124,8 @@ markup_text EndSecret = codes "</p>\n"
 markup_text EndSecrets = codes "</section>\n"
 markup_text BeginLabels = codes "<section id=\"labels\">\n<h2>Labels</h2>\n"
 markup_text NotDrawn = codes "<p>It has more than 12 processes or 30 files and directories at the end, and is not drawn.</p>\n</section>\n"
-markup_text BeginDrawing =
-    codes
-        "<p>Processes are on the left, files and directories on the right. A line with a head at the process says that it may read the file, one with a head at the file that it may write there: so what one writes another may read. The bands are jobs, and what they may change.</p>\n<div class=\"wide\">\n"
-markup_text Arrows =
-    codes "<defs>\n<marker id=\"read\" viewBox=\"0 0 8
-        8\" refX=\"7\" refY=\"4\" markerWidth=\"8\" markerHeight=\"8\" orient=\"auto-start-reverse\"><path class=\"reads\" d=\"M0
-        0 8 4 0 8z\"></path></marker>\n<marker id=\"written\" viewBox=\"0 0 8
-        8\" refX=\"7\" refY=\"4\" markerWidth=\"8\" markerHeight=\"8\" orient=\"auto-start-reverse\"><path class=\"writes\" d=\"M0
-        0 8 4 0 8z\"></path></marker>\n<marker id=\"both\" viewBox=\"0 0 8
-        8\" refX=\"7\" refY=\"4\" markerWidth=\"8\" markerHeight=\"8\" orient=\"auto-start-reverse\"><path class=\"both\" d=\"M0
-        0 8 4 0 8z\"></path></marker>\n</defs>\n"
+markup_text BeginDrawing = codes "<p>Processes are on the left, files and directories on the right. A line with a head at the process says that it may read the file, one with a head at the file that it may write there: so what one writes another may read. The bands are jobs, and what they may change.</p>\n<div class=\"wide\">\n"
+markup_text Arrows = codes "<defs>\n<marker id=\"read\" viewBox=\"0 0 8 8\" refX=\"7\" refY=\"4\" markerWidth=\"8\" markerHeight=\"8\" orient=\"auto-start-reverse\"><path class=\"reads\" d=\"M0 0 8 4 0 8z\"></path></marker>\n<marker id=\"written\" viewBox=\"0 0 8 8\" refX=\"7\" refY=\"4\" markerWidth=\"8\" markerHeight=\"8\" orient=\"auto-start-reverse\"><path class=\"writes\" d=\"M0 0 8 4 0 8z\"></path></marker>\n<marker id=\"both\" viewBox=\"0 0 8 8\" refX=\"7\" refY=\"4\" markerWidth=\"8\" markerHeight=\"8\" orient=\"auto-start-reverse\"><path class=\"both\" d=\"M0 0 8 4 0 8z\"></path></marker>\n</defs>\n"
 markup_text EndDrawing = codes "</svg>\n</div>\n</section>\n"
 markup_text End = codes "</main>\n</body>\n</html>\n"
 
