@@ -3,7 +3,7 @@ ghost use Rattle.histar_calls.specs.Programs.{Runs};
 ghost use Rattle.histar_calls.specs.Append.{append_program};
 ghost use Rattle.histar_calls.specs.Refusals.{settled};
 
-use crate::call_error::{CallError, Stopped, settle, written};
+use crate::call_error::{CallError, written};
 use crate::find::find_file;
 use crate::roots::Roots;
 use histar_base::Bytes;
@@ -20,19 +20,6 @@ const MOST_BYTES: u32 = 4096;
 /// there, ENOTDIR where a file stands on the way, EACCES where the kernel doesn't let the thread observe
 /// a directory on the way or modify the file, EFBIG where it would hold more than 4,096 bytes.
 pub fn append<S: LabelStore + Drop>(
-    alloc: Global,
-    kernel: &mut Kernel<S>,
-    roots: &Roots,
-    thread: ObjId,
-    path: &[Name],
-    bytes: Bytes,
-) -> Result<Reply, Stopped>
-    ensures { Runs (append_program roots.now path.now bytes) kernel.old kernel.new thread result }
-{
-    settle(append_file(alloc, kernel, roots, thread, path, bytes))
-}
-
-fn append_file<S: LabelStore + Drop>(
     alloc: Global,
     kernel: &mut Kernel<S>,
     roots: &Roots,

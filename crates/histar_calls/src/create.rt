@@ -6,7 +6,7 @@ ghost use Rattle.histar_calls.specs.Programs.{Runs, RunsPart};
 ghost use Rattle.histar_calls.specs.Create.{add_file, create_program};
 ghost use Rattle.histar_calls.specs.Refusals.{settled};
 
-use crate::call_error::{CallError, Stopped, settle};
+use crate::call_error::CallError;
 use crate::directory::write_entries;
 use crate::find::{Room, find_room};
 use crate::roots::Roots;
@@ -23,20 +23,6 @@ use std::alloc::Global;
 /// thread observe a directory on the way or modify the last one, EPERM where it doesn't let it make a
 /// file of this mode, as for a group that the process's user is no member of.
 pub fn create<S: LabelStore + Drop>(
-    alloc: Global,
-    kernel: &mut Kernel<S>,
-    roots: &Roots,
-    users: &UserTable,
-    thread: ObjId,
-    path: &[Name],
-    mode: Mode,
-) -> Result<Reply, Stopped>
-    ensures { Runs (create_program users.now roots.now path.now mode) kernel.old kernel.new thread result }
-{
-    settle(create_file(alloc, kernel, roots, users, thread, path, mode))
-}
-
-fn create_file<S: LabelStore + Drop>(
     alloc: Global,
     kernel: &mut Kernel<S>,
     roots: &Roots,

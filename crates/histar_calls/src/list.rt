@@ -3,7 +3,7 @@ ghost use Rattle.histar_calls.specs.ListCall.{list_program};
 ghost use Rattle.histar_calls.specs.Programs.{Runs};
 ghost use Rattle.histar_calls.specs.Refusals.{settled};
 
-use crate::call_error::{CallError, Stopped, settle};
+use crate::call_error::CallError;
 use crate::directory::walk;
 use crate::roots::Roots;
 use histar_flat::{Listing, Name, Reply};
@@ -17,18 +17,6 @@ use std::alloc::Global;
 /// stands there or on the way, EACCES where the kernel doesn't let the thread observe the directory or
 /// one on the way.
 pub fn list<S: LabelStore + Drop>(
-    alloc: Global,
-    kernel: &mut Kernel<S>,
-    roots: &Roots,
-    thread: ObjId,
-    path: &[Name],
-) -> Result<Reply, Stopped>
-    ensures { Runs (list_program roots.now path.now) kernel.old kernel.new thread result }
-{
-    settle(list_entries(alloc, kernel, roots, thread, path))
-}
-
-fn list_entries<S: LabelStore + Drop>(
     alloc: Global,
     kernel: &mut Kernel<S>,
     roots: &Roots,

@@ -6,7 +6,7 @@ ghost use Rattle.histar_calls.specs.Mkdir.{add_directory, mkdir_program};
 ghost use Rattle.histar_calls.specs.Programs.{Runs, RunsPart};
 ghost use Rattle.histar_calls.specs.Refusals.{settled};
 
-use crate::call_error::{CallError, Stopped, settle};
+use crate::call_error::CallError;
 use crate::directory::write_entries;
 use crate::find::{Room, find_room};
 use crate::roots::Roots;
@@ -21,20 +21,6 @@ use std::alloc::Global;
 /// Makes an empty directory: a container and in it its directory segment, which has the container's
 /// label. It is refused as `create` is.
 pub fn mkdir<S: LabelStore + Drop>(
-    alloc: Global,
-    kernel: &mut Kernel<S>,
-    roots: &Roots,
-    users: &UserTable,
-    thread: ObjId,
-    path: &[Name],
-    mode: Mode,
-) -> Result<Reply, Stopped>
-    ensures { Runs (mkdir_program users.now roots.now path.now mode) kernel.old kernel.new thread result }
-{
-    settle(make_directory(alloc, kernel, roots, users, thread, path, mode))
-}
-
-fn make_directory<S: LabelStore + Drop>(
     alloc: Global,
     kernel: &mut Kernel<S>,
     roots: &Roots,

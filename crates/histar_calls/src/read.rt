@@ -3,7 +3,7 @@ ghost use Rattle.histar_calls.specs.Programs.{Runs};
 ghost use Rattle.histar_calls.specs.Read.{read_program};
 ghost use Rattle.histar_calls.specs.Refusals.{settled};
 
-use crate::call_error::{CallError, Stopped, settle};
+use crate::call_error::CallError;
 use crate::find::find_file;
 use crate::roots::Roots;
 use histar_flat::{Name, Reply};
@@ -16,18 +16,6 @@ use std::alloc::Global;
 /// where a file stands on the way, EACCES where the kernel doesn't let the thread observe a directory
 /// on the way or the file.
 pub fn read<S: LabelStore + Drop>(
-    alloc: Global,
-    kernel: &mut Kernel<S>,
-    roots: &Roots,
-    thread: ObjId,
-    path: &[Name],
-) -> Result<Reply, Stopped>
-    ensures { Runs (read_program roots.now path.now) kernel.old kernel.new thread result }
-{
-    settle(read_file(alloc, kernel, roots, thread, path))
-}
-
-fn read_file<S: LabelStore + Drop>(
     alloc: Global,
     kernel: &mut Kernel<S>,
     roots: &Roots,

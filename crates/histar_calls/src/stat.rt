@@ -3,7 +3,7 @@ ghost use Rattle.histar_calls.specs.Programs.{Runs, RunsPart};
 ghost use Rattle.histar_calls.specs.Refusals.{settled};
 ghost use Rattle.histar_calls.specs.StatCall.{find_object, stat_program};
 
-use crate::call_error::{CallError, Stopped, settle};
+use crate::call_error::CallError;
 use crate::directory::{entry_at, find_place, look_in};
 use crate::roots::Roots;
 use histar_flat::{Name, Reply};
@@ -28,18 +28,6 @@ pub struct FoundObject {
 /// Kind, owner and mode of what stands at a path. What refuses the walk refuses it, and then ENOENT
 /// where nothing stands there.
 pub fn stat<S: LabelStore + Drop>(
-    kernel: &mut Kernel<S>,
-    roots: &Roots,
-    users: &UserTable,
-    thread: ObjId,
-    path: &[Name],
-) -> Result<Reply, Stopped>
-    ensures { Runs (stat_program users.now roots.now path.now) kernel.old kernel.new thread result }
-{
-    settle(stat_object(kernel, roots, users, thread, path))
-}
-
-fn stat_object<S: LabelStore + Drop>(
     kernel: &mut Kernel<S>,
     roots: &Roots,
     users: &UserTable,

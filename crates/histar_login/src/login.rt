@@ -10,7 +10,7 @@ ghost use Rattle.histar_login.specs.Login.{entering, label_if, clearance_if, tak
 
 use crate::gates::gate_labels;
 use histar_base::Bytes;
-use histar_calls::{CallError, Stopped, settle};
+use histar_calls::CallError;
 use histar_flat::{Errno, Name, Password, Reply};
 use histar_label::{Label, LabelStore};
 use histar_layout::{UserTable, cleared_at, owner_label, owners_of};
@@ -167,14 +167,15 @@ pub fn login<S: LabelStore + Drop>(
     caller: &Caller,
     name: Name,
     password: Password,
-) -> Result<Reply, Stopped>
-    ensures { Runs (login_program users.now caller.now name password) kernel.old kernel.new caller.now.thread result }
+) -> Result<Reply, CallError>
+    ensures { Runs (login_program users.now caller.now name password) kernel.old kernel.new
+        caller.now.thread (settled result) }
 {
     let Some(number) = users.number_of(name) else {
         return Ok(Reply::Refused(Errno::ENOENT));
     };
     let owners = owners_of(alloc, users, number, name)?;
-    settle(login_as(alloc, kernel, caller, number, owners.as_slice(), password))
+    login_as(alloc, kernel, caller, number, owners.as_slice(), password)
 }
 
 /// Logs in as the user of this number, who owns the categories of these users and groups.

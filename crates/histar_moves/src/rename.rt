@@ -4,7 +4,7 @@ ghost use Rattle.histar_calls.specs.Refusals.{settled};
 ghost use Rattle.histar_moves.specs.Rename.{rename_program};
 
 use crate::entry::find_entry;
-use histar_calls::{CallError, Roots, Stopped, settle, write_entries};
+use histar_calls::{CallError, Roots, write_entries};
 use histar_flat::{Name, Reply};
 use histar_label::LabelStore;
 use histar_object::ObjId;
@@ -16,19 +16,6 @@ use std::alloc::Global;
 /// new name, be it this one, EACCES where the kernel doesn't let the thread observe a directory on the way
 /// or modify the last one.
 pub fn rename<S: LabelStore + Drop>(
-    alloc: Global,
-    kernel: &mut Kernel<S>,
-    roots: &Roots,
-    thread: ObjId,
-    path: &[Name],
-    name: &Name,
-) -> Result<Reply, Stopped>
-    ensures { Runs (rename_program roots.now path.now name.now) kernel.old kernel.new thread result }
-{
-    settle(rename_entry(alloc, kernel, roots, thread, path, name))
-}
-
-fn rename_entry<S: LabelStore + Drop>(
     alloc: Global,
     kernel: &mut Kernel<S>,
     roots: &Roots,

@@ -4,7 +4,7 @@ ghost use Rattle.histar_calls.specs.Refusals.{settled};
 ghost use Rattle.histar_moves.specs.Rmdir.{rmdir_program};
 
 use crate::entry::{find_entry, must_be_empty, take_away};
-use histar_calls::{CallError, Directory, Roots, Stopped, settle};
+use histar_calls::{CallError, Directory, Roots};
 use histar_flat::{Name, Reply};
 use histar_label::LabelStore;
 use histar_object::ObjId;
@@ -16,18 +16,6 @@ use std::alloc::Global;
 /// the directory or one on the way, ENOTEMPTY where it has an entry, EACCES where the kernel doesn't let
 /// the thread modify the directory above it.
 pub fn rmdir<S: LabelStore + Drop>(
-    alloc: Global,
-    kernel: &mut Kernel<S>,
-    roots: &Roots,
-    thread: ObjId,
-    path: &[Name],
-) -> Result<Reply, Stopped>
-    ensures { Runs (rmdir_program roots.now path.now) kernel.old kernel.new thread result }
-{
-    settle(remove_directory(alloc, kernel, roots, thread, path))
-}
-
-fn remove_directory<S: LabelStore + Drop>(
     alloc: Global,
     kernel: &mut Kernel<S>,
     roots: &Roots,

@@ -4,7 +4,7 @@ ghost use Rattle.histar_calls.specs.Refusals.{settled};
 ghost use Rattle.histar_moves.specs.Rmtree.{rmtree_program};
 
 use crate::entry::{find_entry, take_away};
-use histar_calls::{CallError, Roots, Stopped, settle};
+use histar_calls::{CallError, Roots};
 use histar_flat::{Name, Reply};
 use histar_label::LabelStore;
 use histar_object::ObjId;
@@ -15,18 +15,6 @@ use std::alloc::Global;
 /// ENOTDIR where the way to it breaks off, ENOENT where nothing stands there, EACCES where the kernel
 /// doesn't let the thread observe a directory on the way or modify the last one.
 pub fn rmtree<S: LabelStore + Drop>(
-    alloc: Global,
-    kernel: &mut Kernel<S>,
-    roots: &Roots,
-    thread: ObjId,
-    path: &[Name],
-) -> Result<Reply, Stopped>
-    ensures { Runs (rmtree_program roots.now path.now) kernel.old kernel.new thread result }
-{
-    settle(remove_tree(alloc, kernel, roots, thread, path))
-}
-
-fn remove_tree<S: LabelStore + Drop>(
     alloc: Global,
     kernel: &mut Kernel<S>,
     roots: &Roots,

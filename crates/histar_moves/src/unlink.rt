@@ -4,7 +4,7 @@ ghost use Rattle.histar_calls.specs.Refusals.{settled};
 ghost use Rattle.histar_moves.specs.Unlink.{unlink_program};
 
 use crate::entry::{find_entry, take_away};
-use histar_calls::{CallError, Roots, Stopped, settle};
+use histar_calls::{CallError, Roots};
 use histar_flat::{Name, Reply};
 use histar_label::LabelStore;
 use histar_object::ObjId;
@@ -15,18 +15,6 @@ use std::alloc::Global;
 /// nothing stands there, EISDIR for a directory, EACCES where the kernel doesn't let the thread observe a
 /// directory on the way or modify the last one.
 pub fn unlink<S: LabelStore + Drop>(
-    alloc: Global,
-    kernel: &mut Kernel<S>,
-    roots: &Roots,
-    thread: ObjId,
-    path: &[Name],
-) -> Result<Reply, Stopped>
-    ensures { Runs (unlink_program roots.now path.now) kernel.old kernel.new thread result }
-{
-    settle(unlink_file(alloc, kernel, roots, thread, path))
-}
-
-fn unlink_file<S: LabelStore + Drop>(
     alloc: Global,
     kernel: &mut Kernel<S>,
     roots: &Roots,

@@ -5,7 +5,7 @@ ghost use Rattle.histar_process.specs.ExitCall.{exit_program};
 
 use crate::caller::Caller;
 use crate::find::{Segment, read_segment, write_segment};
-use histar_calls::{CallError, Stopped, settle};
+use histar_calls::CallError;
 use histar_flat::Reply;
 use histar_label::LabelStore;
 use histar_layout::exit_status;
@@ -15,17 +15,6 @@ use std::alloc::Global;
 /// The process exits with this number: its segment tells so from then on, and its internal container is
 /// taken away with its thread. EACCES where the kernel doesn't let the thread modify these.
 pub fn exit<S: LabelStore + Drop>(
-    alloc: Global,
-    kernel: &mut Kernel<S>,
-    caller: &Caller,
-    number: u8,
-) -> Result<Reply, Stopped>
-    ensures { Runs (exit_program caller.now.home number) kernel.old kernel.new caller.now.thread result }
-{
-    settle(exit_process(alloc, kernel, caller, number))
-}
-
-fn exit_process<S: LabelStore + Drop>(
     alloc: Global,
     kernel: &mut Kernel<S>,
     caller: &Caller,

@@ -7,7 +7,7 @@ ghost use Rattle.histar_process.specs.KillCall.{KillsKnown, kill_program};
 use crate::find::{
     Segment, find_home, home_of, must_be_there, read_head, read_segment, write_segment,
 };
-use histar_calls::{CallError, Home, Roots, Stopped, settle};
+use histar_calls::{CallError, Home, Roots};
 use histar_flat::{ProcName, Reply};
 use histar_label::LabelStore;
 use histar_layout::{find_child, remove_child};
@@ -22,18 +22,6 @@ const ROOT: u64 = 1;
 /// segment or one above it, ESRCH where it was not born or was killed, EACCES where the kernel doesn't let
 /// the thread modify the container above it or the segment of the process above it.
 pub fn kill<S: LabelStore + Drop>(
-    alloc: Global,
-    kernel: &mut Kernel<S>,
-    roots: &Roots,
-    thread: ObjId,
-    name: &ProcName,
-) -> Result<Reply, Stopped>
-    ensures { Runs (kill_program roots.now name.now) kernel.old kernel.new thread result }
-{
-    settle(kill_process(alloc, kernel, roots, thread, name))
-}
-
-fn kill_process<S: LabelStore + Drop>(
     alloc: Global,
     kernel: &mut Kernel<S>,
     roots: &Roots,

@@ -13,7 +13,7 @@ use crate::birth::give_birth;
 use crate::caller::Caller;
 use crate::find::{Segment, read_segment};
 use crate::kin::owned_by;
-use histar_calls::{CallError, Home, Stopped, settle};
+use histar_calls::{CallError, Home};
 use histar_flat::{Errno, MOST_NUMBERS, ProcName, Reply};
 use histar_label::{Label, LabelStore};
 use histar_layout::{UserTable, is_in_job, jobs_in, user_of};
@@ -28,18 +28,6 @@ const MOST_CHILDREN: u8 = 64;
 /// in the same jobs. EAGAIN where the name has no room for one number more or 64 children were
 /// born already, EACCES where the kernel doesn't let the thread modify the process's own objects.
 pub fn spawn<S: LabelStore + Drop>(
-    alloc: Global,
-    kernel: &mut Kernel<S>,
-    users: &UserTable,
-    name: &ProcName,
-    caller: &Caller,
-) -> Result<Reply, Stopped>
-    ensures { Runs (spawn_program users.now name.now caller.now.home) kernel.old kernel.new caller.now.thread result }
-{
-    settle(spawn_child(alloc, kernel, users, name, caller))
-}
-
-fn spawn_child<S: LabelStore + Drop>(
     alloc: Global,
     kernel: &mut Kernel<S>,
     users: &UserTable,

@@ -5,7 +5,7 @@ ghost use Rattle.histar_calls.specs.Refusals.{settled};
 ghost use Rattle.histar_process.specs.StatusCall.{status_reply, status_program};
 
 use crate::find::{find_home, read_head};
-use histar_calls::{CallError, Roots, Stopped, settle};
+use histar_calls::{CallError, Roots};
 use histar_flat::{ProcName, Reply};
 use histar_label::LabelStore;
 use histar_object::ObjId;
@@ -14,17 +14,6 @@ use histar_syscall::Kernel;
 /// Whether a process runs, or what it has exited with. EACCES where the kernel doesn't let the thread
 /// observe its segment or one above it, ESRCH where it was not born or was killed.
 pub fn status<S: LabelStore + Drop>(
-    kernel: &mut Kernel<S>,
-    roots: &Roots,
-    thread: ObjId,
-    name: &ProcName,
-) -> Result<Reply, Stopped>
-    ensures { Runs (status_program roots.now name.now) kernel.old kernel.new thread result }
-{
-    settle(reply_status(kernel, roots, thread, name))
-}
-
-fn reply_status<S: LabelStore + Drop>(
     kernel: &mut Kernel<S>,
     roots: &Roots,
     thread: ObjId,

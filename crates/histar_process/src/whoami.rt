@@ -4,7 +4,7 @@ ghost use Rattle.histar_calls.specs.Refusals.{settled};
 ghost use Rattle.histar_process.specs.Whoami.{whoami_program};
 
 use crate::kin::user_name;
-use histar_calls::{CallError, Stopped, settle};
+use histar_calls::CallError;
 use histar_flat::Reply;
 use histar_label::LabelStore;
 use histar_layout::{UserTable, is_in_job, user_of};
@@ -14,16 +14,6 @@ use histar_syscall::Kernel;
 /// The user of the process that the thread belongs to, and whether the process is in a job, as the thread's
 /// own label tells.
 pub fn whoami<S: LabelStore + Drop>(
-    kernel: &mut Kernel<S>,
-    users: &UserTable,
-    thread: ObjId,
-) -> Result<Reply, Stopped>
-    ensures { Runs (whoami_program users.now) kernel.old kernel.new thread result }
-{
-    settle(reply_user(kernel, users, thread))
-}
-
-fn reply_user<S: LabelStore + Drop>(
     kernel: &mut Kernel<S>,
     users: &UserTable,
     thread: ObjId,

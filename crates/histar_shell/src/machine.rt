@@ -1,5 +1,6 @@
 //! The machine: a labelled kernel with its start state, and what each call line has it do.
 ghost use Rattle.std.specs.Prelude.{◌≡◌, IfOk};
+ghost use Rattle.histar_calls.specs.Refusals.{settled};
 ghost use Rattle.histar_script.specs.Script.{IsDeclared};
 ghost use Rattle.histar_shell.specs.Machine.{AnswersLine, IsStart, IsTraced, Makes};
 ghost use Rattle.histar_shell.specs.Ending.{HasTree, IsTreeIn};
@@ -7,7 +8,9 @@ ghost use Rattle.histar_shell.specs.Meaning.{FollowsMeaning, ShowsStart};
 ghost use Rattle.histar_syscall.specs.KernelModel.{state};
 ghost use Rattle.histar_readout.specs.TreeEntries.{node_bytes};
 
-use histar_calls::{Roots, Stopped, append, create, list, mkdir, read, stat, write};
+use histar_calls::{
+    CallError, Roots, Stopped, append, create, list, mkdir, read, settle, stat, write,
+};
 use histar_flat::{Accounts, ProcName, Reply, UnixCall, each_call_is_right};
 use histar_label::LabelStore;
 use histar_layout::UserTable;
@@ -109,7 +112,7 @@ impl<S: LabelStore + Drop> Machine<S> {
             return Ok(Reply::Gone);
         };
         self.kernel.begin(line);
-        let result = make(
+        let outcome = make(
             alloc,
             &mut self.kernel,
             &self.roots,
@@ -118,6 +121,7 @@ impl<S: LabelStore + Drop> Machine<S> {
             &caller,
             call,
         );
+        let result = settle(outcome);
         self.is_stopped = result.is_err();
         result
     }
@@ -190,8 +194,8 @@ fn make<S: LabelStore + Drop>(
     me: &ProcName,
     caller: &Caller,
     call: UnixCall,
-) -> Result<Reply, Stopped>
-    ensures { Makes users.now roots.now me.now caller.now kernel.old kernel.new call result }
+) -> Result<Reply, CallError>
+    ensures { Makes users.now roots.now me.now caller.now kernel.old kernel.new call (settled result) }
 {
     let thread = caller.thread;
     match call {

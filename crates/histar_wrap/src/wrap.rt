@@ -10,7 +10,7 @@ ghost use Rattle.histar_wrap.specs.Scratch.{jobs_with};
 ghost use Rattle.histar_wrap.specs.WrapCall.{wrap_program};
 
 use crate::scratch::{hold_job, make_scratch};
-use histar_calls::{CallError, Room, Roots, Stopped, find_room, settle};
+use histar_calls::{CallError, Room, Roots, find_room};
 use histar_flat::{Name, ProcName, Reply};
 use histar_label::{Category, Label, LabelStore};
 use histar_layout::{UserTable, jobs_in, scratch_label, user_of};
@@ -45,21 +45,6 @@ struct Plan {
 /// nobody, whose categories no thread owns. Where the directory is denied, the thread gives the job's
 /// category back first; the call ends without a reply where memory runs out inside that.
 pub fn wrap<S: LabelStore + Drop>(
-    alloc: Global,
-    kernel: &mut Kernel<S>,
-    roots: &Roots,
-    users: &UserTable,
-    name: &ProcName,
-    caller: &Caller,
-    path: &[Name],
-) -> Result<Reply, Stopped>
-    ensures { Runs (wrap_program users.now roots.now name.now caller.now.home path.now) kernel.old
-        kernel.new caller.now.thread result }
-{
-    settle(start_job(alloc, kernel, roots, users, name, caller, path))
-}
-
-fn start_job<S: LabelStore + Drop>(
     alloc: Global,
     kernel: &mut Kernel<S>,
     roots: &Roots,

@@ -1,17 +1,14 @@
 -- Proves the goals of `login` of src/login.rt that the search leaves open.
-use Rattle.std.proofs.Common.{◌≡◌, Ok, Result, sym, ap, ◌∙◌, subst}
-use Rattle.std.proofs.lemmas.Result.{err_from_is_err_and}
+use Rattle.std.proofs.Common.{◌≡◌, Ok, sym, ap, ◌∙◌}
 use Rattle.histar_flat.specs.declared.replies.Errno.TheVariants.{ENOENT}
 use Rattle.histar_flat.specs.declared.replies.Reply.TheVariants.{Refused}
-use Rattle.histar_flat.specs.declared.replies.Reply.{Reply}
 use Rattle.histar_rules.specs.declared.raw.RawCall.TheVariants.{OwnLabel}
 use Rattle.histar_layout.specs.Categories.{owners_of}
 use Rattle.histar_calls.specs.declared.call_error.CallError.TheVariants.{Stopped}
-use Rattle.histar_calls.specs.declared.call_error.Stopped.{Stopped as HasStopped}
+use Rattle.histar_calls.specs.Refusals.{settled}
 use Rattle.histar_calls.specs.Programs.Program.{Answers}
 use Rattle.histar_calls.specs.Parts.{ask}
-use Rattle.histar_calls.specs.Programs.{Runs}
-use Rattle.histar_calls.proofs.Running.{says, runs_as, call_fails, before_ask}
+use Rattle.histar_calls.proofs.Running.{says, runs_as, call_fails, call_fails_so, before_ask}
 use Rattle.histar_login.specs.Login.{login_as_program, login_program}
 use Rattle.histar_login.proofs.Numbers.{login_of, login_numbered}
 use Rattle.histar_login.proofs.login.login.Goals as goal
@@ -39,7 +36,6 @@ returns-in_err-owners g c =
     let at_number : login_program accounts caller c.args.name c.args.password ≡ program =
     login_numbered accounts caller c.args.name c.args.password
     ∙ ap (login_of accounts caller c.args.name c.args.password) (sym c.number_of.ensures.number ∙ c.in-Some.is) in
-    let error = err_from_is_err_and c.from_residual.result c.from_residual.ensures.1 in
-    runs_as t (login_program accounts caller c.args.name c.args.password) program old old c.from_residual.result at_number
-    (subst (λ (result : Result Reply HasStopped). Runs program old old t result) (sym error.1)
+    runs_as t (login_program accounts caller c.args.name c.args.password) program old old (settled c.from_residual.result) at_number
+    (call_fails_so t program old old Stopped c.from_residual.result c.from_residual.ensures.1
     (call_fails t (ask OwnLabel) old old _ Stopped (before_ask t OwnLabel old)))

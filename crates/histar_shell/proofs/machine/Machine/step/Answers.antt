@@ -15,9 +15,9 @@ pub invariant_of-self : goal.invariant_of-self
 invariant_of-self g c =
     let made =
     subst (λ (k : KernelModel). Makes c.self.inside.users c.self.inside.roots c.args.process.now c.in-Some.caller k
-    c.make-result.new.kernel c.args.call c.make-result.result) c.begin.ensures c.make-result.ensures in
+    c.make-outcome.new.kernel c.args.call c.settle-result.result) c.begin.ensures (rw c.settle-result.ensures c.make-outcome.ensures) in
     traced_on c.self.inside.users c.self.inside.roots c.args.process.now c.in-Some.caller
-    (on_line c.args.line c.self.inside.kernel) c.make-result.new.kernel c.args.call c.make-result.result
+    (on_line c.args.line c.self.inside.kernel) c.make-outcome.new.kernel c.args.call c.settle-result.result
     c.self.invariant made
 
 -- who is not found is answered `gone`
@@ -51,7 +51,7 @@ returns-clause-answers g c =
     } in
     let left : MachineModel =
     record {
-      kernel = c.make-result.new.kernel;
+      kernel = c.make-outcome.new.kernel;
       roots = c.self.inside.roots;
       users = c.self.inside.users;
       is_stopped = c.is_err-self-inside.result;
@@ -61,9 +61,9 @@ returns-clause-answers g c =
     sym c.find_caller.ensures ∙ c.in-Some.is in
     let makes =
     subst (λ (k : KernelModel). Makes c.self.inside.users c.self.inside.roots c.args.process.now c.in-Some.caller k
-    c.make-result.new.kernel c.args.call c.make-result.result) c.begin.ensures c.make-result.ensures in
-    subst (λ (m : MachineModel). AnswersLine m left c.args.line c.args.process.now c.args.call c.make-result.result) c.self.view_is
-    (had_made before left c.args.line c.args.process.now c.in-Some.caller c.args.call c.make-result.result c.if-self.false found
+    c.make-outcome.new.kernel c.args.call c.settle-result.result) c.begin.ensures (rw c.settle-result.ensures c.make-outcome.ensures) in
+    subst (λ (m : MachineModel). AnswersLine m left c.args.line c.args.process.now c.args.call c.settle-result.result) c.self.view_is
+    (had_made before left c.args.line c.args.process.now c.in-Some.caller c.args.call c.settle-result.result c.if-self.false found
     (record { made = makes; roots = refl; users = refl; stops = c.is_err-self-inside.ensures.value }))
 
 pub returns-clause-means : goal.returns-clause-means

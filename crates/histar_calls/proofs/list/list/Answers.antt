@@ -1,0 +1,40 @@
+-- Proves the goals of `list` of src/list.rt that the search leaves open.
+use Rattle.std.proofs.Common.{ap, ◌∙◌, ◌++◌}
+use Rattle.histar_flat.specs.declared.replies.Reply.TheVariants.{Entries}
+use Rattle.histar_layout.specs.Listing.{names_in}
+use Rattle.histar_calls.specs.declared.call_error.CallError.TheVariants.{Stopped}
+use Rattle.histar_calls.specs.Parts.{walk_to}
+use Rattle.histar_calls.specs.ListCall.{list_program}
+use Rattle.histar_calls.proofs.Directories.{before_walk}
+use Rattle.histar_calls.proofs.Running.{then_call, call_fails, call_fails_so, replies_so}
+use Rattle.histar_calls.proofs.list.list.Goals as goal
+
+pub returns-in_err-reserve : goal.returns-in_err-reserve
+unfolding list_program
+returns-in_err-reserve g c =
+    let t = c.args.thread in
+    let k = c.args.kernel.now in
+    call_fails_so t (list_program c.args.roots.now c.args.path.now) k k Stopped _ c.from_residual.ensures.1
+    (call_fails t (walk_to c.args.roots.now c.args.path.now) k k _ Stopped (before_walk t c.args.roots.now c.args.path.now k))
+
+pub returns-in_err-directory : goal.returns-in_err-directory
+unfolding list_program
+returns-in_err-directory g c =
+    let t = c.args.thread in
+    let old = c.args.kernel.now in
+    let end = c.walk.new.kernel in
+    call_fails_so t (list_program c.args.roots.now c.args.path.now) old end c.in_err-directory.field-0.0 _ c.from_residual-in_err-directory.ensures.1
+    (call_fails t (walk_to c.args.roots.now c.args.path.now) old end _ c.in_err-directory.field-0.0
+    c.in_err-directory.ensures)
+
+pub returns : goal.returns
+unfolding list_program
+returns g c =
+    let t = c.args.thread in
+    let old = c.args.kernel.now in
+    let end = c.walk.new.kernel in
+    let nothing_yet = c.in_ok-reserve.ensures.items ∙ c.new-entries.ensures.items in
+    let listing_is = c.new.ensures ∙ c.list.ensures ∙ ap (λ es. es ++ names_in c.in_ok-directory.directory.entries) nothing_yet in
+    then_call t (walk_to c.args.roots.now c.args.path.now) old end _ end c.in_ok-directory.directory
+    c.in_ok-directory.ensures _
+    (replies_so t end (Entries (names_in c.in_ok-directory.directory.entries)) (Entries c.new.result) (ap Entries listing_is))

@@ -1,0 +1,40 @@
+-- Proves the goals of `rmtree` of src/rmtree.rt that the search leaves open.
+use Rattle.histar_flat.specs.declared.replies.Reply.TheVariants.{Done}
+use Rattle.histar_calls.specs.Programs.Program.{Answers}
+use Rattle.histar_calls.proofs.Running.{then_call, call_fails, call_fails_so, says}
+use Rattle.histar_moves.specs.Parts.{find_entry, take_away}
+use Rattle.histar_moves.specs.Rmtree.{rmtree_program}
+use Rattle.histar_moves.proofs.rmtree.rmtree.Goals as goal
+
+pub returns-in_err-entry : goal.returns-in_err-entry
+unfolding rmtree_program
+returns-in_err-entry g c =
+    let t = c.args.thread in
+    let old = c.args.kernel.now in
+    let end = c.find_entry.new.kernel in
+    call_fails_so t (rmtree_program c.args.roots.now c.args.path.now) old end c.in_err-entry.field-0.0 _ c.from_residual.ensures.1
+    (call_fails t (find_entry c.args.roots.now c.args.path.now) old end _ c.in_err-entry.field-0.0 c.in_err-entry.ensures.runs)
+
+pub returns-in_err-take_away : goal.returns-in_err-take_away
+unfolding rmtree_program
+returns-in_err-take_away g c =
+    let t = c.args.thread in
+    let old = c.args.kernel.now in
+    let mid = c.find_entry.new.kernel in
+    let end = c.take_away.new.kernel in
+    let entry = c.in_ok-entry.entry in
+    call_fails_so t (rmtree_program c.args.roots.now c.args.path.now) old end c.in_err-take_away.field-0.0 _
+    c.from_residual-in_err-take_away.ensures.1
+    (then_call t (find_entry c.args.roots.now c.args.path.now) old end _ mid entry c.in_ok-entry.ensures.runs _
+    (call_fails t (take_away entry) mid end (λ _. Answers Done) c.in_err-take_away.field-0.0 c.in_err-take_away.ensures))
+
+pub returns : goal.returns
+unfolding rmtree_program
+returns g c =
+    let t = c.args.thread in
+    let old = c.args.kernel.now in
+    let mid = c.find_entry.new.kernel in
+    let end = c.take_away.new.kernel in
+    let entry = c.in_ok-entry.entry in
+    then_call t (find_entry c.args.roots.now c.args.path.now) old end _ mid entry c.in_ok-entry.ensures.runs _
+    (then_call t (take_away entry) mid end (λ _. Answers Done) end tt c.in_ok-take_away.ensures _ (says t end Done))

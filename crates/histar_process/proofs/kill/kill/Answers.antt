@@ -1,0 +1,23 @@
+-- Proves the goals of `kill` of src/kill.rt that the search leaves open.
+use Rattle.std.proofs.Common.{◌∷◌, ◌-◌, [], length, get_or, take, drop, ap, sym, ◌∙◌, arith}
+use Rattle.histar_calls.specs.Refusals.{settled}
+use Rattle.histar_calls.proofs.Running.{runs_as}
+use Rattle.histar_process.specs.KillCall.{kill_program}
+use Rattle.histar_process.proofs.Segments.{no_numbers, first_of_numbers}
+use Rattle.histar_process.proofs.kill.kill.Goals as goal
+
+pub returns-in_default : goal.returns-in_default
+returns-in_default g c =
+    let roots = c.args.roots.now in
+    runs_as c.args.thread (kill_program roots c.args.name.now) (kill_program roots []) c.args.kernel.now
+    c.kill_first.new.kernel (settled c.kill_first.result)
+    (ap (kill_program roots) (sym c.numbers.ensures.value ∙ no_numbers c.numbers.result.now (omega arith))) c.kill_first.ensures
+
+pub returns : goal.returns
+returns g c =
+    let roots = c.args.roots.now in
+    let numbers = c.numbers.result.now in
+    runs_as c.args.thread (kill_program roots c.args.name.now)
+    (kill_program roots (get_or numbers 0 0 ∷ take (length numbers - 1) (drop 1 numbers))) c.args.kernel.now
+    c.kill_child.new.kernel (settled c.kill_child.result)
+    (ap (kill_program roots) (sym c.numbers.ensures.value ∙ first_of_numbers numbers 0 (omega arith))) c.kill_child.ensures
