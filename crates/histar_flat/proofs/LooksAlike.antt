@@ -19,7 +19,7 @@ use Rattle.histar_flat.specs.Needs.Test.{Exists, IsFile, IsDirectory, Absent, Ab
 use Rattle.histar_flat.specs.Needs.Test.{Fits}
 use Rattle.histar_flat.specs.Needs.Need.{◌then◌, ◌or◌, Walk, Found}
 use Rattle.histar_flat.specs.Effects.{ReplyForm, reply_with, life_reply, stat_reply}
-use Rattle.histar_flat.specs.Effects.Answer.{Bytes, Listing, Attributes, StatusOf}
+use Rattle.histar_flat.specs.Effects.ReplyForm.{Bytes, Listing, Attributes, StatusOf}
 use Rattle.histar_flat.specs.CallRules.{path_of, rule}
 use Rattle.histar_flat.specs.FlatCalls.{refused, answer, reply_or, reply_by}
 use Rattle.histar_flat.proofs.Entries.{shown}

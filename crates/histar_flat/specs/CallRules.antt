@@ -12,7 +12,7 @@ use Rattle.histar_flat.specs.Needs.Test.{Exists, IsFile, IsDirectory, AbsentBesi
 use Rattle.histar_flat.specs.Needs.Test.{IsUser, HasPassword, InNoJob, IsSomebody}
 use Rattle.histar_flat.specs.Effects.{Effect, ReplyForm}
 use Rattle.histar_flat.specs.Effects.Effect.{Makes, Stores, Removes, Renames, Spawns, Exits, LogsIn, Kills, Wraps, Nothing as nothing}
-use Rattle.histar_flat.specs.Effects.Answer.{Done, Bytes, Listing, Attributes, StatusOf, Identity, NewChild}
+use Rattle.histar_flat.specs.Effects.ReplyForm.{Done, Bytes, Listing, Attributes, StatusOf, Identity, NewChild}
 
 -- the rule of a call: the path that it names, and else `/`; what it needs, changes and answers
 pub record Rule : Type 0 where

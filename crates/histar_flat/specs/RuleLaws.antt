@@ -15,7 +15,7 @@ use Rattle.histar_flat.specs.Needs.Test.{IsEmpty, Fits, IsChild, IsUser, InNoJob
 use Rattle.histar_flat.specs.Needs.Need.{◌then◌, ◌or◌, Walk, Found}
 use Rattle.histar_flat.specs.Effects.{Effect, ReplyForm}
 use Rattle.histar_flat.specs.Effects.Effect.{Makes, Stores, Removes, Renames, LogsIn, Kills, Wraps}
-use Rattle.histar_flat.specs.Effects.Answer.{Bytes, Listing, Attributes, StatusOf}
+use Rattle.histar_flat.specs.Effects.ReplyForm.{Bytes, Listing, Attributes, StatusOf}
 use Rattle.histar_flat.specs.CallRules.{path_of, rule}
 use Rattle.histar_flat.specs.FlatCalls.{refused}
 
