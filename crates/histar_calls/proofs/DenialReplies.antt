@@ -1,4 +1,4 @@
--- A program that replies to its refusals, run to its reply: what its raw calls came to.
+-- A program that replies to its refusals and was run to its reply: the outcomes of its raw calls.
 use Rattle.std.proofs.Common.{◌≡◌, ℕ, Bool, true, false, List, [], ◌∷◌, ◌++◌, Option, None, Some, Ok, Err, refl, sym, ap, ◌∙◌, subst, append_assoc}
 use Rattle.std.specs.Prelude.{◌||◌}
 use Rattle.std.proofs.lemmas.List.{append-nil}
@@ -15,7 +15,7 @@ use Rattle.histar_calls.specs.Programs.{Outcome, Program, Asked, Completes}
 use Rattle.histar_calls.specs.Programs.Program.{Answers, Asks, Lists, Stops}
 use Rattle.histar_calls.specs.Laws.{RepliesToDenial, RepliesToRefusals}
 
--- none of them was refused
+-- no granted raw call that gives labels was refused
 none_refused : (entries : List TraceEntry) → AllByRecursion IsRestoring entries
     → (some_label_refusal entries ≡ false) × (some_range_refusal entries ≡ false)
 none_refused [] all = (refl, refl)
@@ -23,7 +23,7 @@ none_refused (e ∷ entries) all =
     let later = none_refused entries all.1 in
     ((λ i. is_label_refusal (all.0.0 i) || later.0 i), (λ i. is_range_refusal (all.0.0 i) || later.1 i))
 
--- what was run after a denial: calls that give labels, all granted, and then the reply that tells it
+-- what was run after a denial: calls that give labels, all granted, and then the reply to the denial
 record Restores (old new : KernelModel) (t : ℕ) (denied : Denied) (reply : Reply) : Type 0 where
   entries : List TraceEntry
   ran : Ran old new t entries
@@ -75,7 +75,7 @@ or_none : (a b : Bool) → b ≡ false → (a || b) ≡ a
 or_none true b is = refl
 or_none false b is = is
 
--- what its raw calls came to
+-- the entries of the program's raw calls agree with its reply
 pub replies : (p : Program) → RepliesToRefusals p → (old new : KernelModel) (t : ℕ) (reply : Reply)
     → Completes p old new t reply → Replies old new t reply
 replies (Answers said) obeys old new t reply runs = record {

@@ -33,7 +33,7 @@ module _ (t : ℕ) (old new : KernelModel) (place : Place) where
   read_fails call_error first = part_fails t (ask (Read place.container place.listing)) old new (after_bytes place) call_error first
 
   module _ (bytes : List ℕ) (first : RunsPart (ask (Read place.container place.listing)) old new t (Ok bytes)) where
-    -- its bytes are no directory, or memory ran out
+    -- the bytes of the segment are no directory, or memory ran out
     pub list_fails : (call_error : CallError) → RunsPart (list bytes) new new t (Err call_error)
         → RunsPart (read_directory place) old new t (Err call_error)
     unfolding read_directory
@@ -43,7 +43,7 @@ module _ (t : ℕ) (old new : KernelModel) (place : Place) where
         (λ (entries : Entries) (rest : Directory → _). rest (record { place = place; entries = entries }))
         call_error second)
 
-    -- its bytes are a directory
+    -- the bytes of the segment are a directory
     pub reads : (entries : Entries) → RunsPart (list bytes) new new t (Ok entries)
         → RunsPart (read_directory place) old new t (Ok (record { place = place; entries = entries }))
     unfolding read_directory
@@ -57,7 +57,7 @@ take_all : (xs : List Name) → take (length xs) xs ≡ xs
 take_all [] = refl
 take_all (x ∷ xs) = ap (λ ys. x ∷ ys) (take_all xs)
 
--- names that are at least one are a first name and the others
+-- at least one name is a first name and the others
 pub first_of_names : (names : List Name) (name : Name) → 1 ≤ length names → name ≡ get_or names 0 name
     → names ≡ name ∷ take (length names - 1) (drop 1 names)
 first_of_names [] name some is = absurd (omega arith)
@@ -65,15 +65,15 @@ first_of_names (x ∷ xs) name some is =
     let count : length (x ∷ xs) - 1 ≡ length xs = omega arith in
     (λ i. sym is i ∷ xs) ∙ ap (λ ys. name ∷ ys) (sym (ap (λ (n : ℕ). take n xs) count ∙ take_all xs))
 
--- names that are not one are none
+-- less than one name is none
 pub no_names : (names : List Name) → length names ≤ 0 → names ≡ []
 no_names [] none = refl
 no_names (x ∷ xs) none = absurd (omega arith)
 
--- ---- a name is looked up in a directory
+-- ---- looking a name up in a directory
 
 module _ (t : ℕ) (old new : KernelModel) (place : Place) (name : Name) where
-  -- its segment was not read
+  -- the directory segment was not read
   pub look_refused : (call_error : CallError)
       → RunsPart (ask (Read place.container place.listing)) old new t (Err call_error)
       → RunsPart (look_in place name) old new t (Err call_error)
@@ -82,7 +82,7 @@ module _ (t : ℕ) (old new : KernelModel) (place : Place) (name : Name) where
       part_fails t (ask (Read place.container place.listing)) old new
       (λ bytes (rest : Option Target → _). rest (found_in bytes name)) call_error first
 
-  -- it was read, and the name leads there
+  -- the directory segment was read, and the name leads to what was found
   pub looks : (bytes : List ℕ) → RunsPart (ask (Read place.container place.listing)) old new t (Ok bytes)
       → (found : Option Target) → found ≡ found_in bytes name → RunsPart (look_in place name) old new t (Ok found)
   unfolding look_in
@@ -92,7 +92,7 @@ module _ (t : ℕ) (old new : KernelModel) (place : Place) (name : Name) where
       (λ bytes (rest : Option Target → _). rest (found_in bytes name)) new bytes first (Ok _)
       (hands t new (found_in bytes name)))
 
--- ---- the place of a directory is found
+-- ---- finding the place of a directory
 
 -- what comes after the place of the parent
 abbrev pub into : Name → Place → Part Place
@@ -111,11 +111,11 @@ module _ (t : ℕ) (old new : KernelModel) (name : Name) (above : Place) where
         then_part t (look_in above name) old new (λ target. given (directory_at target)) new target first result
         (subst (λ (f : Result Place Errno). RunsPart (given f) new new t result) is runs)
 
-    -- it leads to a directory
+    -- the name leads to a directory
     pub into_place : (place : Place) → Ok place ≡ directory_at target → RunsPart (into name above) old new t (Ok place)
     into_place place is = then_given (Ok place) is (Ok place) (gives t new place)
 
-    -- it leads to none
+    -- the name leads to no directory
     pub into_none : (errno : Errno) → Err errno ≡ directory_at target → RunsPart (into name above) old new t (Err (Refused errno))
     into_none errno is = then_given (Err errno) is (Err (Refused errno)) (gives_not t Place new errno)
 
@@ -137,7 +137,7 @@ module _ (t : ℕ) (roots : Roots) (old new : KernelModel) (names : List Name) w
         → RunsPart (find_place roots names) old new t (Err call_error)
     find_fails call_error first = here (Err call_error) (part_fails t (find_place roots parent) old new (into name) call_error first)
 
-    -- it was found, and the name is looked up there
+    -- the place of the parent was found, and the name is looked up there
     pub finds_on : (mid : KernelModel) (above : Place) → RunsPart (find_place roots parent) old mid t (Ok above)
         → (result : Result Place CallError) → RunsPart (into name above) mid new t result
         → RunsPart (find_place roots names) old new t result
@@ -152,7 +152,7 @@ module _ (t : ℕ) (roots : Roots) (old new : KernelModel) (names : Path) where
   unfolding walk_to
   walk_fails call_error first = part_fails t (find_place roots names) old new (λ (place : Place). read_directory place) call_error first
 
-  -- it was found, and the directory is read
+  -- the place was found, and the directory is read
   pub walk_ends : (mid : KernelModel) (place : Place) → RunsPart (find_place roots names) old mid t (Ok place)
       → (result : Result Directory CallError) → RunsPart (read_directory place) mid new t result
       → RunsPart (walk_to roots names) old new t result
@@ -179,7 +179,7 @@ before_place t roots [] k first begins = begins roots.slash
 before_place t roots (name ∷ parent) k first begins =
     before_place t roots parent k (λ above. look_in above name (λ target. given (directory_at target) first)) (λ above. inl (same_kernel k))
 
--- and so before a walk
+-- memory ran out before a walk
 pub before_walk : (t : ℕ) (roots : Roots) (path : Path) (k : KernelModel) → RunsPart (walk_to roots path) k k t (Err Stopped)
 unfolding RunsPart walk_to read_directory
 before_walk t roots path k = λ rest. before_place t roots path k (λ place. read_directory place rest) (λ place. inl (same_kernel k))

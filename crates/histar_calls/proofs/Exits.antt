@@ -8,7 +8,7 @@ use Rattle.histar_calls.specs.declared.call_error.CallError.{CallError}
 use Rattle.histar_calls.specs.declared.call_error.Stopped.{Stopped}
 use Rattle.histar_calls.proofs.Running.{then_call, call_fails}
 
--- What is left of a program at a state of the kernel: whoever runs this has run the whole.
+-- What is left of a program at a state of the kernel: a run of it completes a run of the whole.
 pub record Leaves (t : ℕ) (whole : Program) (old : KernelModel) (rest : Program) (k : KernelModel) : Type 0 where
   pub leads : (new : KernelModel) (result : Result Reply Stopped) → Runs rest k new t result → Runs whole old new t result
 

@@ -36,17 +36,17 @@ module _ {B : Type 0} (t : ℕ) (roots : Roots) (old new : KernelModel) (part : 
   walked mid directory first result second = here result (then_part t (walk_to roots parent) old new within mid directory first result second)
 
 module _ {A B : Type 0} (t : ℕ) (k : KernelModel) (f : A → B) (decided : Result A Errno) where
-  -- what was decided is handed on
+  -- what was decided is passed on
   pub decides : (x : A) → Ok x ≡ decided → RunsPart {A = B} (λ rest. given decided (λ y. rest (f y))) k k t (Ok (f x))
   decides x is = subst (λ (d : Result A Errno). RunsPart {A = B} (λ rest. given d (λ y. rest (f y))) k k t (Ok (f x))) is (hands t k (f x))
 
-  -- or refuses the call
+  -- what was decided refuses the call
   pub decides_not : (errno : Errno) → Err errno ≡ decided → RunsPart {A = B} (λ rest. given decided (λ y. rest (f y))) k k t (Err (Refused errno))
   decides_not errno is =
       subst (λ (d : Result A Errno). RunsPart {A = B} (λ rest. given d (λ y. rest (f y))) k k t (Err (Refused errno)))
       is (refuses_at_once t B k errno)
 
--- A part that finds the place of the parent of a path, looks the last name up there, decides by what it leads to, and hands on what
+-- A part that finds the place of the parent of a path, looks the last name up there, decides by what it leads to, and passes on what
 -- it makes of that and of the place.
 module _ {A B : Type 0} (t : ℕ) (roots : Roots) (old new : KernelModel) (part : Path → Part B) (path : Path)
     (name : Name) (parent : Path) (split : path ≡ name ∷ parent)
@@ -84,7 +84,7 @@ module _ {A B : Type 0} (t : ℕ) (roots : Roots) (old new : KernelModel) (part 
           placed_here (Err call_error) (then_part t (find_place roots parent) old new in_place mid place first (Err call_error)
           (part_fails t (look_in place name) mid new (after_look place) call_error second))
 
-      -- it leads there
+      -- the name leads to this target
       pub led : (target : Option Target) → RunsPart (look_in place name) mid new t (Ok target)
           → (result : Result B CallError) → RunsPart (after_look place target) new new t result
           → RunsPart (part path) old new t result

@@ -7,7 +7,7 @@ use Rattle.histar_calls.specs.declared.call_error.CallError.{CallError}
 use Rattle.histar_calls.specs.Programs.{Part, RunsPart}
 use Rattle.histar_calls.specs.Parts.{ask}
 
--- an empty segment is made with the label that is due
+-- an empty segment is made with the expected label
 pub makes : (t : ℕ) (old new : KernelModel) (d : ℕ) (label due : Levels) (empty : List ℕ) → label ≡ due → empty ≡ [] → (result : Result ℕ CallError)
     → RunsPart {A = ℕ} (ask (MakeSegment d label empty)) old new t result → RunsPart {A = ℕ} (ask (MakeSegment d due [])) old new t result
 makes t old new d label due empty same none result runs =

@@ -22,7 +22,7 @@ use Rattle.histar_calls.specs.Mkdir.{add_directory, mkdir_program}
 use Rattle.histar_calls.proofs.Exits.{Leaves}
 use Rattle.histar_calls.proofs.Running.{before_ask, part_fails, then_part}
 
--- a container is made with the label that is due
+-- a container is made with the expected label
 pub makes_container : (t : ℕ) (old new : KernelModel) (d : ℕ) (label due : Levels) → label ≡ due → (result : Result ℕ CallError)
     → RunsPart {A = ℕ} (ask (MakeContainer d label)) old new t result → RunsPart {A = ℕ} (ask (MakeContainer d due)) old new t result
 makes_container t old new d label due same result runs =
@@ -39,7 +39,7 @@ module _ (t : ℕ) (label : Levels) (room : Room) (old new : KernelModel) where
   abbrev after_listing : ℕ → ℕ → Part (Unit {0})
   after_listing container listing = write_entries room.place (grown container listing)
 
-  -- and after the container
+  -- what comes after the container
   abbrev after_container : ℕ → Part (Unit {0})
   after_container container rest = ask (MakeSegment container label []) (λ listing. after_listing container listing rest)
 
@@ -50,7 +50,7 @@ module _ (t : ℕ) (label : Levels) (room : Room) (old new : KernelModel) where
   without_container call_error first = part_fails t (ask (MakeContainer room.place.container label)) old new after_container call_error first
 
   module _ (mid : KernelModel) (container : ℕ) (first : RunsPart (ask (MakeContainer room.place.container label)) old mid t (Ok container)) where
-    -- one was
+    -- a container was made
     with_container : (result : Result (Unit {0}) CallError) → RunsPart (after_container container) mid new t result
         → RunsPart (add_directory label room) old new t result
     with_container result second =
@@ -65,7 +65,7 @@ module _ (t : ℕ) (label : Levels) (room : Room) (old new : KernelModel) where
         with_container (Err call_error)
         (part_fails t (ask (MakeSegment container label [])) mid new (after_listing container) call_error second)
 
-    -- one was, and the entry is made, or not
+    -- a directory segment was made, and the entry is made, or not
     pub with_listing : (late : KernelModel) (listing : ℕ)
         → RunsPart (ask (MakeSegment container label [])) mid late t (Ok listing)
         → (result : Result (Unit {0}) CallError)
@@ -78,7 +78,7 @@ module _ (t : ℕ) (label : Levels) (room : Room) (old new : KernelModel) where
 pub before_adding : (t : ℕ) (label : Levels) (room : Room) (k : KernelModel) → RunsPart (add_directory label room) k k t (Err Stopped)
 before_adding t label room k = without_container t label room k k Stopped (before_ask t (MakeContainer room.place.container label) k)
 
--- a directory is added with the label that is due
+-- a directory is added with the expected label
 pub adds_so : (t : ℕ) (old new : KernelModel) (label due : Levels) (room : Room) → label ≡ due → (result : Result (Unit {0}) CallError)
     → RunsPart (add_directory label room) old new t result → RunsPart (add_directory due room) old new t result
 adds_so t old new label due room same result runs = subst (λ (l : Levels). RunsPart {A = Unit {0}} (add_directory l room) old new t result) same runs
@@ -88,11 +88,11 @@ module _ (accounts : Accounts) (roots : Roots) (path : Path) (mode : Mode) where
   abbrev pub after_label : Room → Levels × Levels → Program
   after_label room own = add_directory (label_made accounts own.0 mode) room (λ (done : Unit {0}). Answers Done)
 
-  -- and once there is room
+  -- what is still to do once there is room
   abbrev pub after_room : Room → Program
   after_room room = ask OwnLabel (after_label room)
 
-  -- at first all is left
+  -- at first the whole program is left
   pub begun : (t : ℕ) (old : KernelModel) → Leaves t (mkdir_program accounts roots path mode) old (find_room roots path after_room) old
   unfolding mkdir_program
   begun t old = record { leads = λ new result on. on }

@@ -38,7 +38,7 @@ module _ (t : ℕ) (label : Levels) (room : Room) (old new : KernelModel) where
       → RunsPart (add_file label room) old new t (Err call_error)
   without_segment call_error first = part_fails t (ask (MakeSegment room.place.container label [])) old new after_segment call_error first
 
-  -- one was, and the entry is made, or not
+  -- a segment was made, and the entry is made, or not
   pub with_segment : (mid : KernelModel) (file : ℕ)
       → RunsPart (ask (MakeSegment room.place.container label [])) old mid t (Ok file)
       → (result : Result (Unit {0}) CallError)
@@ -50,7 +50,7 @@ module _ (t : ℕ) (label : Levels) (room : Room) (old new : KernelModel) where
 pub before_adding : (t : ℕ) (label : Levels) (room : Room) (k : KernelModel) → RunsPart (add_file label room) k k t (Err Stopped)
 before_adding t label room k = without_segment t label room k k Stopped (before_ask t (MakeSegment room.place.container label []) k)
 
--- a file is added with the label that is due
+-- a file is added with the expected label
 pub adds_so : (t : ℕ) (old new : KernelModel) (label due : Levels) (room : Room) → label ≡ due → (result : Result (Unit {0}) CallError)
     → RunsPart (add_file label room) old new t result → RunsPart (add_file due room) old new t result
 adds_so t old new label due room same result runs = subst (λ (l : Levels). RunsPart {A = Unit {0}} (add_file l room) old new t result) same runs
@@ -60,11 +60,11 @@ module _ (accounts : Accounts) (roots : Roots) (path : Path) (mode : Mode) where
   abbrev pub after_label : Room → Levels × Levels → Program
   after_label room own = add_file (label_made accounts own.0 mode) room (λ (done : Unit {0}). Answers Done)
 
-  -- and once there is room
+  -- what is still to do once there is room
   abbrev pub after_room : Room → Program
   after_room room = ask OwnLabel (after_label room)
 
-  -- at first all is left
+  -- at first the whole program is left
   pub begun : (t : ℕ) (old : KernelModel) → Leaves t (create_program accounts roots path mode) old (find_room roots path after_room) old
   unfolding create_program
   begun t old = record { leads = λ new result on. on }

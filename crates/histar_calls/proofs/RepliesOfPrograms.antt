@@ -74,7 +74,7 @@ denial_of_call_has_reply (Write container segment keep bytes) d = denial_of_writ
 denial_of_call_has_reply (Unlink container object) d = denial_has_reply d
 denial_of_call_has_reply (LabelOf container object) d = denial_has_reply d
 
--- a raw call that is asked, where what follows its answer replies to its refusals
+-- a raw call replies to its refusals if what follows its answer does
 pub ask_replies : (call : RawCall) (rest : AnswerOf call → Program)
     → ((answer : AnswerOf call) → RepliesToRefusals (rest answer)) → RepliesToRefusals (ask call rest)
 ask_replies call rest obeys = (obeys, denial_of_call_has_reply call)
@@ -100,7 +100,7 @@ into_replies None rest obeys = (refl, refl)
 into_replies (Some (targets.File file)) rest obeys = (refl, refl)
 into_replies (Some (targets.Directory container listing)) rest obeys = obeys (record { container = container; listing = listing })
 
--- and so does the search for the place of a directory
+-- the search for the place of a directory replies to its refusals
 pub place_replies : (roots : Roots) (path : Path) (rest : Place → Program)
     → ((place : Place) → RepliesToRefusals (rest place)) → RepliesToRefusals (find_place roots path rest)
 unfolding find_place
@@ -114,7 +114,7 @@ pub walk_replies : (roots : Roots) (path : Path) (rest : Directory → Program)
 unfolding walk_to
 walk_replies roots path rest obeys = place_replies roots path _ (λ place. read_replies place rest obeys)
 
--- and so does the search for a file
+-- the search for a file replies to its refusals
 pub file_replies : (roots : Roots) (path : Path) (rest : FoundFile → Program)
     → ((file : FoundFile) → RepliesToRefusals (rest file)) → RepliesToRefusals (find_file roots path rest)
 unfolding find_file
@@ -128,7 +128,7 @@ file_replies roots (name ∷ parent) rest obeys = place_replies roots parent _ (
     by place (Some (targets.File file)) = obeys (record { container = place.container; segment = file })
     by place (Some (targets.Directory container listing)) = (refl, refl)
 
--- and for room
+-- the search for room replies to its refusals
 pub room_replies : (roots : Roots) (path : Path) (rest : Room → Program)
     → ((room : Room) → RepliesToRefusals (rest room)) → RepliesToRefusals (find_room roots path rest)
 unfolding find_room
@@ -144,7 +144,7 @@ room_replies roots (name ∷ parent) rest obeys =
     by directory None true = (refl, refl)
     by directory None false = obeys (record { place = directory.place; entries = directory.entries; name = name })
 
--- and for an object
+-- the search for an object replies to its refusals
 object_replies : (roots : Roots) (path : Path) (rest : FoundObject → Program)
     → ((object : FoundObject) → RepliesToRefusals (rest object)) → RepliesToRefusals (find_object roots path rest)
 unfolding find_object
@@ -160,7 +160,7 @@ object_replies roots (name ∷ parent) rest obeys = place_replies roots parent _
     by place None = (refl, refl)
     by place (Some target) = obeys (record { container = place.container; object = object_of target; is_directory = is_directory target })
 
--- what is denial_has_reply of a class is no refusal
+-- the reply that shows a class is no refusal
 class_replies : (is_directory : Bool) (class : Option ShownClass) → RepliesToRefusals (class_reply is_directory class)
 class_replies is_directory None = tt
 class_replies is_directory (Some class) = (refl, refl)

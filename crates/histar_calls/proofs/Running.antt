@@ -24,7 +24,7 @@ module _ (t : ℕ) where
   pub here : (p : Program) (k : KernelModel) → LeadsTo p k p k t
   here p k = record { completes = λ new reply c. c; begins = λ new b. b }
 
-  -- and on from where it leads
+  -- where one program leads to a second, and that to a third, the first leads to the third
   pub onward : {a b c : Program} {k l m : KernelModel} → LeadsTo a k b l t → LeadsTo b l c m t → LeadsTo a k c m t
   onward first second = record {
     completes = λ new reply c. first.completes new reply (second.completes new reply c);
@@ -39,7 +39,7 @@ module _ (t : ℕ) where
     begins = λ new b. inr (mid, outcome, is, b);
   }
 
-  -- bytes lead to what comes after the directory that they are
+  -- a program that reads bytes leads to what comes after the directory that they spell
   listed : (bytes : List ℕ) (next : Option Entries → Program) (k : KernelModel) (found : Option Entries)
       → IsListed bytes found → LeadsTo (Lists bytes next) k (next found) k t
   listed bytes next k found is = record {
@@ -85,7 +85,7 @@ module _ (t : ℕ) where
   unfolding RunsPart
   before_ask call k = λ rest. inl (same_kernel k)
 
-  -- bytes are a directory, or are none, or memory ran out before that was known
+  -- bytes spell a directory, or spell none, or memory ran out before that was known
   pub lists : (bytes : List ℕ) (k : KernelModel) (dir : Entries) → IsDirectory bytes dir → RunsPart (list bytes) k k t (Ok dir)
   unfolding RunsPart
   lists bytes k dir is = λ rest. listed bytes (if_there rest) k (Some dir) is
@@ -94,7 +94,7 @@ module _ (t : ℕ) where
   unfolding RunsPart
   lists_none bytes k none = λ rest. (listed bytes (if_there rest) k None none).begins k (same_kernel k)
 
-  -- what was decided is handed on, or refuses the call
+  -- what was decided is passed on, or refuses the call
   pub gives : {A : Type 0} (k : KernelModel) (x : A) → RunsPart (given (Ok x)) k k t (Ok x)
   unfolding RunsPart
   gives k x = λ rest. here (rest x) k
@@ -103,7 +103,7 @@ module _ (t : ℕ) where
   unfolding RunsPart
   gives_not A k errno = λ rest. here (Answers (replies.Refused errno)) k
 
-  -- a part that hands this on, or refuses the call, with no raw call
+  -- a part that passes its result on, or refuses the call, with no raw call
   pub hands : {A : Type 0} (k : KernelModel) (x : A) → RunsPart {A = A} (λ rest. rest x) k k t (Ok x)
   unfolding RunsPart
   hands k x = λ rest. here (rest x) k
@@ -114,14 +114,14 @@ module _ (t : ℕ) where
   refuses_at_once A k errno = λ rest. here (Answers (replies.Refused errno)) k
 
   module _ {A : Type 0} (part : Part A) (old new : KernelModel) where
-    -- an error that came by `?`
+    -- an error that `?` passed on
     pub fails_so : (call_error : CallError) (result : Result A CallError) → IsErrAnd result (λ e. e ≡ call_error)
         → RunsPart part old new t (Err call_error) → RunsPart part old new t result
     fails_so call_error result gave fails =
         let error = err_from_is_err_and result gave in
         subst (RunsPart part old new t) (sym (error.1 ∙ ap Err error.2)) fails
 
-    -- a part that is another
+    -- a part that equals another
     pub part_as : (other : Part A) → part ≡ other → (result : Result A CallError) → RunsPart other old new t result → RunsPart part old new t result
     part_as other same result runs = subst (λ (p : Part A). RunsPart p old new t result) (sym same) runs
 
@@ -158,7 +158,7 @@ module _ (t : ℕ) where
   unfolding Runs
   says k reply = (same_kernel k, refl)
 
-  -- an error of a whole call that came by `?`
+  -- an error of a whole call that `?` passed on
   pub call_fails_so : (p : Program) (old new : KernelModel) (call_error : CallError) (result : Result Reply CallError)
       → IsErrAnd result (λ e. e ≡ call_error) → Runs p old new t (settled (Err call_error))
       → Runs p old new t (settled result)
@@ -166,11 +166,11 @@ module _ (t : ℕ) where
       let error = err_from_is_err_and result gave in
       subst (λ (r : Result Reply CallError). Runs p old new t (settled r)) (sym (error.1 ∙ ap Err error.2)) fails
 
-  -- a call whose program is another
+  -- a call whose program equals another
   pub runs_as : (a b : Program) (old new : KernelModel) (result : Result Reply Stopped) → a ≡ b → Runs b old new t result → Runs a old new t result
   runs_as a b old new result same runs = subst (λ (p : Program). Runs p old new t result) (sym same) runs
 
-  -- the reply that a call has left is the one that it gives
+  -- the reply that a call has left is the expected one
   pub replies_so : (k : KernelModel) (due reply : Reply) → reply ≡ due → Runs (Answers due) k k t (Ok reply)
   unfolding Runs
   replies_so k due reply is = (same_kernel k, is)

@@ -9,7 +9,7 @@ use Rattle.histar_calls.specs.Programs.{Program}
 use Rattle.histar_calls.specs.Programs.Program.{Answers}
 use Rattle.histar_calls.specs.Parts.{◌>>=◌, ◌>>◌, ask, find_file}
 
--- the file of the path is found, and the bytes are put behind all that its segment holds
+-- the file of the path is found, and the bytes are appended to all that its segment holds
 unfoldable pub append_program : Roots → Path → List ℕ → Program
 append_program roots path bytes = do
   file ← find_file roots path

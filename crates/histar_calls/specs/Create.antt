@@ -22,7 +22,7 @@ add_file label room rest = do
   write_entries room.place (map.insert room.entries room.name (File file))
   rest tt
 
--- Room for the entry is found. The thread asks for its own label, and adds a file with the label of what it makes in this mode.
+-- Room for the entry is found. The thread asks for its own label, and adds a file with the label that this mode gives to new objects.
 unfoldable pub create_program : Accounts → Roots → Path → Mode → Program
 create_program accounts roots path mode = do
   room ← find_room roots path

@@ -1,4 +1,4 @@
--- What the kernel's refusals come to in a program.
+-- The replies to which the kernel's refusals lead in a program.
 use Rattle.std.specs.Prelude.{◌≡◌, ℕ, true, false, Option, Some, Ok, Err, List}
 use Rattle.histar_flat.specs.Words.{Path}
 use Rattle.histar_flat.specs.declared.calls.Mode.{Mode}
@@ -20,8 +20,8 @@ use Rattle.histar_calls.specs.Mkdir.{mkdir_program}
 use Rattle.histar_calls.specs.ListCall.{list_program}
 use Rattle.histar_calls.specs.StatCall.{stat_program}
 
--- After this denial a program replies EACCES exactly where it was by label and EPERM exactly where it was by range; before its reply it
--- only gives the thread labels, and stops where it may not.
+-- After this denial the program's reply is EACCES exactly if it was by label, EPERM exactly if it was by range; until then it only gives
+-- the thread labels, and stops where that is denied.
 abbrev pub RepliesToDenial : Denied → Program → Type 0
 RepliesToDenial denied (Answers reply) =
     (is_label_refusal (Some denied) ≡ is_no_access reply) × (is_range_refusal (Some denied) ≡ is_no_permission reply)
@@ -30,7 +30,7 @@ RepliesToDenial denied (Asks call next) =
 RepliesToDenial denied (Lists bytes next) = ⊥
 RepliesToDenial denied Stops = Unit {0}
 
--- A program replies to its refusals: after a denial it has the reply of that denial, and where none came its reply is neither EACCES nor EPERM.
+-- A program replies to its refusals: after a denial it gives that denial's reply, and without one its reply is neither EACCES nor EPERM.
 abbrev pub RepliesToRefusals : Program → Type 0
 RepliesToRefusals (Answers reply) = (is_no_access reply ≡ false) × (is_no_permission reply ≡ false)
 RepliesToRefusals (Asks call next) =

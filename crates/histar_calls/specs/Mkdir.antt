@@ -15,7 +15,7 @@ use Rattle.histar_calls.specs.Programs.{Part, Program}
 use Rattle.histar_calls.specs.Programs.Program.{Answers}
 use Rattle.histar_calls.specs.Parts.{◌>>=◌, ◌>>◌, ask, find_room, write_entries}
 
--- A container is made with this label, an empty directory segment with it in the container, and the directory is written with the new entry.
+-- A container and in it a directory segment are made with this label, and the directory is written with the new entry.
 abbrev pub add_directory : Levels → Room → Part (Unit {0})
 add_directory label room rest = do
   container ← ask (MakeContainer room.place.container label)
@@ -23,7 +23,7 @@ add_directory label room rest = do
   write_entries room.place (map.insert room.entries room.name (Directory container listing))
   rest tt
 
--- Room for the entry is found. The thread asks for its own label, and adds a directory with the label of what it makes in this mode.
+-- Room for the entry is found. The thread asks for its own label, and adds a directory with the label that this mode gives to new objects.
 unfoldable pub mkdir_program : Accounts → Roots → Path → Mode → Program
 mkdir_program accounts roots path mode = do
   room ← find_room roots path

@@ -22,12 +22,12 @@ use Rattle.histar_calls.specs.Refusals.{errno_for}
 use Rattle.histar_calls.specs.Programs.{AnswerOf, Program, Part}
 use Rattle.histar_calls.specs.Programs.Program.{Answers, Asks, Lists, Stops}
 
--- a part, and then what follows it
+-- a part, and then the program that goes on with its result
 infixr 10 ◌>>=◌
 abbrev pub ◌>>=◌ : {A : Type 0} → Part A → (A → Program) → Program
 part >>= rest = part rest
 
--- a part that hands nothing on, and then what follows it
+-- a part without a result, and then the program that goes on
 infixr 10 ◌>>◌
 abbrev pub ◌>>◌ : Part (Unit {0}) → Program → Program
 part >> rest = part (λ _. rest)
@@ -46,16 +46,16 @@ or_refused errno rest (Err denied) = refused_with (errno denied)
 abbrev pub ask : (call : RawCall) → Part (AnswerOf call)
 ask call rest = Asks call (or_refused (errno_for call) rest)
 
--- goes on with what is there
+-- goes on with what was found; without it, the program stops
 abbrev pub if_there : {A : Type 0} → (A → Program) → Option A → Program
 if_there rest None = Stops
 if_there rest (Some found) = rest found
 
--- the bytes are a directory
+-- the entries of the directory that these bytes spell; where they spell none, the program stops
 abbrev pub list : List ℕ → Part Entries
 list bytes rest = Lists bytes (if_there rest)
 
--- what was decided with no raw call: go on with it, or the call is refused
+-- what was decided with no raw call: the program goes on with it, or the call is refused
 abbrev pub given : {A : Type 0} → Result A Errno → Part A
 given (Ok found) rest = rest found
 given (Err errno) rest = Answers (Refused errno)
@@ -73,18 +73,18 @@ directory_at None = Err ENOENT
 directory_at (Some (File file)) = Err ENOTDIR
 directory_at (Some (DirectoryAt container listing)) = Ok (record { container = container; listing = listing })
 
--- or a file
+-- what a name leads to must be a file
 abbrev pub file_at : Option Target → Result ℕ Errno
 file_at None = Err ENOENT
 file_at (Some (File file)) = Ok file
 file_at (Some (DirectoryAt container listing)) = Err EISDIR
 
--- or to either
+-- what a name leads to must be there
 abbrev pub entry_at : Option Target → Result Target Errno
 entry_at None = Err ENOENT
 entry_at (Some target) = Ok target
 
--- or nothing, and there must be room for an entry
+-- a name must lead nowhere, and the directory must have room for an entry
 abbrev pub room_at : Option Target → Bool → Result (Unit {0}) Errno
 room_at (Some target) full = Err EEXIST
 room_at None true = Err ENOSPC
@@ -124,7 +124,7 @@ find_file roots (name ∷ parent) rest = do
   segment ← given (file_at target)
   rest (record { container = place.container; segment = segment })
 
--- the place of a new entry: `/` stands already; else the walk is made, and the directory must have room for the last name
+-- the place of a new entry: `/` is there already; else the walk is made, and the directory must have room for the last name
 unfoldable pub find_room : Roots → Path → Part Room
 find_room roots [] rest = Answers (Refused EEXIST)
 find_room roots (name ∷ parent) rest = do

@@ -1,4 +1,4 @@
--- What a refusal of the kernel makes of a call: an errno, or the end of the call without a reply.
+-- What a refusal of the kernel means for a call: an errno, or the end of the call without a reply.
 use Rattle.std.specs.Prelude.{Option, None, Some, Result, Ok, Err}
 use Rattle.histar_flat.specs.declared.replies.Errno.{Errno}
 use Rattle.histar_flat.specs.declared.replies.Errno.TheVariants.{EACCES, EPERM, EFBIG}
@@ -15,7 +15,7 @@ use Rattle.histar_calls.specs.declared.call_error.CallError.{CallError}
 use Rattle.histar_calls.specs.declared.call_error.CallError.TheVariants.{Refused, Stopped as HasStopped}
 use Rattle.histar_calls.specs.declared.call_error.Stopped.{Stopped}
 
--- the errno of a denial: EACCES where labels forbid it, EPERM where a label lies outside its range
+-- the errno of a denial: EACCES where labels forbid it, EPERM where a label is outside its range
 abbrev pub errno_of : Denied → Option Errno
 errno_of Observe = Some EACCES
 errno_of Modify = Some EACCES
@@ -66,7 +66,7 @@ abbrev pub or_call_error : {A : Type 0} → (Denied → Option Errno) → Result
 or_call_error errno (Ok answer) = Ok answer
 or_call_error errno (Err refusal) = Err (call_error_of errno refusal)
 
--- what a call replies that ended so
+-- the reply of a call that ended in this way
 abbrev pub settled : Result Reply CallError → Result Reply Stopped
 settled (Ok reply) = Ok reply
 settled (Err (Refused errno)) = Ok (replies.Refused errno)

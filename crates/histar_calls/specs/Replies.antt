@@ -1,4 +1,4 @@
--- How EACCES and EPERM stand to the kernel's refusals.
+-- How EACCES and EPERM correspond to the kernel's refusals.
 use Rattle.std.specs.Prelude.{◌≡◌, ℕ, Bool, true, false, List, [], ◌∷◌, None, Some}
 use Rattle.std.specs.List.{AllByRecursion}
 use Rattle.histar_flat.specs.declared.replies.Errno.{Errno}
@@ -35,16 +35,16 @@ sets_labels (raw.SetLabel label) = true
 sets_labels (raw.SetClearance clearance) = true
 sets_labels _ = false
 
--- an entry of such a call, which was granted
+-- a granted entry of a call that gives the thread a label or a clearance
 abbrev pub IsRestoring : TraceEntry → Type 0
 IsRestoring e = (e.denied ≡ None) × (sets_labels e.call ≡ true)
 
--- at most one entry was refused, and only such entries come after it
+-- at most one entry was refused, and only granted ones that give labels come after it
 abbrev pub IsRefusedOnce : List TraceEntry → Type 0
 IsRefusedOnce [] = Unit {0}
 IsRefusedOnce (e ∷ entries) = elim e.denied [ None ↦ IsRefusedOnce entries | Some denied ↦ AllByRecursion IsRestoring entries ]
 
--- The call was made of raw calls of this thread on the line that was begun, which are a run of the kernel. It replies EACCES
+-- The call was made of raw calls of this thread on the line that was begun, and they are a run of the kernel. It replies EACCES
 -- exactly where one of them was refused by label, and EPERM exactly where one was refused by range; at most one was refused, and
 -- after it the thread was only given labels.
 pub record Replies (old new : KernelModel) (thread : ℕ) (reply : Reply) : Type 0 where

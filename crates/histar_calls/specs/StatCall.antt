@@ -14,7 +14,7 @@ use Rattle.histar_calls.specs.Programs.{Program, Part}
 use Rattle.histar_calls.specs.Programs.Program.{Answers, Stops}
 use Rattle.histar_calls.specs.Parts.{◌>>=◌, ask, given, entry_at, find_place, look_in}
 
--- The object of what stands at a path, and the container that links it. `/` is linked by the root container; else the walk is made,
+-- The object at a path, and the container that links it. `/` is linked by the root container; else the walk is made,
 -- and the last name must lead somewhere.
 unfoldable pub find_object : Roots → Path → Part FoundObject
 find_object roots [] rest = rest (record { container = root_number; object = roots.slash.container; is_directory = true })
@@ -24,12 +24,12 @@ find_object roots (name ∷ parent) rest = do
   target ← given (entry_at found)
   rest (record { container = place.container; object = object_of target; is_directory = is_directory target })
 
--- the reply to a `stat` of what is of a class; of a label that is of no class there is none
+-- the reply to a `stat` of an object of this class; for a label that is of no class there is none
 abbrev pub class_reply : Bool → Option ShownClass → Program
 class_reply is_directory None = Stops
 class_reply is_directory (Some class) = Answers (Stats (stat_of class is_directory))
 
--- the object is found, and its label is asked for, which shows the class
+-- the object is found, and its label is asked for, which determines the class
 unfoldable pub stat_program : Accounts → Roots → Path → Program
 stat_program accounts roots path = do
   object ← find_object roots path

@@ -8,7 +8,7 @@ use Rattle.histar_calls.specs.Programs.{Program}
 use Rattle.histar_calls.specs.Programs.Program.{Answers}
 use Rattle.histar_calls.specs.Parts.{◌>>=◌, ◌>>◌, ask, find_file}
 
--- the file of the path is found, and the bytes are put in the place of what its segment holds
+-- the file of the path is found, and the bytes replace what its segment holds
 unfoldable pub write_program : Roots → Path → List ℕ → Program
 write_program roots path bytes = do
   file ← find_file roots path

@@ -13,11 +13,11 @@ use histar_object::ObjId;
 use histar_syscall::Kernel;
 use std::alloc::Global;
 
-/// The most bytes that a file holds, so that a write which keeps so many keeps them all.
+/// The greatest number of bytes in a file: a write that keeps this many keeps all of them.
 const MOST_BYTES: u32 = 4096;
 
-/// Puts bytes behind what a file holds. EISDIR for `/` and for a directory, ENOENT where nothing stands
-/// there, ENOTDIR where a file stands on the way, EACCES where the kernel doesn't let the thread observe
+/// Appends bytes to a file. EISDIR for `/` and for a directory, ENOENT where nothing is at the path,
+/// ENOTDIR where a file lies on the way, EACCES where the kernel doesn't let the thread observe
 /// a directory on the way or modify the file, EFBIG where it would hold more than 4,096 bytes.
 pub fn append<S: LabelStore + Drop>(
     alloc: Global,

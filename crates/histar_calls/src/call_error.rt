@@ -7,9 +7,9 @@ use histar_layout::NotAStatus;
 use histar_syscall::{Denied, Refusal};
 use std::alloc::{AllocError, AllocFailed};
 
-/// A call ends without a reply: memory ran out, the kernel denied what no errno tells, or a segment
-/// that should hold a directory, or tell of a process, does not. The machine makes no more calls then. On a machine that
-/// represents a flat state only memory and a counter at its greatest value end a call so.
+/// A call ends without a reply: memory ran out, the kernel denied what has no errno, or a segment doesn't
+/// spell the directory or the process status that it should. The machine makes no more calls then. On a
+/// machine that represents a flat state, only lack of memory and a counter at its greatest value do this.
 #[derive(Clone, Copy, Debug, PartialEq, Eq)]
 pub struct Stopped;
 
@@ -72,7 +72,7 @@ impl From<AllocError> for CallError {
     }
 }
 
-/// A process segment whose bytes tell nothing. No such segment is on a machine that represents a flat state.
+/// The bytes of a process segment are no status. A machine that represents a flat state has no such segment.
 impl From<NotAStatus> for CallError {
     ghost use Rattle.std.specs.Prelude.{◌≡◌};
     ghost use Rattle.histar_calls.specs.declared.call_error.CallError.TheVariants.{Stopped};
@@ -95,8 +95,8 @@ impl<T: Drop> From<AllocFailed<T>> for CallError {
     }
 }
 
-/// What a write was answered, or how its refusal ends the call: EFBIG where a segment would have more
-/// bytes than it may.
+/// Returns the answer of a write, or how its refusal ends the call: EFBIG where the segment would have
+/// more bytes than it may.
 pub fn written(answer: Result<(), Refusal>) -> Result<(), CallError>
     ensures { result ≡ or_call_error write_errno_of answer }
 {
@@ -107,7 +107,7 @@ pub fn written(answer: Result<(), Refusal>) -> Result<(), CallError>
     }
 }
 
-/// What a call replies that ended so.
+/// Returns the reply of a call that ended in this way.
 pub fn settle(ended: Result<Reply, CallError>) -> Result<Reply, Stopped>
     ensures { result ≡ settled ended }
 {
@@ -118,7 +118,7 @@ pub fn settle(ended: Result<Reply, CallError>) -> Result<Reply, Stopped>
     }
 }
 
-/// With an errno a call is refused, and without one it stops.
+/// Returns how a denial with this errno ends a call: the call is refused, or stops if there is no errno.
 fn call_error_with(errno: Option<Errno>) -> CallError
     ensures { result ≡ call_error_with errno }
 {
@@ -128,7 +128,7 @@ fn call_error_with(errno: Option<Errno>) -> CallError
     }
 }
 
-/// The errno of a denial of a raw call other than a write, if it has one.
+/// Returns the errno of a denial of a raw call other than a write, if it has one.
 fn errno_of(denied: Denied) -> Option<Errno>
     ensures { result ≡ errno_of denied }
 {

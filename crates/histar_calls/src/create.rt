@@ -19,9 +19,9 @@ use histar_syscall::Kernel;
 use std::alloc::Global;
 
 /// Makes an empty file. EEXIST where the path is `/`, ENOENT or ENOTDIR where the way to it breaks off,
-/// EEXIST where something stands there, ENOSPC at 64 entries, EACCES where the kernel doesn't let the
+/// EEXIST where something is there already, ENOSPC at 64 entries, EACCES where the kernel doesn't let the
 /// thread observe a directory on the way or modify the last one, EPERM where it doesn't let it make a
-/// file of this mode, as for a group that the process's user is no member of.
+/// file of this mode, for example for a group whose member the process's user isn't.
 pub fn create<S: LabelStore + Drop>(
     alloc: Global,
     kernel: &mut Kernel<S>,
@@ -40,7 +40,7 @@ pub fn create<S: LabelStore + Drop>(
     Ok(Reply::Done)
 }
 
-/// Makes an empty segment with this label, and the entry.
+/// Makes an empty segment with this label, and writes the entry.
 fn add_file<S: LabelStore + Drop>(
     alloc: Global,
     kernel: &mut Kernel<S>,

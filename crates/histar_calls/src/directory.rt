@@ -23,14 +23,14 @@ pub struct Directory {
 }
 
 impl Directory {
-    /// Where the entry of a name leads. ENOENT where nothing stands there.
+    /// Returns where the entry of a name leads. ENOENT where the directory has no such entry.
     pub fn entry_at(&self, name: &Name) -> Result<Target, Errno>
         ensures { result ≡ entry_at (target_named self.now name.now) }
     {
         entry_at(self.entries.get(name))
     }
 
-    /// Whether an entry of this name can be made. EEXIST where something stands there, ENOSPC at 64
+    /// Checks that an entry of this name can be added. EEXIST where the directory has one, ENOSPC at 64
     /// entries.
     pub fn room_at(&self, name: &Name) -> Result<(), Errno>
         ensures { result ≡ room_at (target_named self.now name.now) (map.len self.now.entries == most_entries) }
@@ -61,7 +61,7 @@ impl Directory {
     }
 }
 
-/// What a name leads to, a file or a directory. ENOENT where it leads nowhere.
+/// Returns what a name leads to, a file or a directory. ENOENT where it leads nowhere.
 pub fn entry_at(target: Option<Target>) -> Result<Target, Errno>
     ensures { result ≡ entry_at target }
 {
@@ -71,8 +71,8 @@ pub fn entry_at(target: Option<Target>) -> Result<Target, Errno>
     }
 }
 
-/// The place of the directory that a name leads to. ENOENT where it leads nowhere, ENOTDIR where it leads
-/// to a file.
+/// Returns the place of the directory that a name leads to. ENOENT where it leads nowhere, ENOTDIR where
+/// it leads to a file.
 fn directory_at(target: Option<Target>) -> Result<Place, Errno>
     ensures { result ≡ directory_at target }
 {
@@ -85,8 +85,8 @@ fn directory_at(target: Option<Target>) -> Result<Place, Errno>
     }
 }
 
-/// The segment of the file that a name leads to. ENOENT where it leads nowhere, EISDIR where it leads to a
-/// directory.
+/// Returns the segment of the file that a name leads to. ENOENT where it leads nowhere, EISDIR where it
+/// leads to a directory.
 pub fn file_at(target: Option<Target>) -> Result<ObjId, Errno>
     ensures { result ≡ file_at target }
 {
@@ -99,8 +99,8 @@ pub fn file_at(target: Option<Target>) -> Result<ObjId, Errno>
     }
 }
 
-/// Where a name leads in a directory, whose segment is read in place, as far as it must be: EACCES where the
-/// kernel doesn't let the thread observe it.
+/// Looks up where a name leads in a directory. Its segment is read in place, as far as needed. EACCES where
+/// the kernel doesn't let the thread observe it.
 pub fn look_in<S: LabelStore + Drop>(
     kernel: &mut Kernel<S>,
     thread: ObjId,
@@ -113,8 +113,8 @@ pub fn look_in<S: LabelStore + Drop>(
     Ok(look_up(bytes, name))
 }
 
-/// Writes the directory segment of a directory, with these entries: EACCES where the kernel doesn't let
-/// the thread modify it.
+/// Writes these entries into the segment of a directory: EACCES where the kernel doesn't let the thread
+/// modify it.
 pub fn write_entries<S: LabelStore + Drop>(
     alloc: Global,
     kernel: &mut Kernel<S>,
@@ -128,7 +128,7 @@ pub fn write_entries<S: LabelStore + Drop>(
     written(kernel.write(alloc, thread, place.container, place.listing, 0, bytes))
 }
 
-/// The place of the directory of these names, of which the last stands first. Each directory on the way
+/// Finds the place of the directory of these names, the last name first. Each directory on the way
 /// to it is read in place. EACCES where one may not be observed, ENOENT where a name is not there, ENOTDIR
 /// where it leads to a file.
 pub fn find_place<S: LabelStore + Drop>(
@@ -148,8 +148,8 @@ pub fn find_place<S: LabelStore + Drop>(
     Ok(place)
 }
 
-/// Reads the directory of these names, of which the last stands first. It is refused where its place can't
-/// be found, and with EACCES where it may not be observed itself.
+/// Reads the directory of these names, the last name first. It is refused where its place can't be found,
+/// and with EACCES where the kernel doesn't let the thread observe the directory itself.
 pub fn walk<S: LabelStore + Drop>(
     alloc: Global,
     kernel: &mut Kernel<S>,

@@ -1,4 +1,4 @@
-//! What the calls on paths look for: a file, or room for a new entry.
+//! Finding a file, or room for a new entry, at a path.
 ghost use Rattle.std.specs.Prelude.{◌<◌, ◌==◌, IfOk};
 ghost use Rattle.std.specs.FinMap as map;
 ghost use Rattle.histar_flat.specs.FlatCalls.{most_entries};
@@ -24,7 +24,7 @@ pub struct FoundFile {
     pub segment: ObjId,
 }
 
-/// A directory that has room for an entry of a name that it hasn't.
+/// A directory that has room for a new entry of this name.
 #[derive(Drop)]
 pub struct Room {
     pub place: Place,
@@ -32,8 +32,8 @@ pub struct Room {
     pub name: Name,
 }
 
-/// The file of a path: EISDIR where the path is `/` or leads to a directory, ENOENT where nothing
-/// stands there, and what refuses the walk.
+/// Finds the file of a path: EISDIR where the path is `/` or leads to a directory, ENOENT where nothing
+/// is there, and the errno of the walk where that is refused.
 pub fn find_file<S: LabelStore + Drop>(
     kernel: &mut Kernel<S>,
     roots: &Roots,
@@ -52,8 +52,8 @@ pub fn find_file<S: LabelStore + Drop>(
     Ok(FoundFile { container, segment })
 }
 
-/// The place of a new entry: EEXIST where the path is `/` or something stands there, ENOSPC at 64
-/// entries, and what refuses the walk.
+/// Finds the place of a new entry: EEXIST where the path is `/` or something is there, ENOSPC at 64
+/// entries, and the errno of the walk where that is refused.
 pub fn find_room<S: LabelStore + Drop>(
     alloc: Global,
     kernel: &mut Kernel<S>,

@@ -1,8 +1,8 @@
 //! The file calls of the Unix library, each made of raw calls that the kernel grants or refuses.
 //!
 //! Each call runs its program, of the same name in `specs/`: what it asks the kernel, one raw call after
-//! another, and what it replies. [`program_laws`] says what the kernel's refusals come to in every
-//! program.
+//! another, and what it replies. [`program_laws`] says to which replies the kernel's refusals lead in
+//! every program.
 #![tactic(auto)]
 
 pub mod append;

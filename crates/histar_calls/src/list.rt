@@ -13,8 +13,8 @@ use histar_object::ObjId;
 use histar_syscall::Kernel;
 use std::alloc::Global;
 
-/// The entries of a directory, by rising names. ENOENT where nothing stands there, ENOTDIR where a file
-/// stands there or on the way, EACCES where the kernel doesn't let the thread observe the directory or
+/// Lists the entries of a directory, by rising names. ENOENT where nothing is at the path, ENOTDIR where a
+/// file is there or on the way, EACCES where the kernel doesn't let the thread observe the directory or
 /// one on the way.
 pub fn list<S: LabelStore + Drop>(
     alloc: Global,

@@ -19,7 +19,7 @@ use histar_syscall::Kernel;
 use std::alloc::Global;
 
 /// Makes an empty directory: a container and in it its directory segment, which has the container's
-/// label. It is refused as `create` is.
+/// label. It is refused where `create` is.
 pub fn mkdir<S: LabelStore + Drop>(
     alloc: Global,
     kernel: &mut Kernel<S>,
@@ -38,7 +38,7 @@ pub fn mkdir<S: LabelStore + Drop>(
     Ok(Reply::Done)
 }
 
-/// Makes a container with this label, an empty directory segment with it in the container, and the entry.
+/// Makes a container with this label and, in it, an empty directory segment with this label; adds the entry.
 fn add_directory<S: LabelStore + Drop>(
     alloc: Global,
     kernel: &mut Kernel<S>,

@@ -12,8 +12,8 @@ use histar_object::ObjId;
 use histar_syscall::Kernel;
 use std::alloc::Global;
 
-/// The bytes of a file. EISDIR for `/` and for a directory, ENOENT where nothing stands there, ENOTDIR
-/// where a file stands on the way, EACCES where the kernel doesn't let the thread observe a directory
+/// Reads the bytes of a file. EISDIR for `/` and for a directory, ENOENT where nothing is at the path,
+/// ENOTDIR where a file lies on the way, EACCES where the kernel doesn't let the thread observe a directory
 /// on the way or the file.
 pub fn read<S: LabelStore + Drop>(
     alloc: Global,

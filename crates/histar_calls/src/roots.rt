@@ -1,4 +1,4 @@
-//! What boot left where.
+//! Where the objects that boot made are found.
 use histar_object::ObjId;
 
 /// Where a directory is found.
@@ -16,7 +16,7 @@ pub struct Home {
     /// Its container, which links its process segment, its internal container and the containers of its
     /// children.
     pub container: ObjId,
-    /// Its process segment, which tells how it is and lists its children.
+    /// Its process segment, which holds its status and lists its children.
     pub segment: ObjId,
 }
 

@@ -1,4 +1,4 @@
-//! Asking what stands at a path, whose it is and for whom.
+//! Asking what is at a path, whose it is and who may read and write it.
 ghost use Rattle.histar_calls.specs.Programs.{Runs, RunsPart};
 ghost use Rattle.histar_calls.specs.Refusals.{settled};
 ghost use Rattle.histar_calls.specs.StatCall.{find_object, stat_program};
@@ -25,8 +25,8 @@ pub struct FoundObject {
     pub is_directory: bool,
 }
 
-/// Kind, owner and mode of what stands at a path. What refuses the walk refuses it, and then ENOENT
-/// where nothing stands there.
+/// Returns kind, owner and mode of what is at a path. It is refused where the walk is, and with ENOENT
+/// where nothing is there.
 pub fn stat<S: LabelStore + Drop>(
     kernel: &mut Kernel<S>,
     roots: &Roots,
@@ -44,7 +44,7 @@ pub fn stat<S: LabelStore + Drop>(
     Ok(Reply::Stats(class.stat(found.is_directory)))
 }
 
-/// What stands at a path: ENOENT where nothing does, and what refuses the walk.
+/// Finds what is at a path: ENOENT where nothing is there, and the errno of the walk where that is refused.
 fn find_object<S: LabelStore + Drop>(
     kernel: &mut Kernel<S>,
     roots: &Roots,

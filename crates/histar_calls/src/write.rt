@@ -13,8 +13,8 @@ use histar_object::ObjId;
 use histar_syscall::Kernel;
 use std::alloc::Global;
 
-/// Puts bytes in the place of what a file holds. EISDIR for `/` and for a directory, ENOENT where
-/// nothing stands there, ENOTDIR where a file stands on the way, EACCES where the kernel doesn't let
+/// Replaces what a file holds by these bytes. EISDIR for `/` and for a directory, ENOENT where
+/// nothing is at the path, ENOTDIR where a file lies on the way, EACCES where the kernel doesn't let
 /// the thread observe a directory on the way or modify the file, EFBIG at more than 4,096 bytes.
 pub fn write<S: LabelStore + Drop>(
     alloc: Global,

@@ -57,7 +57,7 @@ module _ (job : ProcName) where
     pub verdict_is : (v : Verdict) → comparison job text ≡ Ok v → verdict script.accounts script.calls job ≡ v
     verdict_is v e = ok_inner (sym (ap (verdict_of job) is_read) ∙ e)
 
-    -- so the text has this explanation
+    -- the text has this explanation
     pub explained_as : (v : Verdict) (a b : List ℕ) → verdict script.accounts script.calls job ≡ v
         → a ≡ printed_of job script.accounts script.calls v → b ≡ printed_of job script.accounts (without job script.calls) v
         → explanation job text ≡ Ok (record { verdict = v; with_job = a; without_job = b })

@@ -16,7 +16,7 @@ use Rattle.histar_comparison.specs.Replies.{RepliesModel, with_reply, with_repli
 use Rattle.histar_comparison.specs.Observation.{KeepsReply, KeepsReplies}
 
 module _ (job : ProcName) where
-  -- a `wrap` alone is answered so
+  -- only a `wrap` has this reply
   start_is : (call : UnixCall) (reply : Reply) → is_start job (wrap_path call) reply ≡ is_wrap_reply job call reply
   start_is (Wrap q) Done = refl
   start_is (Wrap q) (Data bytes) = refl
@@ -59,7 +59,7 @@ module _ (job : ProcName) where
   once_wrapped directory q (Refused errno) = refl
   once_wrapped directory q Gone = refl
 
-  -- one of two equal ones is it
+  -- either of two equal directories is that directory
   either : (b : Bool) (directory : Option Path) → cond b directory directory ≡ directory
   either true directory = refl
   either false directory = refl
@@ -68,7 +68,7 @@ module _ (job : ProcName) where
   stays : (directory : Option Path) (reply : Reply) → directory_after job directory None directory reply ≡ directory
   stays directory reply = once_granted directory directory reply ∙ either (is_done reply) directory
 
-  -- so the directory is followed
+  -- the directory is followed
   directory_is : (directory : Option Path) (call : UnixCall) (reply : Reply)
       → directory_after job directory (wrap_path call) (once_done directory call) reply
       ≡ after_reply job directory call reply
@@ -79,7 +79,7 @@ module _ (job : ProcName) where
   directory_is directory (Wrap q) reply = once_wrapped directory q reply
   directory_is directory _ reply = stays directory reply
 
-  -- a reply that was followed and shown is kept
+  -- a reply is kept once the job's directory was followed and the reply was added
   pub reply_kept : (old mid new : RepliesModel) (a : RepliedCall) (wraps granted : Option Path)
       → wraps ≡ wrap_path a.call.call → granted ≡ once_done old.directory a.call.call
       → mid

@@ -18,7 +18,7 @@ abbrev pub one_job : Option ProcName → List ProcName
 one_job None = []
 one_job (Some job) = job ∷ []
 
--- the jobs of an answer and of those behind it
+-- the jobs of an answer and of those after it
 jobs_cons : (a : RepliedCall) (answers : List RepliedCall) (o : Option ProcName) → job_started (is_wrap a.call.call) a.reply ≡ o
     → jobs_started (a ∷ answers) ≡ one_job o ++ jobs_started answers
 jobs_cons a answers None e = rw e refl

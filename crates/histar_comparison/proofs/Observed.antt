@@ -29,11 +29,11 @@ lines_of_flat entries = sym (map_twice line_text flat_line entries)
 module _ (job : ProcName) (script : ScriptModel) (can : CanRun script) (start end : MachineModel)
     (starts : IsStart script.accounts start) (old new : RepliesModel)
     (kept : KeepsReplies job start end old new script.calls) where
-  -- the flat state at the end is shown
+  -- the machine at the end represents the flat state at the end
   shows : Shows script.accounts end (last_state script)
   shows = shows_end calls_refine script can.declared can.calls start starts end kept.answers kept.each kept.in_turn
 
-  -- so there is a tree
+  -- the machine has a tree
   pub has_tree : HasTree end
   has_tree = shown_tree script.accounts end (last_state script) shows
 
@@ -45,7 +45,7 @@ module _ (job : ProcName) (script : ScriptModel) (can : CanRun script) (start en
       with_replies job (empty i) (all_replies calls_refine script can.declared can.calls start starts end kept.answers kept.each
       kept.in_turn i))
 
-  -- and the lines are those of the tree
+  -- the lines that were kept are those of the tree
   pub tree_is : (lines : List PathText) → ShowsTree end lines → lines ≡ tree_lines (last_state script)
   tree_is lines revealed =
       revealed.2 ∙ map_twice line_text (line_at (state end.kernel)) revealed.0

@@ -1,4 +1,4 @@
--- What is found in what two runs show is their verdict.
+-- The verdict on two observed runs is that of their script.
 use Rattle.std.proofs.Common.{◌≡◌, ℕ, Bool, true, false, List, [], ◌∷◌, ◌++◌, map, cond, Result, Ok, Err, refl, sym, ap, ◌∙◌, append-nil}
 use Rattle.std.proofs.Common.{append_assoc}
 use Rattle.std.specs.Prelude.{◌||◌, not, filter}
@@ -35,11 +35,11 @@ left_pass P test (x ∷ xs) h = by (test x) (left_pass P test xs h.1)
     by true rest = (h.0, rest)
     by false rest = rest
 
--- the choice that a test makes
+-- a test that holds chooses the first verdict
 chosen : (b : Bool) (x y : Verdict) → b ≡ true → cond b x y ≡ x
 chosen b x y e = ap (λ (t : Bool). cond t x y) e
 
--- the other one
+-- a test that fails chooses the second verdict
 other : (b : Bool) (x y : Verdict) → b ≡ false → cond b x y ≡ y
 other b x y e = ap (λ (t : Bool). cond t x y) e
 
@@ -91,7 +91,7 @@ module _ (job : ProcName) where
   no_job : (script : ScriptModel) → (observation job script).replies.is_started ≡ false → verdict script.accounts script.calls job ≡ NoJob
   no_job script none = other (starts job (meaning script.accounts script.calls)) _ NoJob (starts_as script false none)
 
-  -- and else what is found is
+  -- if the replies don't differ, the verdict is that of the trees
   found : FindsFirstPath → (script : ScriptModel) → (observation job script).replies.is_started ≡ true
       → difference (observation job script) (observation job (without_job job script))
       ≡ verdict script.accounts script.calls job
@@ -115,11 +115,11 @@ module _ (job : ProcName) where
     compared : (v : Verdict) → verdict script.accounts script.calls job ≡ v → comparison job text ≡ Ok v
     compared v e = ap (verdict_of job) is_read ∙ ap (λ (x : Verdict). Ok x) e
 
-    -- where no `wrap` started the job
+    -- no `wrap` started the job
     pub compared_none : (seen : ObservationModel) → seen ≡ observation job script → seen.replies.is_started ≡ false → comparison job text ≡ Ok NoJob
     compared_none seen is none = compared NoJob (no_job script (sym (ap (λ (o : ObservationModel). o.replies.is_started) is) ∙ none))
 
-    -- where one did
+    -- a `wrap` started the job
     pub compared_found : FindsFirstPath → (first second : ObservationModel) → first ≡ observation job script
         → second ≡ observation job (without_job job script) → first.replies.is_started ≡ true
         → (v : Verdict) → v ≡ difference first second → comparison job text ≡ Ok v
@@ -127,7 +127,7 @@ module _ (job : ProcName) where
         compared v (sym (found_in ∙ (λ i. difference (is i) (are i))
         ∙ found finds script (sym (ap (λ (o : ObservationModel). o.replies.is_started) is) ∙ some)))
 
-  -- what is found in a quiet script is nothing
+  -- the verdict of a quiet script is that nothing differs
   pub quiet_is_same : IsolatesJobs → (text : List ℕ) (v : Verdict) → IsQuietScript job text → comparison job text ≡ Ok v → v ≡ Same
   quiet_is_same isolates text v quiet e =
       let same : Ok v ≡ Ok (verdict quiet.script.accounts quiet.script.calls job) = sym e ∙ ap (verdict_of job) quiet.is_read in

@@ -1,4 +1,4 @@
--- What is found where two runs are compared.
+-- The verdict of a comparison of two runs.
 use Rattle.std.specs.Prelude.{◌≡◌, ℕ, true, List, Result, Ok, Err}
 use Rattle.histar_flat.specs.Words.{ProcName}
 use Rattle.histar_flat.specs.Meaning.{meaning}
@@ -12,21 +12,21 @@ use Rattle.histar_noninterference.specs.Trees.{first_difference, is_below_either
 use Rattle.histar_noninterference.specs.Replies.{first_shown}
 use Rattle.histar_comparison.specs.Observation.{ObservationModel}
 
--- what is found in what two runs show
+-- the verdict on two observed runs
 abbrev pub difference : ObservationModel → ObservationModel → Verdict
 difference first second = line_verdict (first_shown first.replies.shown second.replies.shown)
     (tree_verdict (first_difference (is_below_either first.replies.directory second.replies.directory) first.tree second.tree))
 
--- the verdict of the script that a text is, or the fault in it
+-- the verdict of a script that was read, or the fault in it
 abbrev pub verdict_of : ProcName → Result ScriptModel Fault → Result Verdict Fault
 verdict_of job (Ok script) = Ok (verdict script.accounts script.calls job)
 verdict_of job (Err fault) = Err fault
 
--- what is found where the script that a text is is compared with the script without the lines of the job
+-- the verdict of a comparison of the script of a text with the script without the lines of the job
 abbrev pub comparison : ProcName → List ℕ → Result Verdict Fault
 comparison job text = verdict_of job (script_of text)
 
--- the text is a script in which a `wrap` starts the job, and whose caller has no later line that is a `rmdir` or a `wrap`
+-- the text is a script in which a `wrap` starts the job, and the caller of that `wrap` has no later line that is a `rmdir` or a `wrap`
 pub record IsQuietScript (job : ProcName) (text : List ℕ) : Type 0 where
   pub script : ScriptModel
   pub is_read : script_of text ≡ Ok script

@@ -28,14 +28,14 @@ abbrev pub line_at_path : Path → List PathText → List ℕ
 line_at_path q [] = []
 line_at_path q (line ∷ lines) = if same_path line.0 q then line.1 else line_at_path q lines
 
--- what a run of these calls prints of what a verdict names: an outsider's reply, or a line of the tree at the end
+-- what a run of these calls prints for a verdict: the reply to an outsider, or a line of the tree at the end
 abbrev pub printed_of : ProcName → Accounts → List CallLine → Verdict → List ℕ
 printed_of job accounts calls Same = []
 printed_of job accounts calls NoJob = []
 printed_of job accounts calls (Line n) = reply_on n (outsiders job (meaning accounts calls))
 printed_of job accounts calls (Tree q) = line_at_path q (tree_lines (flat_end accounts (boot accounts) calls))
 
--- the verdict of a script, with what each run prints of what it names
+-- the verdict of a script, with what each run prints for it
 abbrev pub explained : ProcName → ScriptModel → Explained
 explained job script = let found = verdict script.accounts script.calls job in record {
   verdict = found;
@@ -43,12 +43,12 @@ explained job script = let found = verdict script.accounts script.calls job in r
   without_job = printed_of job script.accounts (without job script.calls) found;
 }
 
--- the same of the script that a text is, or the fault in it
+-- the same for the script of a text, or the fault in it
 abbrev pub explanation_of : ProcName → Result ScriptModel Fault → Result Explained Fault
 explanation_of job (Ok script) = Ok (explained job script)
 explanation_of job (Err fault) = Err fault
 
--- what is found in a text, and printed where the runs differ
+-- the verdict of a text, with what is printed where the runs differ
 abbrev pub explanation : ProcName → List ℕ → Result Explained Fault
 explanation job text = explanation_of job (script_of text)
 
@@ -57,7 +57,7 @@ abbrev pub kept_on : ℕ → List ShownReply → List ℕ
 kept_on n [] = []
 kept_on n (reply ∷ replies) = if reply.line == n then reply.text else kept_on n replies
 
--- what was seen of what a verdict names
+-- what one run printed for a verdict
 abbrev pub seen_of : ObservationModel → Verdict → List ℕ
 seen_of seen Same = []
 seen_of seen NoJob = []
@@ -76,7 +76,7 @@ sides_text NoJob with_job without_job = []
 sides_text (Line n) with_job without_job = codes ": " ++ side_text with_job ++ codes " | " ++ side_text without_job
 sides_text (Tree q) with_job without_job = codes ": " ++ side_text with_job ++ codes " | " ++ side_text without_job
 
--- what is printed behind a verdict: both sides of a difference, if that is asked for
+-- what is printed after a verdict: both sides of a difference, if that is asked for
 abbrev pub asked_sides : Bool → Explained → List ℕ
 asked_sides true e = sides_text e.verdict e.with_job e.without_job
 asked_sides false e = []

@@ -24,7 +24,7 @@ abbrev pub is_wrap : UnixCall → Bool
 is_wrap (Wrap q) = true
 is_wrap call = false
 
--- the job that a reply starts, where its call wraps one: the reply is the name of the first process
+-- the job that a reply starts, if its call wraps one: the reply is the name of the first process
 abbrev pub job_started : Bool → Reply → Option ProcName
 job_started true (Child name) = Some name
 job_started wraps reply = None
@@ -41,7 +41,7 @@ job_verdict script job = record { job = job; found = explained job script }
 abbrev pub job_verdicts : ScriptModel → List JobVerdict
 job_verdicts script = map (job_verdict script) (jobs_started (meaning script.accounts script.calls))
 
--- the same of the script that a text is, or the fault in it
+-- the same for the script of a text, or the fault in it
 abbrev pub verdicts_of : Result ScriptModel Fault → Result (List JobVerdict) Fault
 verdicts_of (Ok script) = Ok (job_verdicts script)
 verdicts_of (Err fault) = Err fault
@@ -51,7 +51,7 @@ abbrev pub GivesVerdicts : Result (Vec JobVerdict) Fault → Result (List JobVer
 GivesVerdicts (Ok verdicts) found = Gives (Ok verdicts.items) found
 GivesVerdicts (Err fault) found = Gives {A = List JobVerdict} (Err fault) found
 
--- the machine answered this call line, and the job that it started, if it did, was kept
+-- the machine answered this call line, and the job that it started, if any, was kept
 pub record KeepsJob (before after : MachineModel) (old new : List ProcName) (call : CallLine) : Type 0 where
   pub reply : Reply
   pub answered : AnswersLine before after call.line call.process call.call (Ok reply)

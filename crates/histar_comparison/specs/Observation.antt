@@ -1,4 +1,4 @@
--- What is looked at of the run of a script.
+-- The parts of the run of a script that a comparison needs.
 use Rattle.std.specs.Prelude.{◌≡◌, List, map, Ok}
 use Rattle.std.specs.List.{AllByRecursion}
 use Rattle.histar_flat.specs.declared.calls.CallLine.{CallLine}
@@ -42,7 +42,7 @@ pub record ObservationModel : Type 0 where
   pub replies : RepliesModel
   pub tree : List PathText
 
--- what is looked at of the run of a script
+-- the parts of the run of a script that a comparison needs
 abbrev pub observation : ProcName → ScriptModel → ObservationModel
 observation job script =
     record {

@@ -23,7 +23,7 @@ pub record RepliesModel : Type 0 where
 abbrev pub no_replies : RepliesModel
 no_replies = record { is_started = false; shown = []; directory = None }
 
--- the reply to a line of a process, where it is an outsider
+-- the replies with one more to a line of a process, if it is an outsider
 abbrev pub shown_by : ProcName → List ShownReply → ℕ → ProcName → Reply → List ShownReply
 shown_by job shown line process reply = if is_outsider job process then shown ++ (record { line = line; text = reply_text reply }) ∷ [] else shown
 
@@ -40,12 +40,12 @@ abbrev pub with_replies : ProcName → RepliesModel → List RepliedCall → Rep
 with_replies job replies [] = replies
 with_replies job replies (a ∷ answers) = with_replies job (with_reply job replies a) answers
 
--- the directory that a call wraps a job in
+-- the directory in which a call wraps a job
 abbrev pub wrap_path : UnixCall → Option Path
 wrap_path (Wrap q) = Some q
 wrap_path call = None
 
--- where the job's directory is once a call is done: what is taken away and renamed alone matters
+-- where the job's directory is once a call is done: only removing and renaming matter
 abbrev pub once_done : Option Path → UnixCall → Option Path
 once_done directory (Unlink q) = left_without q directory
 once_done directory (Rmdir q) = left_without q directory
@@ -53,12 +53,12 @@ once_done directory (Rmtree q) = left_without q directory
 once_done directory (Rename q name) = option_map (moved q (name ∷ parent q)) directory
 once_done directory call = directory
 
--- a `wrap` in this directory was answered by the job's name
+-- the reply to a `wrap` in this directory was the job's name
 abbrev pub is_start : ProcName → Option Path → Reply → Bool
 is_start job (Some q) (Child name) = same job name
 is_start job wraps reply = false
 
--- where the job's directory is after a reply to a call, of which it is known where it wraps a job and where the directory is once it is done
+-- where the job's directory is after a reply, given where its call wraps a job and where the directory is once the call is done
 abbrev pub directory_after : ProcName → Option Path → Option Path → Option Path → Reply → Option Path
 directory_after job directory wraps granted Done = granted
 directory_after job directory wraps granted reply = if is_start job wraps reply then wraps else directory

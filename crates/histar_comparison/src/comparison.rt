@@ -12,18 +12,18 @@ use histar_script::{Fault, read_script};
 use std::alloc::Global;
 
 /// Runs a script twice, each time on a machine of its own: as it is, and without the lines of a job,
-/// which is named by its first process. It compares what outsiders are answered, and then the trees
+/// which is named by its first process. It compares the replies to outsiders, and then the trees
 /// after the last line, but for what lies below the job's directory. An outsider is any process that is
 /// neither in the job nor the one that started it.
 ///
-/// A script that `run` refuses is refused with the same fault; the faults of devices are never
-/// answered.
+/// A script that `run` refuses is refused with the same fault; no fault of a device is
+/// returned.
 pub fn compare(alloc: Global, text: &[u8], job: &ProcName) -> Result<Verdict, Fault>
-    // What the flat rules say of the two runs, unless memory runs out.
+    // The result that the flat rules give for the two runs, unless memory runs out.
     ensures exact { Gives result (comparison job.now text.now) }
-    // The length of the script is looked at first, and takes no memory.
+    // The length of the script is tested first, and takes no memory.
     ensures long { IsTrue (too_long text.now) → IsErrOf result Fault.TooLong }
-    // Where who started the job calls no `rmdir` and no `wrap` later, the job changes nothing that outsiders see.
+    // If the process that started the job calls no `rmdir` and no `wrap` later, outsiders see no change.
     ensures isolated { IsQuietScript job.now text.now → IfOk result (λ found. found ≡ Same) }
 {
     let script = read_script(alloc, text)?;
@@ -36,7 +36,7 @@ pub fn compare(alloc: Global, text: &[u8], job: &ProcName) -> Result<Verdict, Fa
     Ok(find_difference(&first, &second))
 }
 
-/// What is found in what two runs show.
+/// Returns the verdict on two observed runs.
 pub(crate) fn find_difference(first: &Observation, second: &Observation) -> Verdict
     ensures { result ≡ difference first.now second.now }
 {

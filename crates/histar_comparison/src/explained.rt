@@ -12,18 +12,18 @@ use histar_noninterference::{ShownReply, Verdict};
 use histar_script::{Fault, read_script};
 use std::alloc::{AllocError, Global};
 
-/// What is found where two runs are compared, with what each prints there.
+/// The verdict of a comparison of two runs, with what each prints there.
 #[derive(Drop)]
 pub struct Explained {
     pub verdict: Verdict,
-    /// What the run with the job prints where they differ: the reply, or the line of the tree. It is empty where the
-    /// runs don't differ, and where the path is in the other tree alone.
+    /// What the run with the job prints where they differ: the reply, or the line of the tree. It is empty if
+    /// the runs don't differ, and if the path is in the other tree alone.
     pub with_job: Bytes,
     /// What the run without the job prints there.
     pub without_job: Bytes,
 }
 
-/// Compares two runs of a script as `compare` does, and returns beside the verdict what each run prints where
+/// Compares two runs of a script as `compare` does, and returns with the verdict what each run prints where
 /// they differ.
 pub fn explain_comparison(alloc: Global, text: &[u8], job: &ProcName) -> Result<Explained, Fault>
     ensures exact { Gives result (explanation job.now text.now) }
@@ -48,7 +48,7 @@ pub fn explain_comparison(alloc: Global, text: &[u8], job: &ProcName) -> Result<
     })
 }
 
-/// Returns what was printed of what a verdict names.
+/// Returns what one run printed where a verdict says that two differ.
 fn printed(alloc: Global, seen: &Observation, verdict: &Verdict) -> Result<Bytes, AllocError>
     ensures { IfOk result (λ text. text ≡ seen_of seen.now verdict.now) }
 {
@@ -84,8 +84,8 @@ fn line_at<'a>(tree: &'a [(Path, Bytes)], path: &Path) -> &'a [u8]
 }
 
 impl Explained {
-    /// Returns the line of the verdict, with what each run prints where they differ if that is asked for, the run
-    /// with the job first.
+    /// Returns the line of the verdict, with what each run prints where they differ if that is asked for; the
+    /// run with the job comes first.
     pub fn line(&self, alloc: Global, why: bool) -> Result<Vec<u8>, AllocError>
         ensures { IfOk result (λ line. line.items ≡ found_text why self.now) }
     {

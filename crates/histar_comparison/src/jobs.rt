@@ -15,7 +15,7 @@ use histar_script::{Fault, Script, read_script};
 use histar_shell::{Machine, push_process};
 use std::alloc::{AllocError, Global};
 
-/// A job, by its first process, and what is found where it is left out.
+/// A job, by its first process, and the verdict on the script without it.
 #[derive(Drop)]
 pub struct JobVerdict {
     pub job: ProcName,
@@ -36,10 +36,10 @@ impl JobVerdict {
     }
 }
 
-/// Compares a script with the script without each job that it starts, one after another, as `compare` does. Each job
-/// costs two runs of the script.
+/// Compares a script with the script without each job that it starts, one after another, as `compare` does.
+/// Each job costs two runs of the script.
 pub fn compare_all(alloc: Global, text: &[u8]) -> Result<Vec<JobVerdict>, Fault>
-    // What the flat rules say of each job that the script starts, in the order in which they start.
+    // The verdict that the flat rules give for each job of the script, in the order in which they start.
     ensures exact { GivesVerdicts result (verdicts_of (script_of text.now)) }
     ensures long { IsTrue (too_long text.now) → IsErrOf result Fault.TooLong }
 {
@@ -63,7 +63,7 @@ fn jobs_of(alloc: Global, script: Script) -> Result<Vec<ProcName>, AllocError>
     Ok(jobs)
 }
 
-/// Has the machine do the calls in their order, and keeps the jobs that they start.
+/// Makes the calls on the machine in their order, and keeps the jobs that they start.
 fn make_calls<S: LabelStore + Drop>(
     alloc: Global,
     machine: &mut Machine<S>,
@@ -78,7 +78,7 @@ fn make_calls<S: LabelStore + Drop>(
     Ok(())
 }
 
-/// Has the machine do one call, and keeps the job that it starts.
+/// Makes one call on the machine, and keeps the job that it starts.
 fn make_call<S: LabelStore + Drop>(
     alloc: Global,
     machine: &mut Machine<S>,
@@ -109,7 +109,7 @@ fn is_wrap(call: &UnixCall) -> bool
     matches!(call, UnixCall::Wrap(_))
 }
 
-/// Returns the job that a reply starts, where its call wraps one.
+/// Returns the job that a reply starts, if its call wraps one.
 fn job_started(wraps: bool, reply: &Reply) -> Option<ProcName>
     ensures { result ≡ job_started wraps reply.now }
 {

@@ -1,4 +1,4 @@
-//! Running a script, and keeping what a comparison looks at.
+//! Running a script, and keeping what a comparison needs.
 ghost use Rattle.std.specs.Prelude.{◌≡◌, IfOk, OnOk};
 ghost use Rattle.histar_comparison.specs.Observation.{CanRun, KeepsReplies, KeepsReply, ShowsTree, observation};
 ghost use Rattle.histar_shell.specs.Ending.{HasTree};
@@ -12,7 +12,7 @@ use histar_shell::{Machine, node_text};
 use std::alloc::{AllocError, Global};
 use std::marker::Model;
 
-/// What a comparison looks at of the run of a script.
+/// The parts of the run of a script that a comparison needs.
 #[derive(Drop)]
 pub struct Observation {
     pub replies: Replies,
@@ -43,7 +43,7 @@ pub fn observe(alloc: Global, script: Script, job: &ProcName) -> Result<Observat
     Ok(Observation { replies, tree })
 }
 
-/// Has the machine do the calls in their order, and keeps the replies.
+/// Makes the calls on the machine in their order, and keeps the replies.
 fn observe_calls<S: LabelStore + Drop>(
     alloc: Global,
     machine: &mut Machine<S>,
@@ -59,7 +59,7 @@ fn observe_calls<S: LabelStore + Drop>(
     Ok(())
 }
 
-/// Has the machine do one call, and keeps the reply.
+/// Makes one call on the machine, and keeps the reply.
 fn observe_call<S: LabelStore + Drop>(
     alloc: Global,
     machine: &mut Machine<S>,
@@ -83,7 +83,7 @@ fn observe_call<S: LabelStore + Drop>(
     replies.show(alloc, job, line, &process, &reply)
 }
 
-/// The lines of the tree of a machine.
+/// Returns the lines of the tree of a machine.
 fn show_tree<S: LabelStore + Drop>(
     alloc: Global,
     machine: &Machine<S>,

@@ -16,11 +16,11 @@ use std::marker::Model;
 /// What is kept of the replies to a script while it runs.
 #[derive(Drop)]
 pub struct Replies {
-    /// Whether a `wrap` was answered by the job's name.
+    /// Whether the reply to a `wrap` was the job's name.
     is_started: bool,
     /// The replies to outsiders, in their order.
     shown: Vec<ShownReply>,
-    /// Where the job's directory is, once it was made and while it stands.
+    /// Where the job's directory is, from when it was made until it is removed.
     directory: Option<Path>,
 }
 
@@ -33,7 +33,7 @@ impl Model for Replies {
 }
 
 impl Replies {
-    /// Before the first line.
+    /// Returns what is kept before the first line: nothing.
     pub fn new(alloc: Global) -> Replies
         ensures { result ≡ no_replies }
     {
@@ -44,29 +44,29 @@ impl Replies {
         }
     }
 
-    /// Whether a `wrap` started the job.
+    /// Returns whether a `wrap` started the job.
     pub fn is_started(&self) -> bool
         ensures { result ≡ self.now.is_started }
     {
         self.is_started
     }
 
-    /// The replies to outsiders.
+    /// Lends the replies to outsiders.
     pub fn shown(&self) -> &[ShownReply]
         ensures { result.now ≡ self.now.shown }
     {
         self.shown.as_slice()
     }
 
-    /// Where the job's directory is.
+    /// Returns where the job's directory is.
     pub fn directory(&self) -> Option<Path>
         ensures { result ≡ self.now.directory }
     {
         self.directory
     }
 
-    /// Follows the job's directory over a reply to a call, of which it is known where it wraps a job and
-    /// where the directory is once it is done.
+    /// Follows the job's directory over a reply to a call: `wraps` is the path in which the call wraps a job,
+    /// and `done` is where the directory is once the call is done.
     pub fn follow(&mut self, job: &ProcName, wraps: Option<Path>, done: Option<Path>, reply: &Reply)
         ensures { self.new ≡ record {
           is_started = self.old.is_started || is_start job.now wraps reply.now;
@@ -84,7 +84,7 @@ impl Replies {
         }
     }
 
-    /// Keeps the reply to a line of a process, unless it is the job's or of who started it.
+    /// Keeps the reply to a line of a process, unless the process is in the job or started it.
     pub fn show(
         &mut self,
         alloc: Global,
@@ -104,14 +104,14 @@ impl Replies {
     }
 }
 
-/// Whether a process is not in the job, and is not the one that started it.
+/// Checks that a process is not in the job, and is not the one that started it.
 fn is_outsider(job: &ProcName, process: &ProcName) -> bool
     ensures { result ≡ is_outsider job.now process.now }
 {
     !process.is_at_or_below(job) && !is_parent(process, job)
 }
 
-/// The directory that a call wraps a job in.
+/// Returns the directory in which a call wraps a job.
 pub fn wrap_path(call: &UnixCall) -> Option<Path>
     ensures { result ≡ wrap_path call.now }
 {
@@ -121,7 +121,7 @@ pub fn wrap_path(call: &UnixCall) -> Option<Path>
     }
 }
 
-/// Where a job's directory is once a call is done.
+/// Returns where a job's directory is once a call is done.
 pub fn once_done(directory: Option<Path>, call: &UnixCall) -> Option<Path>
     ensures { result ≡ once_done directory call.now }
 {
@@ -134,7 +134,7 @@ pub fn once_done(directory: Option<Path>, call: &UnixCall) -> Option<Path>
     }
 }
 
-/// The directory, unless it goes with what is taken away at the path.
+/// Returns the directory, unless it is removed with what is at the path.
 fn left_without(path: &Path, directory: Option<Path>) -> Option<Path>
     ensures { result ≡ left_without path.now directory }
 {
@@ -144,7 +144,7 @@ fn left_without(path: &Path, directory: Option<Path>) -> Option<Path>
     }
 }
 
-/// The directory, where it leads once what stands at the path has a new name.
+/// Returns the directory once the entry at the path has a new name.
 fn renamed(directory: Option<Path>, path: &Path, name: Name) -> Option<Path>
     ensures { result ≡ option_map (moved path.now (name ∷ parent path.now)) directory }
 {
@@ -154,7 +154,7 @@ fn renamed(directory: Option<Path>, path: &Path, name: Name) -> Option<Path>
     }
 }
 
-/// Whether a process started the job.
+/// Checks whether a process started the job.
 fn is_parent(process: &ProcName, job: &ProcName) -> bool
     ensures { result ≡ same (parent job.now) process.now }
 {

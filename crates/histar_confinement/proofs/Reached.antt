@@ -1,4 +1,4 @@
--- What is visible at the end of a path is what is reached from the root through untainted objects alone.
+-- The objects visible at the ends of paths are those that are reached from the root through untainted objects alone.
 use Rattle.std.proofs.Common.{◌≡◌, ◌≢◌, ℕ, true, [], ◌∷◌, None, Some, refl, sym, ap, ◌∙◌, subst, if◌then◌else◌}
 use Rattle.std.specs.Prelude.{nat_lt}
 use Rattle.std.specs.FinSet as set
@@ -29,7 +29,7 @@ below_other L3 other = absurd (other refl)
 untainted_some : (v : ℕ) (f : Found) (o : Object Levels) → f ≡ Some o → level_of o.label v ≢ L3 → untainted v f ≡ Some o
 untainted_some v f o is below = ap (untainted v) is ∙ ap (λ b. if b then Some o else None) (below_other (level_of o.label v) below)
 
--- and none other is
+-- and an untainted object has v below 3
 untainted_below : (v : ℕ) (f : Found) (o : Object Levels) → untainted v f ≡ Some o → level_of o.label v ≢ L3
 untainted_below v f o e three =
     let no : None ≡ Some o = sym (tainted_none v (Some o) three) ∙ ap (untainted v) (sym (untainted_is v f o e)) ∙ e in cc
@@ -45,7 +45,7 @@ module _ (s : State) (v : ℕ) where
       (ap (λ (f : Found). set.contains (links_in f) x) (visible_is s v path holder.0 holder.1 ∙ sym holder.1)
       ∙ linked)
 
-  -- and what links lead to is at the end of one
+  -- and an object to which links lead is at the end of a path
   reached_path : (q : ℕ) → Reached (untainted_objects s v) root_number q → (o : Object Levels)
       → untainted_objects s v q ≡ Some o → (path : Address ℕ) × (end_of path ≡ q) × (visible s v path ≡ Some o)
   reached_path q here o e = ([], refl, e)
@@ -59,7 +59,7 @@ module _ (s : State) (v : ℕ) where
             (up.2 ∙ sym holder.1) ∙ ap (λ b. if b then untainted v (s.objects q) else None) k ∙ e,
       )
 
--- by paths and by numbers the same is visible
+-- the same objects are visible by paths and by numbers
 pub visible_reached : VisibleIsReached
 visible_reached s v q o = (
   λ at.
@@ -72,7 +72,7 @@ visible_reached s v q o = (
   λ is. reached_path s v q is.reached o (untainted_some v (s.objects q) o is.there is.below),
 )
 
--- what is the same by paths is the same by numbers
+-- objects that are visible by the same paths are visible by the same numbers
 same_numbers : (s t : State) (v : ℕ) → visible s v ≡ visible t v → (q : ℕ) (o : Object Levels) → IsVisible s v q o → IsVisible t v q o
 same_numbers s t v same q o is =
     let at = (visible_reached s v q o).1 is in

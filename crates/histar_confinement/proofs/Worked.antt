@@ -1,5 +1,5 @@
--- A kernel with a confined thread, made by granted calls from the empty one: what that thread does is granted, and is not seen; and what
--- the thread that owns the category does is seen.
+-- A kernel with a confined thread, made by granted calls from the empty one: the calls of that thread are granted, and are not visible; and
+-- a call of the thread that owns the category is visible.
 use Rattle.std.proofs.Common.{◌≡◌, ◌≢◌, ℕ, ◌≤◌, ◌==◌, Bool, true, false, [], ◌∷◌, None, Some, arith, refl, sym, ap, ◌∙◌, subst, lit<, if◌then◌else◌}
 use Rattle.std.specs.Prelude.{nat_lt, option_map, ◌||◌}
 use Rattle.std.specs.FinSet as set
@@ -34,11 +34,11 @@ use Rattle.histar_rules.proofs.Tainted.{if_none}
 use Rattle.histar_rules.proofs.TaintedMoves.{visible_stays}
 use Rattle.histar_rules.proofs.TaintedCalls.{granted_moves}
 
--- a label whose levels are told by a function of the category, one by one
+-- a label whose levels are given by a function of the category
 abbrev Levelled : Levels → (ℕ → Level) → Type 0
 Levelled L f = (c : ℕ) → level_of L c ≡ f c
 
--- the labels of the session: 3 at category 2; a clearance that allows it; the root's; the owner's, and the owner's clearance
+-- the labels of the example: 3 at category 2; a clearance that allows it; the root's; the owner's, and the owner's clearance
 pub secret : Levels
 secret = with_level (constant L1) 2 L3
 
@@ -51,7 +51,7 @@ owner = with_level (with_level (constant L1) 1 Star) 2 Star
 pub owner_clearance : Levels
 owner_clearance = with_level (with_level (constant L2) 1 L3) 2 L3
 
--- two levels of a label at most
+-- a label with one exception has two levels at most
 one_level : (d : Level) (c : ℕ) (l : Level) (q : ℕ) → level_of (with_level (constant d) c l) q ≡ (if q == c then l else d)
 one_level d c l q = level_of-with_level (constant d) c l q ∙ ap (λ (m : Level). if q == c then l else m) (level_of-constant d q)
 
@@ -59,7 +59,7 @@ two_levels : (d : Level) (b : ℕ) (m : Level) (c : ℕ) (l : Level) (q : ℕ)
     → level_of (with_level (with_level (constant d) b m) c l) q ≡ (if q == c then l else (if q == b then m else d))
 two_levels d b m c l q = level_of-with_level (with_level (constant d) b m) c l q ∙ ap (λ (k : Level). if q == c then l else k) (one_level d b m q)
 
--- a label is below another where its levels are
+-- a label is below another where each of its levels is
 below : (L M : Levels) (f g : ℕ → Level) → Levelled L f → Levelled M g → ((q : ℕ) → rank (f q) ≤ rank (g q)) → is_below L M ≡ true
 below L M f g l m le =
     (is_below-law L M).1 (λ q. subst (λ (x : Level). rank x ≤ rank (level_of M q)) (sym (l q))
@@ -124,7 +124,7 @@ root_open = below owner root_object.label owner_at root_at owner_is root_is (λ 
     by false true = omega arith
     by false false = omega arith
 
--- the owner may hand out 3 at the category
+-- the owner may give out 3 at the category
 owner_secret : is_below owner secret ≡ true
 owner_secret = below owner secret owner_at secret_at owner_is secret_is (λ q. by (q == 1) (q == 2))
   where
@@ -163,7 +163,7 @@ secret_seen = below_raised secret owner secret_at owner_at secret_is owner_is (�
     by false true = omega arith
     by false false = omega arith
 
--- who has 3 at the category observes and modifies what has it
+-- a thread with 3 at the category observes and modifies objects that have it
 secret_itself : is_below secret secret ≡ true
 secret_itself = below secret secret secret_at secret_at secret_is secret_is (λ q. omega arith)
 
@@ -206,7 +206,7 @@ plain_owner = below (constant L1) owner_clearance (λ q. L1) owner_clearance_at 
 plain_no_star : has_star (constant L1) ≡ false
 plain_no_star = has_star-none (constant L1) (λ c star. let no : L1 ≡ Star = sym (level_of-constant L1 c) ∙ star in cc)
 
--- 3 at the category names only what was made, and owns nothing
+-- the label with 3 at the category names only made categories, and owns nothing
 secret_made : is_made 3 secret ≡ true
 unfolding secret
 secret_made = is_made-with_level 3 (constant L1) 2 L3 (lit< tt) (lit< tt) (is_made-constant 3 L1)
@@ -222,7 +222,7 @@ secret_no_star = has_star-none secret (λ c star. by (c == 2) (sym (secret_is c)
     by true e = cc
     by false e = cc
 
--- The session. The boot thread makes a category, which it owns; a container that has the category at 3; and a thread in it that has it too.
+-- The example. The boot thread makes a category, which it owns; a container with the category at 3; and in it a thread with 3 there too.
 pub first_state : State
 first_state = with_category empty_state 2
 
@@ -328,7 +328,7 @@ segment_new : (o : Object Levels) → confined_state.objects 5 ≢ Some o
 unfolding first_state second_state confined_state
 segment_new o e = let no : None ≡ Some o = e in cc
 
--- and is there then; and what is visible stays as it was
+-- and is there afterwards; and what is visible stays as it was
 pub made_unseen : (new : State) → Changes confined_state 4 (MakeSegment 3 secret []) new
     → (new.objects 5 ≢ confined_state.objects 5)
     × ((path : Address ℕ) → visible new 2 path ≡ visible confined_state 2 path)
@@ -341,7 +341,7 @@ made_unseen new is = (
       session_confined.callers) (MakeSegment 3 secret []) new confined_granted is),
 )
 
--- what the owner makes in the root container is granted, and is seen
+-- a segment that the owner makes in the root container is granted, and is visible
 pub plain_segment : Object Levels
 plain_segment = record { label = constant L1; kind = Segment [] }
 
@@ -358,7 +358,7 @@ root_untainted links =
     if nat_lt (rank l) 4 then Some (record { label = root_object.label; kind = Container links }) else None)
     (root_is 2)
 
--- what was linked last is linked
+-- the number that was linked last is linked
 newly_linked : (links : Numbers) (n : ℕ) → set.contains (set.insert links n) n ≡ true
 newly_linked links n =
     set.contains-insert nat_cmp_total links n n
@@ -371,7 +371,7 @@ owner_seen =
     ∙ ap (λ (b : Bool). if b then untainted 2 (Some plain_segment) else None) (newly_linked _ 5)
     ∙ ap (λ (l : Level). if nat_lt (rank l) 4 then Some plain_segment else None) (level_of-constant L1 2)
 
--- and was not seen before
+-- and was not visible before
 pub owner_unseen : visible confined_state 2 (5 ∷ []) ≡ None
 unfolding first_state second_state confined_state
 owner_unseen = if_none (set.contains (links_in (visible confined_state 2 [])) 5) None refl

@@ -1,4 +1,4 @@
-//! What raw calls of confined threads leave visible.
+//! The laws about what is visible while confined threads make raw calls.
 #![tactic(auto)]
 
 pub mod confinement_laws;

@@ -1,20 +1,20 @@
--- Addresses: when two are the same, and which lie below which. The test same_step tells whether two steps are equal.
+-- Addresses: when two are the same, and which are below which. The test same_step decides whether two steps are equal.
 use Rattle.std.proofs.Common.{◌≡◌, ◌≢◌, ◌≤◌, ◌||◌, ◌⊎◌, inl, inr, Bool, true, false, [], ◌∷◌, length, Some, arith, refl, sym, ap, ◌∙◌}
 use Rattle.std.proofs.lemmas.Bool.{false_from_ne_true}
 use Rattle.std.proofs.Math.Bool.{or-true}
 use mathlib.Core.Bool.{true≢false}
 use Rattle.histar_container.specs.Tree.{Address, same_steps, under}
 
--- a test answers for each two values whether they are equal
+-- a test decides whether two values are equal
 abbrev pub TestsEquality : {X : Type 0} → (X → X → Bool) → Type 0
 TestsEquality test = (x y : _) → ((test x y ≡ true) × (x ≡ y)) ⊎ ((test x y ≡ false) × (x ≢ y))
 
--- what is in a Some is one value
+-- a Some contains one value
 pub inner : {X : Type 0} (x y : X) → Some x ≡ Some y → x ≡ y
 inner x y e = cc
 
 module _ {X : Type 0} (same_step : X → X → Bool) (decides : TestsEquality same_step) where
-  -- whether two addresses are the same tells whether they are equal
+  -- the test of addresses decides whether they are equal
   pub same_tests_equality : TestsEquality (same_steps same_step)
   same_tests_equality [] [] = inl (refl, refl)
   same_tests_equality [] (y ∷ b) = inr (refl, λ e. cc)
@@ -41,11 +41,11 @@ module _ {X : Type 0} (same_step : X → X → Bool) (decides : TestsEquality sa
   under_itself [] = refl
   under_itself (x ∷ a) = rw (same_itself (x ∷ a)) refl
 
-  -- what is one step below what is below a is below a
+  -- an address one step below one below a is below a
   pub under_child : (a b : Address X) (x : X) → under same_step a b ≡ true → under same_step a (x ∷ b) ≡ true
   under_child a b x h = rw h (or-true (same_steps same_step a (x ∷ b)))
 
-  -- what lies below an address has no fewer steps
+  -- an address below another has no fewer steps
   pub under_long : (a b : Address X) → under same_step a b ≡ true → length a ≤ length b
   under_long a [] h = omega (arith, ap length (same_is a [] h))
   under_long a (y ∷ b) h = elim (same_tests_equality a (y ∷ b)) [
@@ -53,14 +53,14 @@ module _ {X : Type 0} (same_step : X → X → Bool) (decides : TestsEquality sa
     | inr e ↦ let u : under same_step a b ≡ true = sym (ap (λ t. t || under same_step a b) e.0) ∙ h in omega (arith, under_long a b u)
   ]
 
-  -- an address does not lie below what is one step below it
+  -- an address is not below one that is one step below it
   pub above : (a : Address X) (x : X) → under same_step (x ∷ a) a ≡ false
   above a x = false_from_ne_true _ (λ h. let l = under_long (x ∷ a) a h in omega arith)
 
-  -- and is another one than that
+  -- and differs from it
   pub longer : (x : X) (a : Address X) → x ∷ a ≢ a
   longer x a e = true≢false (sym (under_itself (x ∷ a)) ∙ ap (under same_step (x ∷ a)) e ∙ above a x)
 
-  -- what is neither a nor one step below what is below a is not below a
+  -- an address that is neither a nor one step below one below a is not below a
   pub under_other : (a b : Address X) (x : X) → a ≢ x ∷ b → under same_step a b ≡ false → under same_step a (x ∷ b) ≡ false
   under_other a b x other h = ap (λ t. t || under same_step a b) (same_other a (x ∷ b) other) ∙ h

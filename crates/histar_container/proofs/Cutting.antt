@@ -1,4 +1,4 @@
--- The third move of a kernel over objects that are laid out by a naming: a tree is cut off.
+-- The third move over objects that match a naming: a tree is cut off.
 use Rattle.std.proofs.Common.{◌≡◌, ◌≢◌, ℕ, ◌&&◌, not, nat_eq, Bool, true, false, [], ◌∷◌, Option, None, Some, inl, inr, refl, sym, ap, ◌∙◌, subst}
 use Rattle.std.proofs.Common.{if◌then◌else◌}
 use Rattle.std.specs.Prelude.{is_some}
@@ -15,12 +15,12 @@ use Rattle.histar_container.proofs.Addresses.{TestsEquality, inner, same_tests_e
 use Rattle.histar_container.proofs.Addresses.{under_other, above}
 use Rattle.histar_container.proofs.Reaching.{same_number, not_reached, is_reached}
 
--- what is left of a value that may be taken away is that value
+-- a value that is left of one that may be taken away is that value
 pub some_left : {A : Type 0} (b : Bool) (y : Option A) (z : A) → (if b then None else y) ≡ Some z → (b ≡ false) × (y ≡ Some z)
 some_left true y z e = cc
 some_left false y z e = (refl, e)
 
--- o stands one step below d, and is cut off from it
+-- o is one step below d, and is cut off from it
 module _ {X : Type 0} (same_step : X → X → Bool) (decides : TestsEquality same_step) {L : Type 0} (objects : Objects L)
     (next : ℕ) (expected : Address X → Option (Object L)) (naming : Naming X)
     (matched : MatchesNaming same_step objects next expected naming)
@@ -96,7 +96,7 @@ module _ {X : Type 0} (same_step : X → X → Bool) (decides : TestsEquality sa
           ap (λ c. is_some (if c then None else naming.number b)) (parent u)
           ∙ matched.held y b (sym (ap (λ c. is_some (if c then None else naming.number (y ∷ b))) u) ∙ i)
 
-  -- which children an address other than d's keeps
+  -- an address other than d's, and not at or below o's, keeps its children
   child_left : (c : ℕ) (b : Address X) → under same_step (x ∷ a) b ≡ false → b ≢ a
       → is_one_below same_step b (left.address c) ≡ is_one_below same_step b (naming.address c)
   unfolding left
@@ -119,7 +119,7 @@ module _ {X : Type 0} (same_step : X → X → Bool) (decides : TestsEquality sa
             [ true ↦ sym k.0 | false ↦ refl ]
       ]
 
-  -- and d's address keeps all but o's
+  -- d's address keeps all children except o's
   child_here : (c : ℕ) → (not (nat_eq c o) && is_one_below same_step a (naming.address c)) ≡ is_one_below same_step a (left.address c)
   unfolding left
   child_here c = elim (eqb_tells c o) [
@@ -149,7 +149,7 @@ module _ {X : Type 0} (same_step : X → X → Bool) (decides : TestsEquality sa
             [ true ↦ k.0 | false ↦ refl ]
       ]
 
-  -- what keeps its address is not below what was cut off
+  -- a number that keeps its address is not below the one that was cut off
   kept : (q : ℕ) (b : Address X) → left.address q ≡ Some b → (is_under same_step (x ∷ a) (naming.address q) ≡ false) × (naming.address q ≡ Some b)
   unfolding left
   kept q b i = some_left _ _ b i

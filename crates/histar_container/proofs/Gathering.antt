@@ -1,4 +1,4 @@
--- How the numbers that are reached from an object are gathered: each number is read once, and what it links is put behind the others.
+-- How the numbers that are reached from an object are gathered: each is read once, and the numbers that it links are put after the others.
 use Rattle.std.proofs.Common.{◌≡◌, ◌≢◌, ℕ, ◌<◌, ◌≤◌, ◌||◌, nat_eq, Bool, true, false, List, [], ◌∷◌, ◌++◌, Some, ◌⊎◌, inl, inr, arith, suc, refl, sym}
 use Rattle.std.proofs.Common.{ap, ◌∙◌, subst, cond, if◌then◌else◌}
 use Rattle.std.specs.List.{AllByRecursion, IsDistinct}
@@ -18,7 +18,7 @@ use Rattle.histar_object.proofs.Placing.{object_at}
 use Rattle.histar_container.specs.Tree.{Reached, here, there, IsTree}
 use Rattle.histar_container.proofs.Trees.{not_back, one_link}
 
--- what is in two lists together is in one of them
+-- a member of two lists joined is a member of one of them
 pub member_append : (xs ys : List ℕ) (q : ℕ) → is_member nat_eq (xs ++ ys) q ≡ (is_member nat_eq xs q || is_member nat_eq ys q)
 member_append xs ys q = list_any-append (nat_eq q) xs ys
 
@@ -31,14 +31,14 @@ member_second xs ys q k = member_append xs ys q ∙ ap (λ b. is_member nat_eq x
 pub member_either : (xs ys : List ℕ) (q : ℕ) → is_member nat_eq (xs ++ ys) q ≡ true → (is_member nat_eq xs q ≡ true) ⊎ (is_member nat_eq ys q ≡ true)
 member_either xs ys q k = or_cases _ _ (sym (member_append xs ys q) ∙ k)
 
--- what a list of one has
+-- a list of one number has only this member
 pub member_one : (x q : ℕ) → is_member nat_eq (x ∷ []) q ≡ true → q ≡ x
 member_one x q k = eqb-true q x (sym (or-false (nat_eq q x)) ∙ k)
 
 pub member_itself : (x : ℕ) → is_member nat_eq (x ∷ []) x ≡ true
 member_itself x = or-false (nat_eq x x) ∙ eq-eqb x x refl
 
--- what is in no place of a list differs from each of its numbers
+-- a number that is in no place of a list differs from each of its numbers
 differs : (x : ℕ) (ys : List ℕ) → is_member nat_eq ys x ≡ false → AllByRecursion (λ y. nat_eq x y ≡ false) ys
 differs x [] k = tt
 differs x (y ∷ ys) k = let n = or_parts (nat_eq x y) (is_member nat_eq ys x) k in (n.0, differs x ys n.1)
@@ -47,12 +47,12 @@ all_append : (P : ℕ → Type 0) (xs ys : List ℕ) → AllByRecursion P xs →
 all_append P [] ys a b = b
 all_append P (x ∷ xs) ys a b = (a.0, all_append P xs ys a.1 b)
 
--- the number in the middle differs from those that all of a list differ from
+-- a property of all numbers of a list is one of the number in the middle
 at_middle : (P : ℕ → Type 0) (xs : List ℕ) (x : ℕ) (ys : List ℕ) → AllByRecursion P (xs ++ x ∷ ys) → P x
 at_middle P [] x ys a = a.0
 at_middle P (y ∷ xs) x ys a = at_middle P xs x ys a.1
 
--- lists of distinct numbers that share none are distinct together
+-- lists of distinct numbers that share none are distinct when joined
 distinct_append : (xs ys : List ℕ) → IsDistinct nat_eq xs → IsDistinct nat_eq ys
     → ((q : ℕ) → is_member nat_eq xs q ≡ true → is_member nat_eq ys q ≡ false) → IsDistinct nat_eq (xs ++ ys)
 unfolding IsDistinct
@@ -69,7 +69,7 @@ distinct_before [] x ys a = refl
 distinct_before (y ∷ xs) x ys a =
     ap (λ t. t || is_member nat_eq xs x) (nat_eq_equiv.symm x y ∙ at_middle (λ z. nat_eq y z ≡ false) xs x ys a.0) ∙ distinct_before xs x ys a.1
 
--- where the tests pass no less, no more is counted
+-- where no fewer tests pass, no more are counted
 fewer : (b c : Bool) (m n : ℕ) → (b ≡ true → c ≡ true) → m ≤ n → (if c then m else suc m) ≤ (if b then n else suc n)
 fewer true true m n imp le = le
 fewer true false m n imp le = absurd (false≢true (imp refl))
@@ -83,7 +83,7 @@ strictly false true m n imp lt = omega arith
 strictly false false m n imp lt = omega arith
 
 module _ {L : Type 0} where
-  -- some numbers of a list have been read: all that the list has is reached, each once, and it has what was read links
+  -- some numbers of a list have been read: all of the list are reached, each is there once, and so are those that the read ones link
   pub record Gathers (objects : Objects L) (o : ℕ) (read list : List ℕ) : Type 0 where
     pub first : is_member nat_eq list o ≡ true
     pub reached : (q : ℕ) → is_member nat_eq list q ≡ true → Reached objects o q
@@ -92,7 +92,7 @@ module _ {L : Type 0} where
         → (p : ℕ) × (is_member nat_eq read p ≡ true) × (set.contains (links_in (objects p)) q ≡ true)
     pub once : IsDistinct nat_eq list
 
-  -- at first the list has the object alone, and nothing has been read
+  -- at first the list has the object's number alone, and none has been read
   pub gathers_first : (objects : Objects L) (o : ℕ) → Gathers objects o [] (o ∷ [])
   unfolding IsDistinct
   gathers_first objects o = record {
@@ -103,13 +103,13 @@ module _ {L : Type 0} where
     once = (tt, tt);
   }
 
-  -- in the end all that is reached is in the list
+  -- in the end all reached numbers are in the list
   pub gathers_all : (objects : Objects L) (o : ℕ) (list : List ℕ) → Gathers objects o list list → (q : ℕ)
       → Reached objects o q → is_member nat_eq list q ≡ true
   gathers_all objects o list g q here = g.first
   gathers_all objects o list g q (there p c r k) = g.closed p q (gathers_all objects o list g p r) k
 
-  -- the next number is read: what it links is put behind the others
+  -- the next number is read: the numbers that it links are put after the others
   module _ (objects : Objects L) (root next : ℕ) (tree : IsTree objects root next) (o : ℕ) (read : List ℕ) (x : ℕ)
       (ahead list : List ℕ) (split : list ≡ read ++ x ∷ ahead) (g : Gathers objects o read list)
       (added : List ℕ) (lists : IsListOf added (links_in (objects x))) where
@@ -122,7 +122,7 @@ module _ {L : Type 0} where
     added_linked : (q : ℕ) → is_member nat_eq added q ≡ true → set.contains (links_in (objects x)) q ≡ true
     added_linked q k = sym (lists.members q) ∙ k
 
-    -- what x links was not in the list
+    -- the numbers that x links were not in the list
     new_ones : (q : ℕ) → is_member nat_eq list q ≡ true → is_member nat_eq added q ≡ false
     new_ones q k = by (is_member nat_eq added q) refl
       where
@@ -157,19 +157,19 @@ module _ {L : Type 0} where
       once = distinct_append list added g.once lists.once new_ones;
     }
 
-  -- how many objects of a table have not been read
+  -- the number of objects of a table that have not been read
   abbrev pub unread : List (ℕ × Object L) → List ℕ → ℕ
   unread [] read = 0
   unread (e ∷ es) read = if is_member nat_eq read e.0 then unread es read else suc (unread es read)
 
-  -- to read one more leaves no more unread
+  -- reading one more leaves no more unread
   pub unread_less : (es : List (ℕ × Object L)) (read : List ℕ) (x : ℕ) → unread es (read ++ x ∷ []) ≤ unread es read
   unread_less [] read x = omega arith
   unread_less (e ∷ es) read x =
       fewer (is_member nat_eq read e.0) (is_member nat_eq (read ++ x ∷ []) e.0) _ _ (member_first read (x ∷ []) e.0)
       (unread_less es read x)
 
-  -- and where the one is there and was not read, fewer
+  -- and leaves fewer, where it is an object that was not read
   pub unread_fewer : (es : List (ℕ × Object L)) (read : List ℕ) (x : ℕ) → is_present (object_at es x) ≡ true
       → is_member nat_eq read x ≡ false → unread es (read ++ x ∷ []) < unread es read
   unread_fewer [] read x t k = absurd (false≢true t)

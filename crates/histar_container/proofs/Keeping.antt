@@ -1,4 +1,4 @@
--- What the table shows after a change of it, or after its store has taken more labels.
+-- What objects a table represents after it changes, or after its store takes more labels.
 use Rattle.std.proofs.Common.{◌≡◌, ℕ, ◌==◌, ◌+◌, Result, Ok, Err, OnOk, OnErr, ◌<◌, ◌≤◌, arith, List, Option, Some, None, IsSome, Bool, true, false}
 use Rattle.std.proofs.Common.{inl, inr, refl, sym, ap, ◌∙◌, subst, if◌then◌else◌}
 use Rattle.std.specs.Borrow.{Bor}
@@ -28,7 +28,7 @@ module _ {Id : Type 0} where
   abbrev pub by_value : (Id → Option Levels) → Objects Id → Objects Levels
   by_value labels objects q = option_map (object_by (label_at labels)) (objects q)
 
-  -- what a table shows
+  -- a table represents its objects with labels by value
   pub shows_all : (labels : Id → Option Levels) (es : TableModel Id) → objects_of (shown labels es) ≡ by_value labels (objects_of es)
   shows_all labels es i q = shows labels es q i
 
@@ -65,20 +65,20 @@ module _ {Id : Type 0} where
               { label = stands_on o.label (all.each q o e).label; kind = kind_on o.kind (all.each q o e).kind };
         }
 
-    -- and the objects are what they were
+    -- and the objects by value stay as they were
     pub value_on : (objects : Objects Id) → AllStand old objects → by_value new objects ≡ by_value old objects
     value_on objects all i q = option_same (objects q) (all.each q) i
 
-    -- what is put with a clearance that was put before stands for its labels
+    -- an object with a new label, and a clearance that was put before, has Ids that stand for its labels
     pub new_stands : (k : Kind Id) → KindStands old k → (l : Id) (L : Levels) → new l ≡ Some L → Stands new (record { label = l; kind = k })
     new_stands k s l L e = record { label = ap is_some e; kind = kind_on k s }
 
-    -- and shows them
+    -- and it represents the object with these labels
     pub new_shown : (k : Kind Id) → KindStands old k → (K : Kind Levels) → kind_by (label_at old) k ≡ K → (l : Id) (L : Levels) → new l ≡ Some L
         → object_by (label_at new) (record { label = l; kind = k }) ≡ record { label = L; kind = K }
     new_shown k s K same l L e i = record { label = label_at-stands new l L e i; kind = (kind_same k s ∙ same) i }
 
-  -- a store that kept its labels twice has kept them
+  -- keeping labels is transitive
   pub trans : (a b c : Id → Option Levels) → Keeps a b → Keeps b c → Keeps a c
   trans a b c h k id L e = k id L (h id L e)
 
@@ -89,7 +89,7 @@ module _ {Id : Type 0} where
     option_if true x y = refl
     option_if false x y = refl
 
-    -- an object that is put is shown there
+    -- putting an object puts it by value
     pub value_put : (n : ℕ) (o : Object Id) → by_value labels (put objects n o) ≡ put (by_value labels objects) n (object_by (label_at labels) o)
     value_put n o i q = option_if (q == n) (Some o) (objects q) i
 
@@ -101,7 +101,7 @@ module _ {Id : Type 0} where
     option_twice f h same None = refl
     option_twice f h same (Some o) = ap Some (same o)
 
-    -- an object that is changed is shown changed
+    -- changing an object changes it by value
     pub value_changed : (n : ℕ) (f : Object Id → Object Id) (h : Object Levels → Object Levels)
         → ((o : Object Id) → object_by (label_at labels) (f o) ≡ h (object_by (label_at labels) o))
         → by_value labels (changed_at objects n f) ≡ changed_at (by_value labels objects) n h
@@ -115,7 +115,7 @@ module _ {Id : Type 0} where
     stand_if true x y o first second e = first e
     stand_if false x y o first second e = second e
 
-    -- the Ids stand for labels after an object was put whose Ids do
+    -- all Ids stand for labels after an object is put whose Ids do
     pub stand_put : (n : ℕ) (o : Object Id) → AllStand labels objects → Stands labels o → AllStand labels (put objects n o)
     stand_put n o all s =
         record {
@@ -131,7 +131,7 @@ module _ {Id : Type 0} where
     option_stands f on None x all e = cc
     option_stands f on (Some o) x all e = let same : f o ≡ x = cc in subst (Stands labels) same (on o (all o refl))
 
-    -- and after an object was changed whose Ids still do
+    -- and after an object is changed whose Ids still do
     pub stand_changed : (n : ℕ) (f : Object Id → Object Id) → ((o : Object Id) → Stands labels o → Stands labels (f o))
         → AllStand labels objects → AllStand labels (changed_at objects n f)
     stand_changed n f on all =
@@ -165,14 +165,14 @@ module _ {Id : Type 0} (labels : Id → Option Levels) where
   held_stands new (Thread clearance) s = s
   held_stands new (Gate clearance entry) s = s
 
-  -- a container that links one more shows so
+  -- a container with one more link has it by value
   pub value_linked : (objects : Objects Id) (d n : ℕ)
       → by_value labels (changed_at objects d (linking n)) ≡ changed_at (by_value labels objects) d (linking n)
   value_linked objects d n =
       value_changed labels objects d (linking n) (linking n)
       (λ o i. record { label = label_at labels o.label; kind = kind_linked n o.kind i })
 
-  -- a segment with other bytes shows them
+  -- a segment with other bytes has them by value
   pub value_held : (objects : Objects Id) (q : ℕ) (bytes : List ℕ)
       → by_value labels (changed_at objects q (holding bytes)) ≡ changed_at (by_value labels objects) q (holding bytes)
   value_held objects q bytes =
@@ -187,7 +187,7 @@ module _ {Id : Type 0} (labels : Id → Option Levels) where
       stand_changed labels objects q (holding bytes)
       (λ o s. record { label = s.label; kind = held_stands bytes o.kind s.kind })
 
--- numbers that are not used stay so where an object is changed
+-- unused numbers stay unused where an object is changed
 module _ {L : Type 0} (objects : Objects L) (next : ℕ) (unused : IsUnusedFrom objects next) where
   none_if : (b : Bool) (x y : Option (Object L)) → x ≡ None → y ≡ None → (if b then x else y) ≡ None
   none_if true x y e f = e
@@ -200,7 +200,7 @@ module _ {L : Type 0} (objects : Objects L) (next : ℕ) (unused : IsUnusedFrom 
             (ap (option_map f) (unused.none q le)) (unused.none q le);
       }
 
-  -- and where one is put below them
+  -- and where an object is put below them
   pub unused_put : (n above : ℕ) (o : Object L) → n < above → next ≤ above → IsUnusedFrom (put objects n o) above
   unused_put n above o below further = record {
     none = λ q le.
@@ -209,7 +209,7 @@ module _ {L : Type 0} (objects : Objects L) (next : ℕ) (unused : IsUnusedFrom 
         ap (λ b. if b then Some o else objects q) other ∙ unused.none q beyond;
   }
 
--- what was copied out was there
+-- where a copied value is there, a lent one is
 pub copied_some : {X : Type 0} (r : Option (Bor X)) (x : Option X) → option_copied r ≡ x → IsSome x → IsSome r
 copied_some None x e s = ap is_some e ∙ s
 copied_some (Some b) x e s = refl
@@ -218,13 +218,13 @@ pub map_none : {A B : Type 0} (f : A → B) (o : Option A) → option_map f o �
 map_none f None e = refl
 map_none f (Some x) e = cc
 
--- what holds holds where an error is answered
+-- a fact holds where an error is the result
 pub on_err : {A E : Type 0} (r : Result A E) (P : Type 0) → P → OnErr r P
 on_err (Ok x) P p = tt
 on_err (Err e) P p = p
 
 module _ {Id : Type 0} where
-  -- where a new object was linked or nothing was changed, the Ids still stand for labels
+  -- all Ids stand for labels where a new object was linked or nothing was changed
   pub linked_stand : {A E : Type 0} (labels : Id → Option Levels) (objects after : Objects Id) (d n : ℕ) (o : Object Id) (r : Result A E)
       → OnOk r (after ≡ with_new objects d n o) → OnErr r (after ≡ objects) → AllStand labels objects → Stands labels o → AllStand labels after
   linked_stand labels objects after d n o (Ok x) ok err all s =
@@ -232,25 +232,25 @@ module _ {Id : Type 0} where
       (stand_put labels (changed_at objects d (linking n)) n o (stand_linked labels objects d n all) s)
   linked_stand labels objects after d n o (Err e) ok err all s = subst (AllStand labels) (sym err) all
 
-  -- where an object was put or nothing was changed, too
+  -- and where an object was put or nothing was changed
   pub placed_stand : {A E : Type 0} (labels : Id → Option Levels) (objects after : Objects Id) (n : ℕ) (o : Object Id) (r : Result A E)
       → OnOk r (after ≡ put objects n o) → OnErr r (after ≡ objects) → AllStand labels objects → Stands labels o → AllStand labels after
   placed_stand labels objects after n o (Ok x) ok err all s = subst (AllStand labels) (sym ok) (stand_put labels objects n o all s)
   placed_stand labels objects after n o (Err e) ok err all s = subst (AllStand labels) (sym err) all
 
-  -- tables of the same objects show the same
+  -- tables of the same objects represent the same
   pub shown_same : (labels : Id → Option Levels) (es fs : TableModel Id) → objects_of fs ≡ objects_of es
       → objects_of (shown labels fs) ≡ objects_of (shown labels es)
   shown_same labels es fs e = shows_all labels fs ∙ ap (by_value labels) e ∙ sym (shows_all labels es)
 
-  -- no objects show no objects
+  -- a table of no objects represents no objects
   pub nothing_shown : (labels : Id → Option Levels) (es : TableModel Id) → objects_of es ≡ no_objects → objects_of (shown labels es) ≡ no_objects
   nothing_shown labels es e = shows_all labels es ∙ ap (by_value labels) e
 
   none_some : (a : Option (Object Id)) (o : Object Id) → a ≡ None → a ≡ Some o → ⊥
   none_some a o e f = cc
 
-  -- no objects have no Ids, and use no number
+  -- a table of no objects has no Ids, and uses no number
   pub nothing_kept : (labels : Id → Option Levels) (es : TableModel Id) (next : ℕ) → 0 < next → objects_of es ≡ no_objects → IsKept labels es next
   nothing_kept labels es next positive e = record {
     stand = record { each = λ q o here. absurd (none_some (objects_of es q) o (ap (λ f. f q) e) here) };
@@ -258,12 +258,12 @@ module _ {Id : Type 0} where
     positive = positive;
   }
 
-  -- a table shows the same where its store has only taken more labels
+  -- a table represents the same after its store takes more labels
   pub shown_on : (old new : Id → Option Levels) (keeps : Keeps old new) (es : TableModel Id)
       → AllStand old (objects_of es) → objects_of (shown new es) ≡ objects_of (shown old es)
   shown_on old new keeps es all = shows_all new es ∙ value_on old new keeps (objects_of es) all ∙ sym (shows_all old es)
 
-  -- where a table shows nothing, nothing is
+  -- where a table represents no object, it has none
   pub none_there : (labels : Id → Option Levels) (es : TableModel Id) (q : ℕ) → objects_of (shown labels es) q ≡ None → objects_of es q ≡ None
   none_there labels es q e = map_none (object_by (label_at labels)) (objects_of es q) (sym (shows labels es q) ∙ e)
 
@@ -277,24 +277,24 @@ module _ {Id : Type 0} where
   container_by labels None = refl
   container_by labels (Some o) = kind_of labels o.kind
 
-  -- where a table shows a container, one is
+  -- where a table represents a container, it has one
   pub container_there : (labels : Id → Option Levels) (es : TableModel Id) (q : ℕ)
       → is_container (objects_of (shown labels es) q) ≡ true → is_container (objects_of es q) ≡ true
   container_there labels es q e = sym (container_by labels (objects_of es q)) ∙ sym (ap is_container (shows labels es q)) ∙ e
 
-  -- where a table shows a thread, something is
+  -- where a table represents a thread, it has an object
   pub thread_there : (labels : Id → Option Levels) (es : TableModel Id) (q : ℕ)
       → is_thread (objects_of (shown labels es) q) ≡ true → None ≡ objects_of es q → ⊥
   thread_there labels es q e none = false≢true (ap is_thread (ap (option_map (object_by (label_at labels))) none ∙ sym (shows labels es q)) ∙ e)
 
-  -- what the table shows once an object is put
+  -- the objects that a table represents after an object is put
   pub shown_put : (labels : Id → Option Levels) (es fs : TableModel Id) (n : ℕ) (o : Object Id) → objects_of fs ≡ put (objects_of es) n o
       → objects_of (shown labels fs) ≡ put (objects_of (shown labels es)) n (object_by (label_at labels) o)
   shown_put labels es fs n o e =
       shows_all labels fs ∙ ap (by_value labels) e ∙ value_put labels (objects_of es) n o
       ∙ ap (λ f. put f n (object_by (label_at labels) o)) (sym (shows_all labels es))
 
-  -- what it shows once a new object is linked
+  -- after a new object is linked
   pub shown_new : (labels : Id → Option Levels) (es fs : TableModel Id) (d n : ℕ) (o : Object Id) → objects_of fs ≡ with_new (objects_of es) d n o
       → objects_of (shown labels fs) ≡ with_new (objects_of (shown labels es)) d n (object_by (label_at labels) o)
   shown_new labels es fs d n o e =
@@ -302,7 +302,7 @@ module _ {Id : Type 0} where
       ∙ ap (λ f. put f n (object_by (label_at labels) o))
       (value_linked labels (objects_of es) d n ∙ ap (λ f. changed_at f d (linking n)) (sym (shows_all labels es)))
 
-  -- what it shows once an object was changed
+  -- after an object is changed
   pub shown_changed : (labels : Id → Option Levels) (es fs : TableModel Id) (n : ℕ) (f : Object Id → Object Id)
       (h : Object Levels → Object Levels)
       → ((o : Object Id) → object_by (label_at labels) (f o) ≡ h (object_by (label_at labels) o))
@@ -311,7 +311,7 @@ module _ {Id : Type 0} where
       shows_all labels fs ∙ ap (by_value labels) e ∙ value_changed labels (objects_of es) n f h same
       ∙ ap (λ g. changed_at g n h) (sym (shows_all labels es))
 
-  -- what it shows once a segment has other bytes
+  -- and after a segment gets other bytes
   pub shown_held : (labels : Id → Option Levels) (es fs : TableModel Id) (q : ℕ) (bytes : List ℕ)
       → objects_of fs ≡ changed_at (objects_of es) q (holding bytes)
       → objects_of (shown labels fs) ≡ changed_at (objects_of (shown labels es)) q (holding bytes)
@@ -320,20 +320,20 @@ module _ {Id : Type 0} where
       ∙ ap (λ f. changed_at f q (holding bytes)) (sym (shows_all labels es))
 
 module _ {L : Type 0} (objects : Objects L) (next : ℕ) (unused : IsUnusedFrom objects next) where
-  -- the numbers from the next one on stay unused where a new object takes the next
+  -- the numbers after the next one stay unused where a new object takes the next
   pub unused_new : (d : ℕ) (o : Object L) → IsUnusedFrom (with_new objects d next o) (next + 1)
   unused_new d o =
       unused_put (changed_at objects d (linking next)) next (unused_changed objects next unused d (linking next)) next
       (next + 1) o (omega arith) (omega arith)
 
-  -- and where a thread that is there changes
+  -- unused numbers stay unused where a thread that is there changes
   pub unused_own : (t : ℕ) (o : Object L) → is_thread (objects t) ≡ true → IsUnusedFrom (put objects t o) next
   unused_own t o thread = elim (cases_lt t next) [
     | inl below ↦ unused_put objects next unused t next o below (omega arith)
     | inr above ↦ absurd (false≢true (ap is_thread (sym (unused.none t above)) ∙ thread))
   ]
 
--- what a call that links a new object keeps, where it did
+-- a call that linked a new object keeps the table's invariant
 pub kept_new : {Id : Type 0} (labels : Id → Option Levels) (objects : Objects Levels) (fs : TableModel Id) (next d : ℕ) (o : Object Levels)
     → AllStand labels (objects_of fs) → IsUnusedFrom objects next
     → objects_of (shown labels fs) ≡ with_new objects d next o → IsKept labels fs (next + 1)
@@ -345,7 +345,7 @@ kept_new labels objects fs next d o stand unused e =
       positive = omega arith;
     }
 
--- what a call keeps that puts an object under the next number
+-- so does a call that puts an object under the next number
 pub kept_next : {Id : Type 0} (labels : Id → Option Levels) (objects : Objects Levels) (fs : TableModel Id) (next : ℕ) (o : Object Levels)
     → AllStand labels (objects_of fs) → IsUnusedFrom objects next → objects_of (shown labels fs) ≡ put objects next o → IsKept labels fs (next + 1)
 kept_next labels objects fs next o stand unused e =
@@ -356,7 +356,7 @@ kept_next labels objects fs next o stand unused e =
       positive = omega arith;
     }
 
--- what a call that sets a thread's labels keeps, whether it did or not
+-- a call that sets a thread's labels, whether it succeeded or not
 pub kept_own : {Id A E : Type 0} (labels : Id → Option Levels) (objects : Objects Levels) (fs : TableModel Id)
     (next t : ℕ) (o : Object Levels) (r : Result A E)
     → AllStand labels (objects_of fs) → IsUnusedFrom objects next → 0 < next → is_thread (objects t) ≡ true
@@ -376,7 +376,7 @@ kept_own labels objects fs next t o (Err x) stand unused positive thread ok err 
       positive = positive;
     }
 
--- what a call that changes an object keeps, whether it did or not
+-- a call that changes an object, whether it succeeded or not
 pub kept_changed : {Id A E : Type 0} (labels : Id → Option Levels) (objects : Objects Levels) (fs : TableModel Id)
     (next n : ℕ) (h : Object Levels → Object Levels) (r : Result A E)
     → AllStand labels (objects_of fs) → IsUnusedFrom objects next → 0 < next
@@ -396,7 +396,7 @@ kept_changed labels objects fs next n h (Err x) stand unused positive ok err =
       positive = positive;
     }
 
--- what a call that splices a segment keeps, whether it did or not
+-- and a call that splices a segment, whether it succeeded or not
 pub kept_spliced : {Id A E : Type 0} (labels : Id → Option Levels) (es fs : TableModel Id) (next q : ℕ) (bytes : List ℕ) (r : Result A E)
     → OnOk r (objects_of fs ≡ changed_at (objects_of es) q (holding bytes)) → OnErr r (objects_of fs ≡ objects_of es)
     → IsKept labels es next → IsKept labels fs next
@@ -426,13 +426,13 @@ kind_stays new (Container links) e = refl
 kind_stays new (Thread clearance) e = refl
 kind_stays new (Gate clearance entry) e = refl
 
--- and what is no segment stays
+-- an object that is no segment stays
 pub held_not : {L : Type 0} (objects after : Objects L) (q : ℕ) (o : Object L) (new : List ℕ) → Some o ≡ objects q
     → kind_is_segment o.kind ≡ false → after ≡ put objects q o → after ≡ changed_at objects q (holding new)
 held_not objects after q o new here other e =
     e ∙ ap (put objects q) (λ i. record { label = o.label; kind = kind_stays new o.kind other i }) ∙ put_changed objects q (holding new) o here
 
--- a segment that keeps some of its bytes, with new ones behind them
+-- a segment that keeps some of its bytes, with new ones after them
 pub spliced_there : {L : Type 0} (objects after : Objects L) (q : ℕ) (o : Object L) (old : List ℕ) (keep : ℕ)
     (more new : List ℕ) → Some o ≡ objects q → o.kind ≡ Segment old → new ≡ take keep old ++ more
     → after ≡ put objects q (record { label = o.label; kind = Segment new })
@@ -459,7 +459,7 @@ module _ {Id : Type 0} (labels : Id → Option Levels) (es : TableModel Id) (q :
   bytes_by None = refl
   bytes_by (Some o) = ap or_no_bytes (kind_bytes_by o.kind)
 
-  -- what the table shows once a segment was spliced
+  -- the objects that a table represents after a segment is spliced
   pub spliced_shown : (fs : TableModel Id) (keep : ℕ) (more : List ℕ)
       → objects_of fs ≡ changed_at (objects_of es) q (holding (take keep (bytes_in (objects_of es q)) ++ more))
       → objects_of (shown labels fs)

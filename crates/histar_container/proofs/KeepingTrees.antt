@@ -1,4 +1,4 @@
--- What a table keeps, and what it shows, when a tree is taken out of it.
+-- The invariant of a table, and the objects that it represents, after a tree is cut out of it.
 use Rattle.std.proofs.Common.{◌≡◌, ℕ, nat_eq, true, List, Option, None, Some, Result, Ok, Err, OnOk, OnErr, inl, inr, refl, sym, ap, ◌∙◌, subst}
 use Rattle.std.specs.Prelude.{option_map, option_and_then}
 use Rattle.std.specs.FinSet as set
@@ -18,21 +18,21 @@ use Rattle.histar_container.proofs.Trees.{reached_decided}
 
 module _ {L : Type 0} (objects new : Objects L) (trees : AreTree objects) (d o : ℕ)
     (linked : set.contains (links_in (objects d)) o ≡ true) (is_cut : IsCut objects d o new) where
-  -- what is not reached is what it was, but for the link
+  -- an object that is not reached stays, except for the link
   not_reached_is : (q : ℕ) → ¬ Reached objects o q → new q ≡ changed_at objects d (unlinking o) q
   not_reached_is q not_reached = elim (eqb_tells q d) [
     | inl e ↦ ap new e.1 ∙ is_cut.unlinked ∙ sym (ap (changed_at objects d (unlinking o)) e.1 ∙ changed_here objects d (unlinking o))
     | inr e ↦ is_cut.stays q not_reached e.1 ∙ sym (changed_other objects d (unlinking o) q e.1)
   ]
 
-  -- what is still there is what it was, but for the link
+  -- an object that is still there is the old one, except for the link
   pub left_is : (q : ℕ) (x : Object L) → new q ≡ Some x → changed_at objects d (unlinking o) q ≡ Some x
   left_is q x e = elim (reached_decided objects trees.root trees.next trees.tree d o linked q) [
     | inl r ↦ let k : None ≡ Some x = sym (is_cut.gone q r) ∙ e in cc
     | inr r ↦ sym (not_reached_is q r) ∙ e
   ]
 
-  -- and where nothing was, nothing is
+  -- and where none was, none is
   pub none_is : (q : ℕ) → changed_at objects d (unlinking o) q ≡ None → new q ≡ None
   none_is q e = elim (reached_decided objects trees.root trees.next trees.tree d o linked q) [
     | inl r ↦ is_cut.gone q r
@@ -46,7 +46,7 @@ module _ {Id : Type 0} (labels : Id → Option Levels) where
   kind_links_by (Thread clearance) = refl
   kind_links_by (Gate clearance entry) = refl
 
-  -- an object links what it is shown to link
+  -- an object with labels by value links the same numbers
   links_by : (o : Option (Object Id)) (c : ℕ) → set.contains (links_in (option_map (object_by (label_at labels)) o)) c ≡ set.contains (links_in o) c
   links_by None c = refl
   links_by (Some o) c = ap (λ l. set.contains l c) (kind_links_by o.kind)
@@ -77,7 +77,7 @@ module _ {Id : Type 0} (labels : Id → Option Levels) where
   unlinked_stands n o s = record { label = s.label; kind = kind_unlinked_stands n o.kind s.kind }
 
   module _ (objects : Objects Id) where
-    -- what is laid out as it is shown is laid out
+    -- objects match a naming if they match it with labels by value
     matched_below : (next : ℕ) (naming : Naming ℕ)
         → MatchesNaming nat_eq (by_value labels objects) next (objects_at (by_value labels objects) naming) naming
         → MatchesNaming nat_eq objects next (objects_at objects naming) naming
@@ -96,7 +96,7 @@ module _ {Id : Type 0} (labels : Id → Option Levels) where
             (matched.as_expected q ∙ ap (wanted (objects_at (by_value labels objects) naming)) i)
         by q (Some a) i = sym (ap (option_and_then objects) (matched.numbered q a i))
 
-    -- what is shown as a tree is one
+    -- objects are a tree if they are one with labels by value
     pub trees_below : AreTree (by_value labels objects) → AreTree objects
     trees_below trees = record {
       root = trees.root;
@@ -118,7 +118,7 @@ module _ {Id : Type 0} (labels : Id → Option Levels) where
     reached_above o q here = here
     reached_above o q (there p c r k) = there p q (reached_above o p r) (links_by (objects p) q ∙ k)
 
-    -- a tree that is cut is shown cut
+    -- a tree that is cut off is cut off by value
     pub cut_above : (new : Objects Id) (d o : ℕ) → IsCut objects d o new → IsCut (by_value labels objects) d o (by_value labels new)
     cut_above new d o is_cut = record {
       gone = λ q r. ap (option_map (object_by (label_at labels))) (is_cut.gone q (reached_below o q r));
@@ -127,11 +127,11 @@ module _ {Id : Type 0} (labels : Id → Option Levels) where
     }
 
   module _ (es : TableModel Id) where
-    -- what a table shows as a tree is one
+    -- the objects of a table are a tree if those that it represents are
     pub trees_there : AreTree (objects_of (shown labels es)) → AreTree (objects_of es)
     trees_there trees = trees_below (objects_of es) (subst (λ (x : Objects Levels). AreTree x) (shows_all labels es) trees)
 
-    -- what a table shows to be linked is
+    -- an object is linked in a table if it is linked in the objects that the table represents
     pub linked_in_table : (d o : ℕ) → set.contains (links_in (objects_of (shown labels es) d)) o ≡ true
         → set.contains (links_in (objects_of es d)) o ≡ true
     linked_in_table d o k =
@@ -139,13 +139,13 @@ module _ {Id : Type 0} (labels : Id → Option Levels) where
         ∙ sym (ap (λ (x : Objects Levels). set.contains (links_in (x d)) o) (shows_all labels es)) ∙ k
 
     module _ (fs : TableModel Id) (d o : ℕ) where
-      -- a tree that is cut out of a table is shown cut
+      -- cutting a tree out of a table cuts it out of the objects that the table represents
       pub shown_cut : IsCut (objects_of es) d o (objects_of fs) → IsCut (objects_of (shown labels es)) d o (objects_of (shown labels fs))
       shown_cut is_cut =
           subst (λ (x : Objects Levels). IsCut x d o (objects_of (shown labels fs))) (sym (shows_all labels es))
           (subst (IsCut (by_value labels (objects_of es)) d o) (sym (shows_all labels fs)) (cut_above (objects_of es) (objects_of fs) d o is_cut))
 
-      -- what a table keeps when a tree is cut out of it
+      -- cutting a tree out of a table keeps the table's invariant
       kept_cut : (next : ℕ) → IsKept labels es next → AreTree (objects_of (shown labels es))
           → set.contains (links_in (objects_of (shown labels es) d)) o ≡ true
           → IsCut (objects_of es) d o (objects_of fs) → IsKept labels fs next
@@ -166,11 +166,11 @@ module _ {Id : Type 0} (labels : Id → Option Levels) where
             positive = kept.positive;
           }
 
-      -- a table that has the same objects shows the same
+      -- tables of the same objects represent the same
       shown_same : objects_of fs ≡ objects_of es → objects_of (shown labels fs) ≡ objects_of (shown labels es)
       shown_same e = shows_all labels fs ∙ ap (by_value labels) e ∙ sym (shows_all labels es)
 
-      -- and keeps the same
+      -- and keep the same invariant
       kept_same : (next : ℕ) → IsKept labels es next → objects_of fs ≡ objects_of es → IsKept labels fs next
       kept_same next kept e = record {
         stand = subst (AllStand labels) (sym e) kept.stand;
@@ -178,7 +178,7 @@ module _ {Id : Type 0} (labels : Id → Option Levels) where
         positive = kept.positive;
       }
 
-      -- what a table keeps, whether the tree was cut out of it or not
+      -- the invariant stays, whether the tree was cut out or not
       pub kept_removed : {A E : Type 0} (next : ℕ) (r : Result A E) → IsKept labels es next
           → AreTree (objects_of (shown labels es)) → set.contains (links_in (objects_of (shown labels es) d)) o ≡ true
           → OnOk r (IsCut (objects_of es) d o (objects_of fs)) → OnErr r (objects_of fs ≡ objects_of es) → IsKept labels fs next
@@ -188,7 +188,7 @@ module _ {Id : Type 0} (labels : Id → Option Levels) where
       module _ {A E : Type 0} (next_object next_category : ℕ) (old : ObjectsModel)
           (view_is : record { objects = shown labels es; next_object = next_object; next_category = next_category }
           ≡ old) (r : Result A E) where
-        -- the state of the kernel where a tree was cut out of its table
+        -- the state is cut where a tree was cut out of the table
         pub removed_ok : OnOk r (IsCut (objects_of es) d o (objects_of fs))
             → OnOk r (CutsOff (state_of old) d o (state_of (record
             { objects = shown labels fs; next_object = next_object; next_category = next_category })))
@@ -209,7 +209,7 @@ module _ {Id : Type 0} (labels : Id → Option Levels) where
                 (record { is_cut = shown_cut is_cut; next_object = refl; next_category = refl })
             by (Err x) is_cut = tt
 
-        -- and where it was not
+        -- and is the old one where none was
         pub removed_err : OnErr r (objects_of fs ≡ objects_of es)
             → OnErr r (state_of
             (record { objects = shown labels fs; next_object = next_object; next_category = next_category })

@@ -1,4 +1,4 @@
--- What an object links, and what it links after a change.
+-- The links of an object, and those after a change.
 use Rattle.std.proofs.Common.{◌≡◌, ℕ, Bool, true, false, ◌||◌, ◌&&◌, not, nat_eq, Option, None, Some, List, [], Result, Ok, Err, OnOk, OnErr, OnSome}
 use Rattle.std.proofs.Common.{refl, sym, ap, ◌∙◌}
 use Rattle.std.specs.Prelude.{option_map}
@@ -15,7 +15,7 @@ use Rattle.histar_object.specs.Objects.{Numbers, Objects, put, changed_at, kind_
 use Rattle.histar_object.specs.Objects.{links_in, kind_is_container, is_container}
 use Rattle.histar_object.proofs.Changes.{put_back, put_changed}
 
--- what holds where an object is lent holds here
+-- a fact that holds where an object is lent holds here
 pub on_some : {A : Type 0} (r : Option A) (x : A) (P : Type 0) → r ≡ Some x → OnSome r P → P
 on_some None x P e h = cc
 on_some (Some y) x P e h = h
@@ -24,29 +24,29 @@ on_some (Some y) x P e h = h
 pub none_linked : (n : ℕ) → false ≡ set.contains (set.empty {R = nat_cmp}) n
 none_linked n = sym (set.contains-empty nat_cmp n)
 
--- the empty set has no number, whatever is tested too
+-- the empty set has no number, even with another test
 none_linked_and : (b : Bool) (c : ℕ) → set.contains (set.empty {R = nat_cmp}) c ≡ (b && set.contains (set.empty {R = nat_cmp}) c)
 none_linked_and true c = refl
 none_linked_and false c = sym (none_linked c)
 
--- a list that stays took all numbers of a set that has none
+-- appending a set without numbers leaves a list
 pub appends_none : (links : Numbers) (list : List ℕ) → ((n : ℕ) → false ≡ set.contains links n) → AppendsAll links list list
 unfolding IsDistinct
 appends_none links list none = record { added = []; is = sym (append-nil list); listed = record { members = none; once = tt } }
 
 module _ {L : Type 0} where
-  -- what is not there links nothing
+  -- a missing object links nothing
   pub absent_links : (o : Option (Object L)) (n : ℕ) → None ≡ o → false ≡ set.contains (links_in o) n
   absent_links o n e = none_linked n ∙ ap (λ x. set.contains (links_in x) n) e
 
-  -- what is no container links nothing
+  -- an object that is no container links nothing
   pub kind_links_none : (k : Kind L) (n : ℕ) → kind_is_container k ≡ false → false ≡ set.contains (kind_links k) n
   kind_links_none (Segment bytes) n e = none_linked n
   kind_links_none (Container links) n e = absurd (false≢true (sym e))
   kind_links_none (Thread clearance) n e = none_linked n
   kind_links_none (Gate clearance entry) n e = none_linked n
 
-  -- what a kind links with one link less
+  -- the links of a kind with one link less
   kind_unlinked_links : (k : Kind L) (n c : ℕ)
       → set.contains (kind_links (kind_unlinking n k)) c ≡ (not (nat_eq c n) && set.contains (kind_links k) c)
   kind_unlinked_links (Segment bytes) n c = none_linked_and _ c
@@ -55,13 +55,13 @@ module _ {L : Type 0} where
   kind_unlinked_links (Thread clearance) n c = none_linked_and _ c
   kind_unlinked_links (Gate clearance entry) n c = none_linked_and _ c
 
-  -- what an object links with one link less
+  -- the links of an object with one link less
   pub unlinked_links : (o : Option (Object L)) (n c : ℕ)
       → set.contains (links_in (option_map (unlinking n) o)) c ≡ (not (nat_eq c n) && set.contains (links_in o) c)
   unlinked_links None n c = none_linked_and _ c
   unlinked_links (Some o) n c = kind_unlinked_links o.kind n c
 
-  -- what a container links with one link more
+  -- the links of a container with one more link
   kind_linked_links : (k : Kind L) (n c : ℕ) → kind_is_container k ≡ true
       → set.contains (kind_links (kind_linking n k)) c ≡ (nat_eq c n || set.contains (kind_links k) c)
   kind_linked_links (Segment bytes) n c e = absurd (false≢true e)
@@ -69,7 +69,7 @@ module _ {L : Type 0} where
   kind_linked_links (Thread clearance) n c e = absurd (false≢true e)
   kind_linked_links (Gate clearance entry) n c e = absurd (false≢true e)
 
-  -- what a container that is there links with one link more
+  -- the links of a container that is there with one more link
   pub linked_links : (o : Option (Object L)) (n c : ℕ) → is_container o ≡ true
       → set.contains (links_in (option_map (linking n) o)) c ≡ (nat_eq c n || set.contains (links_in o) c)
   linked_links None n c e = absurd (false≢true e)
@@ -113,7 +113,7 @@ module _ {L : Type 0} where
   kind_not_linked n (Thread clearance) e = refl
   kind_not_linked n (Gate clearance entry) e = refl
 
-  -- what is no container stays where it was to link one more
+  -- an object that is no container stays where it was to link one more
   pub linked_not : (objects after : Objects L) (d n : ℕ) (o : Object L) → Some o ≡ objects d
       → kind_is_container o.kind ≡ false → after ≡ put objects d o → after ≡ changed_at objects d (linking n)
   linked_not objects after d n o here other e =
@@ -126,7 +126,7 @@ module _ {L : Type 0} where
   kind_not_unlinked n (Thread clearance) e = refl
   kind_not_unlinked n (Gate clearance entry) e = refl
 
-  -- and what is no container stays
+  -- and stays where it was to link one less
   pub unlinked_not : (objects after : Objects L) (d n : ℕ) (o : Object L) → Some o ≡ objects d
       → kind_is_container o.kind ≡ false → after ≡ put objects d o → after ≡ changed_at objects d (unlinking n)
   unlinked_not objects after d n o here other e =

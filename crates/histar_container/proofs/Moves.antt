@@ -1,4 +1,4 @@
--- The three moves of a kernel over objects that are laid out by a naming: an object is set, one is added, a tree is cut off.
+-- The three moves over objects that match a naming: an object is set, one is added, a tree is cut off.
 use Rattle.std.proofs.Common.{◌≡◌, ◌≢◌, ℕ, ◌+◌, ◌||◌, nat_eq, Bool, true, false, [], ◌∷◌, Option, None, Some, inl, inr, arith, refl, sym, ap, ◌∙◌}
 use Rattle.std.proofs.Common.{if◌then◌else◌}
 use Rattle.std.specs.Prelude.{is_some}
@@ -12,7 +12,7 @@ use Rattle.histar_container.specs.Tree.{Address, Naming, wanted, same_steps, is_
 use Rattle.histar_container.proofs.Addresses.{TestsEquality, inner, same_tests_equality, same_itself, same_other, longer}
 use Rattle.histar_container.proofs.Reaching.{same_number}
 
--- what has an address is not the next number
+-- a number that has an address is not the next one
 pub next_unused : {X : Type 0} (same_step : X → X → Bool) {L : Type 0} (objects : Objects L) (next : ℕ)
     (expected : Address X → Option (Object L)) (naming : Naming X)
     → MatchesNaming same_step objects next expected naming → (d : ℕ) (a : Address X) → naming.address d ≡ Some a
@@ -86,7 +86,7 @@ module _ {X : Type 0} (same_step : X → X → Bool) (decides : TestsEquality sa
     unfolding grown
     old_here q other = elim (eqb_tells q next) [ inl e ↦ absurd (other e.1) | inr e ↦ ap (λ t. if t then Some (x ∷ a) else naming.address q) e.0 ]
 
-    -- no object stood at the new address
+    -- no object was at the new address
     not_free : (q : ℕ) → naming.address q ≡ Some (x ∷ a) → ⊥
     not_free q e = let k : None ≡ Some q = sym free ∙ matched.numbered q (x ∷ a) e in cc
 
@@ -158,7 +158,7 @@ module _ {X : Type 0} (same_step : X → X → Bool) (decides : TestsEquality sa
           (matched.held y b (sym (ap (λ t. is_some (if t then Some next else naming.number (y ∷ b))) e.0) ∙ i))
     ]
 
-    -- the children of an address other than d's
+    -- an address other than d's keeps its children
     added_child : (c : ℕ) (b : Address X) → a ≢ b → is_one_below same_step b (grown.address c) ≡ is_one_below same_step b (naming.address c)
     added_child c b other = elim (eqb_tells c next) [
       | inl e ↦
@@ -168,7 +168,7 @@ module _ {X : Type 0} (same_step : X → X → Bool) (decides : TestsEquality sa
       | inr e ↦ ap (is_one_below same_step b) (old_here c e.1)
     ]
 
-    -- nothing stands below the new address
+    -- no address is below the new one
     no_child : (c : ℕ) → is_one_below same_step (x ∷ a) (naming.address c) ≡ false
     no_child c = by (naming.address c) refl
       where
@@ -181,7 +181,7 @@ module _ {X : Type 0} (same_step : X → X → Bool) (decides : TestsEquality sa
           | inr e ↦ e.0
         ]
 
-    -- what d links now
+    -- the links of d afterwards
     holder_links : (c : ℕ) → set.contains (links_in (new d)) c ≡ is_one_below same_step a (grown.address c)
     holder_links c = linked c ∙ ap (λ t. nat_eq c next || t) (matched.links d c a at_d) ∙ elim (eqb_tells c next) [
       | inl e ↦

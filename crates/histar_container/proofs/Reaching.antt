@@ -1,4 +1,4 @@
--- What is reached from an object by links is what lies at its address or below it.
+-- The numbers that are reached from an object by links are those at its address or below it.
 use Rattle.std.proofs.Common.{◌≡◌, ℕ, ◌||◌, Bool, true, false, [], ◌∷◌, Option, None, Some, ◌⊎◌, inl, inr, refl, sym, ap, ◌∙◌, subst}
 use Rattle.std.specs.Prelude.{is_some}
 use Rattle.std.specs.FinSet as set
@@ -23,7 +23,7 @@ module _ {X : Type 0} (same_step : X → X → Bool) (decides : TestsEquality sa
   pub same_number : (p q : ℕ) (a : Address X) → naming.address p ≡ Some a → naming.address q ≡ Some a → p ≡ q
   same_number p q a i j = inner p q (sym (matched.numbered p a i) ∙ matched.numbered q a j)
 
-  -- an address that has a number is that number's address
+  -- a number has the address that has the number
   number_of : (a : Address X) → is_some (naming.number a) ≡ true → (q : ℕ) × (naming.address q ≡ Some a)
   number_of a k = by (naming.number a) refl k
     where
@@ -31,7 +31,7 @@ module _ {X : Type 0} (same_step : X → X → Bool) (decides : TestsEquality sa
       by None i k = cc
       by (Some q) i k = (q, matched.addressed a q i)
 
-  -- what links something has an address, and what it links has one a step below
+  -- a number that links another has an address, and the other has one a step below
   linked_child : (p c : ℕ) → set.contains (links_in (objects p)) c ≡ true
       → (a : Address X) × (naming.address p ≡ Some a) × (is_one_below same_step a (naming.address c) ≡ true)
   linked_child p c k = by (naming.address p) refl
@@ -52,7 +52,7 @@ module _ {X : Type 0} (same_step : X → X → Bool) (decides : TestsEquality sa
       by (Some []) i k = cc
       by (Some (x ∷ b)) i k = (x, i ∙ ap (λ (d : Address X). Some (x ∷ d)) (sym (same_is same_step decides a b k)))
 
-  -- what is reached from the object at a has an address at a or below
+  -- a number that is reached from the object at a has an address at a or below
   pub reached_under : (o : ℕ) (a : Address X) → naming.address o ≡ Some a → (q : ℕ) → Reached objects o q
       → (b : Address X) × (naming.address q ≡ Some b) × (under same_step a b ≡ true)
   reached_under o a e q here = (a, e, under_itself same_step decides a)
@@ -61,7 +61,7 @@ module _ {X : Type 0} (same_step : X → X → Bool) (decides : TestsEquality sa
       let child = child_is up.0 q (sym (matched.links p q up.0 up.1) ∙ k) in
       (child.0 ∷ up.0, child.1, under_child same_step decides a up.0 child.0 up.2)
 
-  -- and what has an address there is reached
+  -- and a number with an address there is reached
   pub under_reached : (o : ℕ) (a : Address X) → naming.address o ≡ Some a → (b : Address X) (q : ℕ)
       → naming.address q ≡ Some b → under same_step a b ≡ true → Reached objects o q
   under_reached o a e [] q i u = subst (Reached objects o) (same_number o q [] (e ∙ ap Some (same_is same_step decides a [] u)) i) here
@@ -77,11 +77,11 @@ module _ {X : Type 0} (same_step : X → X → Bool) (decides : TestsEquality sa
           (matched.links p q b j ∙ ap (is_one_below same_step b) i ∙ same_itself same_step decides b)
 
   module _ (o : ℕ) (a : Address X) (at_o : naming.address o ≡ Some a) where
-    -- what has no address at a or below is not reached
+    -- a number without an address at a or below is not reached
     pub not_reached : (q : ℕ) → is_under same_step a (naming.address q) ≡ false → Reached objects o q → ⊥
     not_reached q b r = let k = reached_under o a at_o q r in true≢false (sym (ap (is_under same_step a) k.1 ∙ k.2) ∙ b)
 
-    -- what has one is
+    -- a number with one is reached
     pub is_reached : (q : ℕ) → is_under same_step a (naming.address q) ≡ true → Reached objects o q
     is_reached q = by (naming.address q) refl
       where
@@ -104,7 +104,7 @@ module _ {X : Type 0} (same_step : X → X → Bool) (decides : TestsEquality sa
       let down = child_is up.0 c up.2 in
       record { above = up.0; step = down.0; at_holder = up.1; at_linked = down.1 }
 
-  -- nothing links what it was reached from
+  -- an object links none from which it was reached
   pub no_way_back : (o q : ℕ) → Reached objects o q → set.contains (links_in (objects q)) o ≡ true → ⊥
   no_way_back o q r k =
       let l = link_at q o k in

@@ -1,4 +1,4 @@
--- The removal of a tree: the list of what is reached grows as it is read, and then each number of it is taken out of the table.
+-- The removal of a tree: the list of reached numbers grows as it is read, and then each of them is taken out of the table.
 use Rattle.std.proofs.Common.{◌≡◌, ◌≢◌, ℕ, ◌+◌, ◌<◌, ◌≤◌, nat_eq, Bool, true, false, List, [], ◌∷◌, ◌++◌, None, length, get_or, take, drop, inl, inr}
 use Rattle.std.proofs.Common.{arith, refl, sym, ap, ◌∙◌, subst, add-one, length-append, drop-cons, if◌then◌else◌}
 use Rattle.std.proofs.lemmas.List.{append-nil, take-append-le, take-append-drop}
@@ -19,7 +19,7 @@ use Rattle.histar_container.proofs.Trees.{not_back, linked_there, reached_there}
 use Rattle.histar_container.proofs.Gathering.{Gathers, gathers_first, gathers_all, gathers_more, unread, unread_fewer, distinct_before, member_first}
 use Rattle.histar_container.proofs.Gathering.{member_second, member_either, member_one, member_itself}
 
--- the first i numbers of a list that has no more are all
+-- the first i numbers of a list with no more than i are all
 pub take_all : {A : Type 0} (list : List A) (i : ℕ) → length list ≤ i → take i list ≡ list
 take_all {A} list i le =
     sym (append-nil (take i list)) ∙ ap (λ (l : List A). take i list ++ l) (sym (drop_of_length-le list le))
@@ -42,7 +42,7 @@ module _ {L : Type 0} where
   gathers_init objects o none list empty is =
       subst (Gathers objects o []) (sym (is ∙ ap (λ (l : List ℕ). l ++ o ∷ []) empty)) (gathers_first objects o)
 
-  -- one step: the number x at i is read, and what it links is appended
+  -- one step: the number x at i is read, and the numbers that it links are appended
   module _ (es : TableModel L) (trees : AreTree (objects_of es)) (d o : ℕ) (linked : set.contains (links_in (objects_of es d)) o ≡ true)
       (old new : List ℕ) (i x : ℕ) (lt : i < length old) (is : x ≡ get_or old i x)
       (g : Gathers (objects_of es) o (take i old) old) (appends : AppendsAll (links_in (objects_of es x)) old new)
@@ -59,7 +59,7 @@ module _ {L : Type 0} where
           reached_there (objects_of es) trees.root trees.next trees.tree o x
           (linked_there (objects_of es) trees.root trees.next trees.tree d o linked) (g.reached x listed)
 
-      -- the list still has what was read links
+      -- the list still has the numbers that the read ones link
       pub step_gathers : Gathers (objects_of es) o (take (i + 1) new) new
       step_gathers =
           let more =
@@ -67,7 +67,7 @@ module _ {L : Type 0} where
           (split_there old i x lt is) g appends.added appends.listed in
           subst (λ l. Gathers (objects_of es) o l new) (sym read_more) (subst (Gathers (objects_of es) o (take i old ++ x ∷ [])) (sym appends.is) more)
 
-      -- what was read is in the list
+      -- the numbers that were read are in the list
       pub step_in_list : i + 1 ≤ length new
       step_in_list = omega (arith, ap length appends.is, length-append old appends.added)
 
@@ -77,12 +77,12 @@ module _ {L : Type 0} where
           let not_read = distinct_before (take i old) x (drop (i + 1) old) (subst (λ l. IsDistinct nat_eq l) (split_there old i x lt is) g.once) in
           subst (λ l. unread es.objects l < unread es.objects (take i old)) (sym read_more) (unread_fewer es.objects (take i old) x x_there not_read)
 
-  -- once all is read, the list has what is reached and no more
+  -- after all are read, the list has exactly the reached numbers
   pub gathers_end : (objects : Objects L) (o : ℕ) (list : List ℕ) (i : ℕ) → length list ≤ i
       → Gathers objects o (take i list) list → (q : ℕ) → (is_member nat_eq list q ≡ true) ↔ Reached objects o q
   gathers_end objects o list i le g q = (g.reached q, gathers_all objects o list (subst (λ l. Gathers objects o l list) (take_all list i le) g) q)
 
-  -- a number more is taken out
+  -- one more number is taken out
   pub removes_more : (start before after : Objects L) (list : List ℕ) (i x : ℕ) → i < length list → x ≡ get_or list i x → after ≡ without before x
       → ((q : ℕ) → before q ≡ (if is_member nat_eq (take i list) q then None else start q)) → (q : ℕ)
       → after q ≡ (if is_member nat_eq (take (i + 1) list) q then None else start q)
@@ -103,7 +103,7 @@ module _ {L : Type 0} where
           by true k = elim (member_either (take i list) (x ∷ []) q k) [ inl e ↦ e | inr e ↦ absurd (other (member_one x q e)) ]
           by false k = false_from_ne_true _ (λ e. true≢false (sym (member_first (take i list) (x ∷ []) q e) ∙ k))
 
-  -- when all that is reached is taken out, the tree is cut
+  -- after all reached numbers are taken out, the tree is cut
   pub cut_done : (objects middle after : Objects L) (trees : AreTree objects) (d o : ℕ)
       → set.contains (links_in (objects d)) o ≡ true → (list : List ℕ) (n : ℕ) → length list ≤ n
       → ((q : ℕ) → (is_member nat_eq list q ≡ true) ↔ Reached objects o q) → middle ≡ changed_at objects d (unlinking o)

@@ -18,7 +18,7 @@ use Rattle.histar_container.proofs.TableMoves.{put_here, put_other}
 use Rattle.histar_container.proofs.Trees.{matched_itself, tree_new}
 
 module _ {L : Type 0} (root next : ℕ) (o : Object L) (below : root < next) (leaf : (c : ℕ) → set.contains (kind_links o.kind) c ≡ false) where
-  -- the root has the address of no steps, and nothing else has one
+  -- the root has the address of no steps, and no other number has one
   root_naming : Naming ℕ
   root_naming = record { address = λ q. if nat_eq q root then Some [] else None; number = λ a. if same_steps nat_eq a [] then Some root else None }
 
@@ -33,7 +33,7 @@ module _ {L : Type 0} (root next : ℕ) (o : Object L) (below : root < next) (le
   unfolding root_naming
   elsewhere q other = elim (eqb_tells q root) [ inl e ↦ absurd (other e.1) | inr e ↦ ap (λ b. if b then Some [] else None) e.0 ]
 
-  -- what has an address is the root
+  -- a number that has an address is the root's
   is_root : (q : ℕ) (a : Address ℕ) → root_naming.address q ≡ Some a → (q ≡ root) × ([] ≡ a)
   is_root q a i = elim (eqb_tells q root) [
     | inl e ↦ (e.1, inner [] a (sym (ap root_naming.address e.1 ∙ at_root) ∙ i))

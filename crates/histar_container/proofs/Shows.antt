@@ -1,4 +1,4 @@
--- What a table shows of its objects.
+-- The objects that a table represents.
 use Rattle.std.proofs.Common.{◌≡◌, ℕ, List, [], ◌∷◌, Option, Some, Bool, true, false, cond, refl}
 use Rattle.std.specs.Prelude.{option_map}
 use Rattle.std.specs.Ordering.{nat_cmp}
@@ -21,7 +21,7 @@ module _ {Id : Type 0} (labels : Id → Option Levels) where
   shows_listed [] q = refl
   shows_listed (e ∷ es) q = step (is_at (nat_cmp q) e.0) e.1 _ _ (shows_listed es q)
 
-  -- the object that is shown at a number is the one that is there, with its labels by value
+  -- the object that is represented at a number is the table's, with its labels by value
   pub shows : (t : TableModel Id) (q : ℕ) → objects_of (shown labels t) q ≡ option_map (object_by (label_at labels)) (objects_of t q)
   shows t q = shows_listed t.objects q
 

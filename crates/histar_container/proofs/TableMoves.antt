@@ -1,4 +1,4 @@
--- The three moves as a table makes them: an object is put or changed, a new one is linked, a tree is cut off.
+-- The three moves in a table: an object is put or changed, a new one is linked, a tree is cut off.
 use Rattle.std.proofs.Common.{◌≡◌, ◌≢◌, ℕ, ◌+◌, Bool, true, false, ◌∷◌, Option, None, Some, inl, inr, refl, sym, ap, ◌∙◌, subst, if◌then◌else◌}
 use Rattle.std.specs.Prelude.{option_map}
 use Rattle.std.specs.FinSet as set
@@ -14,11 +14,11 @@ use Rattle.histar_container.proofs.Moves.{matched_set, matched_added, next_unuse
 use Rattle.histar_container.proofs.Cutting.{matched_cut}
 
 module _ {L : Type 0} (objects : Objects L) (n : ℕ) where
-  -- what is put is there
+  -- an object that is put is there
   pub put_here : (o : Object L) → put objects n o n ≡ Some o
   put_here o = ap (λ b. if b then Some o else objects n) (eq-eqb n n refl)
 
-  -- and nothing else has changed
+  -- and no other has changed
   pub put_other : (o : Object L) (q : ℕ) → q ≢ n → put objects n o q ≡ objects q
   put_other o q other = elim (eqb_tells q n) [ inl e ↦ absurd (other e.1) | inr e ↦ ap (λ b. if b then Some o else objects q) e.0 ]
 
@@ -39,11 +39,11 @@ module _ {L : Type 0} (objects : Objects L) (n d : ℕ) (o : Object L) where
   pub new_holder : d ≢ n → with_new objects d n o d ≡ option_map (linking n) (objects d)
   new_holder other = put_other (changed_at objects d (linking n)) n o d other ∙ changed_here objects d (linking n)
 
-  -- and nothing else has changed
+  -- and no other has changed
   pub new_other : (q : ℕ) → q ≢ n → q ≢ d → with_new objects d n o q ≡ objects q
   new_other q not_new not_d = put_other (changed_at objects d (linking n)) n o q not_new ∙ changed_other objects d (linking n) q not_d
 
-  -- where nothing was, nothing is but the new object
+  -- where no object was, none is except the new one
   pub new_none : (q : ℕ) → objects q ≡ None → q ≢ n → with_new objects d n o q ≡ None
   new_none q nothing not_new = put_other (changed_at objects d (linking n)) n o q not_new ∙ none_changed objects d (linking n) q nothing
 
@@ -101,7 +101,7 @@ module _ {X : Type 0} (same_step : X → X → Bool) (decides : TestsEquality sa
       (λ c. ap (λ y. set.contains (links_in y) c) found ∙ leaf c)
       (λ c. ap (λ y. set.contains (links_in y) c) holder ∙ linked_links (objects d) next c container)))
 
-  -- what the container d links one step below it is cut off
+  -- an object that the container d links one step below it is cut off
   pub matched_without : (new : Objects L) (d o : ℕ) (a : Address X) (x : X) → IsCut objects d o new
       → naming.address o ≡ Some (x ∷ a) → naming.address d ≡ Some a
       → MatchesNaming same_step new next

@@ -21,7 +21,7 @@ use Rattle.histar_container.proofs.Cutting.{some_left}
 use Rattle.histar_container.proofs.TableMoves.{put_here, put_other, new_there, new_holder, new_other, matched_put, matched_new, matched_without}
 
 module _ {L X : Type 0} (same_step : X → X → Bool) where
-  -- objects that are laid out in some way are laid out as themselves
+  -- objects that match a naming match it with themselves as the expected ones
   pub matched_itself : (objects : Objects L) (next : ℕ) (expected : Address X → Option (Object L)) (naming : Naming X)
       → MatchesNaming same_step objects next expected naming
       → MatchesNaming same_step objects next (objects_at objects naming) naming
@@ -42,7 +42,7 @@ module _ {L : Type 0} where
   there_not_none : (o : Option (Object L)) → is_present o ≡ true → o ≡ None → ⊥
   there_not_none o t e = false≢true (sym (ap is_present e) ∙ t)
 
-  -- what links something is there
+  -- an object that links a number is there
   pub linker_there : (o : Option (Object L)) (c : ℕ) → set.contains (links_in o) c ≡ true → is_present o ≡ true
   linker_there None c k = absurd (true≢false (sym k ∙ sym (none_linked c)))
   linker_there (Some o) c k = refl
@@ -56,7 +56,7 @@ module _ {L : Type 0} where
   changed_there f None t = t
   changed_there f (Some o) t = refl
 
-  -- other bytes are no other links
+  -- other bytes change no links
   pub kind_held_links : (bytes : List ℕ) (k : Kind L) → kind_links (kind_holding bytes k) ≡ kind_links k
   kind_held_links bytes (Segment old) = refl
   kind_held_links bytes (Container links) = refl
@@ -64,7 +64,7 @@ module _ {L : Type 0} where
   kind_held_links bytes (Gate clearance entry) = refl
 
   module _ (objects : Objects L) (root next : ℕ) (tree : IsTree objects root next) where
-    -- what is there has an address
+    -- a number of an object has an address
     pub address_of : (q : ℕ) → is_present (objects q) ≡ true → (a : Address ℕ) × (tree.naming.address q ≡ Some a)
     address_of q t = by (tree.naming.address q) refl
       where
@@ -76,32 +76,32 @@ module _ {L : Type 0} where
     link_addresses : (p c : ℕ) → set.contains (links_in (objects p)) c ≡ true → LinkAt tree.naming p c
     link_addresses = link_at nat_eq eqb_tells objects next (objects_at objects tree.naming) tree.naming tree.matched
 
-    -- what has no address at a or below is not reached from there
+    -- a number without an address at a or below is not reached from there
     not_below : (o : ℕ) (a : Address ℕ) → tree.naming.address o ≡ Some a → (q : ℕ)
         → is_under nat_eq a (tree.naming.address q) ≡ false → Reached objects o q → ⊥
     not_below = not_reached nat_eq eqb_tells objects next (objects_at objects tree.naming) tree.naming tree.matched
 
-    -- what has an address is not the next number
+    -- a number that has an address is not the next one
     not_next : (q : ℕ) (a : Address ℕ) → tree.naming.address q ≡ Some a → q ≢ next
     not_next = next_unused nat_eq objects next (objects_at objects tree.naming) tree.naming tree.matched
 
-    -- nothing is there at the next number
+    -- no object is at the next number
     pub none_next : objects next ≡ None
     none_next = tree.matched.as_expected next ∙ ap (wanted (objects_at objects tree.naming)) (tree.matched.unused next (omega arith))
 
-    -- what is linked is there
+    -- a linked object is there
     pub linked_there : (p c : ℕ) → set.contains (links_in (objects p)) c ≡ true → is_present (objects c) ≡ true
     linked_there p c k =
         let l = link_addresses p c k in tree.filled c (l.step ∷ l.above) l.at_linked
 
-    -- what is reached from what is there is there
+    -- an object that is reached from one that is there is there
     pub reached_there : (o q : ℕ) → is_present (objects o) ≡ true → Reached objects o q → is_present (objects q) ≡ true
     reached_there o q t r =
         let at_o = address_of o t in
         let at_q = reached_under nat_eq eqb_tells objects next (objects_at objects tree.naming) tree.naming tree.matched o at_o.0 at_o.1 q r in
         tree.filled q at_q.0 at_q.1
 
-    -- nothing links what it was reached from, so no container is reached from what it links
+    -- an object links none from which it was reached, so no container is reached from an object that it links
     pub not_back : (d o : ℕ) → set.contains (links_in (objects d)) o ≡ true → Reached objects o d → ⊥
     not_back d o k r = no_way_back nat_eq eqb_tells objects next (objects_at objects tree.naming) tree.naming tree.matched o d r k
 
@@ -109,12 +109,12 @@ module _ {L : Type 0} where
     pub one_link : (p q c : ℕ) → set.contains (links_in (objects p)) c ≡ true → set.contains (links_in (objects q)) c ≡ true → p ≡ q
     one_link = one_holder nat_eq eqb_tells objects next (objects_at objects tree.naming) tree.naming tree.matched
 
-    -- and the root is reached from nothing that is linked
+    -- and the root is reached from no linked object
     pub root_not_reached : (d o : ℕ) → set.contains (links_in (objects d)) o ≡ true → Reached objects o root → ⊥
     root_not_reached d o k =
         let l = link_addresses d o k in not_below o (l.step ∷ l.above) l.at_linked root (ap (is_under nat_eq (l.step ∷ l.above)) tree.rooted)
 
-    -- what is linked reaches each number or does not
+    -- for each number it is decided whether a linked object reaches it
     pub reached_decided : (d o : ℕ) → set.contains (links_in (objects d)) o ≡ true → (q : ℕ) → Reached objects o q ⊎ (Reached objects o q → ⊥)
     reached_decided d o k =
         let at_o = address_of o (linked_there d o k) in
@@ -155,7 +155,7 @@ module _ {L : Type 0} where
             subst (λ (x : Objects L). IsTree x root next) (put_changed objects n f o (sym is))
             (tree_put n (f o) (ap is_present is) (λ c. ap (λ l. set.contains l c) (same_links o) ∙ ap (λ y. set.contains (links_in y) c) (sym is)))
 
-    -- a segment is given other bytes
+    -- a segment gets other bytes
     pub tree_held : (n : ℕ) (bytes : List ℕ) → IsTree (changed_at objects n (holding bytes)) root next
     tree_held n bytes = tree_changed n (holding bytes) (λ o. kind_held_links bytes o.kind)
 
@@ -203,7 +203,7 @@ module _ {L : Type 0} where
             let at_q = tree.matched.addressed (next ∷ a) q i in
             absurd (not_next q (next ∷ a) at_q (sym (tree.own_step q next a at_q)))
 
-    -- what a container links is cut off
+    -- an object that a container links is cut off
     pub tree_cut : (d o : ℕ) (new : Objects L) → set.contains (links_in (objects d)) o ≡ true → IsCut objects d o new → IsTree new root next
     tree_cut d o new k is_cut =
         let l = link_addresses d o k in
@@ -223,7 +223,7 @@ module _ {L : Type 0} where
               ];
         }
 
-  -- so what is left is a tree again
+  -- so the objects that are left are a tree again
   pub trees_cut : (objects new : Objects L) (d o : ℕ) → AreTree objects → set.contains (links_in (objects d)) o ≡ true
       → IsCut objects d o new → AreTree new
   trees_cut objects new d o trees linked is_cut =
@@ -233,7 +233,7 @@ module _ {L : Type 0} where
         tree = tree_cut objects trees.root trees.next trees.tree d o new linked is_cut;
       }
 
-  -- and a table that was given one object more has a tree too
+  -- and a table with one more object has a tree too
   pub tree_linked : (before after : Objects L) (root next d n : ℕ) (o : Object L) → IsTree before root next → n ≡ next
       → is_container (before d) ≡ true → ((c : ℕ) → set.contains (kind_links o.kind) c ≡ false)
       → after ≡ with_new before d n o → IsTree after root (next + 1)

@@ -1,4 +1,4 @@
--- What a table and its store keep together: objects by number with their labels by value, and the next numbers.
+-- The model of a table and its store: objects by number with their labels by value, and the next numbers.
 use Rattle.std.specs.Prelude.{◌≡◌, ℕ, refl}
 use Rattle.std.specs.Coded.{Coded, code_by, coded×, coded_ℕ}
 use Rattle.histar_label.specs.Levels.{Levels, coded_levels}
@@ -20,11 +20,11 @@ coded_objects_model =
     (λ k. (k.objects, (k.next_object, k.next_category)))
     (λ p. record { objects = p.0; next_object = p.1.0; next_category = p.1.1 }) (λ _. refl)
 
--- the state of the kernel that it is
+-- the state that a model represents
 abbrev pub state_of : ObjectsModel → State
 state_of k = record { objects = objects_of k.objects; next_object = k.next_object; next_category = k.next_category }
 
--- the container d links o no more, what was reached from o is gone, and all else is as it was
+-- the container d no longer links o, all that was reached from o is gone, and everything else is as it was
 pub record CutsOff (old : State) (d o : ℕ) (new : State) : Type 0 where
   pub is_cut : IsCut old.objects d o new.objects
   pub next_object : new.next_object ≡ old.next_object

@@ -1,4 +1,4 @@
--- Objects whose labels stand in a store under Ids, and the objects with labels by value that they show.
+-- Objects whose labels are in a store under Ids, and the objects with labels by value that they represent.
 use Rattle.std.specs.Prelude.{◌≡◌, ℕ, ◌<◌, ◌≤◌, List, [], ◌∷◌, Option, None, Some, IsSome}
 use Rattle.histar_label.specs.Levels.{Levels}
 use Rattle.histar_label.specs.Store.{label_at}
@@ -7,14 +7,14 @@ use Rattle.histar_object.specs.declared.objects.Kind.TheVariants.{Segment, Conta
 use Rattle.histar_object.specs.declared.objects.Object.{Object}
 use Rattle.histar_object.specs.Objects.{TableModel, Objects, objects_of}
 
--- a kind with something else that stands for its clearance
+-- a kind with its clearance mapped
 abbrev pub kind_by : {A B : Type 0} → (A → B) → Kind A → Kind B
 kind_by f (Segment bytes) = Segment bytes
 kind_by f (Container links) = Container links
 kind_by f (Thread clearance) = Thread (f clearance)
 kind_by f (Gate clearance entry) = Gate (f clearance) entry
 
--- an object with something else that stands for its labels
+-- an object with its labels mapped
 abbrev pub object_by : {A B : Type 0} → (A → B) → Object A → Object B
 object_by f o = record { label = f o.label; kind = kind_by f o.kind }
 
@@ -32,7 +32,7 @@ module _ {Id : Type 0} (labels : Id → Option Levels) where
   abbrev pub objects_shown : TableModel Id → Objects Levels
   objects_shown t = objects_of (shown t)
 
-  -- the clearance of a kind stands for a label
+  -- the Id of the clearance of a kind stands for a label
   abbrev pub KindStands : Kind Id → Type 0
   KindStands (Segment bytes) = Unit {0}
   KindStands (Container links) = Unit {0}
@@ -52,7 +52,7 @@ module _ {Id : Type 0} (labels : Id → Option Levels) where
 pub record IsUnusedFrom {L : Type 0} (objects : Objects L) (next : ℕ) : Type 0 where
   pub none : (q : ℕ) → next ≤ q → objects q ≡ None
 
--- what the table of a kernel keeps over all calls
+-- what holds of a kernel's table after every call
 pub record IsKept {Id : Type 0} (labels : Id → Option Levels) (t : TableModel Id) (next : ℕ) : Type 0 where
   pub stand : AllStand labels (objects_of t)
   pub unused : IsUnusedFrom (objects_shown labels t) next

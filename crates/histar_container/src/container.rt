@@ -6,7 +6,7 @@ ghost use Rattle.histar_object.specs.Objects.{objects_of, put, changed_at, linki
 use histar_object::{Kind, ObjId, Object, Table};
 use std::alloc::AllocError;
 
-/// Whether the container links the object.
+/// Checks whether the container links the object.
 pub fn linked<L>(table: &Table<L>, container: ObjId, object: ObjId) -> bool
     ensures { result ≡ set.contains (links_in (objects_of table.now container)) object }
 {
@@ -19,8 +19,8 @@ pub fn linked<L>(table: &Table<L>, container: ObjId, object: ObjId) -> bool
     }
 }
 
-/// Keeps a new object under a number, and links it in a container. It reserves all memory before it
-/// changes anything: a link that finds no memory leaves no object and no link behind.
+/// Adds a new object under a number, and links it in a container. It reserves all memory before it changes
+/// anything: a call that runs out of memory leaves no object and no link behind.
 pub fn link_new<L: Drop>(
     table: &mut Table<L>,
     container: ObjId,
@@ -51,7 +51,7 @@ fn link<L>(table: &mut Table<L>, container: ObjId, object: ObjId) -> Result<(), 
     Ok(())
 }
 
-/// Links an object in a container no more.
+/// Removes the link of a container to an object.
 pub(crate) fn unlink<L>(table: &mut Table<L>, container: ObjId, object: ObjId)
     ensures { objects_of table.new ≡ changed_at (objects_of table.old) container (unlinking object) }
 {

@@ -9,8 +9,8 @@ use crate::container::unlink;
 use histar_object::{Kind, ObjId, Table};
 use std::alloc::{AllocError, Global};
 
-/// Takes a container's link to an object away, with the object and all that is reached from it. It
-/// wants memory for the numbers of what goes, before it changes anything.
+/// Unlinks an object from a container, and removes it with all that is reached from it. It allocates a list
+/// of the numbers to remove before it changes anything.
 pub fn remove_tree<L: Drop>(
     alloc: Global,
     table: &mut Table<L>,
@@ -30,8 +30,8 @@ pub fn remove_tree<L: Drop>(
     Ok(())
 }
 
-// The numbers that are reached from an object that a container links, each once: the object's own
-// first, and behind each what it links.
+// Lists the numbers that are reached from an object that a container links, each once: first the object's
+// own, and after each the numbers that it links.
 fn reached_from<L>(
     alloc: Global,
     table: &Table<L>,
@@ -54,7 +54,7 @@ fn reached_from<L>(
     Ok(list)
 }
 
-// Appends to a list what an object links.
+// Appends the numbers that an object links to a list.
 fn append_links<L>(table: &Table<L>, object: ObjId, list: &mut Vec<ObjId>) -> Result<(), AllocError>
     ensures { OnOk result (AppendsAll (links_in (objects_of table.now object)) list.old.items list.new.items) }
 {

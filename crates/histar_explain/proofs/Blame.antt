@@ -1,4 +1,4 @@
--- Which test of a raw call has failed, by its denial.
+-- The test of a raw call that failed, by its denial.
 use Rattle.std.proofs.Common.{◌≡◌, ◌≢◌, ℕ, Bool, true, false, ◌&&◌, Option, None, Some, length, min, ◌+◌, refl, ap}
 use Rattle.std.specs.Prelude.{not, nat_lt}
 use Rattle.std.specs.FinSet as set
@@ -17,7 +17,7 @@ use Rattle.histar_rules.specs.Rules.{greatest}
 use Rattle.histar_explain.specs.Named.{container_named, object_named}
 use Rattle.histar_explain.specs.Obstacles.{bytes_after, has_next}
 
--- whether the object that a call names in its container is of the kind that the call wants
+-- whether the object that a call names in its container is of the kind that the call needs
 abbrev pub is_wanted : State → RawCall → Bool
 is_wanted s (Enter d o wanted clearance shown) = is_gate (s.objects o)
 is_wanted s (Read d o) = is_segment (s.objects o)
@@ -25,7 +25,7 @@ is_wanted s (Write d o keep bytes) = is_segment (s.objects o)
 is_wanted s (LabelOf d o) = not (is_thread (s.objects o))
 is_wanted s call = true
 
--- whether the labels that a call hands over pass
+-- whether the labels that a call is given pass
 abbrev pub passes_ranges : State → ℕ → RawCall → Bool
 passes_ranges s t (SetLabel label) = in_range (s.objects t) label && known s label
 passes_ranges s t (SetClearance clearance) = may_clear (s.objects t) clearance && known s clearance
@@ -37,7 +37,7 @@ passes_ranges s t (Enter d o wanted clearance shown) =
     in_gate (s.objects t) (s.objects o) wanted clearance && (known s wanted && (known s clearance && known s shown))
 passes_ranges s t call = true
 
--- whichever test of a call is the one that fails with a denial, P follows
+-- P follows, whichever test of a call is the one that fails with a denial
 pub record Blames (s : State) (t : ℕ) (call : RawCall) (x : Denied) (P : Type 0) : Type 0 where
   pub thread : is_thread (s.objects t) ≡ false → NoThread ≡ x → P
   pub present : is_present (s.objects (container_named call)) ≡ false → NoEntry ≡ x → P
@@ -67,7 +67,7 @@ module _ {P : Type 0} (x : Denied) where
   by_orelse None b f g e = g e
   by_orelse (Some d) b f g e = f e
 
-  -- the tests of what owns nothing
+  -- the tests of an object that owns nothing
   by_five : (a b c d e : Bool) → ((a && (b && c)) ≡ false → Range ≡ x → P) → (d ≡ false → TooBig ≡ x → P) → (e ≡ false → TooBig ≡ x → P)
       → (unless a Range orelse unless b Range orelse unless c Range orelse unless d TooBig orelse unless e TooBig) ≡ Some x → P
   by_five a b c d e range size number =
@@ -76,7 +76,7 @@ module _ {P : Type 0} (x : Denied) where
       (by_orelse (unless c Range) _ (by_unless c Range (λ h. range (and_second a _ (and_second b c h))))
       (by_orelse (unless d TooBig) (unless e TooBig) (by_unless d TooBig size) (by_unless e TooBig number))))
 
-  -- the tests of what may own
+  -- the tests of an object that may own
   by_four : (a b c d : Bool) → ((a && (b && c)) ≡ false → Range ≡ x → P) → (d ≡ false → TooBig ≡ x → P)
       → (unless a Range orelse unless b Range orelse unless c Range orelse unless d TooBig) ≡ Some x → P
   by_four a b c d range number =
@@ -121,14 +121,14 @@ module _ {P : Type 0} (s : State) (t : ℕ) (call : RawCall) (x : Denied) (h : B
       by_orelse x (no_container s t (container_named call)) _ by_container
       (by_unless x (set.contains (links_in (s.objects (container_named call))) (object_named call)) NoEntry h.link)
 
-  -- an object of the wanted kind
+  -- an object of the needed kind
   by_kind : (b : Bool) → (b ≡ false → is_wanted s call ≡ false)
       → (no_link s t (container_named call) (object_named call) orelse unless b BadKind) ≡ Some x → P
   by_kind b wanted =
       by_orelse x (no_link s t (container_named call) (object_named call)) (unless b BadKind) by_link
       (by_unless x b BadKind (λ e. h.kind (wanted e)))
 
--- which test of a call fails
+-- one of the tests of a call fails
 pub blame : {P : Type 0} (s : State) (t : ℕ) (call : RawCall) (x : Denied) → Blames s t call x P → check s t call ≡ Some x → P
 blame s t MakeCategory x h e =
     by_orelse x (no_thread s t) _ (by_thread s t MakeCategory x h)
@@ -167,6 +167,6 @@ blame s t (Unlink d o) x h e =
     (by_unless x (modifies (s.objects t) (s.objects d)) Modify (λ _. h.modify)) e
 blame s t (LabelOf d o) x h e = by_kind s t (LabelOf d o) x h (not (is_thread (s.objects o))) (λ e. e) e
 
--- a denial that is another one
+-- a denial that is a different one
 pub another : {P : Type 0} {Q : Type 0} (x : Denied) (d : Denied) → d ≢ x → Q → d ≡ x → P
 another x d differ q same = absurd (differ same)

@@ -32,7 +32,7 @@ pub one_of_both : (a b : Bool) → (a && b) ≡ false → (a ≡ false) ⊎ (b �
 one_of_both true b h = inr h
 one_of_both false b h = inl refl
 
--- a test that not all pass fails for one
+-- a test that not all numbers pass fails for one
 not_all : (test : ℕ → Bool) (es : List (ℕ × Level)) → list_all (λ e. test e.0) es ≡ false → FailsSomewhere test
 not_all test [] h = absurd (false≢true (sym h))
 not_all test (e ∷ es) h = elim (one_of_both (test e.0) (list_all (λ e. test e.0) es) h) [
@@ -55,7 +55,7 @@ within_fails test far A B C h = elim (one_of_both (test far) _ h) [
   ]
 ]
 
--- levels that don't fit exceed one another
+-- a level that doesn't fit below another exceeds it
 plain_exceeds : (l m : Level) → nat_le (rank l) (max (rank m) (rank m)) ≡ false → exceeds false l m ≡ true
 plain_exceeds l m h = grind (arith, nat_tests, h)
 
@@ -94,7 +94,7 @@ pub or_second : (a b : Bool) → b ≡ true → (a || b) ≡ true
 or_second true b h = refl
 or_second false b h = h
 
--- some test fails somewhere
+-- some test of observing fails at some category
 observing_fails : (T A : Found) → is_thread T ≡ true → is_present A ≡ true → observes T A ≡ false
     → (c : ℕ) × (some_fails_at (observing (label_of_found T) (label_of_found A) ∷ []) c ≡ true)
 observing_fails None A thread there refused = absurd (false≢true thread)
@@ -127,7 +127,7 @@ kind_cleared (kinds.Container links) (inr h) = absurd (false≢true h)
 kind_cleared (kinds.Thread clearance) h = (clearance, refl)
 kind_cleared (kinds.Gate clearance entry) h = (clearance, refl)
 
--- whether a thread may show a label is whether its own label is below it
+-- a thread may hand over a verify label exactly where its own label is below it
 own_below_is : (T : Found) → is_thread T ≡ true → (label : Levels) → is_own_below T label ≡ is_below (label_of_found T) label
 own_below_is None thread label = absurd (false≢true thread)
 own_below_is (Some t) thread label =

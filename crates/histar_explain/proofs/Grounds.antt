@@ -68,14 +68,14 @@ module _ (s : State) (t : ℕ) (no : is_thread (s.objects t) ≡ false) where
   caller_refused (Unlink d o) = kind_refused d o _
   caller_refused (LabelOf d o) = kind_refused d o _
 
--- so the caller of a call that is denied otherwise is a thread
+-- so the caller of a call that is denied for another reason is a thread
 caller_is : (s : State) (t : ℕ) (call : RawCall) (x : Denied) → NoThread ≢ x → check s t call ≡ Some x → is_thread (s.objects t) ≡ true
 caller_is s t call x differ e = elim (is_thread (s.objects t)) as (λ b. is_thread (s.objects t) ≡ b → b ≡ true) [
   | true ↦ λ _. refl
   | false ↦ λ no. absurd (differ (let same : Some NoThread ≡ Some x = sym (caller_refused s t no call) ∙ e in cc))
 ] refl
 
--- the gate of a call whose labels are refused behind it
+-- the gate of a call whose labels are refused behind it is a gate
 gate_is : (s : State) (t d o : ℕ) (wanted clearance shown : Levels)
     → check s t (Enter d o wanted clearance shown) ≡ Some Range → is_gate (s.objects o) ≡ true
 gate_is s t d o wanted clearance shown e =
@@ -111,12 +111,12 @@ module _ (s : State) (t : ℕ) (thread : is_thread (s.objects t) ≡ true) where
   own : Owns (s.objects t)
   own = owns_thread (s.objects t) thread
 
-  -- a label that is out of the thread's range
+  -- a label outside the thread's range makes a test fail
   out_of_range : (label : Levels) → states.in_range (s.objects t) label ≡ false
       → Fails (in_range (label_of_found (s.objects t)) label (clearance_of_found (s.objects t)))
   out_of_range label out = range_fails _ label _ (sym (range_is (s.objects t) own label) ∙ out)
 
-  -- a label and a clearance that are
+  -- so do a label and a clearance outside it
   out_of_span : (label clearance : Levels) → rights.in_span (s.objects t) label clearance ≡ false
       → Fails (in_span (label_of_found (s.objects t)) label clearance (clearance_of_found (s.objects t)))
   out_of_span label clearance out =
@@ -143,7 +143,7 @@ module _ (s : State) (t : ℕ) (thread : is_thread (s.objects t) ≡ true) where
       (clearance_of_found (s.objects t)) gate_limit) in
       opening_fails _ _ wanted clearance _ _ (sym (at_thread ∙ at_gate) ∙ out)
 
-  -- what is made and owns nothing
+  -- a denied call that makes an object that owns nothing has grounds
   making_grounds : (label : Levels) (test : Test)
       → (not (has_star label) ≡ false
       → Fails (test ∷ in_range (label_of_found (s.objects t)) label (clearance_of_found (s.objects t))))
@@ -158,7 +158,7 @@ module _ (s : State) (t : ℕ) (thread : is_thread (s.objects t) ≡ true) where
     ]
   ]
 
-  -- what is made and may own
+  -- so has one that makes an object that may own
   owner_grounds : (label clearance : Levels) → (rights.in_span (s.objects t) label clearance && (known s label && known s clearance)) ≡ false
       → HasRangeGrounds s (in_span (label_of_found (s.objects t)) label clearance (clearance_of_found (s.objects t))) (label ∷ clearance ∷ [])
   owner_grounds label clearance h = elim (one_of_both (rights.in_span (s.objects t) label clearance) _ h) [
@@ -227,7 +227,7 @@ wrong_kind_is s t (MakeGate d label clearance entry) h = absurd (false≢true (s
 wrong_kind_is s t (Unlink d o) h = absurd (false≢true (sym h))
 
 module _ (s : State) (t : ℕ) (call : RawCall) where
-  -- what a test of a call that fails otherwise says nothing of
+  -- a caller that is denied as no thread is none
   thread_grounds : check s t call ≡ Some NoThread → is_thread (s.objects t) ≡ false
   thread_grounds = blame s t call NoThread (record {
     thread = λ no _. no;
@@ -260,7 +260,7 @@ module _ (s : State) (t : ℕ) (call : RawCall) where
     number = λ _ same. absurd cc;
   }) e
 
-  -- what a container links is of the wrong kind
+  -- the object that a container links is of the wrong kind
   kind_grounds : check s t call ≡ Some BadKind → is_container (s.objects (container_named call)) ≡ true → is_wanted s call ≡ false
   kind_grounds e container = blame s t call BadKind (record {
     thread = λ _ same. absurd cc;
@@ -276,7 +276,7 @@ module _ (s : State) (t : ℕ) (call : RawCall) where
     number = λ _ same. absurd cc;
   }) e
 
-  -- bytes that fit want a number that is not left
+  -- where the bytes fit, no number is left
   number_grounds : check s t call ≡ Some TooBig → fits_segment (bytes_after s call) ≡ true → has_next s call ≡ false
   number_grounds e fits = blame s t call TooBig (record {
     thread = λ _ same. absurd cc;
@@ -292,7 +292,7 @@ module _ (s : State) (t : ℕ) (call : RawCall) where
     number = λ no _. no;
   }) e
 
-  -- labels that don't pass their ranges
+  -- the labels don't pass their ranges
   ranges_fail : check s t call ≡ Some Range → passes_ranges s t call ≡ false
   ranges_fail = blame s t call Range (record {
     thread = λ _ same. absurd cc;

@@ -13,7 +13,7 @@ use Rattle.histar_explain.specs.Comparisons.{exceeds}
 use Rattle.histar_explain.specs.Tests.{Test}
 use Rattle.histar_explain.specs.Laws.{some_fails_at, HasKeys, KeysExist}
 
--- what isn't found in two lists together is found in neither
+-- a category that isn't found in two lists joined is found in neither
 none_in_both : (A B : Exceptions) (c : ℕ) → find nat_cmp c (A ++ B) ≡ None → (find nat_cmp c A ≡ None) × (find nat_cmp c B ≡ None)
 none_in_both [] B c none = (refl, none)
 none_in_both (e ∷ A) B c none =
@@ -23,18 +23,18 @@ none_in_both (e ∷ A) B c none =
       | false ↦ none_in_both A B c
     ] none
 
--- two categories that a label lists neither of have its default
+-- two categories that a label doesn't list have the same level, its default
 alike : (L : Levels) (c d : ℕ) → find nat_cmp c (exceptions_of L) ≡ None → find nat_cmp d (exceptions_of L) ≡ None → level_of L c ≡ level_of L d
 alike L c d here there =
     level_of-exceptions L c ∙ ap (λ (o : Option Level). unwrap_or o (default_of L)) (here ∙ sym there)
     ∙ sym (level_of-exceptions L d)
 
--- what the labels of some tests list
+-- the exceptions of the labels of some tests
 all_listed : List Test → Exceptions
 all_listed [] = []
 all_listed (t ∷ some) = exceptions_of t.comparison.lower ++ (exceptions_of t.comparison.upper ++ all_listed some)
 
--- where they list neither of two categories, the tests fail at both or at none
+-- at two categories that the labels don't list, the tests fail alike
 fail_alike : (some : List Test) (c d : ℕ) → find nat_cmp c (all_listed some) ≡ None
     → find nat_cmp d (all_listed some) ≡ None → some_fails_at some c ≡ some_fails_at some d
 unfolding all_listed
@@ -50,7 +50,7 @@ fail_alike (t ∷ some) c d here there =
     λ i. exceeds t.comparison.owner_passes (lower i) (upper i) || rest i
 
 module _ (some : List Test) (own : Levels) where
-  -- star where a test fails, and else the level of before
+  -- star where a test fails, and otherwise the old level
   with_key : ℕ → Level
   with_key c = if some_fails_at some c then Star else level_of own c
 

@@ -31,7 +31,7 @@ star_above L1 = refl
 star_above L2 = refl
 star_above L3 = refl
 
--- Tests that at each category look at the thread's level alone, and that star passes, fail at the keys that are lacking.
+-- Tests that at each category depend on the thread's level alone, and that star passes, fail exactly at the lacking keys.
 by_level : (s : State) (t : ℕ) (own : Levels) (call : RawCall) (denied : Denied) (fails : ℕ → Level → Bool)
     → ((o : Levels) (c : ℕ) → some_fails_at (tests_with o s t call denied) c ≡ fails c (level_of o c))
     → ((c : ℕ) → fails c Star ≡ false) → LacksKeys s t own call denied
@@ -57,7 +57,7 @@ by_modify s t own call =
     by_level s t own call Modify (λ c l. exceeds false l (level_of label c) || (exceeds true (level_of label c) l || false)) (λ o c. refl)
     (λ c i. star_below (level_of label c) i || (star_above (level_of label c) i || false))
 
--- no test, no key
+-- without tests there are no keys
 by_none : (s : State) (t : ℕ) (own : Levels) (call : RawCall)
     → ((o : Levels) (c : ℕ) → some_fails_at (tests_with o s t call Gate) c ≡ false) → LacksKeys s t own call Gate
 by_none s t own call none = by_level s t own call Gate (λ c l. false) none (λ c. refl)

@@ -1,4 +1,4 @@
--- What is left of a label's exceptions, as a pass goes over them by rising category.
+-- The exceptions of a label that are left, as a pass goes over them by rising category.
 use Rattle.std.proofs.Common.{◌≡◌, ◌≢◌, ℕ, ◌+◌, ◌<◌, ◌≤◌, [], ◌∷◌, All, ◌⊎◌, inl, inr, true, false, min, eqb, eq-eqb, if◌then◌else◌, Contains, Option}
 use Rattle.std.proofs.Common.{None, Some, refl, sym, ap, ◌∙◌, subst, arith}
 use Rattle.std.proofs.lemmas.Bool.Decides.{nat_tests}
@@ -49,7 +49,7 @@ level_before d (e ∷ es) c q rises under lt =
     let apart : eqb e.0 q ≡ false = grind (arith, nat_tests, under) in
     front ∙ rw apart refl
 
--- after a category that none comes before, what is left comes after it
+-- the exceptions left after a category that none comes before come after it
 under_after : (es : Exceptions) (c : ℕ) → Rises es → IsUnder c es → IsUnder (c + 1) (after es c)
 under_after [] c rises under = tt
 under_after (e ∷ es) c rises under = elim (eqb e.0 c) as (λ b. eqb e.0 c ≡ b → IsUnder (c + 1) (if b then es else e ∷ es)) [
@@ -61,7 +61,7 @@ under_after (e ∷ es) c rises under = elim (eqb e.0 c) as (λ b. eqb e.0 c ≡ 
     rest_after e [] c rises under = tt
     rest_after e (f ∷ fs) c rises under = let less = rises 0 1 (omega arith) (omega arith) in omega (arith, less)
 
--- what holds of each that is left holds of each that is left after one
+-- a property of all exceptions holds of those left after a category
 all_after : (P : ℕ × Level → Type 0) (es : Exceptions) (c : ℕ) → All P es → All P (after es c)
 all_after P [] c all = all
 all_after P (e ∷ es) c all = elim (eqb e.0 c) as (λ b. All P (if b then es else e ∷ es)) [
@@ -77,7 +77,7 @@ module _ (L : Levels) (bound : ℕ) (A : Exceptions) (left : IsLeft L bound A) w
   pub level_between : (c q : ℕ) → IsUnder c A → bound ≤ q → q < c → level_of L q ≡ default_of L
   level_between c q under from lt = sym (left.has q from) ∙ level_before (default_of L) A c q left.rises under lt
 
-  -- so has each from the bound on, where nothing is left
+  -- so has each from the bound on, where no exception is left
   pub level_at_end : A ≡ [] → (q : ℕ) → bound ≤ q → level_of L q ≡ default_of L
   level_at_end none q from = sym (left.has q from) ∙ ap (λ es. looked (default_of L) es q) none
 
@@ -96,7 +96,7 @@ module _ (L : Levels) (bound : ℕ) (A : Exceptions) (left : IsLeft L bound A) w
     pub level_here : level_at A c (default_of L) ≡ level_of L c
     level_here = sym (level_at_front (default_of L) A left.rises c under) ∙ left.has c le
 
-    -- the pass goes on behind the front
+    -- the pass goes on after the front
     pub left_on : IsLeft L (c + 1) (after A c)
     left_on = record {
       rises = rising_after A c left.rises;
@@ -119,15 +119,15 @@ lower_is_one (Some a) (Some b) c e =
     min_is_one : (a b : ℕ) → (min a b ≡ a) ⊎ (min a b ≡ b)
     min_is_one a b = grind arith
 
--- a bound that comes before what is left is not above a category that is the first of it
+-- a bound before all exceptions that are left is not above the first of them
 pub bound_at_first : (k : ℕ) (A : Exceptions) (c : ℕ) → first_category A ≡ Some c → IsUnder k A → k ≤ c
 bound_at_first k [] c first under = absurd cc
 bound_at_first k (e ∷ es) c first under = let is : e.0 ≡ c = cc in omega (arith, under)
 
--- of two numbers the first is lower, or it is not
+-- of two numbers the first is lower or not
 pub lt_or_le : (m n : ℕ) → (m < n) ⊎ (n ≤ m)
 lt_or_le m n = grind arith
 
--- a number before the next one is before the number or is it
+-- a number before the next one is before this one or equal to it
 pub up_to : (c q : ℕ) → q < c + 1 → (q < c) ⊎ (c ≡ q)
 up_to c q lt = grind arith

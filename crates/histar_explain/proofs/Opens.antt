@@ -1,4 +1,4 @@
--- With star at all keys that a denial lacks, the same call is not denied so.
+-- With star at all keys that a denial lacks, the same call is not denied in the same way.
 use Rattle.std.proofs.Common.{◌≡◌, ◌≢◌, ℕ, [], ◌∷◌, Bool, true, false, eqb, eq-eqb, if◌then◌else◌, None, Some, unwrap_or, refl, sym, ap, ◌∙◌, arith}
 use Rattle.std.specs.Prelude.{option_map}
 use Rattle.std.proofs.lemmas.Bool.Decides.{nat_tests}

@@ -14,7 +14,7 @@ use Rattle.histar_explain.specs.Comparisons.{Comparison, exceeds, fails_at, IsLi
 use Rattle.histar_explain.proofs.LeftExceptions.{IsLeft, left_at_first, level_between, level_at_end, level_here, differs_here, left_on, lower_is_one}
 use Rattle.histar_explain.proofs.LeftExceptions.{bound_at_first, lt_or_le, up_to}
 
--- a difference behind those of lower categories keeps a list rising
+-- a difference after those of lower categories keeps a list rising
 pushed_rises : (differences : List Difference) (d : Difference) → IsRising differences
     → All (λ (e : Difference). e.category < d.category) differences → IsRising (differences ++ d ∷ [])
 pushed_rises [] d rising below = (All-nil (λ (e : Difference). d.category < e.category), tt)
@@ -32,11 +32,11 @@ or_right : (a b : Bool) → b ≡ true → (a || b) ≡ true
 or_right true b h = refl
 or_right false b h = h
 
--- a list names what it named before a difference was put behind it
+-- a category that a list names is still named after a difference is added
 still_named : (differences : List Difference) (d : Difference) (c : ℕ) → is_named differences c ≡ true → is_named (differences ++ d ∷ []) c ≡ true
 still_named differences d c named = list_any-append (λ e. eqb e.category c) differences (d ∷ []) ∙ or_left _ _ named
 
--- and the category of that difference
+-- so is the category of that difference
 newly_named : (differences : List Difference) (d : Difference) (c : ℕ) → d.category ≡ c → is_named (differences ++ d ∷ []) c ≡ true
 newly_named differences d c same =
     list_any-append (λ e. eqb e.category c) differences (d ∷ []) ∙ or_right _ _ (or_left _ _ (eq-eqb d.category c same))
@@ -48,7 +48,7 @@ pub record ListsBelow (t : Comparison) (fails : Bool) (bound : ℕ) (differences
   pub below : All (λ (d : Difference). d.category < bound) differences
   pub whole : (c : ℕ) → c < bound → IsListed t c → fails_at t c ≡ fails → is_named differences c ≡ true
 
--- Of the exceptions of two labels these are left, from a bound on, and these differences were made of the others.
+-- Of the exceptions of two labels these are left, from a bound on, and the differences are those of the others.
 pub record IsPassed (t : Comparison) (A B : Exceptions) (named spared : List Difference) : Type 0 where
   pub bound : ℕ
   pub first : IsLeft t.lower bound A
@@ -65,7 +65,7 @@ none_below t fails = record {
   whole = λ c lt. absurd (omega arith);
 }
 
--- before the pass all are left
+-- before the pass all exceptions are left
 pub passed_at_first : (t : Comparison) (A B : Exceptions) → Rises A → Rises B → ListsExceptions t.lower A
     → ListsExceptions t.upper B → A ≡ exceptions_of t.lower → B ≡ exceptions_of t.upper → IsPassed t A B [] []
 passed_at_first t A B a b first second f s = record {
@@ -84,7 +84,7 @@ front_difference t A B c = record { category = c; lower = level_at A c (default_
 abbrev pub front_fails : Comparison → Exceptions → Exceptions → ℕ → Bool
 front_fails t A B c = exceeds t.owner_passes (level_at A c (default_of t.lower)) (level_at B c (default_of t.upper))
 
--- the differences with one more, where it belongs there
+-- the differences with one more, if it belongs to them
 abbrev pub with_difference : Bool → List Difference → Difference → List Difference
 with_difference belongs differences d = if belongs then differences ++ d ∷ [] else differences
 
@@ -94,7 +94,7 @@ module _ (t : Comparison) (A B : Exceptions) (named spared : List Difference) (p
   gap_not_listed c q first second from lt (inl differs) = differs (level_between t.lower passed.bound A passed.first c q first from lt)
   gap_not_listed c q first second from lt (inr differs) = differs (level_between t.upper passed.bound B passed.second c q second from lt)
 
-  -- where nothing is left, no category from the bound on is listed
+  -- where no exception is left, no category from the bound on is listed
   end_not_listed : lower A B ≡ None → (q : ℕ) → passed.bound ≤ q → IsListed t q → ⊥
   end_not_listed none q from (inl differs) = differs (level_at_end t.lower passed.bound A passed.first (lower_none A B none).0 q from)
   end_not_listed none q from (inr differs) = differs (level_at_end t.upper passed.bound B passed.second (lower_none A B none).1 q from)
@@ -149,7 +149,7 @@ module _ (t : Comparison) (A B : Exceptions) (named spared : List Difference) (p
   fails_is : front_fails t A B c ≡ fails_at t c
   fails_is = λ i. exceeds t.owner_passes (lower_level i) (upper_level i)
 
-  -- what is whole below the bound is so up to the front, but for the front
+  -- differences that are whole below the bound are whole up to the front, without the front
   whole_before : (fails : Bool) (differences : List Difference) → ListsBelow t fails passed.bound differences → (q : ℕ)
       → q < c → IsListed t q → fails_at t q ≡ fails → is_named differences q ≡ true
   whole_before fails differences so_far q lt listed is = elim (lt_or_le q passed.bound) [
@@ -198,7 +198,7 @@ module _ (t : Comparison) (A B : Exceptions) (named spared : List Difference) (p
   not_false true e same = cc
   not_false false e same = cc
 
-  -- the pass goes on behind the front
+  -- the pass goes on after the front
   pub passed_on : IsPassed t (after A c) (after B c)
       (with_difference (front_fails t A B c) named (front_difference t A B c))
       (with_difference (not (front_fails t A B c)) spared (front_difference t A B c))

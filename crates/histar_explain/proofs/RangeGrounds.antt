@@ -57,7 +57,7 @@ pub fails_later : (test : Test) (rest : List Test) → Fails rest → Fails (tes
 unfolding Fails
 fails_later test rest at = (at.0, or_second _ _ at.1)
 
--- the join of two labels is exceeded where neither reaches
+-- a level that exceeds those of two labels exceeds that of their join
 join_exceeds : (l f s : Level) (L M : Levels) (c : ℕ) → l ≡ l → rank f ≡ rank (level_of L c)
     → nat_le (rank l) (max (rank f) (rank s)) ≡ false → rank s ≡ rank (level_of M c)
     → exceeds false l (level_of (join_of L M) c) ≡ true
@@ -85,7 +85,7 @@ level_of-owning_high L c =
     ∙ ap (λ l. if is_some (find nat_cmp c (exceptions_of L)) then high (level_of L c) else l) (level_of-constant (high (default_of L)) c)
     ∙ by_found (find nat_cmp c (exceptions_of L)) (level_of L c) (default_of L) (level_of-exceptions L c)
 
--- a level that is above another one where star in this is raised is so where star counts as 3
+-- a level that is above another one with star raised is above it with star as 3
 raised_or_high : (l f s : Level) → nat_le (rank l) (max (rank f) (raised s)) ≡ false → nat_le (rank l) (max (rank f) (rank (high s))) ≡ false
 raised_or_high l f Star h = let bound = rank-at_most l in grind (arith, nat_tests, h, bound)
 raised_or_high l f L0 h = h
@@ -135,7 +135,7 @@ module _ (found : Found) (owns : Owns found) where
   pub range_is : (label : Levels) → states.in_range found label ≡ (is_below (label_of_found found) label && is_below label (clearance_of_found found))
   range_is label = (λ i. between (owns.label_is i) (owns.clearance_is i) label) ∙ (λ i. is_below (own_is i) label && is_below label (clearance_is i))
 
--- a label out of a range
+-- a label outside a range makes a test fail
 pub range_fails : (own label own_clearance : Levels) → (is_below own label && is_below label own_clearance) ≡ false
     → Fails (in_range own label own_clearance)
 range_fails own label own_clearance h = elim (one_of_both (is_below own label) _ h) [
@@ -143,7 +143,7 @@ range_fails own label own_clearance h = elim (one_of_both (is_below own label) _
   | inr second ↦ fails_later _ _ (fails_here parties.LabelAsked label parties.ThreadClearance own_clearance [] second)
 ]
 
--- three labels of which one is not below the next
+-- of three labels, one not below the next makes a test fail
 three_fail : (a : Party) (K : Levels) (b : Party) (L : Levels) (d : Party) (M : Levels) (rest : List Test)
     → ((is_below K L ≡ false) ⊎ ((is_below L M ≡ false) ⊎ Fails rest)) → Fails (below a K b L ∷ below b L d M ∷ rest)
 three_fail a K b L d M rest (inl first) = fails_here a K b L _ first
@@ -156,7 +156,7 @@ one_of_three true true c h = inr (inr h)
 one_of_three true false c h = inr (inl refl)
 one_of_three false b c h = inl refl
 
--- a label and a clearance out of a range
+-- a label and a clearance outside a range make a test fail
 pub span_fails : (own label clearance own_clearance : Levels)
     → (is_below own label && is_below label clearance && is_below clearance own_clearance) ≡ false
     → Fails (in_span own label clearance own_clearance)
@@ -169,7 +169,7 @@ span_fails own label clearance own_clearance h = three_fail parties.Thread own p
       ]
     ])
 
--- a label and a clearance out of the range behind a gate
+-- so do a label and a clearance outside the range behind a gate
 pub opening_fails : (own gate_label label clearance own_clearance gate_clearance : Levels)
     → lies_between own gate_label label clearance own_clearance gate_clearance ≡ false
     → Fails (behind_gate own gate_label label clearance own_clearance gate_clearance)
@@ -187,7 +187,7 @@ opening_fails own gate_label label clearance own_clearance gate_clearance h =
       ]
     ])
 
--- a clearance out of a range
+-- and a clearance outside a range
 pub clearing_fails : (own clearance own_clearance : Levels)
     → (is_below own clearance && is_below_join_raised clearance own_clearance own) ≡ false
     → Fails (clearing own clearance own_clearance)
@@ -198,7 +198,7 @@ clearing_fails own clearance own_clearance h = elim (one_of_both (is_below own c
       (join_of own_clearance (owning_high own)) (above_join_raised clearance own_clearance own second))
 ]
 
--- a label of what owns nothing that has star
+-- a test whose negation fails holds
 not_false : (b : Bool) → not b ≡ false → b ≡ true
 not_false true h = refl
 not_false false h = absurd cc
@@ -209,7 +209,7 @@ star_fails party label rest h =
     let at = (has_star-law label).0 (not_false (has_star label) h) in
     (at.0, ap (λ b. b || some_fails_at rest at.0) (λ i. exceeds false (level_of-constant L0 at.0 i) (at.1 i)))
 
--- a category of a list that fails a test
+-- a list that fails a test has a category that fails it
 failing_exception : (L : Levels) (test : ℕ → Bool) (es : List (ℕ × Level)) → All (Differs L) es
     → list_all (λ e. test e.0) es ≡ false → (c : ℕ) × ((lists L c ≡ true) × (test c ≡ false))
 failing_exception L test [] differ h = absurd (false≢true (sym h))

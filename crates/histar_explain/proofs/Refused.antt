@@ -1,4 +1,4 @@
--- Which test a denial comes from.
+-- The test that a denial comes from.
 use Rattle.std.proofs.Common.{◌≡◌, ◌≢◌, ℕ, ◌⊎◌, inl, inr, Bool, true, false, not, Option, None, Some, length, if◌then◌else◌, refl, sym, ap, subst}
 use Rattle.std.specs.FinSet as set
 use mathlib.Core.Bool.{false≢true}
@@ -20,7 +20,7 @@ use Rattle.histar_rules.specs.Rules.{fits_segment, has_number}
 use Rattle.histar_rules.proofs.Passing.{first, rest, caller_is, container_is, unless_none}
 use Rattle.histar_explain.specs.Named.{observed_by, modified_by}
 
--- a check that may refuse, but not so
+-- a check that may refuse, but with another denial
 pub Not : Denied → Option Denied → Type 0
 Not x None = Unit {0}
 Not x (Some d) = d ≢ x
@@ -40,7 +40,7 @@ unfolding Not
 never x None p e = cc
 never x (Some d) p e = p cc
 
--- what such a check doesn't refuse, the other one does
+-- a denial that the second check doesn't give comes from the first
 strip : (x : Denied) (a b : Option Denied) → Not x b → (a orelse b) ≡ Some x → a ≡ Some x
 strip x None b p e = absurd (never x b p e)
 strip x (Some d) b p e = e
@@ -57,7 +57,7 @@ pub failed : (b : Bool) (d x : Denied) → unless b d ≡ Some x → b ≡ false
 failed true d x e = cc
 failed false d x e = refl
 
--- the tests of labels, sizes and counters that come last
+-- the last tests, of labels, sizes and counters, give another denial
 three_tests : (x : Denied) → Range ≢ x → TooBig ≢ x → (a b c d e : Bool)
     → Not x (unless a Range orelse unless b Range orelse unless c Range orelse unless d TooBig orelse unless e TooBig)
 three_tests x range big a b c d e =
@@ -76,7 +76,7 @@ gate_ranges x range a b c d =
     not_orelse x (unless a Range) _ (not_unless x a Range range) (not_orelse x (unless b Range) _ (not_unless x b Range range)
     (not_orelse x (unless c Range) (unless d Range) (not_unless x c Range range) (not_unless x d Range range)))
 
--- the calls that name no container are refused otherwise
+-- the calls that name no container are refused with another denial
 no_call : (x : Denied) → NoThread ≢ x → Range ≢ x → (a b c : Bool) → Not x (unless a NoThread orelse unless b Range orelse unless c Range)
 no_call x thread range a b c =
     not_orelse x (unless a NoThread) _ (not_unless x a NoThread thread)
@@ -85,7 +85,7 @@ no_call x thread range a b c =
 no_count : (x : Denied) → NoThread ≢ x → TooBig ≢ x → (a b : Bool) → Not x (unless a NoThread orelse unless b TooBig)
 no_count x thread big a b = not_orelse x (unless a NoThread) (unless b TooBig) (not_unless x a NoThread thread) (not_unless x b TooBig big)
 
--- the checks of a container refuse an observer, or nothing of labels
+-- the checks of a container give no denial except these four
 container_not : (x : Denied) → NoThread ≢ x → NoEntry ≢ x → BadKind ≢ x → Observe ≢ x → (s : State) (t d : ℕ) → Not x (no_container s t d)
 container_not x thread entry kind observe s t d =
     not_orelse x (unless (is_thread (s.objects t)) NoThread) _ (not_unless x (is_thread (s.objects t)) NoThread thread)
@@ -169,7 +169,7 @@ module _ (s : State) (t d : ℕ) where
       strip x (no_making s t d) _ (owner_tests x range big (in_span (s.objects t) label clearance) (known s label) (known s clearance)
       (has_number s)) e
 
-  -- the caller of a call whose container is there, and the container
+  -- where the checks of the container pass, the caller is a thread and the container is one
   pub both_there : no_container s t d ≡ None → (is_thread (s.objects t) ≡ true) × (is_container (s.objects d) ≡ true)
   both_there e = (caller_is s t (first (no_thread s t) _ e), container_is s t d e)
 
@@ -180,7 +180,7 @@ module _ (s : State) (t d : ℕ) where
       let kind = other_kind (s.objects d) (inl both.1) in
       record { caller = both.0; there = kind.0; other = kind.1; refused = failed (modifies (s.objects t) (s.objects d)) Modify Modify parts.1 }
 
--- at which object a call is refused that may not observe it
+-- a call that may not observe is refused at this object
 pub observe_refused : (s : State) (t : ℕ) (call : RawCall) → check s t call ≡ Some Observe → IsRefused s t (observed_by s t call) observes
 observe_refused s t MakeCategory e = absurd (never Observe _ (no_count Observe (λ h. cc) (λ h. cc) (is_thread (s.objects t)) _) e)
 observe_refused s t OwnLabel e = absurd (never Observe _ (not_unless Observe (is_thread (s.objects t)) NoThread (λ h. cc)) e)
@@ -234,7 +234,7 @@ observe_refused s t (LabelOf d o) e =
     link_refused s t d o
     (strip Observe (no_link s t d o) _ (not_unless Observe (not (is_thread (s.objects o))) BadKind (λ h. cc)) e)
 
--- no container, link or segment is refused as what may not be modified or entered
+-- no container, link or segment is refused with a denial to modify or to enter
 segment_not : (x : Denied) → NoThread ≢ x → NoEntry ≢ x → BadKind ≢ x → Observe ≢ x → (s : State) (t d o : ℕ) → Not x (no_segment s t d o)
 segment_not x thread entry kind observe s t d o =
     not_orelse x (no_link s t d o) _ (link_not x thread entry kind observe s t d o)
@@ -245,7 +245,7 @@ gate_not x thread entry kind observe s t d o =
     not_orelse x (no_link s t d o) _ (link_not x thread entry kind observe s t d o)
     (not_unless x (is_gate (s.objects o)) BadKind kind)
 
--- at which object a call is refused that may not modify it
+-- a call that may not modify is refused at this object
 pub modify_refused : (s : State) (t : ℕ) (call : RawCall) → check s t call ≡ Some Modify → IsRefused s t (modified_by call) modifies
 modify_refused s t MakeCategory e = absurd (never Modify _ (no_count Modify (λ h. cc) (λ h. cc) (is_thread (s.objects t)) _) e)
 modify_refused s t OwnLabel e = absurd (never Modify _ (not_unless Modify (is_thread (s.objects t)) NoThread (λ h. cc)) e)
@@ -291,7 +291,7 @@ modify_refused s t (LabelOf d o) e =
     absurd (never Modify _ (not_orelse Modify (no_link s t d o) _ (link_not Modify (λ h. cc) (λ h. cc) (λ h. cc) (λ h. cc) s t d o)
     (not_unless Modify (not (is_thread (s.objects o))) BadKind (λ h. cc))) e)
 
--- a thread was refused at a gate, by its clearance or by the label shown
+-- a thread was refused at a gate, by the gate's clearance or by the verify label
 pub record IsShutOut (s : State) (t o : ℕ) (shown : Levels) : Type 0 where
   pub caller : is_thread (s.objects t) ≡ true
   pub gate : is_gate (s.objects o) ≡ true

@@ -16,7 +16,7 @@ use Rattle.std.specs.Global.{Vec}
 use Rattle.histar_explain.specs.Tests.{Test, IsReasonOf}
 use Rattle.histar_explain.specs.Laws.{ShowsExactly, some_shown, some_fails_at}
 
--- a category that is named has the outcome of the differences
+-- a named category has the outcome of the differences
 named_outcome : (t : Comparison) (fails : Bool) (differences : List Difference) → All (IsDifference t fails) differences
     → (c : ℕ) → is_named differences c ≡ true → fails_at t c ≡ fails
 named_outcome t fails [] right c named = absurd (false≢true named)
@@ -29,7 +29,7 @@ named_outcome t fails (r ∷ differences) right c named =
       | false ↦ λ other named. named_outcome t fails differences (All-tail (IsDifference t fails) r differences right) c named
     ] refl named
 
--- a level is another one, or differs
+-- two levels are equal or not
 same_or_not : (l m : Level) → (l ≡ m) ⊎ (l ≢ m)
 same_or_not l m = elim (eqb (rank l) (rank m)) as (λ b. eqb (rank l) (rank m) ≡ b → (l ≡ m) ⊎ (l ≢ m)) [
   | true ↦ λ same. inl (same_level l m (grind (arith, nat_tests, same)))
@@ -46,7 +46,7 @@ listed_or_default t c = elim (same_or_not (level_of t.lower c) (default_of t.low
   ]
 ]
 
--- a category is named by one of two lists
+-- a list of differences of one outcome names no category of the other
 not_both : (t : Comparison) (differences : List Difference) (fails : Bool) → All (IsDifference t fails) differences
     → (c : ℕ) → (fails_at t c ≡ fails → ⊥) → is_named differences c ≡ false
 not_both t differences fails right c unlike = elim (is_named differences c) as (λ b. is_named differences c ≡ b → b ≡ false) [
@@ -69,7 +69,7 @@ module _ (t : Comparison) (r : Reason) (e : Explains t r) (c : ℕ) where
       ∙ some_if (exceeds t.owner_passes (default_of t.lower) (default_of t.upper))
       (default_of t.lower, default_of t.upper)
 
-  -- where it fails, the category is named, or it is none of those that are spared
+  -- where it fails, the category is named, or is not spared
   shown_failing : fails_at t c ≡ true → is_shown r c ≡ true
   shown_failing fails = elim (listed_or_default t c) [
     | inl listed ↦ ap (λ b. b || (is_some r.elsewhere && not (is_named r.spared.items c))) (e.named.whole c listed fails)
@@ -83,7 +83,7 @@ module _ (t : Comparison) (r : Reason) (e : Explains t r) (c : ℕ) where
       or_true true = refl
       or_true false = refl
 
-  -- where it passes, it is neither
+  -- where it passes, the category is not shown
   shown_passing : fails_at t c ≡ false → is_shown r c ≡ false
   shown_passing passes =
       let unnamed = not_both t r.named.items true e.named.right c (λ fails. false≢true (sym passes ∙ fails)) in

@@ -22,7 +22,7 @@ use Rattle.histar_explain.proofs.LeftExceptions.{bound_at_first, lt_or_le, up_to
 default_not_listed : (L : Levels) (c : ℕ) → level_of L c ≡ default_of L → lists L c ≡ false
 default_not_listed L c same = ap not (eq-eqb (rank (level_of L c)) (rank (default_of L)) (ap rank same))
 
--- and each other one
+-- and lists each other one
 pub other_listed : (L : Levels) (c : ℕ) → level_of L c ≢ default_of L → lists L c ≡ true
 other_listed L c differs =
     elim (eqb (rank (level_of L c)) (rank (default_of L))) as
@@ -41,7 +41,7 @@ pub record IsPassed (next : ℕ) (L F S : Levels) (A B C : Exceptions) (cs : Lis
   pub below : All (λ (c : ℕ). c < bound) cs
   pub exact : (c : ℕ) → c < bound → is_among cs c ≡ is_unmade next (L ∷ F ∷ S ∷ []) c
 
--- a category that is not below a bound is not among those that are
+-- a category that is not below a bound is not among categories that are
 not_among : (cs : List ℕ) (bound c : ℕ) → All (λ (d : ℕ). d < bound) cs → bound ≤ c → is_among cs c ≡ false
 not_among [] bound c below le = refl
 not_among (d ∷ cs) bound c below le =
@@ -50,7 +50,7 @@ not_among (d ∷ cs) bound c below le =
     let rest = not_among cs bound c (All-tail (λ (e : ℕ). e < bound) d cs below) le in
     λ i. apart i || rest i
 
--- a category behind lower ones keeps a list rising
+-- a category after lower ones keeps a list rising
 pushed_rises : (cs : List ℕ) (c : ℕ) → AreRising cs → All (λ (d : ℕ). d < c) cs → AreRising (cs ++ c ∷ [])
 pushed_rises [] c rising below = (All-nil (λ (d : ℕ). c < d), tt)
 pushed_rises (d ∷ cs) c rising below = (
@@ -58,17 +58,17 @@ pushed_rises (d ∷ cs) c rising below = (
   pushed_rises cs c rising.1 (All-tail (λ (e : ℕ). e < c) d cs below),
 )
 
--- what is among a list with one more
+-- a member of a list with one more category
 among_pushed : (cs : List ℕ) (c q : ℕ) → is_among (cs ++ c ∷ []) q ≡ (is_among cs q || (eqb c q || false))
 among_pushed cs c q = list_any-append (λ d. eqb d q) cs (c ∷ [])
 
--- three labels that list a category neither make it no unmade one
+-- three labels that don't list a category don't make it an unmade one
 none_listed : (next : ℕ) (L F S : Levels) (c : ℕ) → lists L c ≡ false → lists F c ≡ false → lists S c ≡ false
     → is_unmade next (L ∷ F ∷ S ∷ []) c ≡ false
 none_listed next L F S c l f s = λ i. (l i || (f i || (s i || false))) && not (was_made next c)
 
 module _ (next : ℕ) (L F S : Levels) where
-  -- before the pass all are left
+  -- before the pass all exceptions are left
   pub passed_at_first : (A B C : Exceptions) → Rises A → Rises B → Rises C → ListsExceptions L A → ListsExceptions F B
       → ListsExceptions S C → A ≡ exceptions_of L → B ≡ exceptions_of F → C ≡ exceptions_of S
       → IsPassed next L F S A B C []
@@ -83,7 +83,7 @@ module _ (next : ℕ) (L F S : Levels) where
   }
 
   module _ (A B C : Exceptions) (cs : List ℕ) (passed : IsPassed next L F S A B C cs) where
-    -- where nothing is left, the list is whole
+    -- where no exception is left, the list is whole
     pub unmade_at_end : lowest A B C ≡ None → AreUnmade next (L ∷ F ∷ S ∷ []) cs
     unmade_at_end none =
         record {
@@ -169,7 +169,7 @@ module _ (next : ℕ) (L F S : Levels) where
             ∙ sym (ap (is_unmade next (L ∷ F ∷ S ∷ [])) (sym same) ∙ front_unmade ∙ ap not made)
       ]
 
-      -- the pass goes on behind a category that was never made
+      -- the pass goes on after a category that was never made
       pub passed_unmade : was_made next c ≡ false → IsPassed next L F S (after A c) (after B c) (after C c) (cs ++ c ∷ [])
       passed_unmade unmade = let under = lowest_under A B C c low in let le = from_bound in record {
         bound = c + 1;
@@ -181,7 +181,7 @@ module _ (next : ℕ) (L F S : Levels) where
         exact = exact_pushed unmade;
       }
 
-      -- and behind one that was made
+      -- and after one that was made
       pub passed_made : was_made next c ≡ true → IsPassed next L F S (after A c) (after B c) (after C c) cs
       passed_made made = let under = lowest_under A B C c low in let le = from_bound in record {
         bound = c + 1;
@@ -199,7 +199,7 @@ ones_list_none ones c same =
     default_not_listed ones c
     (ap (λ L. level_of L c) same ∙ level_of-constant L1 c ∙ sym (default_of-constant L1) ∙ sym (ap default_of same))
 
--- so it adds none to those of other labels
+-- so with it the list is that of the other labels
 pub unmade_of_both : {E : Type 0} (next : ℕ) (L F ones : Levels) (r : Result (Vec ℕ) E) → ones ≡ constant L1
     → IfOk r (λ (cs : Vec ℕ). AreUnmade next (L ∷ F ∷ ones ∷ []) cs.items)
     → IfOk r (λ (cs : Vec ℕ). AreUnmade next (L ∷ F ∷ []) cs.items)

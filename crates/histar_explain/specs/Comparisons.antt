@@ -1,4 +1,4 @@
--- A comparison of two labels, and where it fails.
+-- A comparison of two labels, and the categories at which it fails.
 use Rattle.std.specs.Prelude.{◌≡◌, ◌≢◌, ◌⊎◌, ℕ, ◌<◌, Bool, true, false, not, ◌==◌, ◌&&◌, ◌||◌, List, [], ◌∷◌, Option, None, Some, is_some}
 use Rattle.std.specs.Prelude.{if◌then◌else◌, nat_lt}
 use Rattle.std.specs.List.{All, list_any}
@@ -8,18 +8,18 @@ use Rattle.histar_label.specs.Levels.{Levels, level_of, default_of}
 use Rattle.histar_explain.specs.declared.reasons.Difference.{Difference}
 use Rattle.histar_explain.specs.declared.reasons.Reason.{Reason}
 
--- two labels of which the first is not to be above the second, and whether an owner passes: star in the second is then read as J
+-- two labels of which the first should not be above the second, and whether an owner passes: star in the second is then read as J
 pub record Comparison : Type 0 where
   pub lower : Levels
   pub upper : Levels
   pub owner_passes : Bool
 
--- the place of a level in the order, where star is the highest if an owner passes, and else the lowest
+-- the place of a level in the order, where star is the highest if an owner passes, and otherwise the lowest
 abbrev pub place : Bool → Level → ℕ
 place true l = raised l
 place false l = rank l
 
--- whether a level is above another one, as this is read
+-- whether a level is above another one that is read in this way
 abbrev pub exceeds : Bool → Level → Level → Bool
 exceeds owner_passes l m = nat_lt (place owner_passes m) (rank l)
 
@@ -53,16 +53,16 @@ pub record Lists (t : Comparison) (fails : Bool) (differences : List Difference)
   pub right : All (IsDifference t fails) differences
   pub whole : (c : ℕ) → IsListed t c → fails_at t c ≡ fails → is_named differences c ≡ true
 
--- the two defaults, where the comparison fails for them
+-- the two defaults, if the comparison fails for them
 abbrev pub failing_defaults : Comparison → Option (Level × Level)
 failing_defaults t = if exceeds t.owner_passes (default_of t.lower) (default_of t.upper) then Some (default_of t.lower, default_of t.upper) else None
 
--- what a reason says of a comparison: at which listed categories it fails, at which it passes, and whether it fails at all others
+-- a reason explains a comparison: it lists where it fails and where it passes, and says whether it fails at all other categories
 pub record Explains (t : Comparison) (r : Reason) : Type 0 where
   pub named : Lists t true r.named.items
   pub spared : Lists t false r.spared.items
   pub elsewhere : r.elsewhere ≡ failing_defaults t
 
--- whether a reason shows a category: it is named, or it is one of all others but those that are spared
+-- whether a reason shows a category: by name, or as one of all others except the spared ones
 abbrev pub is_shown : Reason → ℕ → Bool
 is_shown r c = is_named r.named.items c || (is_some r.elsewhere && not (is_named r.spared.items c))

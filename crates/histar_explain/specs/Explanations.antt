@@ -1,4 +1,4 @@
--- What an explanation says of a denied raw call.
+-- The explanation of a denied raw call.
 use Rattle.std.specs.Prelude.{◌≡◌, ℕ, true, ◌||◌, MatchOption, Some}
 use Rattle.std.specs.List.{AllZip}
 use Rattle.histar_object.specs.State.{State}
@@ -13,8 +13,8 @@ use Rattle.histar_explain.specs.Unmade.{AreUnmade, is_unmade, labels_of}
 use Rattle.histar_explain.specs.Obstacles.{act_of, obstacle_of, IsInTheWay}
 use Rattle.histar_explain.specs.Laws.{some_fails_at, some_shown, LacksKeys}
 
--- what the call tried, the categories of its labels that were never made, a reason for each test of the denial in their order, and
--- the obstacle where no label decides
+-- the explanation has the action of the call, the categories of its labels that were never made, a reason for each test of the denial in
+-- their order, and the obstacle where no label decides
 pub record IsExplanationOf (s : State) (t : ℕ) (call : RawCall) (denied : Denied) (e : Explanation) : Type 0 where
   pub act : e.act ≡ act_of s t call denied
   pub unmade : AreUnmade s.next_category (labels_of call denied) e.unmade.items
@@ -27,8 +27,8 @@ abbrev pub HasGrounds : State → ℕ → RawCall → Denied → Type 0
 HasGrounds s t call denied = MatchOption (obstacle_of s call denied)
     ((c : ℕ) × ((some_fails_at (tests s t call denied) c || is_unmade s.next_category (labels_of call denied) c) ≡ true)) (IsInTheWay s t call)
 
--- The explanation of a denial: its reasons show exactly the categories at which a test of the denial fails, with the levels of both
--- labels there; these are the keys that the thread lacks; and where the call is denied so, the explanation is not empty.
+-- The explanation of a denial: its reasons show exactly the categories at which a test of the denial fails, with the levels of both labels
+-- there; these are the keys that the thread lacks; and where the call is denied in this way, the explanation is not empty.
 pub record ExplainsDenial (s : State) (t : ℕ) (call : RawCall) (denied : Denied) (e : Explanation) : Type 0 where
   pub is : IsExplanationOf s t call denied e
   pub exact : (c : ℕ) → some_shown e.reasons.items c ≡ some_fails_at (tests s t call denied) c

@@ -1,4 +1,4 @@
--- What the reasons of a denial amount to.
+-- The laws of the reasons of a denial.
 use Rattle.std.specs.Prelude.{◌≡◌, ◌≢◌, ℕ, true, false, Some, Bool, List}
 use Rattle.std.specs.List.{list_any}
 use Rattle.histar_label.specs.declared.levels.Level.TheVariants.{Star}
@@ -32,15 +32,15 @@ pub record HasKeys (some : List Test) (own keyed : Levels) : Type 0 where
   pub owned : (c : ℕ) → some_fails_at some c ≡ true → level_of keyed c ≡ Star
   pub others : (c : ℕ) → some_fails_at some c ≡ false → level_of keyed c ≡ level_of own c
 
--- The categories at which a test of a denial fails are the keys that the thread lacks: with star at all of them its label would
--- pass each test at each category, and with any other label that leaves one of them as it is, a test fails there still.
+-- The categories at which a test of a denial fails are the keys that the thread lacks: with star at all of them its label would pass each
+-- test at each category, and with any other label that leaves one of them as it is, a test still fails there.
 pub record LacksKeys (s : State) (t : ℕ) (own : Levels) (call : RawCall) (denied : Denied) : Type 0 where
   pub enough : (keyed : Levels) → HasKeys (tests_with own s t call denied) own keyed → (c : ℕ)
       → some_fails_at (tests_with keyed s t call denied) c ≡ false
   pub each_wanted : (short : Levels) (k : ℕ) → some_fails_at (tests_with own s t call denied) k ≡ true
       → level_of short k ≡ level_of own k → some_fails_at (tests_with short s t call denied) k ≡ true
 
--- so it is of each denial that compares the thread's label with what it is to observe, modify or enter
+-- this holds of each denial that compares the thread's label with that of an object to observe, modify or enter
 abbrev pub KeysAreLacking : Type 0
 KeysAreLacking =
     (s : State) (t : ℕ) (own : Levels) (call : RawCall) (denied : Denied) → is_label_refusal (Some denied) ≡ true
@@ -55,8 +55,8 @@ DenialsRestOnTests = (s : State) (t : ℕ) (call : RawCall) (denied : Denied) �
 abbrev pub relabelled : State → ℕ → Levels → State
 relabelled s t label = with_changed s t (with_label label)
 
--- Were star at all keys that a denial lacks, the same call would not be denied so; but a read whose container was refused may be
--- refused at its segment then.
+-- With star at all keys that a denial lacks, the same call would not be denied in the same way; but a read whose container was refused may
+-- then be refused at its segment.
 abbrev pub KeysOpen : Type 0
 KeysOpen =
     (s : State) (t : ℕ) (call : RawCall) (denied : Denied) (keyed : Levels) → is_label_refusal (Some denied) ≡ true
@@ -64,6 +64,6 @@ KeysOpen =
     → HasKeys (tests s t call denied) (label_in s t) keyed → check (relabelled s t keyed) t call ≡ Some denied
     → (denied ≡ Observe) × (observed_by (relabelled s t keyed) t call ≢ observed_by s t call)
 
--- for some tests and a label there is one that has star at all their keys
+-- for some tests and a label there is a label that has star at all their keys
 abbrev pub KeysExist : Type 0
 KeysExist = (some : List Test) (own : Levels) → (keyed : Levels) × HasKeys some own keyed

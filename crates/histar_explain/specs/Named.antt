@@ -1,4 +1,4 @@
--- What a raw call names: its container, its object, and the labels that it hands over.
+-- The container and the object that a raw call names, and the labels that it is given.
 use Rattle.std.specs.Prelude.{ℕ, List, [], ◌∷◌, unwrap_or, if◌then◌else◌}
 use Rattle.histar_label.specs.declared.levels.Level.TheVariants.{L1}
 use Rattle.histar_label.specs.Levels.{Levels, constant}
@@ -12,7 +12,7 @@ use Rattle.histar_rules.specs.declared.raw.RawCall.TheVariants.{MakeThread, Make
 abbrev pub label_in : State → ℕ → Levels
 label_in s q = unwrap_or (label_there (s.objects q)) (constant L1)
 
--- the clearance of a thread or a gate, or 1 everywhere of anything else
+-- the clearance of a thread or a gate, or 1 everywhere for another object
 abbrev pub clearance_in : State → ℕ → Levels
 clearance_in s q = unwrap_or (clearance_there (s.objects q)) (constant L1)
 
@@ -41,7 +41,7 @@ object_named (Unlink d o) = o
 object_named (LabelOf d o) = o
 object_named call = 0
 
--- the labels that a call hands over
+-- the labels that a call is given
 abbrev pub handed : RawCall → List Levels
 handed (SetLabel label) = label ∷ []
 handed (SetClearance clearance) = clearance ∷ []

@@ -1,4 +1,4 @@
--- What a denied call tried, and why it is denied where no label decides that.
+-- The action that a denied call tried, and its obstacle where no label decides.
 use Rattle.std.specs.Prelude.{◌≡◌, ℕ, ◌+◌, Bool, true, false, Option, None, Some, length, min, nat_lt, if◌then◌else◌}
 use Rattle.std.specs.FinSet as set
 use Rattle.histar_object.specs.Objects.{is_present, is_segment, is_container, is_thread, is_gate, links_in, bytes_in}
@@ -15,7 +15,7 @@ use Rattle.histar_explain.specs.declared.explanations.Obstacle.{Obstacle}
 use Rattle.histar_explain.specs.declared.explanations.Obstacle.TheVariants as obstacles
 use Rattle.histar_explain.specs.Named.{container_named, object_named, observed_by, modified_by}
 
--- what a call does as a whole, where its labels, its bytes or a new number are refused
+-- the action of a call as a whole, where its labels, its bytes or a new number are refused
 abbrev pub whole_act : RawCall → Act
 whole_act MakeCategory = acts.MakeCategory
 whole_act (SetLabel label) = acts.TakeLabel
@@ -28,7 +28,7 @@ whole_act (Enter d o wanted clearance shown) = acts.EnterWith o
 whole_act (Write d o keep bytes) = acts.Write o
 whole_act call = acts.Call
 
--- what a denied call tried
+-- the action that a denied call tried
 abbrev pub act_of : State → ℕ → RawCall → Denied → Act
 act_of s t call Observe = acts.Observe (observed_by s t call)
 act_of s t call Modify = acts.Modify (modified_by call)
@@ -39,27 +39,27 @@ act_of s t call NoThread = acts.Call
 act_of s t call BadKind = acts.Use (if is_container (s.objects (container_named call)) then object_named call else container_named call)
 act_of s t call TooBig = whole_act call
 
--- what an object that the call names in its container is not, or is
+-- the obstacle of a call that names an object of a wrong kind in its container
 abbrev pub wrong_kind : RawCall → Obstacle
 wrong_kind (Enter d o wanted clearance shown) = obstacles.NoGate
 wrong_kind (LabelOf d o) = obstacles.IsThread
 wrong_kind call = obstacles.NoSegment
 
--- how many bytes a segment would have after a call
+-- the number of bytes that a segment would have after a call
 abbrev pub bytes_after : State → RawCall → ℕ
 bytes_after s (MakeSegment d label bytes) = length bytes
 bytes_after s (Write d o keep bytes) = min keep (length (bytes_in (s.objects o))) + length bytes
 bytes_after s call = 0
 
--- so many bytes, or the greatest number of 64 bits, which no machine holds
+-- this many bytes, or the greatest number of 64 bits, which no machine holds
 abbrev pub counted : ℕ → ℕ
 counted bytes = min greatest bytes
 
--- what is in the way of so many bytes, or of a new number where they fit a segment
+-- the obstacle where a segment would have this many bytes: their number, or that no number is left where they fit
 abbrev pub excess : ℕ → Obstacle
 excess bytes = if fits_segment bytes then obstacles.NoNumber else obstacles.TooLong (counted bytes)
 
--- why a denied call is denied, where that is no comparison of labels and no category that was never made
+-- the obstacle of a denied call, where it is no comparison of labels and no category that was never made
 abbrev pub obstacle_of : State → RawCall → Denied → Option Obstacle
 obstacle_of s call NoEntry =
     Some (if is_present (s.objects (container_named call)) then obstacles.NotLinked (container_named call) else

@@ -17,13 +17,13 @@ use Rattle.histar_explain.specs.declared.reasons.Reason.{Reason}
 use Rattle.histar_explain.specs.Comparisons.{Comparison, Explains}
 use Rattle.histar_explain.specs.Named.{label_in, clearance_in, observed_by, modified_by}
 
--- a comparison, and whose labels it compares
+-- a comparison, and the parties whose labels it compares
 pub record Test : Type 0 where
   pub lower_is : Party
   pub upper_is : Party
   pub comparison : Comparison
 
--- a first label is to be below a second
+-- a first label has to be below a second
 abbrev pub below : Party → Levels → Party → Levels → Test
 below lower_is lower upper_is upper =
     record {
@@ -32,15 +32,15 @@ below lower_is lower upper_is upper =
       comparison = record { lower = lower; upper = upper; owner_passes = false };
     }
 
--- an object is observed by those whose label is above its own, and by its owners
+-- an object may be observed by threads whose label is above its own, and by its owners
 abbrev pub observing : Levels → Levels → Test
 observing own label = record { lower_is = Object; upper_is = Thread; comparison = record { lower = label; upper = own; owner_passes = true } }
 
--- to modify an object a thread's label is below its label, and the thread observes it
+-- an object may be modified by a thread whose label is below the object's, and which observes it
 abbrev pub modifying : Levels → Levels → List Test
 modifying own label = below Thread own Object label ∷ observing own label ∷ []
 
--- who enters a gate has a label below its clearance and below the verify label
+-- a thread that enters a gate has a label below the gate's clearance and below the verify label
 abbrev pub letting : Levels → Levels → Levels → List Test
 letting own gate_clearance shown = below Thread own GateClearance gate_clearance ∷ below Thread own VerifyLabel shown ∷ []
 
@@ -52,7 +52,7 @@ entering own s call = []
 abbrev pub in_range : Levels → Levels → Levels → List Test
 in_range own label own_clearance = below Thread own LabelAsked label ∷ below LabelAsked label ThreadClearance own_clearance ∷ []
 
--- what may not own has star at no category: 0, the lowest other level, is below its label
+-- an object that may not own has star at no category: 0, the lowest other level, is below its label
 abbrev pub owning_nothing : Party → Levels → Test
 owning_nothing party label = below party (constant L0) LabelAsked label
 
@@ -80,13 +80,13 @@ high L3 = L3
 unfoldable pub owning_high : Levels → Levels
 owning_high L = refilled (λ c. high (level_of L c)) (exceptions_of L) (constant (high (default_of L)))
 
--- a new clearance is above the thread's label, and above its clearance only where the thread owns
+-- a new clearance is above the thread's label, and exceeds its clearance only where the thread owns
 abbrev pub clearing : Levels → Levels → Levels → List Test
 clearing own clearance own_clearance =
     below Thread own ClearanceAsked clearance
     ∷ below ClearanceAsked clearance ThreadClearanceAndLabel (join_of own_clearance (owning_high own)) ∷ []
 
--- the labels that a call hands over lie in their ranges, and a segment or a container owns nothing
+-- the labels that a call is given lie in their ranges, and a segment or a container owns nothing
 abbrev pub ranging : Levels → State → ℕ → RawCall → List Test
 ranging own s t (SetLabel label) = in_range own label (clearance_in s t)
 ranging own s t (SetClearance clearance) = clearing own clearance (clearance_in s t)
@@ -97,7 +97,7 @@ ranging own s t (MakeGate d label clearance entry) = in_span own label clearance
 ranging own s t (Enter d o wanted clearance shown) = behind_gate own (label_in s o) wanted clearance (clearance_in s t) (clearance_in s o)
 ranging own s t call = []
 
--- The tests of a denial at a state, were this the label of the thread.
+-- The tests of a denial at a state, if this is the label of the thread.
 abbrev pub tests_with : Levels → State → ℕ → RawCall → Denied → List Test
 tests_with own s t call Observe = observing own (label_in s (observed_by s t call)) ∷ []
 tests_with own s t call Modify = modifying own (label_in s (modified_by call))
@@ -109,7 +109,7 @@ tests_with own s t call denied = []
 abbrev pub tests : State → ℕ → RawCall → Denied → List Test
 tests s t call denied = tests_with (label_in s t) s t call denied
 
--- what a reason says of a test
+-- the reason of a test
 pub record IsReasonOf (test : Test) (r : Reason) : Type 0 where
   pub lower : r.lower ≡ test.lower_is
   pub upper : r.upper ≡ test.upper_is

@@ -34,7 +34,7 @@ pub record AreUnmade (next : ℕ) (labels : List Levels) (cs : List ℕ) : Type 
   pub rising : AreRising cs
   pub exact : (c : ℕ) → is_among cs c ≡ is_unmade next labels c
 
--- the labels in which a denial asks for made categories: all that the call hands over, where it is denied by a range
+-- the labels whose categories have to be made: all that the call is given, where it is denied by a range
 abbrev pub labels_of : RawCall → Denied → List Levels
 labels_of call Range = handed call
 labels_of call denied = []

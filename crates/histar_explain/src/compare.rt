@@ -1,4 +1,4 @@
-//! One pass over two labels, which finds where the first is above the second.
+//! One pass over two labels, which finds the categories at which the first is above the second.
 ghost use Rattle.std.specs.Prelude.{◌≡◌, ◌++◌, [], ◌∷◌, IfOk, if◌then◌else◌};
 ghost use Rattle.histar_explain.specs.Comparisons.{place, exceeds, Explains};
 
@@ -7,7 +7,7 @@ use histar_label::front::{after, level_at, lower};
 use histar_label::{Category, Label, Level, OutOfMemory};
 use std::alloc::Global;
 
-/// Whose labels are compared, and whether an owner passes.
+/// The parties whose labels are compared, and whether an owner passes.
 #[derive(Clone, Copy)]
 pub(crate) struct Sides {
     pub(crate) lower: Party,
@@ -15,7 +15,7 @@ pub(crate) struct Sides {
     pub(crate) owner_passes: bool,
 }
 
-/// Finds where a label is above another.
+/// Finds the categories at which a label is above another.
 pub(crate) fn compare(
     alloc: Global,
     sides: Sides,
@@ -49,7 +49,7 @@ pub(crate) fn compare(
     })
 }
 
-/// Puts a category with its levels at the end, where it belongs there.
+/// Appends a category with its levels, if it belongs to the list.
 fn put(
     differences: &mut Vec<Difference>,
     category: Category,
@@ -71,7 +71,7 @@ fn put(
     Ok(())
 }
 
-/// Checks whether a level is above another one, where star in this is the highest level if an owner
+/// Checks whether a level is above another one, where star in the other is the highest level if an owner
 /// passes.
 fn exceeds(lower: Level, upper: Level, owner_passes: bool) -> bool
     ensures { result ≡ exceeds owner_passes lower upper }

@@ -23,11 +23,11 @@ use histar_rules::{Denied, RawCall};
 use histar_syscall::Kernel;
 use std::alloc::Global;
 
-/// Explains why a raw call is denied in the state of a kernel: what it tried, the categories of its
-/// labels that were never made, each test of labels with the categories at which it fails, or the
-/// obstacle in its way.
+/// Explains why a raw call is denied in the state of a kernel: what it tried, the categories of its labels
+/// that were never made, and each test of labels with the categories at which it fails, or the obstacle in
+/// its way.
 ///
-/// A denied call leaves the state as it was, so the kernel may be one that has denied the call last.
+/// A denied call leaves the state as it was, so this may be called right after the kernel denied the call.
 pub fn explain<S: LabelStore + Drop>(
     alloc: Global,
     kernel: &Kernel<S>,
@@ -96,7 +96,7 @@ fn entry_reasons<S: LabelStore + Drop>(
     }
 }
 
-/// Lists a reason for each test of the labels that a call hands over.
+/// Lists a reason for each test of the labels that a call is given.
 fn all_range_reasons<S: LabelStore + Drop>(
     alloc: Global,
     kernel: &Kernel<S>,

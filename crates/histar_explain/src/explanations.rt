@@ -3,7 +3,7 @@ use crate::reasons::Reason;
 use histar_label::Category;
 use histar_object::ObjId;
 
-/// What a denied call tried.
+/// The action that a denied call tried.
 #[derive(Clone, Copy, Debug, PartialEq, Eq)]
 pub enum Act {
     /// Making a call at all.
@@ -36,7 +36,7 @@ pub enum Act {
     MakeGate,
 }
 
-/// Why a call is denied, where no label decides that.
+/// The reason of a denial that no label decides.
 #[derive(Clone, Copy, Debug, PartialEq, Eq)]
 pub enum Obstacle {
     /// The caller is no thread.
@@ -53,20 +53,20 @@ pub enum Obstacle {
     NoGate,
     /// The object is a thread.
     IsThread,
-    /// The segment would have so many bytes.
+    /// The segment would have this many bytes.
     TooLong(usize),
-    /// No number is left for what is made.
+    /// No number is left for the new category or object.
     NoNumber,
 }
 
-/// Why a raw call was denied.
+/// The reasons why a raw call was denied.
 #[derive(Drop)]
 pub struct Explanation {
-    /// What the call tried.
+    /// The action that the call tried.
     pub act: Act,
     /// The categories that its labels name and that were never made, in rising order.
     pub unmade: Vec<Category>,
-    /// Each comparison of labels that the denial rests on, and where it fails.
+    /// Each comparison of labels that the denial rests on, and the categories at which it fails.
     pub reasons: Vec<Reason>,
     /// The obstacle, where no label decides.
     pub obstacle: Option<Obstacle>,

@@ -1,7 +1,7 @@
-//! Why a raw call was denied: which comparisons of labels its denial rests on, at which categories each
-//! of them fails, which categories of its labels were never made, and what else was in its way.
+//! Explains why a raw call was denied: the comparisons of labels that its denial rests on, the categories at
+//! which each of them fails, the categories of its labels that were never made, and any other obstacle.
 //!
-//! [`laws`] says what an explanation amounts to.
+//! [`laws`] contains the laws of explanations.
 #![tactic(auto)]
 
 mod compare;

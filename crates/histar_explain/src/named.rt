@@ -1,4 +1,4 @@
-//! What a raw call names.
+//! The objects that a raw call names.
 ghost use Rattle.std.specs.Prelude.{◌≡◌};
 ghost use Rattle.histar_label.specs.declared.levels.Level.TheVariants.{L1};
 ghost use Rattle.histar_label.specs.Levels.{constant};
@@ -26,7 +26,7 @@ pub(crate) fn label_in<'k, S: LabelStore + Drop>(
     }
 }
 
-/// Returns the clearance of a thread or a gate, or 1 everywhere of anything else.
+/// Returns the clearance of a thread or a gate, or 1 everywhere for another object.
 pub(crate) fn clearance_in<'k, S: LabelStore + Drop>(
     kernel: &'k Kernel<S>,
     object: ObjId,

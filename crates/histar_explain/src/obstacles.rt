@@ -1,4 +1,4 @@
-//! What a denied call tried, and what is in its way where no label decides.
+//! The action that a denied call tried, and its obstacle where no label decides.
 ghost use Rattle.std.specs.Prelude.{◌≡◌, ◌+◌};
 ghost use Rattle.histar_syscall.specs.KernelModel.{state};
 ghost use Rattle.histar_object.specs.Objects.{is_present, is_container};
@@ -14,7 +14,7 @@ use histar_syscall::{Kernel, ObjectKind};
 /// The greatest number of bytes that a segment has.
 const SEGMENT_BYTES: usize = 4096;
 
-/// Returns what a call does as a whole.
+/// Returns the action of a call as a whole.
 fn whole_act(call: &RawCall) -> Act
     ensures { result ≡ whole_act call.now }
 {
@@ -32,7 +32,7 @@ fn whole_act(call: &RawCall) -> Act
     }
 }
 
-/// Returns what a denied call tried.
+/// Returns the action that a denied call tried.
 pub(crate) fn act_of<S: LabelStore + Drop>(
     kernel: &Kernel<S>,
     thread: ObjId,
@@ -79,7 +79,7 @@ fn is_container<S: LabelStore + Drop>(kernel: &Kernel<S>, object: ObjId) -> bool
     kernel.kind(object) == Some(ObjectKind::Container)
 }
 
-/// Returns of which wrong kind an object is that a call names in its container.
+/// Returns the obstacle of a call that names an object of a wrong kind in its container.
 fn wrong_kind(call: &RawCall) -> Obstacle
     ensures { result ≡ wrong_kind call.now }
 {
@@ -104,7 +104,7 @@ fn bytes_after<S: LabelStore + Drop>(kernel: &Kernel<S>, call: &RawCall) -> (usi
     }
 }
 
-/// Returns what is in the way of a denied call, where no label decides.
+/// Returns the obstacle of a denied call, where no label decides.
 pub(crate) fn obstacle_of<S: LabelStore + Drop>(
     kernel: &Kernel<S>,
     call: &RawCall,
@@ -133,7 +133,8 @@ pub(crate) fn obstacle_of<S: LabelStore + Drop>(
     }
 }
 
-/// Returns what is in the way of so many bytes and so many more, or of a new number where they fit.
+/// Returns the obstacle of a call that keeps and adds these many bytes: their number, or that no number is
+/// left.
 fn excess(kept: usize, added: usize) -> Obstacle
     ensures { result ≡ excess (kept + added) }
 {

@@ -1,16 +1,16 @@
-//! Reasons: where a comparison of two labels fails.
+//! Reasons: the categories at which a comparison of two labels fails.
 use histar_label::{Category, Level};
 
-/// Whose label is on a side of a comparison.
+/// The party whose label is on a side of a comparison.
 #[derive(Clone, Copy, Debug, PartialEq, Eq)]
 pub enum Party {
     /// The label of the thread that called.
     Thread,
-    /// The label of the object that the test is about.
+    /// The label of the object that is tested.
     Object,
     /// The clearance of the gate.
     GateClearance,
-    /// The verify label, which the thread shows at the gate.
+    /// The verify label that the thread hands to `enter`.
     VerifyLabel,
     /// The label that was asked for.
     LabelAsked,
@@ -18,15 +18,15 @@ pub enum Party {
     ClearanceAsked,
     /// The clearance of the thread.
     ThreadClearance,
-    /// The clearance of the thread joined with its label, where what it owns counts as 3.
+    /// The join of the clearance of the thread and its label, where star in the label counts as 3.
     ThreadClearanceAndLabel,
     /// The floor of the labels of thread and gate.
     Floor,
     /// The join of the clearances of thread and gate.
     Clearances,
-    /// The lowest label of a segment, which owns nothing: 0 at every category.
+    /// The lowest label that a segment may have, since it owns nothing: 0 at every category.
     AnySegment,
-    /// The lowest label of a container, which owns nothing either.
+    /// The lowest label that a container may have, since it owns nothing either.
     AnyContainer,
 }
 
@@ -41,18 +41,18 @@ pub struct Difference {
     pub upper: Level,
 }
 
-/// Where a comparison of two labels fails.
+/// The categories at which a comparison of two labels fails.
 #[derive(Drop)]
 pub struct Reason {
-    /// Whose label has to be below.
+    /// The party whose label has to be below.
     pub lower: Party,
-    /// Whose label has to be above.
+    /// The party whose label has to be above.
     pub upper: Party,
-    /// The categories that one of both labels lists and at which it fails, in rising order.
+    /// The categories that one of the labels lists and at which the comparison fails, in rising order.
     pub named: Vec<Difference>,
-    /// Those at which it passes.
+    /// The listed categories at which it passes.
     pub spared: Vec<Difference>,
-    /// The two defaults, where it fails for them: it then fails at every category that neither label
-    /// lists.
+    /// The two defaults, where the comparison fails for them: it then fails at every category that neither
+    /// label lists.
     pub elsewhere: Option<(Level, Level)>,
 }

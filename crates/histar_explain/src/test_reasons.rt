@@ -10,7 +10,7 @@ use crate::reasons::{Party, Reason};
 use histar_label::{Label, Level, OutOfMemory};
 use std::alloc::Global;
 
-/// Finds where a label is above another.
+/// Finds the categories at which a label is above another.
 fn below(
     alloc: Global,
     lower_is: Party,
@@ -28,7 +28,7 @@ fn below(
     compare(alloc, sides, lower, upper)
 }
 
-/// Finds where an object's label is above that of a thread that would observe it.
+/// Finds the categories at which an object's label keeps a thread from observing it.
 fn observing(alloc: Global, own: &Label, label: &Label) -> Result<Reason, OutOfMemory>
     ensures { IfOk result (IsReasonOf (observing own.now label.now)) }
 {
@@ -40,7 +40,7 @@ fn observing(alloc: Global, own: &Label, label: &Label) -> Result<Reason, OutOfM
     compare(alloc, sides, label, own)
 }
 
-/// Finds where a label of what owns nothing has star.
+/// Finds the categories at which a label that may own nothing has star.
 fn owning_nothing(alloc: Global, party: Party, label: &Label) -> Result<Reason, OutOfMemory>
     ensures { IfOk result (IsReasonOf (owning_nothing party label.now)) }
 {
@@ -144,7 +144,7 @@ pub(crate) fn range_reasons(
     two(alloc, first, second)
 }
 
-/// Lists the reasons why a label is none of what owns nothing in a thread's range.
+/// Lists the reasons why a label that may own nothing is out of a thread's range.
 pub(crate) fn unowning_reasons(
     alloc: Global,
     party: Party,
@@ -218,7 +218,7 @@ pub(crate) fn span_reasons(
     three(alloc, first, second, third)
 }
 
-/// The labels of a thread and of a gate that it would enter.
+/// The labels of a thread and of a gate that it tries to enter.
 #[derive(Clone, Copy)]
 pub(crate) struct Opening<'l> {
     pub(crate) own: &'l Label,

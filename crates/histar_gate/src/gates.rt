@@ -1,4 +1,4 @@
-//! The making of gates, and entering them.
+//! Making gates, and entering them.
 ghost use Rattle.histar_rules.specs.Rules.{Decides, IsNextNumber, IsEntryOf};
 ghost use Rattle.histar_rules.specs.declared.raw.RawCall.TheVariants as calls;
 
@@ -6,8 +6,8 @@ use histar_label::LabelStore;
 use histar_object::{Entry, Kind, ObjId};
 use histar_rules::{HandedLabel, LabelledObjects, Refusal};
 
-/// Makes a gate in a container, and answers its number. The gate gives its label to who enters it, so
-/// its maker must own what the gate is to own.
+/// Makes a gate in a container, and returns its number. The gate gives its label to each thread that enters
+/// it, so its maker must own what the gate is to own.
 pub fn make_gate<S: LabelStore + Drop>(
     objects: &mut LabelledObjects<S>,
     thread: ObjId,
@@ -28,9 +28,9 @@ pub fn make_gate<S: LabelStore + Drop>(
     Ok(number)
 }
 
-/// Enters a gate: the thread gets the label and the clearance that it wants, within what the gate and
-/// its own labels allow, and is answered the gate's entry. Its own label is below the verify label, as
-/// a proof of what it owns. `Gate` where the gate's clearance or the verify label doesn't let it in.
+/// Enters a gate, and returns its entry: the thread gets the label and the clearance that it wants, within
+/// what the gate and its own labels allow. Its own label is below the verify label, which proves what the
+/// thread owns. `Gate` where the gate's clearance or the verify label doesn't let it in.
 pub fn enter<S: LabelStore + Drop>(
     objects: &mut LabelledObjects<S>,
     thread: ObjId,

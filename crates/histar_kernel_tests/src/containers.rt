@@ -10,14 +10,14 @@ use std::alloc::{AllocError, Global};
 use std::process::Abort;
 use std::test::Fail;
 
-// A tree of containers from 1 on, by the container that links each.
+// The shape of a tree of containers from 1 on: which container links each.
 #[derive(Clone, Copy)]
 enum Shape {
     // Each links the next.
     Chain,
     // The first links all others.
     Wide,
-    // Each links twice its number and the one after.
+    // Each links its doubled number and the next one.
     Halves,
 }
 
@@ -49,7 +49,7 @@ fn is_container(table: &Table<u8>, object: ObjId) -> bool
     }
 }
 
-// The containers below a number, as a tree of some shape.
+// Makes the containers below a number, as a tree of some shape.
 fn tree_of(rt: &impl Abort, alloc: Global, shape: Shape, end: u64) -> Result<Table<u8>, AllocError>
     requires { 2 ≤ end }
     ensures { IfOk result (λ t. IsTree (objects_of t) 1 end) }
@@ -69,7 +69,7 @@ fn tree_of(rt: &impl Abort, alloc: Global, shape: Shape, end: u64) -> Result<Tab
     Ok(table)
 }
 
-// Removes what a container links, and the link.
+// Removes an object that a container links, and the link.
 fn cut(
     rt: &impl Abort,
     alloc: Global,
@@ -92,7 +92,7 @@ fn is_there(table: &Table<u8>, number: u64) -> bool {
     table.get(ObjId::new(number)).is_some()
 }
 
-// Tried with each of its allocations failing in turn: a link that finds no memory leaves no object and no
+// Tried with each of its allocations failing in turn: a link that runs out of memory leaves no object and no
 // link behind.
 #[test]
 fn a_link_without_memory(rt: HostRuntime) -> Result<(), Fail> {

@@ -1,5 +1,4 @@
-//! Labels and stores against a table that was written by hand from the order star < 0 < 1 < 2 < 3 <
-//! J.
+//! Tests labels and stores against a table that was written by hand from the order star < 0 < 1 < 2 < 3 < J.
 ghost use Rattle.std.specs.Prelude.{◌≡◌, IsSome};
 
 use histar_label::{Category, InternStore, Label, LabelStore, Level, OutOfMemory, PlainStore};
@@ -49,12 +48,12 @@ const ROWS: [Row; 25] = [
 /// The levels, from the lowest to the highest.
 const LEVELS: [Level; 5] = [Level::Star, Level::L0, Level::L1, Level::L2, Level::L3];
 
-/// The category at which the labels of the tests differ.
+/// Returns the category at which the labels of the tests differ.
 fn seven() -> Category {
     Category::new(7)
 }
 
-/// This level at category 7, and 1 elsewhere.
+/// Makes a label with this level at category 7, and 1 elsewhere.
 fn at_seven(alloc: Global, level: Level) -> Result<Label, OutOfMemory> {
     Label::new(alloc, Level::L1).with(seven(), level)
 }
@@ -69,7 +68,7 @@ fn agrees(rt: &impl Abort, first: &Label, second: &Label, row: Row) -> Result<()
     Ok(())
 }
 
-/// The floor of two labels is below those with its level or a higher one.
+/// Checks that the floor of two labels is below those with its level or a higher one.
 fn floor_agrees(
     rt: &impl Abort,
     alloc: Global,
@@ -100,7 +99,7 @@ fn pairs_of_levels(rt: HostRuntime) -> Result<(), Fail> {
     Ok(())
 }
 
-/// The tests of a store answer as the table, whatever else the store keeps.
+/// Checks that the tests of a store answer as the table says, whatever else the store keeps.
 fn tests_agree<S: LabelStore>(rt: &impl Abort, store: &mut S, first: S::Id, second: S::Id, row: Row)
     requires first_stands { IsSome (S.labels store.old first) }
     requires second_stands { IsSome (S.labels store.old second) }
@@ -117,7 +116,7 @@ fn tests_agree<S: LabelStore>(rt: &impl Abort, store: &mut S, first: S::Id, seco
     assert_eq!(rt; answer, below_raised);
 }
 
-/// The Id stands for a label with this level.
+/// Checks that the Id stands for a label with this level.
 fn stands<S: LabelStore>(rt: &impl Abort, store: &S, id: S::Id, level: Level)
     requires { IsSome (S.labels store.now id) }
 {
@@ -125,7 +124,7 @@ fn stands<S: LabelStore>(rt: &impl Abort, store: &S, id: S::Id, level: Level)
     assert_eq!(rt; found, level);
 }
 
-/// A store answers as the table, and its Ids stand for their labels after every call.
+/// Checks that a store answers as the table says, and that its Ids stand for their labels after every call.
 fn store_agrees<S: LabelStore>(
     rt: &impl Abort,
     alloc: Global,
@@ -145,7 +144,7 @@ fn store_agrees<S: LabelStore>(
     Ok(())
 }
 
-/// An Id that a store has not given stands for no label of it.
+/// Checks that an Id that a store has not given stands for no label of it.
 #[test]
 fn a_plain_store(rt: HostRuntime) -> Result<(), Fail> {
     let mut store = PlainStore::new(rt.alloc());
@@ -159,7 +158,7 @@ fn a_plain_store(rt: HostRuntime) -> Result<(), Fail> {
     Ok(())
 }
 
-/// A label that needs an allocation of its own: this level at categories 1 to 6, and 1 elsewhere.
+/// Makes a label that needs an allocation of its own: this level at categories 1 to 6, and 1 elsewhere.
 fn at_six(alloc: Global, level: Level) -> Result<Label, OutOfMemory> {
     let mut label = Label::new(alloc, Level::L1);
     for category in 1..7 {
@@ -168,7 +167,7 @@ fn at_six(alloc: Global, level: Level) -> Result<Label, OutOfMemory> {
     Ok(label)
 }
 
-/// The label has this level at categories 1 to 6, and 1 elsewhere.
+/// Checks that the label has this level at categories 1 to 6, and 1 elsewhere.
 fn is_at_six(rt: &impl Abort, label: &Label, level: Level) {
     for category in 1..7 {
         assert_eq!(rt; label.get(Category::new(category)), level);
@@ -177,8 +176,8 @@ fn is_at_six(rt: &impl Abort, label: &Label, level: Level) {
     assert_eq!(rt; label.default_level(), Level::L1);
 }
 
-/// Tried with each allocation failing in turn: a call that finds no memory leaves its labels as they
-/// were, and one that finds some makes the right label.
+/// Tried with each allocation failing in turn: a call that runs out of memory leaves its labels as they were,
+/// and a call that has enough makes the right label.
 #[test]
 fn labels_stay_without_memory(rt: HostRuntime) -> Result<(), Fail> {
     let low = at_six(rt.alloc(), Level::L0)?;
@@ -201,7 +200,7 @@ fn labels_stay_without_memory(rt: HostRuntime) -> Result<(), Fail> {
     Ok(())
 }
 
-/// This level at 13 categories, and 1 elsewhere.
+/// Makes a label with this level at 13 categories, and 1 elsewhere.
 fn at_many(alloc: Global, level: Level) -> Result<Label, OutOfMemory> {
     let mut label = Label::new(alloc, Level::L1);
     for number in 100..113 {
@@ -210,7 +209,7 @@ fn at_many(alloc: Global, level: Level) -> Result<Label, OutOfMemory> {
     Ok(label)
 }
 
-/// Each comparison has its own answer, whichever was made before it.
+/// Checks that each comparison has its own answer, whichever was made before it.
 fn answers_in_turn<S: LabelStore>(
     rt: &impl Abort,
     alloc: Global,
@@ -234,7 +233,7 @@ fn answers_in_turn<S: LabelStore>(
     Ok(())
 }
 
-/// So has each comparison with a label of many exceptions.
+/// Checks the same for comparisons with a label of many exceptions.
 fn answers_of_many<S: LabelStore>(
     rt: &impl Abort,
     alloc: Global,
@@ -251,7 +250,7 @@ fn answers_of_many<S: LabelStore>(
     Ok(())
 }
 
-/// How many answers the stores of the tests remember.
+/// The numbers of answers that the stores of the tests remember.
 const CACHES: [usize; 2] = [1, 4];
 
 #[test]
@@ -265,8 +264,8 @@ fn an_intern_store(rt: HostRuntime) -> Result<(), Fail> {
     Ok(())
 }
 
-/// Tried with each allocation failing in turn: a comparison whose answer finds no memory is
-/// answered.
+/// Tried with each allocation failing in turn: a comparison that finds no memory to keep its answer still
+/// answers.
 #[test]
 fn answers_that_are_driven_out(rt: HostRuntime) -> Result<(), Fail> {
     for &cache in &CACHES {
@@ -277,7 +276,7 @@ fn answers_that_are_driven_out(rt: HostRuntime) -> Result<(), Fail> {
     Ok(())
 }
 
-/// A label that is put again has the Id that it had, and no other label has it.
+/// Checks that a label that is put again has its old Id, and that no other label has it.
 #[test]
 fn equal_labels_have_one_id(rt: HostRuntime) -> Result<(), Fail> {
     let mut store = InternStore::new(rt.alloc(), 1)?;
@@ -289,8 +288,8 @@ fn equal_labels_have_one_id(rt: HostRuntime) -> Result<(), Fail> {
     Ok(())
 }
 
-/// Tried with each allocation failing in turn: a put that finds no memory leaves the labels of a
-/// store as they were.
+/// Tried with each allocation failing in turn: a put that runs out of memory leaves the labels of a store as
+/// they were.
 fn stays_without_memory<S: LabelStore>(
     rt: &impl Abort,
     alloc: Global,

@@ -27,7 +27,7 @@ fn add(table: &mut Table<u8>, number: u64, label: u8) -> Result<(), AllocError> 
     Ok(())
 }
 
-/// The label of the object of this number.
+/// Returns the label of the object of this number.
 fn label(table: &Table<u8>, number: u64) -> Option<u8> {
     table.get(ObjId::new(number)).map(|object| object.label)
 }
@@ -47,8 +47,8 @@ fn objects_are_found_by_their_numbers(rt: HostRuntime) -> Result<(), Fail> {
     Ok(())
 }
 
-/// An object that is added after another was taken out has the slot of that one, and a number of its
-/// own.
+/// Checks that an object that is added after another was removed has the slot of that one, and a number of
+/// its own.
 #[test]
 fn a_slot_is_used_again(rt: HostRuntime) -> Result<(), Fail> {
     let mut table = Table::new(rt.alloc());
@@ -69,8 +69,7 @@ fn a_slot_is_used_again(rt: HostRuntime) -> Result<(), Fail> {
     Ok(())
 }
 
-/// Tried with each allocation failing in turn: an object that finds no memory isn't added, and the
-/// others stay.
+/// Tried with each allocation failing in turn: an object without memory isn't added, and the others stay.
 #[test]
 fn objects_stay_without_memory(rt: HostRuntime) -> Result<(), Fail> {
     let mut table = Table::new(rt.alloc());

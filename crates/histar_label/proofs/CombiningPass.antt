@@ -24,7 +24,7 @@ rest_over : (e : ℕ × Level) (es : Exceptions) → IsRising (e ∷ es) → IsU
 rest_over e [] rising = tt
 rest_over e (f ∷ fs) rising = let rises = rising 0 1 (omega arith) (omega arith) in omega (arith, rises)
 
--- what is left after a category comes after it
+-- the exceptions left after a category come after it
 over_after : (es : Exceptions) (c : ℕ) → IsRising es → IsUnder c es → IsUnder (c + 1) (after es c)
 over_after [] c rising under = tt
 over_after (e ∷ es) c rising under = elim (eqb e.0 c) as (λ b. eqb e.0 c ≡ b → IsUnder (c + 1) (after (e ∷ es) c)) [
@@ -32,14 +32,14 @@ over_after (e ∷ es) c rising under = elim (eqb e.0 c) as (λ b. eqb e.0 c ≡ 
   | false ↦ λ other. rw other (grind (arith, nat_tests, other))
 ] refl
 
--- the lower category of two lists is not below what is under both
+-- the lower category of two lists is not below a bound of both
 lower_over : (A B : Exceptions) (k c : ℕ) → IsUnder k A → IsUnder k B → lower A B ≡ Some c → k ≤ c
 lower_over [] [] k c a b low = cc
 lower_over [] (f ∷ fs) k c a b low = let is : f.0 ≡ c = cc in omega arith
 lower_over (e ∷ es) [] k c a b low = let is : e.0 ≡ c = cc in omega arith
 lower_over (e ∷ es) (f ∷ fs) k c a b low = let is : min e.0 f.0 ≡ c = cc in omega arith
 
--- what is left of two lists after their lower category comes after it
+-- after the lower category of two lists, the next one is greater
 lower_rises : (A B : Exceptions) (c d : ℕ) → IsRising A → IsRising B → lower A B ≡ Some c → lower (after A c) (after B c) ≡ Some d → c < d
 lower_rises A B c d a b low next =
     let under = front_under A B c low in
@@ -63,7 +63,7 @@ module _ (es : Exceptions) (c : ℕ) (gap : HasGap es c (length es)) where
   gap_at_most j lt = omega (arith, gap.smaller_before j lt)
 
   module _ (l : Level) where
-    -- its exception may come last
+    -- the list with its exception at the end is canonical
     canonical_push : (d : Level) → IsCanonical d es → l ≢ d → IsCanonical d (es ++ (c, l) ∷ [])
     canonical_push d canonical apart = subst (IsCanonical d) (insert_end es (c, l)) (canonical_insert d es canonical c (length es) l gap apart)
 
@@ -81,15 +81,15 @@ module _ (es : Exceptions) (c : ℕ) (gap : HasGap es c (length es)) where
         let here : category_at new (length es) ≡ c = ap (λ (e : ℕ × Level). e.0) (get_or-insert_at es (length es) (c, l) (0, Star) (omega arith)) in
         grind (arith, below, here, gap_at_most j, λ (is : j ≡ length es). ap (category_at new) is))
 
--- the combined level of what two lists give a category, where else two labels have their defaults
+-- the combined level at a category that two lists give, with the labels' defaults
 abbrev pub left_level : Combination → Levels → Levels → Exceptions → Exceptions → ℕ → Level
 left_level by F S A B q = combine by (looked (default_of F) A q) (looked (default_of S) B q)
 
--- with what two other lists leave, the exceptions P give a category the combined level of two labels
+-- the exceptions P, with those left in two other lists, give a category the combined level of two labels
 abbrev pub GivesCombined : Combination → Levels → Levels → Exceptions → Exceptions → Exceptions → ℕ → Type 0
 GivesCombined by F S P A B q = looked (left_level by F S A B q) P q ≡ combined_level by F S q
 
--- The exceptions P to the default d are those of two combined labels at the categories that are met, and these lists are left.
+-- The exceptions P to the default d are those of two combined labels at the categories so far, and these lists are left.
 pub record IsCombined (by : Combination) (F S : Levels) (d : Level) (P A B : Exceptions) : Type 0 where
   pub default_is : d ≡ combine by (default_of F) (default_of S)
   pub canonical : IsCanonical d P
@@ -112,7 +112,7 @@ module _ (by : Combination) (F S : Levels) (d : Level) where
   }
 
   module _ (P A B : Exceptions) (so_far : IsCombined by F S d P A B) where
-    -- where nothing is left, the exceptions are those of the combined label
+    -- where no exception is left, P are the exceptions of the combined label
     pub combined_at_last : lower A B ≡ None → from_exceptions d P ≡ combined_of by F S
     combined_at_last none = same_levels _ _ (λ q.
         let empty = lower_none A B none in
@@ -135,7 +135,7 @@ module _ (by : Combination) (F S : Levels) (d : Level) where
                 (level_at_front (default_of S) B so_far.second_rises c under.1),
           ) (rw none at (so_far.whole c))
 
-      -- where the exceptions have the front's level at the category, and else are as they were, what is left after the front is as good
+      -- the pass goes on where the new exceptions have the front's level at the category, and stay as they were elsewhere
       step : (new : Exceptions) (found : Option Level) → IsCanonical d new → IsAtMost c new → FindsAfter P new c found
           → unwrap_or found d ≡ front → IsCombined by F S d new (after A c) (after B c)
       step new found canonical most finds is = record {
@@ -150,7 +150,7 @@ module _ (by : Combination) (F S : Levels) (d : Level) where
         ] refl;
       }
         where
-          -- the new exceptions and what is left give the category its level
+          -- the new exceptions and the lists that are left give the category its level
           here : GivesCombined by F S new (after A c) (after B c) c
           here =
               let under = front_under A B c low in
@@ -164,14 +164,14 @@ module _ (by : Combination) (F S : Levels) (d : Level) where
                 sym so_far.default_is,
               ) (is ∙ front_is)
 
-          -- and each other one
+          -- and give each other category its level
           there : (q : ℕ) → eqb q c ≡ false → GivesCombined by F S new (after A c) (after B c) q
           there q other =
               let apart : c ≢ q = grind (arith, nat_tests, other) in
               let at_q = rw other at (finds q) in
               rw (at_q, level_after (default_of F) A c q apart, level_after (default_of S) B c q apart) (so_far.whole q)
 
-      -- with the front's exception the same holds of what is left after it
+      -- the pass goes on with the front's exception at the end
       pub combined_push : (l : Level) → l ≡ front → l ≢ d → IsCombined by F S d (P ++ (c, l) ∷ []) (after A c) (after B c)
       combined_push l is apart =
           let gap = so_far.gap c low in

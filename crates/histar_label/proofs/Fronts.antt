@@ -1,5 +1,5 @@
--- One pass over the exceptions of three labels meets each category that one of them lists. A pass over two is one over three of which
--- the last two are the same.
+-- One pass over the exceptions of three labels meets each category that one of them lists. A pass over two is one over three of which the
+-- last two are the same.
 use Rattle.std.proofs.Common.{◌≡◌, ◌≢◌, ℕ, suc, ◌≤◌, [], ◌∷◌, max, min, is_some, eq-eqb, subst, Option, Some, None, unwrap_or, eqb, true, false, refl}
 use Rattle.std.proofs.Common.{sym, ap, ◌∙◌, arith}
 use Rattle.std.specs.Ordering.{nat_cmp}
@@ -15,7 +15,7 @@ use Rattle.histar_label.specs.Front.{first_category, earlier, lower, lowest, lev
 use Rattle.histar_label.proofs.Canonical.{rising_tail}
 use Rattle.histar_label.proofs.Finds.{find_absent}
 
--- what is there is not missing
+-- a value that is there is not missing
 some_is_there : (a : ℕ) → Some a ≡ None → ⊥
 some_is_there a e = false≢true (sym (ap is_some e))
 
@@ -53,7 +53,7 @@ level_gone d (e ∷ es) rising c under =
     let later = none_later e es rising c under in
     grind (arith, nat_tests, later)
 
--- what is left rises
+-- the exceptions that are left rise
 pub rising_after : (es : Exceptions) (c : ℕ) → IsRising es → IsRising (after es c)
 rising_after [] c rising = rising
 rising_after (e ∷ es) c rising = elim (eqb e.0 c) as (λ b. eqb e.0 c ≡ b → IsRising (after (e ∷ es) c)) [
@@ -66,13 +66,13 @@ abbrev IsUnderFirst : ℕ → Option ℕ → Type 0
 IsUnderFirst c None = Unit {0}
 IsUnderFirst c (Some d) = c ≤ d
 
--- what is not above the lower of two is above none of them
+-- a category not above the lower of two is above none of them
 under_both : (x y : Option ℕ) (c : ℕ) → IsUnderFirst c (earlier x y) → IsUnderFirst c x × IsUnderFirst c y
 under_both None y c h = (tt, h)
 under_both (Some a) None c h = (h, tt)
 under_both (Some a) (Some b) c h = (omega (arith, h), omega (arith, h))
 
--- where there is none of two, there is neither
+-- where the lower of two is missing, both are missing
 earlier_none : (x y : Option ℕ) → earlier x y ≡ None → (x ≡ None) × (y ≡ None)
 earlier_none None y e = (refl, e)
 earlier_none (Some a) None e = absurd (some_is_there a e)
@@ -102,11 +102,11 @@ module _ (A B : Exceptions) where
   pub front_under : (c : ℕ) → lower A B ≡ Some c → IsUnder c A × IsUnder c B
   front_under c h = let under : IsUnderFirst c (lower A B) = rw h (omega arith) in lower_under c under
 
-  -- where there is none, both are empty
+  -- where there is none, both lists are empty
   pub lower_none : lower A B ≡ None → (A ≡ []) × (B ≡ [])
   lower_none h = let both = earlier_none (first_category A) (first_category B) h in (empty_from_none A both.0, empty_from_none B both.1)
 
-  -- a list that comes twice makes no other lowest category
+  -- a list that comes twice doesn't change the lowest category
   pub lower_is_lowest : lowest A B B ≡ lower A B
   lower_is_lowest = ap (earlier (first_category A)) (earlier_same (first_category B))
 
@@ -119,14 +119,14 @@ module _ (A B C : Exceptions) where
       let others = lower_under B C c first.1 in
       (under_first A c first.0, others.0, others.1)
 
-  -- where there is none, all are empty
+  -- where there is none, all three lists are empty
   pub lowest_none : lowest A B C ≡ None → (A ≡ []) × (B ≡ []) × (C ≡ [])
   lowest_none h =
       let first = earlier_none (first_category A) (lower B C) h in
       let others = lower_none B C first.1 in
       (empty_from_none A first.0, others.0, others.1)
 
--- three lists fit at a category, where else three labels have their defaults
+-- three lists fit at a category, with the defaults of three labels
 abbrev pub FitsAt : Test → Levels → Levels → Levels → Exceptions → Exceptions → Exceptions → ℕ → Type 0
 FitsAt test L F S A B C q = Passes test (looked (default_of L) A q) (looked (default_of F) B q) (looked (default_of S) C q)
 
@@ -138,7 +138,7 @@ DefaultsFit test L F S = Passes test (default_of L) (default_of F) (default_of S
 abbrev pub FrontFits : Test → Levels → Levels → Levels → Exceptions → Exceptions → Exceptions → ℕ → Type 0
 FrontFits test L F S A B C c = Passes test (level_at A c (default_of L)) (level_at B c (default_of F)) (level_at C c (default_of S))
 
--- Of the exceptions of three labels these are left, which fit everywhere exactly where the labels do.
+-- These exceptions of three labels are left, and they fit everywhere exactly where the labels do.
 pub record IsLeft (test : Test) (L F S : Levels) (A B C : Exceptions) : Type 0 where
   pub first_rises : IsRising A
   pub second_rises : IsRising B
@@ -147,7 +147,7 @@ pub record IsLeft (test : Test) (L F S : Levels) (A B C : Exceptions) : Type 0 w
   pub part : ((q : ℕ) → Fits L F S test q) → (q : ℕ) → FitsAt test L F S A B C q
 
 module _ (test : Test) (L F S : Levels) where
-  -- where the labels fit everywhere, their defaults do
+  -- where the labels fit everywhere, their defaults fit
   pub defaults_fit : ((q : ℕ) → Fits L F S test q) → DefaultsFit test L F S
   defaults_fit all =
       let far = max (beyond L) (max (beyond F) (beyond S)) in
@@ -174,7 +174,7 @@ module _ (test : Test) (L F S : Levels) where
       at_s q = level_of-exceptions S q ∙ ap (λ es. looked (default_of S) es q) (sym s)
 
   module _ (A B C : Exceptions) (left : IsLeft test L F S A B C) where
-    -- where nothing is left, the labels fit everywhere
+    -- where no exception is left, the labels fit everywhere
     pub all_fit : lowest A B C ≡ None → DefaultsFit test L F S → (q : ℕ) → Fits L F S test q
     all_fit none default_fits =
         let empty = lowest_none A B C none in
@@ -213,11 +213,11 @@ module _ (test : Test) (L F S : Levels) where
                 (default_of S) C c q other,
           ) refl
 
-      -- where the labels fit everywhere, the levels at the front do
+      -- where the labels fit everywhere, the levels at the front fit
       pub front_fits : ((q : ℕ) → Fits L F S test q) → FrontFits test L F S A B C c
       front_fits all = subst (λ T. T) front_is (left.part all c)
 
-      -- where the defaults and the levels at the front fit, what is left after these is as good
+      -- the pass goes on where the defaults and the levels at the front fit
       pub left_after : DefaultsFit test L F S → FrontFits test L F S A B C c → IsLeft test L F S (after A c) (after B c) (after C c)
       left_after default_fits fits = record {
         first_rises = rising_after A c left.first_rises;
@@ -232,7 +232,7 @@ module _ (test : Test) (L F S : Levels) where
             (λ other. subst (λ T. T) (sym (other_is q other)) (left.part all q));
       }
         where
-          -- what holds at the category and at each other holds at each
+          -- a property of the category and of each other is one of each
           at_each : (q : ℕ) (P : ℕ → Type 0) → P c → (c ≢ q → P q) → P q
           at_each q P here there = elim (eqb c q) as (λ b. eqb c q ≡ b → P q) [
             | true ↦ λ same. let is : c ≡ q = grind (arith, nat_tests, same) in subst P is here

@@ -14,7 +14,7 @@ use Rattle.histar_label.specs.Store.{label_at, Keeps, HasOneId}
 use Rattle.histar_label.specs.InternStore.{IsRight}
 use Rattle.histar_label.proofs.Tests.{is_within-law}
 
--- a label stays at its place when one is added behind it
+-- a label stays at its place when one is added after it
 slice_get-push : (ks : List Levels) (L M : Levels) (i : ℕ) → slice_get ks i ≡ Some M → slice_get (ks ++ L ∷ []) i ≡ Some M
 slice_get-push [] L M i is = cc
 slice_get-push (k ∷ ks) L M zero is = is
@@ -35,7 +35,7 @@ module _ (eq : Levels → Levels → Bool) (ks : List Levels) (L : Levels) where
     | false ↦ omega (arith, length-append ks (L ∷ []))
   ]
 
-  -- an Id that stands for a label has it still
+  -- an Id that stood for a label still stands for it
   same_label_at : (i : ℕ) → i < length ks → label_at (slice_get (insert_key eq ks L)) i ≡ label_at (slice_get ks) i
   same_label_at i lt =
       let was = slice_get-get_or ks i (constant L1) lt in
@@ -54,7 +54,7 @@ module _ (eq : Levels → Levels → Bool) (ks : List Levels) (L : Levels) where
   }
 
 module _ (eq : Levels → Levels → Bool) (own : (L : Levels) → eq L L ≡ true) where
-  -- a label is not in a list of which it is apart
+  -- a label is not in a list of other labels
   not_among : (ks : List Levels) (L : Levels) (i : ℕ) → AllByRecursion (λ M. eq L M ≡ false) ks → slice_get ks i ≡ Some L → ⊥
   not_among [] L i apart is = cc
   not_among (k ∷ ks) L zero apart is =
@@ -62,7 +62,7 @@ module _ (eq : Levels → Levels → Bool) (own : (L : Levels) → eq L L ≡ tr
       absurd (false≢true (sym apart.0 ∙ ap (eq L) same ∙ own L))
   not_among (k ∷ ks) L (suc i) apart is = not_among ks L i apart.1 is
 
-  -- the first of a list of labels apart is at no later place
+  -- the first of a list of different labels is at no later place
   only_first : (k : Levels) (ks : List Levels) → AllByRecursion (λ M. eq k M ≡ false) ks → (L : Levels) (i : ℕ)
       → Some k ≡ Some L → slice_get ks i ≡ Some L → ⊥
   only_first k ks apart L i first later = not_among ks k i apart (later ∙ sym first)

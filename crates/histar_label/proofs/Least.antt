@@ -1,4 +1,4 @@
--- The floor of two labels is the least that owns what either owns and elsewhere bounds both.
+-- The floor of two labels is the least that owns what either owns and is at least both elsewhere.
 use Rattle.std.proofs.Common.{◌≡◌, ◌≢◌, ℕ, ◌≤◌, max, ◌⊎◌, inl, inr, refl, ap, ◌∙◌, arith}
 use Rattle.std.proofs.lemmas.Bool.Decides.{nat_tests}
 use Rattle.histar_label.specs.declared.levels.Level.{Level}
@@ -10,7 +10,7 @@ use Rattle.histar_label.specs.Laws.{IsFloor}
 use Rattle.histar_label.proofs.Floors.{grades-floor_of}
 use Rattle.histar_label.proofs.Orders.{is_below-law}
 
--- a level is star or it is not
+-- a level is star or not
 star_or_not : (l : Level) → (l ≡ Star) ⊎ (l ≢ Star)
 star_or_not Star = inl refl
 star_or_not L0 = inr (λ is. cc)
@@ -30,7 +30,7 @@ raised-other L3 other = refl
 lowered-top : (n : ℕ) → n ≡ 5 → lowered n ≡ 0
 lowered-top n is = grind (arith, nat_tests)
 
--- what is not J stays
+-- a place that is not J's stays
 lowered-below : (n : ℕ) → n ≤ 4 → lowered n ≡ n
 lowered-below n le = grind (arith, nat_tests)
 
@@ -54,7 +54,7 @@ module _ (l m f : Level) (is : rank f ≡ lowered (max (raised l) (raised m))) w
       let b = raised-other m second in
       is ∙ lowered-below (max (raised l) (raised m)) (omega (arith, a, b, rank-at_most l, rank-at_most m)) ∙ omega (arith, a, b)
 
-  -- where the floor is star it is below all
+  -- where the floor is star it is below all levels
   star_below : (n : Level) → f ≡ Star → rank f ≤ rank n
   star_below n star = let low : rank f ≡ 0 = ap rank star in omega arith
 

@@ -1,4 +1,4 @@
--- What a label lists: in rising order each category that has another level than the default.
+-- A label lists each category that has another level than the default, in rising order.
 use Rattle.std.proofs.Common.{◌≡◌, ◌≢◌, ℕ, zero, suc, ◌<◌, [], ◌∷◌, length, get_or, Bool, true, false, ◌&&◌, if◌then◌else◌, Contains, Option, Some}
 use Rattle.std.proofs.Common.{None, unwrap_or, refl, sym, ap, ◌∙◌, arith}
 use Rattle.std.specs.Prelude.{T}
@@ -24,12 +24,12 @@ second : (a b : Bool) → T (a && b) → T b
 second true b h = h
 second false b h = absurd h
 
--- the test of the order says what it says of numbers
+-- the test of the order agrees with the order of numbers
 less_from_test : (a b : ℕ) (r : Bool) → is_lt (nat_cmp a b) ≡ r → T r → a < b
 less_from_test a b true tested h = grind (arith, nat_tests)
 less_from_test a b false tested h = absurd h
 
--- what is below all categories of a list is below the one at each place
+-- a category below all of a list is below the one at each place
 less_at : (x : ℕ) (es : Exceptions) → T (below_all nat_cmp x es) → (j : ℕ) → j < length es → x < category_at es j
 less_at x [] below j lt = absurd (omega arith)
 less_at x (e ∷ es) below zero lt = less_from_test x e.0 (is_lt (nat_cmp x e.0)) refl (first (is_lt (nat_cmp x e.0)) (below_all nat_cmp x es) below)
@@ -45,7 +45,7 @@ rising_from_sorted (e ∷ es) sorted (suc i) (suc j) lt in_range =
     rising_from_sorted es (second (below_all nat_cmp e.0 es) (is_sorted nat_cmp es) sorted) i j (omega arith)
     (omega arith)
 
--- the exceptions of a label stand in rising order
+-- the exceptions of a label are in rising order
 pub IsRising-exceptions_of : (L : Levels) → IsRising (exceptions_of L)
 unfolding exceptions_of
 IsRising-exceptions_of L = rising_from_sorted (entries L.others) (entries_sorted L.others)
@@ -55,7 +55,7 @@ exception_differs : (L : Levels) (c : ℕ) → find nat_cmp c (exceptions_of L) 
 unfolding exceptions_of default_of
 exception_differs L c found = L.differ c (get-entries L.others c ∙ found)
 
--- what a search finds is in the list
+-- an exception that a search finds is in the list
 found_there : (es : Exceptions) (c : ℕ) (l : Level) → find nat_cmp c es ≡ Some l → Contains es (c, l)
 found_there [] c l found = cc
 found_there (e ∷ es) c l found =
@@ -68,7 +68,7 @@ found_there (e ∷ es) c l found =
       | false ↦ λ tested is. let rest = found_there es c l is in (suc rest.0, omega arith, rest.2)
     ] refl found
 
--- in a list that rises a search finds what is there
+-- in a list that rises a search finds each exception that is there
 found_if_there : (es : Exceptions) → IsRising es → (c : ℕ) (l : Level) → Contains es (c, l) → find nat_cmp c es ≡ Some l
 found_if_there es rising c l there =
     let at : get_or es there.0 (0, Star) ≡ (c, l) = get_or_default es there.0 (0, Star) (c, l) there.1 ∙ there.2 in

@@ -1,4 +1,4 @@
--- The test of the categories that a label names says that each with another level than the default is made.
+-- The test of the categories that a label names decides whether each with another level than the default was made.
 use Rattle.std.proofs.Common.{◌≡◌, ◌↔◌, ℕ, ◌<◌, ◌≤◌, Bool, true, false, ◌&&◌, if◌then◌else◌, IsTrue, get_or, refl, sym, ◌∙◌, arith}
 use Rattle.std.specs.Prelude.{nat_lt, ◌==◌}
 use Rattle.std.proofs.lemmas.List.Elements.{All-contains, Contains-get_or}
@@ -13,7 +13,7 @@ use Rattle.histar_label.proofs.Listed.{ListsExceptions-exceptions_of}
 abbrev made : ℕ → ℕ → Bool
 made next c = nat_lt 0 c && nat_lt c next
 
--- the test of one category says that its number is in range
+-- the test of one category decides whether its number is in range
 in_range : (next c : ℕ) (low high : Bool) → nat_lt 0 c ≡ low → nat_lt c next ≡ high → (low && high) ≡ true → (0 < c) × (c < next)
 in_range next c true true l h both = (grind (arith, nat_tests), grind (arith, nat_tests))
 in_range next c true false l h both = cc
@@ -42,7 +42,7 @@ is_made-law next L = (
       passes next e.0 (named e.0 (λ is. listed.1 (sym listed.0 ∙ is)))),
 )
 
--- an answer that says so is the test
+-- an answer that equals the test decides it
 pub made_answer : (next : ℕ) (L : Levels) (r : Bool) → r ≡ is_made next L → IsTrue r ↔ NamesOnlyMade next L
 made_answer next L r is = rw is (is_made-law next L)
 
@@ -50,12 +50,12 @@ made_answer next L r is = rw is (is_made-law next L)
 pub is_made-constant : (next : ℕ) (l : Level) → is_made next (constant l) ≡ true
 is_made-constant next l = (is_made-law next (constant l)).1 (λ c differs. absurd (differs (level_of-constant l c ∙ sym (default_of-constant l))))
 
--- what is made stays so as more categories are made
+-- categories that are made stay made as more are made
 pub is_made-later : (next later : ℕ) (L : Levels) → next ≤ later → is_made next L ≡ true → is_made later L ≡ true
 is_made-later next later L le made =
     (is_made-law later L).1 (λ c differs. let is = (is_made-law next L).0 made c differs in (is.0, omega (arith, is.1)))
 
--- the levels of a label at other categories than the changed one, by the test of the category
+-- the level at another category than the changed one is kept, depending on the test of the category
 kept_level : (b : Bool) (l m n : Level) → m ≡ (if b then l else n) → b ≡ false → m ≡ n
 kept_level true l m n is other = cc
 kept_level false l m n is other = is

@@ -25,29 +25,29 @@ rank-raised L1 = omega arith
 rank-raised L2 = omega arith
 rank-raised L3 = omega arith
 
--- `below` says that the first label is above the second at no category
+-- `below` decides whether the first label is above the second at no category
 pub is_below-law : (L M : Levels) → IsTrue (is_below L M) ↔ IsBelow (grades L) (grades M)
 is_below-law L M = (
   λ below c. omega (arith, (is_within-law L M M (BelowJoin Plain)).0 below c),
   λ all. (is_within-law L M M (BelowJoin Plain)).1 (λ c. omega (arith, all c)),
 )
 
--- `below_raised` says so where star in the second is read as J
+-- `below_raised` decides this where star in the second is read as J
 pub is_below_raised-law : (L M : Levels) → IsTrue (is_below_raised L M) ↔ IsBelow (grades L) (raised_grades M)
 is_below_raised-law L M = (
   λ below c. omega (arith, (is_within-law L M M (BelowJoin Raised)).0 below c, rank-raised (level_of M c)),
   λ all. (is_within-law L M M (BelowJoin Raised)).1 (λ c. omega (arith, all c)),
 )
 
--- `below_join` says so of the greater of two
+-- `below_join` decides this of the greater of two
 pub is_below_join-law : (L F S : Levels) → IsTrue (is_below_join L F S) ↔ IsBelow (grades L) (joined (grades F) (grades S))
 is_below_join-law L F S = is_within-law L F S (BelowJoin Plain)
 
--- `below_join_raised` says so of the greater of two where star in the second is read as J
+-- `below_join_raised` decides this of the greater of two where star in the second is read as J
 pub is_below_join_raised-law : (L F S : Levels) → IsTrue (is_below_join_raised L F S) ↔ IsBelow (grades L) (joined (grades F) (raised_grades S))
 is_below_join_raised-law L F S = is_within-law L F S (BelowJoin Raised)
 
--- `floor_below` says so of the floor of two
+-- `floor_below` decides this of the floor of two
 pub is_floor_below-law : (L M N : Levels) → IsTrue (is_within L N M FloorBelow) ↔ IsBelow (floor_grades L M) (grades N)
 is_floor_below-law L M N = is_within-law L N M FloorBelow
 
@@ -58,7 +58,7 @@ is_floor_below L M N = same_from_decides _ _ (is_floor_below-law L M N) (
   λ all. (is_below-law (floor_of L M) N).1 (λ c. rw (grades-floor_of L M c) (all c)),
 )
 
--- each test says what holds at every category
+-- each test decides what holds at every category
 pub tests_pointwise : TestsArePointwise
 tests_pointwise = record {
   below = is_below-law;
@@ -71,7 +71,7 @@ tests_pointwise = record {
   made = is_made-law;
 }
 
--- the test of equality says that both labels are one function
+-- the test of equality decides whether both labels are one function
 pub is_same-law : (L M : Levels) → IsTrue (is_same L M) ↔ IsSameFunction L M
 is_same-law L M = (λ same c. ap (λ N. level_of N c) (same_label L M same), λ is. own_label L M (same_levels L M is))
 
@@ -79,15 +79,15 @@ is_same-law L M = (λ same c. ap (λ N. level_of N c) (same_label L M same), λ 
 pub compares_functions : ComparesFunctions is_same
 compares_functions = record { one_value = same_levels; decided = is_same-law }
 
--- a label is told by its default and its exceptions
+-- a label is determined by its default and its exceptions
 pub listed : (L : Levels) → IsListed L
 listed L = record { default = IsDefault-default_of L; rising = IsRising-exceptions_of L; listed = ListsExceptions-exceptions_of L }
 
--- no label is above itself
+-- each label is below itself
 pub is_below-refl : (L : Levels) → IsTrue (is_below L L)
 is_below-refl L = (is_below-law L L).1 (λ c. omega arith)
 
--- what is below a label is below all that this is below
+-- a label below another is below all labels that this is below
 pub is_below-trans : (L M N : Levels) → IsTrue (is_below L M) → IsTrue (is_below M N) → IsTrue (is_below L N)
 is_below-trans L M N first second = (is_below-law L N).1 (λ c. omega (arith, (is_below-law L M).0 first c, (is_below-law M N).0 second c))
 

@@ -1,4 +1,4 @@
--- What a look-up and a put do to the answers that are remembered.
+-- The answers that are remembered after a look-up or a put.
 use Rattle.std.proofs.Common.{◌≡◌, Bool, true, List, Contains, ◌⊎◌, inl, inr, Option, Some, None, Result, Ok, Err, OnOk, OnErr, IfSome, ◌&&◌, rules}
 use Rattle.std.proofs.Common.{sym, subst, arith}
 use Rattle.std.specs.Prelude.{◌==◌}
@@ -15,7 +15,7 @@ use Rattle.histar_label.specs.Same.{both_true}
 abbrev pub is_same_comparison : Comparison → Comparison → Bool
 is_same_comparison c d = sameb the_type c.reading d.reading && ((c.lower == d.lower) && (c.upper == d.upper))
 
--- comparisons that pass the test are one
+-- comparisons that pass the test are equal
 pub same_comparison : (c d : Comparison) → is_same_comparison c d ≡ true → d ≡ c
 same_comparison c d h =
     let first = both_true (sameb the_type c.reading d.reading) _ h in
@@ -25,7 +25,7 @@ same_comparison c d h =
     let upper : c.upper ≡ d.upper = grind (arith, nat_tests) in
     sym (λ i. record { reading = reading i; lower = lower i; upper = upper i })
 
--- an answer that is remembered after a put was so before, or is the one that was put
+-- an answer that is remembered after a put was remembered before, or is the one that was put
 answer_put : (c : LruCache Comparison Bool) (q : Comparison) (b : Bool) (e : Comparison × Bool)
     → Contains (put_entries is_same_comparison c q b) e → Contains c.entries e ⊎ (e ≡ (q, b))
 answer_put c q b e there = elim (Contains-put_entries is_same_comparison c q b e there) [
@@ -43,7 +43,7 @@ pub put_or_not : {X Y : Type 0} (r : Result X Y) (old new : LruCache Comparison 
 put_or_not (Ok x) old new q b ok err e there = answer_put old q b e (subst (λ (c : LruCache Comparison Bool). Contains c.entries e) ok there)
 put_or_not (Err y) old new q b ok err e there = inl (subst (λ (c : LruCache Comparison Bool). Contains c.entries e) err there)
 
--- what a look-up finds is the remembered answer of its comparison
+-- the answer that a look-up finds is the remembered one of its comparison
 found_answer : (es : List (Comparison × Bool)) (q : Comparison) (b : Bool) → lookup (is_same_comparison q) es ≡ Some b → Contains es (q, b)
 found_answer es q b found =
     let there = Contains-lookup (is_same_comparison q) es b found in

@@ -1,4 +1,4 @@
--- The test for star says that some category has star.
+-- The test for star decides whether some category has star.
 use Rattle.std.proofs.Common.{◌≡◌, ◌≢◌, ◌↔◌, ℕ, Bool, true, false, ◌||◌, IsTrue, refl, sym, ◌∙◌, arith}
 use mathlib.Core.Bool.{false≢true}
 use Rattle.std.specs.List.{list_any}
@@ -38,7 +38,7 @@ pub has_star-law : (L : Levels) → IsTrue (has_star L) ↔ HasStar L
 unfolding has_star
 has_star-law L = (star_there L (is_star (default_of L)) refl, λ star. star_passes L star.0 star.1 (is_star (default_of L)) refl)
 
--- an answer that says so is the test
+-- an answer that equals the test decides it
 pub star_answer : (L : Levels) (r : Bool) → r ≡ has_star L → IsTrue r ↔ HasStar L
 star_answer L r is = rw is (has_star-law L)
 

@@ -8,7 +8,7 @@ abbrev pub first_category : Exceptions → Option ℕ
 first_category [] = None
 first_category (e ∷ es) = Some e.0
 
--- the lower of two categories, if they are there
+-- the lower of two categories, or the one that is there
 abbrev pub earlier : Option ℕ → Option ℕ → Option ℕ
 earlier None second = second
 earlier (Some c) None = Some c
@@ -22,7 +22,7 @@ lower first second = earlier (first_category first) (first_category second)
 abbrev pub lowest : Exceptions → Exceptions → Exceptions → Option ℕ
 lowest first second third = earlier (first_category first) (lower second third)
 
--- the level of a category that no exception comes before: the first exception's where it is of the category, or else the default
+-- the level of a category that no exception comes before: the first exception's where it is of the category, and otherwise the default
 abbrev pub level_at : Exceptions → ℕ → Level → Level
 level_at [] c default = default
 level_at (e ∷ es) c default = if e.0 == c then e.1 else default

@@ -1,4 +1,4 @@
--- What a store that interns labels holds: its labels, and the answers that it remembers.
+-- The content of a store that interns labels: its labels, and the answers that it remembers.
 use Rattle.std.specs.Prelude.{◌≡◌, ◌<◌, Bool, List, Option, IfSome, length, slice_get, Contains, All}
 use Rattle.histar_label.specs.declared.intern_store.Comparison.{Comparison}
 use Rattle.histar_label.specs.declared.levels.Test.TheVariants.{BelowJoin}

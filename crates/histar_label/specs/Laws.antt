@@ -1,4 +1,4 @@
--- What the comparisons, the join and the floor of labels amount to, in the words of orders.
+-- What the comparisons, the join and the floor of labels amount to, in the terms of orders.
 use Rattle.std.specs.Prelude.{◌≡◌, ◌≢◌, ◌↔◌, ◌⊎◌, ℕ, ◌≤◌, Bool, IsTrue}
 use Rattle.histar_label.specs.declared.levels.Level.TheVariants.{Star}
 use Rattle.histar_label.specs.Level.{rank}
@@ -17,13 +17,13 @@ pub record ComparesFunctions (test : Levels → Levels → Bool) : Type 0 where
   pub one_value : (L M : Levels) → IsSameFunction L M → L ≡ M
   pub decided : (L M : Levels) → IsTrue (test L M) ↔ IsSameFunction L M
 
--- a label is told by its default and, in rising order, each category with another level
+-- a label is determined by its default and its exceptions, in rising order
 pub record IsListed (L : Levels) : Type 0 where
   pub default : IsDefault L (default_of L)
   pub rising : IsRising (exceptions_of L)
   pub listed : ListsExceptions L (exceptions_of L)
 
--- each test answers what holds at every category, and the join and the floor have at each category the level of their rule
+-- each test decides what holds at every category, and the join and the floor have the level of their rule at each category
 pub record TestsArePointwise : Type 0 where
   pub below : (L M : Levels) → IsTrue (is_below L M) ↔ IsBelow (grades L) (grades M)
   pub below_raised : (L M : Levels) → IsTrue (is_below_raised L M) ↔ IsBelow (grades L) (raised_grades M)
@@ -56,8 +56,8 @@ pub record OwnsAndBounds (L M N : Levels) : Type 0 where
 abbrev pub IsRaisedBelow : Levels → Levels → Type 0
 IsRaisedBelow L M = IsBelow (raised_grades L) (raised_grades M)
 
--- F is the least of the labels that own what either owns and bound both elsewhere; and where star is
--- the highest level it is the least upper bound of both
+-- F is the least of the labels that own what either owns and are at least both elsewhere; and where star is the highest level it is the
+-- least upper bound of both
 pub record IsFloor (L M F : Levels) : Type 0 where
   pub itself : OwnsAndBounds L M F
   pub least : (N : Levels) → OwnsAndBounds L M N → IsTrue (is_below F N)

@@ -3,8 +3,8 @@ ghost use Rattle.std.specs.Prelude.{◌≡◌};
 
 use std::marker::Model;
 
-/// A category, by its number. A kernel numbers the categories that it makes from 1 on, and each
-/// number may stand in a label.
+/// A category, by its number. A kernel numbers the categories that it makes from 1 on, and each number may
+/// occur in a label.
 #[derive(Clone, Copy, Debug, Default, PartialEq, Eq, PartialOrd, Ord, Hash)]
 pub struct Category(u64);
 
@@ -19,14 +19,14 @@ impl Model for Category {
 }
 
 impl Category {
-    /// The category of this number.
+    /// Returns the category of this number.
     pub fn new(number: u64) -> Self
         ensures { result ≡ number }
     {
         Category(number)
     }
 
-    /// Its number.
+    /// Returns its number.
     pub fn number(self) -> u64
         ensures { result ≡ self }
     {

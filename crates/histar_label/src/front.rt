@@ -4,7 +4,8 @@ ghost use Rattle.histar_label.specs.Front.{after, earlier, first_category, level
 
 use crate::{Category, Level};
 
-/// What two labels have at the lowest category that has an exception in one of them, and the exceptions after it.
+/// The levels of two labels at the lowest category that has an exception in one of them, and the exceptions
+/// after it.
 #[derive(Clone, Copy)]
 pub struct Met<'a, 'b> {
     pub category: Category,
@@ -14,7 +15,7 @@ pub struct Met<'a, 'b> {
     pub second_left: &'b [(Category, Level)],
 }
 
-/// Meets the lowest category that has an exception in one of two lists, which rise.
+/// Finds the lowest category that has an exception in one of two rising lists, with its levels.
 #[inline]
 pub fn meet<'a, 'b>(
     first: &'a [(Category, Level)],
@@ -48,8 +49,8 @@ pub fn meet<'a, 'b>(
     })
 }
 
-/// What three labels have at the lowest category that has an exception in one of them, and the exceptions after it:
-/// of the first label, and of the two others.
+/// The levels of three labels at the lowest category that has an exception in one of them, and the exceptions
+/// after it: of the first label, and of the two others.
 #[derive(Clone, Copy)]
 pub struct MetByThree<'a, 'b, 'c> {
     pub first: Level,
@@ -57,7 +58,7 @@ pub struct MetByThree<'a, 'b, 'c> {
     pub others: Met<'b, 'c>,
 }
 
-/// Meets the lowest category that has an exception in one of three lists, which rise.
+/// Finds the lowest category that has an exception in one of three rising lists, with its levels.
 #[inline]
 pub fn meet_three<'a, 'b, 'c>(
     first: &'a [(Category, Level)],
@@ -96,7 +97,7 @@ pub fn meet_three<'a, 'b, 'c>(
     })
 }
 
-/// The lowest category that has an exception in one of the three lists, which rise.
+/// Returns the lowest category that has an exception in one of three rising lists.
 pub fn lowest(
     first: &[(Category, Level)],
     second: &[(Category, Level)],
@@ -107,14 +108,14 @@ pub fn lowest(
     earlier(first_category(first), lower(second, third))
 }
 
-/// The lowest category that has an exception in one of the two lists, which rise.
+/// Returns the lowest category that has an exception in one of two rising lists.
 pub fn lower(first: &[(Category, Level)], second: &[(Category, Level)]) -> Option<Category>
     ensures { result ≡ lower first.now second.now }
 {
     earlier(first_category(first), first_category(second))
 }
 
-// The category of the first exception.
+// Returns the category of the first exception.
 fn first_category(exceptions: &[(Category, Level)]) -> Option<Category>
     ensures { result ≡ first_category exceptions.now }
 {
@@ -124,7 +125,7 @@ fn first_category(exceptions: &[(Category, Level)]) -> Option<Category>
     }
 }
 
-// The lower of two categories, if they are there.
+// Returns the lower of two categories, or the one that is there.
 fn earlier(first: Option<Category>, second: Option<Category>) -> Option<Category>
     ensures { result ≡ earlier first second }
 {
@@ -135,7 +136,7 @@ fn earlier(first: Option<Category>, second: Option<Category>) -> Option<Category
     }
 }
 
-/// The level of a category that no exception comes before.
+/// Returns the level of a category that no exception comes before.
 pub fn level_at(exceptions: &[(Category, Level)], category: Category, default: Level) -> Level
     ensures { result ≡ level_at exceptions.now category default }
 {
@@ -145,7 +146,7 @@ pub fn level_at(exceptions: &[(Category, Level)], category: Category, default: L
     }
 }
 
-/// The exceptions after a category that no exception comes before.
+/// Returns the exceptions after a category that no exception comes before.
 pub fn after(exceptions: &[(Category, Level)], category: Category) -> &[(Category, Level)]
     ensures { result.now ≡ after exceptions.now category }
 {

@@ -15,7 +15,7 @@ use std::alloc::Global;
 use std::marker::Model;
 use std::num::NonZeroUsize;
 
-/// The Id of a label in an [`InternStore`]: how many other labels were put before it.
+/// The Id of a label in an [`InternStore`]: the number of labels that were put before it.
 #[derive(Clone, Copy, Debug, PartialEq, Eq, Hash)]
 pub struct InternId(usize);
 
@@ -29,11 +29,11 @@ impl Model for InternId {
     ghost inverse = { λ n. record { 0 = n } };
 }
 
-/// How many answers have a place at hand: a power of two.
+/// The number of answers that have a place at hand: a power of two.
 const AT_HAND: usize = 1024;
 
-/// As many exceptions as two labels may have between them to be compared sooner than an answer is
-/// looked up.
+/// The greatest number of exceptions of two labels together with which a comparison takes less time than
+/// looking up its answer.
 const FEW_EXCEPTIONS: usize = 12;
 
 /// An odd number whose multiples spread over all places: 2^64 by the golden ratio.
@@ -48,7 +48,7 @@ struct Comparison {
 }
 
 impl Comparison {
-    // The place at hand of its answer. Another comparison may have the same one.
+    // Returns the place at hand of its answer. Another comparison may have the same place.
     fn place(self) -> usize {
         let spread = self.lower.0.wrapping_mul(SPREAD).wrapping_add(self.upper.0);
         (spread.wrapping_mul(SPREAD) / (usize::MAX / AT_HAND + 1)) ^ (self.reading as usize)
@@ -58,11 +58,11 @@ impl Comparison {
 /// Keeps each label once, so that equal labels have one Id, and remembers the answers of the latest
 /// comparisons of two labels. It forgets no label, so it grows with each new one.
 ///
-/// Each comparison has a place at hand for its answer, which it shares with others: the latest of
-/// them is there. Labels with many exceptions are looked up among the remembered answers next.
+/// Each comparison has a place at hand for its answer, which it shares with others, and the latest answer is
+/// there. Next, for labels with many exceptions, the store looks among the remembered answers.
 ///
-/// A put of a label that is there already needs no memory. A comparison whose answer finds no memory
-/// is answered, and made anew the next time.
+/// Putting a label that is already there needs no memory. A comparison that finds no memory to keep its
+/// answer still answers, and is made anew the next time.
 #[derive(Debug, Drop)]
 pub struct InternStore {
     labels: IndexSet<Label>,
@@ -86,7 +86,7 @@ impl Model for InternStore {
 }
 
 impl InternStore {
-    /// A store with no labels, which remembers at most `cache` answers beside those at hand.
+    /// Makes a store with no labels, which remembers at most `cache` answers beside those at hand.
     pub fn new(alloc: Global, cache: usize) -> Result<InternStore, OutOfMemory>
         requires { 0 < cache }
         ensures { IfOk result (λ store. store ≡ []) }
@@ -99,7 +99,7 @@ impl InternStore {
         })
     }
 
-    // The answer of a comparison, from its place at hand if it is there. A label is below itself, however
+    // Answers a comparison, from its place at hand if the answer is there. A label is below itself, however
     // star is read.
     fn answer(&mut self, comparison: Comparison) -> bool
         requires lower_stands { comparison.lower < length self.old }
@@ -119,8 +119,8 @@ impl InternStore {
         answer
     }
 
-    // The answer of a comparison: made now where the labels have few exceptions, and else as it was
-    // remembered, or made now and remembered.
+    // Answers a comparison: compares anew where the labels have few exceptions, and otherwise looks up the
+    // remembered answer, or compares anew and remembers the answer.
     fn compare_or_recall(&mut self, comparison: Comparison) -> bool
         requires lower_stands { comparison.lower < length self.old }
         requires upper_stands { comparison.upper < length self.old }
@@ -144,7 +144,7 @@ impl LabelStore for InternStore {
 
     ghost labels = { slice_get };
 
-    /// Keeps a label, and answers its Id, which is the one that it had if it was there.
+    /// Keeps a label, and returns its Id, which is the old one if the label was there.
     fn put(&mut self, label: Label) -> Result<InternId, OutOfMemory>
         ensures stands { IfOk result (λ id. slice_get self.new id ≡ Some label) }
         ensures keeps { Keeps (slice_get self.old) (slice_get self.new) }
@@ -156,7 +156,7 @@ impl LabelStore for InternStore {
         Ok(InternId(place))
     }
 
-    /// The label of an Id. No other Id stands for an equal label.
+    /// Returns the label of an Id. No other Id stands for an equal label.
     fn get(&self, id: InternId) -> Option<&Label>
         ensures label { option_copied result ≡ slice_get self.now id }
         ensures one_id { HasOneId (slice_get self.now) }
@@ -181,7 +181,7 @@ impl LabelStore for InternStore {
     }
 }
 
-// The answer of a comparison, by the labels.
+// Compares the labels.
 fn compare(labels: &IndexSet<Label>, comparison: Comparison) -> bool
     requires lower_stands { comparison.lower < length labels.now.keys }
     requires upper_stands { comparison.upper < length labels.now.keys }
@@ -195,7 +195,7 @@ fn compare(labels: &IndexSet<Label>, comparison: Comparison) -> bool
     }
 }
 
-// How many exceptions the labels of a comparison have between them.
+// Counts the exceptions of both labels of a comparison.
 fn exceptions_of_both(labels: &IndexSet<Label>, comparison: &Comparison) -> usize
     requires lower_stands { comparison.now.lower < length labels.now.keys }
     requires upper_stands { comparison.now.upper < length labels.now.keys }
@@ -207,7 +207,7 @@ fn exceptions_of_both(labels: &IndexSet<Label>, comparison: &Comparison) -> usiz
     lower.exceptions().len() + upper.exceptions().len()
 }
 
-// No answer in any place at hand.
+// Makes the places at hand, without answers.
 fn no_answers(alloc: Global) -> Result<Vec<Option<(Comparison, bool)>>, OutOfMemory>
     ensures { IfOk result (λ places. All (λ o. o ≡ None) places.items) }
 {
@@ -218,7 +218,7 @@ fn no_answers(alloc: Global) -> Result<Vec<Option<(Comparison, bool)>>, OutOfMem
     Ok(places)
 }
 
-// The answer in a place at hand, if it is that of the comparison.
+// Returns the answer in a place at hand, if it is that of the comparison.
 fn found_at(
     places: &[Option<(Comparison, bool)>],
     place: usize,
@@ -232,7 +232,7 @@ fn found_at(
     }
 }
 
-// Keeps an answer in a place at hand, in place of the one there.
+// Keeps an answer in a place at hand, and replaces the one there.
 fn keep_at(places: &mut Vec<Option<(Comparison, bool)>>, place: usize, latest: (Comparison, bool))
     ensures { places.new.items ≡ slice_set places.old.items place (Some latest) }
 {
@@ -241,7 +241,7 @@ fn keep_at(places: &mut Vec<Option<(Comparison, bool)>>, place: usize, latest: (
     }
 }
 
-// The answer that was remembered for a comparison.
+// Returns the answer that was remembered for a comparison.
 fn recall(answers: &mut LruCache<Comparison, bool>, comparison: Comparison) -> Option<bool>
     ensures found { IfSome result (λ answer. Contains answers.old.entries (comparison, answer)) }
     ensures kept { (e : Comparison × Bool) → Contains answers.new.entries e

@@ -1,4 +1,4 @@
--- Bytes that are checked: what a beginning of the entries tells.
+-- What is known of bytes of which a beginning is checked.
 use Rattle.std.proofs.Common.{◌≡◌, ℕ, ◌+◌, ◌<◌, true, IsTrue, refl, List, [], ◌∷◌, length, Option, Some, None, sym, ap, subst, ◌∙◌, length-append}
 use Rattle.std.proofs.Common.{append-nil, arith}
 use Rattle.std.specs.Cmp.Lexicographic.{slice_cmp}
@@ -12,18 +12,18 @@ use Rattle.histar_layout.proofs.EntryLemmas.{IsBytes}
 use Rattle.histar_layout.proofs.MapLemmas.{by_bytes}
 use Rattle.histar_layout.proofs.DirectoryLemmas.{IsReadUpTo, starts, goes_on, entry_added, comes_after}
 
--- the bytes begin with the entries of a directory, so many
+-- the bytes begin with this many entries of a directory
 pub record IsCheckedUpTo (bytes rest : List ℕ) (last : Option Name) (count : ℕ) : Type 0 where
   pub dir : Entries
   pub read : IsReadUpTo bytes rest last dir
   pub count_is : count ≡ map.len dir
 
--- the last name that was read, of which these are the bytes; none was read yet where there are none
+-- the name that was read last, which has these bytes; none where there are no bytes, since none was read yet
 abbrev pub last_name : List ℕ → Option Name
 last_name [] = None
 last_name (b ∷ bs) = Some (b ∷ bs)
 
--- a name has bytes
+-- a name is the last one with its own bytes
 pub name_is_last : (text : List ℕ) → IsTrue (is_name text) → last_name text ≡ Some text
 unfolding is_name
 name_is_last [] h = absurd cc

@@ -27,7 +27,7 @@ use Rattle.histar_layout.proofs.Rising.{not_smaller, not_among, one_rising, rise
 use Rattle.histar_layout.proofs.Passed.{in_passed, passed_rise}
 use Rattle.histar_layout.proofs.ClassesShown.{classes_shown, before_jobs}
 
--- a category of jobs that a label has at 3
+-- the label has a category of jobs at 3
 abbrev is_job : Accounts → ℕ × Level → Bool
 is_job accounts e = is_three e.1 && nat_le (first_after_groups accounts) e.0
 
@@ -38,12 +38,12 @@ le_from_test a b e = grind (arith, nat_tests, e)
 test_from_le : (a b : ℕ) → a ≤ b → nat_le a b ≡ true
 test_from_le a b h = grind (arith, nat_tests, h)
 
--- a label whose default is not 3 lists what it has at 3
+-- a label whose default is not 3 lists its categories at 3
 module _ (accounts : Accounts) (label : Levels) (plain : is_three (default_of label) ≡ false) where
   jobs_at : (q : ℕ) → is_in (jobs_of accounts label) q ≡ (is_three (level_of label q) && nat_le (first_after_groups accounts) q)
   jobs_at = in_passed (is_job accounts) label (λ c. ap (λ b. b && nat_le (first_after_groups accounts) c) plain)
 
-  -- the jobs that a label has rise, behind the categories of users and groups
+  -- the categories of jobs of a label rise, above those of users and groups
   jobs_rise : IsRisingFrom (first_after_groups accounts) (jobs_of accounts label)
   jobs_rise = rises_above 0 (first_after_groups accounts) (jobs_of accounts label) (passed_rise (is_job accounts) label)
       (λ q e. le_from_test (first_after_groups accounts) q
@@ -53,14 +53,14 @@ module _ (accounts : Accounts) (label : Levels) (plain : is_three (default_of la
 scratch_default : (user : ℕ) (jobs : List ℕ) → is_three (default_of (scratch_label user jobs)) ≡ false
 scratch_default user jobs = ap is_three (default_kept (constant L1) (each_at L3 (read_category user ∷ jobs) ++ []) ∙ default_of-constant L1)
 
--- level 3 is the level of what is secret and not written
+-- outside the second list, a category is at 3 exactly where it is in the first
 secret_at : (s : Bool) → is_three (guarded_level s false) ≡ s
 secret_at true = refl
 secret_at false = refl
 
 module _ (accounts : Accounts) (user : ℕ) (jobs : List ℕ) (rising : IsRisingFrom (first_after_groups accounts) jobs)
     (known : write_category user < first_after_groups accounts) where
-  -- what stands behind the categories of users and groups is a job's exactly where the label has it at 3
+  -- a label for jobs has a category at 3 exactly where it is the user's read category or a job's
   at_three : (q : ℕ) → is_three (level_of (scratch_label user jobs) q) ≡ (q == read_category user || is_in jobs q)
   at_three q = ap is_three (at_guarded (read_category user ∷ jobs) [] q) ∙ secret_at (q == read_category user || is_in jobs q)
 
@@ -78,7 +78,7 @@ module _ (accounts : Accounts) (user : ℕ) (jobs : List ℕ) (rising : IsRising
         (λ there. and_from _ _ there (test_from_le (first_after_groups accounts) q (not_smaller (first_after_groups accounts) jobs q rising there)))
   ]
 
-  -- the label of what is for jobs has these very jobs
+  -- the label for jobs has these very jobs
   jobs_read : jobs_of accounts (scratch_label user jobs) ≡ jobs
   jobs_read =
       one_rising (first_after_groups accounts) (first_after_groups accounts)
@@ -87,7 +87,7 @@ module _ (accounts : Accounts) (user : ℕ) (jobs : List ℕ) (rising : IsRising
       (λ q. jobs_at accounts (scratch_label user jobs) (scratch_default user jobs) q
       ∙ ap (λ b. b && nat_le (first_after_groups accounts) q) (at_three q) ∙ is_a_job q)
 
--- the jobs that the label of a class has make the class of what it shows
+-- the class that a label of a class shows, with the jobs of the label, is the class
 pub jobs_again : (accounts : Accounts) (class : Class) (label : Levels) → IsClassLabel accounts class label
     → with_jobs (jobs_of accounts label) (without_jobs class) ≡ class
 jobs_again accounts (Private owner) label is = refl
@@ -99,7 +99,7 @@ jobs_again accounts (Scratch owner jobs) label is =
     (ap (jobs_of accounts) (sym at.2) ∙ jobs_read accounts at.0 jobs is.jobs (before_jobs accounts owner at.0 at.1))
 jobs_again accounts (Group group) label is = refl
 
--- the class of a label is the one that it can be of
+-- the class of a label is the only one that it can have
 pub likely_is : (accounts : Accounts) (class : Class) (label : Levels) → IsClassLabel accounts class label → likely_class accounts label ≡ Some class
 likely_is accounts class label is =
     ap (option_map (with_jobs (jobs_of accounts label))) (classes_shown accounts class label is) ∙ ap Some (jobs_again accounts class label is)
@@ -108,20 +108,20 @@ likely_is accounts class label is =
 pub one_class : LabelsHaveOneClass
 one_class accounts label a b of_a of_b = same_Some a b (sym (likely_is accounts a label of_a) ∙ likely_is accounts b label of_b)
 
--- ---- what is found
+-- ---- the class that is found
 
--- where the label can be of no class it is of none
+-- where the label can have no class, it has none
 pub none_found : (accounts : Accounts) (label : Levels) → likely_class accounts label ≡ None → (class : Class) → IsClassLabel accounts class label → ⊥
 none_found accounts label none class is = none-some class (sym none ∙ likely_is accounts class label is)
 
--- where it is not that of the one class that it can be of it is of none
+-- where the label is not that of the only class that it can have, it has none
 pub other_label : (accounts : Accounts) (label : Levels) (likely : Class) → likely_class accounts label ≡ Some likely
     → (class_label accounts likely ≡ Some label → ⊥) → (class : Class) → IsClassLabel accounts class label → ⊥
 other_label accounts label likely found other class is =
     let same : likely ≡ class = same_Some likely class (sym found ∙ likely_is accounts class label is) in
     other (ap (class_label accounts) same ∙ is.is)
 
--- the jobs of a class that is shown
+-- the jobs of a shown class with these jobs
 shown_jobs : (jobs : List ℕ) (class : ShownClass) (owner : Name) (chain : List ℕ) → with_jobs jobs class ≡ Scratch owner chain → jobs ≡ chain
 shown_jobs jobs (shown.Private name) owner chain e = absurd (cc)
 shown_jobs jobs (shown.Readable name) owner chain e = absurd (cc)
@@ -129,7 +129,7 @@ shown_jobs jobs shown.Open owner chain e = absurd (cc)
 shown_jobs jobs (shown.Scratch name) owner chain e = cc
 shown_jobs jobs (shown.Group name) owner chain e = absurd (cc)
 
--- those of the class that a label can be of rise
+-- the jobs of the only class that a label can have rise
 likely_jobs : (accounts : Accounts) (label : Levels) (class : Class) → likely_class accounts label ≡ Some class
     → class_label accounts class ≡ Some label → HasJobs accounts class
 likely_jobs accounts label (Private owner) likely is = tt
@@ -142,7 +142,7 @@ likely_jobs accounts label (Scratch owner chain) likely is =
     (jobs_rise accounts label (ap (λ (l : Levels). is_three (default_of l)) (sym at.2) ∙ scratch_default at.0 chain))
 likely_jobs accounts label (Group group) likely is = tt
 
--- where the label is that of the one class that it can be of it is of this class
+-- where the label is that of the only class that it can have, it has this class
 pub found_class : (accounts : Accounts) (label : Levels) (class : Class) → likely_class accounts label ≡ Some class
     → class_label accounts class ≡ Some label → IsClassLabel accounts class label
 found_class accounts label class likely is = record { jobs = likely_jobs accounts label class likely is; is = is }

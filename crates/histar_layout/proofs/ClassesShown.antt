@@ -1,4 +1,4 @@
--- The label of a class shows the class, but for its jobs.
+-- The label of a class shows the class, except for its jobs.
 use Rattle.std.proofs.Common.{◌≡◌, ◌≢◌, ℕ, zero, suc, ◌+◌, ◌*◌, ◌-◌, ◌<◌, ◌≤◌, ◌==◌, Bool, true, false, inl, inr, ◌&&◌, ◌||◌, List, [], ◌∷◌, length}
 use Rattle.std.proofs.Common.{Option, None, Some, arith, refl, sym, ap, ◌∙◌, if◌then◌else◌}
 use Rattle.std.specs.Prelude.{position, slice_get}
@@ -37,7 +37,7 @@ module _ (label : Levels) where
       ap (λ (b : Bool). if b then group_class_from label (k + 1) groups else group_class_at group.name
       (level_of label (read_category k)) (level_of label (write_category k))) is
 
-  -- the first that it names shows the class
+  -- the first group that it names shows the class
   shown_by_group : (groups : List Group) (k m : ℕ) (group : Group) → slice_get groups m ≡ Some group
       → ((j : ℕ) → k ≤ j → j < k + m → is_unnamed label j ≡ true) → is_unnamed label (k + m) ≡ false
       → group_class_from label k groups ≡ group_class_at group.name (level_of label (read_category (k + m))) (level_of label (write_category (k + m)))
@@ -56,7 +56,7 @@ module _ (label : Levels) where
       (ap (is_unnamed label) next ∙ named)
       ∙ ap (λ (i : ℕ). group_class_at group.name (level_of label (read_category i)) (level_of label (write_category i))) next
 
-  -- where it names none it is open, or shows no class
+  -- where it names none, the class is open, or there is none
   shown_by_no_group : (groups : List Group) (k : ℕ)
       → ((j : ℕ) → k ≤ j → j < k + length groups → is_unnamed label j ≡ true)
       → group_class_from label k groups ≡ (if is_all_plain label then Some shown.Open else None)
@@ -74,7 +74,7 @@ module _ (label : Levels) where
         if b then class_from label (k + 1) groups users else class_at u.name (level_of label (read_category k))
         (level_of label (write_category k))) is
 
-    -- the first whom it names shows the class
+    -- the first user whom it names shows the class
     shown_by : (users : List User) (k m : ℕ) (u : User) → slice_get users m ≡ Some u
         → ((j : ℕ) → k ≤ j → j < k + m → is_unnamed label j ≡ true) → is_unnamed label (k + m) ≡ false
         → class_from label k groups users ≡ class_at u.name (level_of label (read_category (k + m))) (level_of label (write_category (k + m)))
@@ -92,7 +92,7 @@ module _ (label : Levels) where
         ∙ shown_by users (k + 1) m u at (λ j low high. before j (omega (arith, low)) (omega (arith, high))) (ap (is_unnamed label) next ∙ named)
         ∙ ap (λ (i : ℕ). class_at u.name (level_of label (read_category i)) (level_of label (write_category i))) next
 
-    -- where it names none the groups show it
+    -- where it names no user, the groups show the class
     shown_by_none : (users : List User) (k : ℕ) → ((j : ℕ) → k ≤ j → j < k + length users → is_unnamed label j ≡ true)
         → class_from label k groups users ≡ group_class_from label (k + length users) groups
     shown_by_none [] k unnamed = let here : k + 0 ≡ k = omega arith in ap (λ (i : ℕ). group_class_from label i groups) (sym here)
@@ -118,7 +118,7 @@ all_plain =
 unequal : (q c : ℕ) → q ≢ c → (q == c) ≡ false
 unequal q c other = elim (eqb_tells q c) [ inl e ↦ absurd (other e.1) | inr e ↦ e.0 ]
 
--- one number alone
+-- a list of one number contains only this one
 is_one : (c : ℕ) → is_in (c ∷ []) c ≡ true
 is_one c = ap (λ b. b || false) (equal_itself c)
 
@@ -137,7 +137,7 @@ module _ (S W : List ℕ) where
       (λ i. is_plain_level (level_by (read_category j) false false a b i)
       && is_plain_level (level_by (write_category j) false false c d i))
 
--- the user of a name, and its place
+-- a name is that of a declared user, at this place
 pub record IsDeclaredUser (accounts : Accounts) (name : Name) (i : ℕ) : Type 0 where
   pub place : ℕ
   pub user : User
@@ -152,7 +152,7 @@ user_at accounts name i e =
     let at = placed (λ (u : User). same u.name name) accounts.users k.0 k.1 in
     record { place = k.0; user = at.0; at = at.1; named = equal_names at.0.name name at.2; within = at.3; number = k.2 }
 
--- and the group of a name
+-- a name is that of a declared group, at this place
 pub record IsDeclaredGroup (accounts : Accounts) (name : Name) (k : ℕ) : Type 0 where
   pub place : ℕ
   pub group : Group
@@ -167,10 +167,10 @@ group_at accounts name k e =
     let at = placed (λ (group : Group). same group.name name) accounts.groups m.0 m.1 in
     record { place = m.0; group = at.0; at = at.1; named = equal_names at.0.name name at.2; within = at.3; number = m.2 }
 
--- ---- what labels show
+-- ---- the classes that labels show
 
 module _ (accounts : Accounts) (label : Levels) where
-  -- A label shows the user of this number where it names its categories, with these levels, and no user's before it.
+  -- A label shows the user of this number where it names this user's categories, with these levels, and no user's before it.
   shows_user : (name : Name) (i : ℕ) (read write : Level) → user_number accounts name ≡ Some i → ((j : ℕ) → j < i → is_unnamed label j ≡ true)
       → (is_plain_level read && is_plain_level write) ≡ false → level_of label (read_category i) ≡ read → level_of label (write_category i) ≡ write
       → class_shown accounts label ≡ class_at name read write
@@ -184,13 +184,13 @@ module _ (accounts : Accounts) (label : Levels) where
       ∙ (λ k. class_at (u.named k) ((ap (λ n. level_of label (read_category n)) number ∙ at_read) k)
       ((ap (λ n. level_of label (write_category n)) number ∙ at_write) k))
 
-  -- where it names no user's categories the groups show it
+  -- where it names no user's categories, the groups show the class
   past_users : ((j : ℕ) → j ≤ length accounts.users → is_unnamed label j ≡ true)
       → class_shown accounts label ≡ group_class_from label (1 + length accounts.users) accounts.groups
   unfolding class_shown
   past_users before = shown_by_none label accounts.groups accounts.users 1 (λ j low high. before j (omega (arith, high)))
 
-  -- It shows the group of this number where it names its categories, with these levels, and no user's or group's before it.
+  -- It shows the group of this number where it names this group's categories, with these levels, and no user's or group's before it.
   shows_group : (name : Name) (k : ℕ) → group_number accounts name ≡ Some k → ((j : ℕ) → j < length accounts.users + k → is_unnamed label j ≡ true)
       → level_of label (read_category (length accounts.users + k)) ≡ L3 → level_of label (write_category (length accounts.users + k)) ≡ L0
       → class_shown accounts label ≡ Some (shown.Group name)
@@ -205,9 +205,9 @@ module _ (accounts : Accounts) (label : Levels) where
       ∙ (λ i. group_class_at (g.named i) ((ap (λ n. level_of label (read_category n)) number ∙ at_read) i)
       ((ap (λ n. level_of label (write_category n)) number ∙ at_write) i))
 
--- ---- what the labels of classes show
+-- ---- the classes that the labels of classes show
 
--- what one user or group alone reads and writes names no other's categories
+-- the label of an object that one user or group alone reads and writes names no earlier owner's categories
 owned_unnamed : (owner j : ℕ) → j < owner → is_unnamed (owned_label owner) j ≡ true
 owned_unnamed owner j less = unnamed_by (read_category owner ∷ []) (write_category owner ∷ []) j
     (is_other (read_category j) (read_category owner) (λ e. omega (arith, e, less)))
@@ -225,7 +225,7 @@ owned_write owner =
     level_by (read_category owner ∷ []) (write_category owner ∷ []) (write_category owner) false true
     (is_other (write_category owner) (read_category owner) (λ e. omega (arith, e))) (is_one (write_category owner))
 
--- nor does what a user alone writes
+-- nor does that of an object that a user alone writes
 written_unnamed : (user j : ℕ) → j < user → is_unnamed (written_by (write_category user)) j ≡ true
 written_unnamed user j less =
     unnamed_by [] (write_category user ∷ []) j refl
@@ -240,7 +240,7 @@ written_read user =
 written_write : (user : ℕ) → level_of (written_by (write_category user)) (write_category user) ≡ L0
 written_write user = level_by [] (write_category user ∷ []) (write_category user) false true refl (is_one (write_category user))
 
--- nor does what a user reads in jobs, whose categories stand behind those of the users
+-- nor does that of an object that a user reads in jobs, whose categories come after those of the users
 module _ (first user : ℕ) (jobs : List ℕ) (rising : IsRisingFrom first jobs) (known : write_category user < first) where
   not_read : (q : ℕ) → q < first → q ≢ read_category user → is_in (read_category user ∷ jobs) q ≡ false
   not_read q low other = (λ i. unequal q (read_category user) other i || not_among first jobs q rising low i)
@@ -260,17 +260,17 @@ module _ (first user : ℕ) (jobs : List ℕ) (rising : IsRisingFrom first jobs)
       level_by (read_category user ∷ jobs) [] (write_category user) false false
       (not_read (write_category user) known (λ e. omega (arith, e))) refl
 
--- `{1}` names none
+-- `{1}` names no category
 open_unnamed : (j : ℕ) → is_unnamed (constant L1) j ≡ true
 open_unnamed j = (λ i. is_plain_level (level_of-constant L1 (read_category j) i) && is_plain_level (level_of-constant L1 (write_category j) i))
 
--- the categories of a user stand before those of jobs
+-- the categories of a user come before those of jobs
 pub before_jobs : (accounts : Accounts) (owner : Name) (user : ℕ) → user_number accounts owner ≡ Some user
     → write_category user < first_after_groups accounts
 before_jobs accounts owner user numbered = let range = user_range accounts owner user numbered in omega (arith, range.1)
 
 module _ (accounts : Accounts) (label : Levels) where
-  -- a label that is given by an equation
+  -- the same for a label that equals the one that was found
   by_label : (found : Levels) → found ≡ label → (o : Class) → class_shown accounts found ≡ Some (without_jobs o)
       → class_shown accounts label ≡ Some (without_jobs o)
   by_label found is o shows = ap (class_shown accounts) (sym is) ∙ shows
@@ -305,6 +305,6 @@ module _ (accounts : Accounts) (label : Levels) where
       by_label (owned_label owner) at.2 (Grouped group) (shows_group accounts (owned_label owner) group at.0 at.1
       (owned_unnamed owner) (owned_read owner) (owned_write owner))
 
--- The label of a class shows the class, but for its jobs.
+-- The label of a class shows the class, except for its jobs.
 pub classes_shown : ClassesAreShown
 classes_shown accounts class label is = shown_at accounts label class is.jobs is.is

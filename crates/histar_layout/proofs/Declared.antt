@@ -20,7 +20,7 @@ pub equal_tested : (a b : Name) → a ≡ b → same a b ≡ true
 equal_tested a b h = elim (same_name_found a b) [ inl e ↦ e.0 | inr e ↦ absurd (e.1 h) ]
 
 module _ {A : Type 0} (test : A → Bool) where
-  -- what stands at the first place passes the test
+  -- the first place that passes the test has an item that passes it, depending on the test of the first item
   place_by : (x : A) (xs : List A) (b : Bool) → test x ≡ b → position_or_len test (x ∷ xs) < length (x ∷ xs)
       → (position_or_len test xs < length xs → (y : A) × (slice_get xs (position_or_len test xs) ≡ Some y) × (test y ≡ true))
       → (y : A) × (slice_get (x ∷ xs) (position_or_len test (x ∷ xs)) ≡ Some y) × (test y ≡ true)
@@ -50,7 +50,7 @@ module _ {A : Type 0} (test : A → Bool) where
       (at.0, ap (slice_get xs) (sym is.1) ∙ at.1, at.2, omega (arith, below, is.1))
 
 module _ {A : Type 0} (test : A → Bool) where
-  -- what passes the test has a place
+  -- an item that passes the test has a place, depending on the test of the first item
   place_found_by : (x : A) (xs : List A) (b : Bool) → test x ≡ b → (b ≡ false → position_or_len test xs < length xs)
       → position_or_len test (x ∷ xs) < length (x ∷ xs)
   place_found_by x xs true is later =
@@ -68,7 +68,7 @@ module _ {A : Type 0} (test : A → Bool) where
       (λ fails. absurd (true≢false (sym is ∙ ap test (sym (same_Some y x at)) ∙ fails)))
   place_found (y ∷ xs) (suc i) x at is = place_found_by y xs (test y) refl (λ _. place_found xs i x at is)
 
--- so a user of a name has a number
+-- so the user of a name has a number
 pub has_a_number : (accounts : Accounts) (name : Name) (i : ℕ) (user : User) → slice_get accounts.users i ≡ Some user
     → same user.name name ≡ true → is_some (user_number accounts name) ≡ true
 has_a_number accounts name i user at is =
@@ -92,7 +92,7 @@ group_range accounts name i e =
     let below : k.0 < length accounts.groups = at.3 in
     (omega (arith, k.2), omega (arith, k.2, below))
 
--- two users' names with one number are one
+-- two names of users with one number are equal
 pub one_user : (accounts : Accounts) (a b : Name) (i : ℕ) → user_number accounts a ≡ Some i → user_number accounts b ≡ Some i → a ≡ b
 one_user accounts a b i is_a is_b =
     let k = mapped_from (λ k. k + 1) (position (λ (u : User). same u.name a) accounts.users) i is_a in
@@ -104,7 +104,7 @@ one_user accounts a b i is_a is_b =
     let one : u.0 ≡ v.0 = same_Some u.0 v.0 both in
     sym (equal_names u.0.name a u.2) ∙ ap (λ (w : User). w.name) one ∙ equal_names v.0.name b v.2
 
--- and so are two groups' names
+-- so are two names of groups
 pub one_group : (accounts : Accounts) (a b : Name) (i : ℕ) → group_number accounts a ≡ Some i → group_number accounts b ≡ Some i → a ≡ b
 one_group accounts a b i is_a is_b =
     let k = mapped_from (λ k. k + 1) (position (λ (g : Group). same g.name a) accounts.groups) i is_a in

@@ -1,4 +1,4 @@
--- Bytes and directories: what a beginning of the entries tells of the rest.
+-- What a beginning of the entries of a directory determines about the rest.
 use Rattle.std.proofs.Common.{◌≡◌, ℕ, ◌<◌, Bool, true, false, List, [], ◌∷◌, ◌++◌, length, Option, Some, None, refl, sym, ap, subst, ◌∙◌}
 use Rattle.std.proofs.Common.{append_assoc, append-nil, length-append, arith}
 use Rattle.std.specs.Prelude.{T, MatchOption}
@@ -32,7 +32,7 @@ Entry = Name × Target
 abbrev text : List Entry → List ℕ
 text = flat_map entry_bytes
 
--- some of the entries that the bytes spell are these, and the rest of the bytes spells the others
+-- the entries es are the first ones of those that the bytes spell, and the rest of the bytes spells the others
 record IsContinued (es fs : List Entry) (rest : List ℕ) : Type 0 where
   more : List Entry
   parts : fs ≡ es ++ more
@@ -71,7 +71,7 @@ same_directory bytes a b p q =
     k.parts ∙ ap (λ (es : List Entry). map.entries a ++ es) (no_more k.more k.spelled) ∙ append-nil (map.entries a) in
     map.same_entries_map a b (sym same)
 
--- what reading finds in the bytes of a directory is that directory
+-- the directory that reading finds in bytes is the directory that they are
 pub found_directory : (bytes : List ℕ) (found : Option Entries) (dir : Entries)
     → MatchOption found ((other : Entries) → IsDirectory bytes other → ⊥) (IsDirectory bytes) → IsDirectory bytes dir
     → found ≡ Some dir
@@ -99,7 +99,7 @@ starts bytes fits = record {
   rest_fits = fits;
 }
 
--- an entry behind the last one comes at the end
+-- an entry after the last one is added at the end
 pub entry_added : (last : Option Name) (dir : Entries) (name : Name) (target : Target) → IsLast last (map.entries dir)
     → comes_after last name ≡ true → map.entries (map.insert dir name target) ≡ map.entries dir ++ (name, target) ∷ []
 entry_added None dir name target h after =
@@ -129,7 +129,7 @@ goes_on bytes rest after last dir name target h read room rises =
       rest_fits = e.rest_fits;
     }
 
--- what an entry takes is not in the rest
+-- after an entry the rest is shorter
 pub shorter : (rest after : List ℕ) (name : Name) (target : Target) → IsBytes rest
     → entry_at rest ≡ Some ((name, target), after) → length after < length rest
 shorter rest after name target fits read =
@@ -147,14 +147,14 @@ room_left dir full h at_most is_false =
     let not_most : map.len dir ≡ 64 → ⊥ = λ e. false≢true (sym is_false ∙ at_most e) in
     omega (arith, h.few)
 
--- where bytes are left, a directory that the bytes are goes on with the entry that the rest begins with
+-- where bytes are left, the directory goes on with the entry that the rest begins with
 record HasNext (rest : List ℕ) (dir whole : Entries) : Type 0 where
   next : Entry
   more : List Entry
   parts : map.entries whole ≡ map.entries dir ++ next ∷ more
   read : entry_at rest ≡ Some (next, text more)
 
--- where bytes are left, more entries are
+-- where bytes are left, more entries are left
 next_of : (rest : List ℕ) (dir whole : Entries) → IsContinued (map.entries dir) (map.entries whole) rest → 0 < length rest → HasNext rest dir whole
 next_of rest dir whole k there = go k.more k.parts k.spelled k.each
   where
@@ -162,7 +162,7 @@ next_of rest dir whole k there = go k.more k.parts k.spelled k.each
     go [] p s a = absurd (omega (arith, ap length s))
     go (e ∷ more) p s a = record { next = e; more = more; parts = p; read = ap entry_at s ∙ entry_again e (text more) a.0 }
 
--- a directory goes on where reading does
+-- a directory goes on where the bytes do
 further : (bytes rest : List ℕ) (last : Option Name) (dir whole : Entries) → IsReadUpTo bytes rest last dir
     → 0 < length rest → IsDirectory bytes whole → HasNext rest dir whole
 further bytes rest last dir whole h there w =
@@ -176,14 +176,14 @@ no_entry bytes rest last dir h there none whole w =
     let read = k.read in
     cc
 
--- no directory has more entries than the most
+-- no directory has more than 64 entries
 pub no_room : (bytes rest : List ℕ) (last : Option Name) (dir : Entries) → IsReadUpTo bytes rest last dir
     → 0 < length rest → map.len dir ≡ 64 → (whole : Entries) → IsDirectory bytes whole → ⊥
 no_room bytes rest last dir h there full whole w =
     let k = further bytes rest last dir whole h there w in
     omega (arith, w.listable.few, map.len-entries whole, map.len-entries dir, ap length k.parts, length-append (map.entries dir) (k.next ∷ k.more))
 
--- behind the last entry of a directory's beginning names rise
+-- after the last entry of a directory's beginning names rise
 rises : (last : Option Name) (es : List Entry) (e : Entry) (more : List Entry) → IsLast last es
     → T (is_sorted by_bytes (es ++ e ∷ more)) → comes_after last e.0 ≡ true
 rises None es e more h s = refl

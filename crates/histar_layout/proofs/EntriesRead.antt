@@ -1,4 +1,4 @@
--- The entries of a directory, gone over one after another.
+-- Reading the entries of a directory, one after another.
 use Rattle.std.proofs.Common.{◌≡◌, ℕ, ◌<◌, List, [], ◌∷◌, ◌++◌, length, None, Some, refl, sym, ap, subst, ◌∙◌, append_assoc, append-nil}
 use Rattle.std.proofs.Common.{length-append, arith}
 use Rattle.std.specs.List.{flat_map, AllByRecursion}
@@ -12,23 +12,23 @@ use Rattle.histar_layout.proofs.EntryLemmas.{entry_again}
 use Rattle.histar_layout.proofs.LookingUp.{none_at_end, slot_again}
 use Rattle.histar_layout.proofs.Spellings.{none_in_none}
 
--- these entries were gone over, and the rest of the bytes spells the others
+-- these entries were read, and the rest of the bytes spells the others
 pub record IsReadTo (rest : List ℕ) (passed : List Entry) (dir : Entries) : Type 0 where
   after : List Entry
   parts : map.entries dir ≡ passed ++ after
   spelled : rest ≡ flat_map entry_bytes after
   each : AllByRecursion IsEntry after
 
--- at the start none was
+-- at the start no entry was read
 pub none_read : (bytes : List ℕ) (dir : Entries) → IsDirectory bytes dir → IsReadTo bytes [] dir
 none_read bytes dir is = record { after = map.entries dir; parts = refl; spelled = is.spelled; each = is.listable.each }
 
 module _ (rest : List ℕ) (passed : List Entry) (dir : Entries) (h : IsReadTo rest passed dir) where
-  -- where none is left, all were
+  -- where none is left, all entries were read
   all_gone : h.after ≡ [] → map.entries dir ≡ passed
   all_gone none = h.parts ∙ ap (λ (es : List Entry). passed ++ es) none ∙ append-nil passed
 
-  -- behind one more, the others are left
+  -- after one more entry, the others are left
   one_gone : (e : Entry) (more : List Entry) → h.after ≡ e ∷ more → IsReadTo (flat_map entry_bytes more) (passed ++ e ∷ []) dir
   one_gone e more is = record {
     after = more;
@@ -47,7 +47,7 @@ module _ (rest : List ℕ) (passed : List Entry) (dir : Entries) (h : IsReadTo r
           absurd (let seen = sym none ∙ ap entry_at spelled
           ∙ entry_again e (flat_map entry_bytes more) (subst (AllByRecursion IsEntry) is h.each).0 in cc)
 
-  -- and none is passed
+  -- nor is one passed
   pub all_passed : slot_at rest ≡ None → map.entries dir ≡ passed
   all_passed none = go h.after h.spelled refl
     where
@@ -56,7 +56,7 @@ module _ (rest : List ℕ) (passed : List Entry) (dir : Entries) (h : IsReadTo r
       go (e ∷ more) spelled is = absurd (let seen = sym none ∙ ap slot_at spelled ∙ slot_again e (flat_map entry_bytes more) in cc)
 
   module _ (x : Entry × List ℕ) (read : entry_at rest ≡ Some x) where
-    -- what is read is the next one
+    -- the entry that is read is the next one
     pub one_read : IsReadTo x.1 (passed ++ x.0 ∷ []) dir
     one_read = go h.after h.spelled refl
       where
@@ -69,7 +69,7 @@ module _ (rest : List ℕ) (passed : List Entry) (dir : Entries) (h : IsReadTo r
             ∙ sym (ap entry_at spelled) ∙ read) in
             subst (λ (y : Entry × List ℕ). IsReadTo y.1 (passed ++ y.0 ∷ []) dir) same (one_gone e more is)
 
-    -- which takes bytes
+    -- the entry that is read takes bytes
     pub bytes_taken : length x.1 < length rest
     bytes_taken = go h.after h.spelled refl
       where
@@ -88,7 +88,7 @@ module _ (rest : List ℕ) (passed : List Entry) (dir : Entries) (h : IsReadTo r
         let next = one_read in
         omega (arith, map.len-entries dir, ap length next.parts, length-append (passed ++ x.0 ∷ []) next.after, length-append passed (x.0 ∷ []))
 
-  -- what is passed is the next one
+  -- the entry that is passed is the next one
   pub one_passed : (x : (List ℕ × List ℕ) × List ℕ) → slot_at rest ≡ Some x → (e : Entry) × IsReadTo x.1 (passed ++ e ∷ []) dir
   one_passed x slot = go h.after h.spelled refl
     where

@@ -1,4 +1,4 @@
--- An entry that is read is the entry that was written, and what was written is read again.
+-- An entry that is read is the one that was written, and a written entry is read again.
 use Rattle.std.proofs.Common.{◌≡◌, ℕ, suc, ◌+◌, ◌^◌, ◌<◌, ◌≤◌, true, false, not, cond, eqb, leb, ◌&&◌, List, [], ◌∷◌, ◌++◌, length, get_or, take}
 use Rattle.std.proofs.Common.{drop, Option, Some, None, refl, sym, ap, subst, ◌∙◌, append_assoc, length-append, inl, inr, arith}
 use Rattle.std.specs.Int.{w64, to_be_bytes, from_be_bytes}
@@ -26,11 +26,11 @@ bind_at o f x e = ap (λ p. p >>= f) e
 abbrev pub IsBytes : List ℕ → Type 0
 IsBytes bytes = (i : ℕ) → get_or bytes i 0 < 256
 
--- behind the first n of them
+-- so are those after the first n
 IsBytes-drop : (n : ℕ) (bytes : List ℕ) → IsBytes bytes → IsBytes (drop n bytes)
 IsBytes-drop n bytes h i = rw get_or-drop (h (n + i))
 
--- the first n of them
+-- so are the first n
 IsBytes-take : (n : ℕ) (bytes : List ℕ) → IsBytes bytes → IsBytes (take n bytes)
 IsBytes-take n bytes h i =
     elim (cases_lt i n) [
@@ -38,7 +38,7 @@ IsBytes-take n bytes h i =
       | inr le ↦ rw (get_or_past (take n bytes) i 0 (omega (arith, length-take n bytes))) (omega arith)
     ]
 
--- behind the first
+-- so are those after the first
 pub IsBytes-rest : (b : ℕ) (bytes : List ℕ) → IsBytes (b ∷ bytes) → IsBytes bytes
 IsBytes-rest b bytes h i = h (suc i)
 
@@ -49,7 +49,7 @@ record IsSplit (n : ℕ) (bytes : List ℕ) (x : List ℕ × List ℕ) : Type 0 
   front_fits : IsBytes x.0
   rest_fits : IsBytes x.1
 
--- what is split is the front and the rest
+-- splitting off a front gives the front and the rest
 front_takes : (n : ℕ) (bytes : List ℕ) (x : List ℕ × List ℕ) → IsBytes bytes → front_at n bytes ≡ Some x → IsSplit n bytes x
 unfolding front_at
 front_takes n bytes x fits e =
@@ -69,14 +69,14 @@ front_again n front rest len =
     let long : leb n (length (front ++ rest)) ≡ true = le-leb n (length (front ++ rest)) (omega (arith, length-append front rest)) in
     rw (long, take_at front rest n len, drop_at front rest n len) refl
 
--- what a reader took from the front
+-- a reader took this text from the front, and left the rest
 pub record Takes (bytes text rest : List ℕ) : Type 0 where
   pub parts : bytes ≡ text ++ rest
   pub rest_fits : IsBytes rest
 
 -- ---- numbers
 
--- a number that is read was written so, and has 64 bits
+-- a number that is read was written as these bytes, and has 64 bits
 pub number_takes : (bytes : List ℕ) (x : ℕ × List ℕ) → IsBytes bytes → number_at bytes ≡ Some x
     → Takes bytes (to_be_bytes w64 x.0) x.1 × (x.0 < 2 ^ 64)
 unfolding number_at
@@ -104,7 +104,7 @@ number_again n rest lt =
 positive : (n : ℕ) → eqb n 0 ≡ false → 0 < n
 positive n e = grind (arith, nat_tests)
 
--- and so by the other test
+-- the same by the other test
 positive_by_not : (n : ℕ) → not (eqb n 0) ≡ true → 0 < n
 positive_by_not n e = grind (arith, nat_tests)
 
@@ -116,7 +116,7 @@ not_zero n h = grind (arith, nat_tests)
 abbrev IsSpelledBy : ℕ → ℕ → ℕ → Target → Type 0
 IsSpelledBy letter object listing t = (letter ∷ to_be_bytes w64 object ++ to_be_bytes w64 listing ≡ target_bytes t) × IsTarget t
 
--- a target that is made was spelled so
+-- a target that is made was spelled by this letter and these numbers
 target_is : (letter object listing : ℕ) (t : Target) → object < 2 ^ 64 → listing < 2 ^ 64
     → target_of letter object listing ≡ Some t → IsSpelledBy letter object listing t
 unfolding target_of
@@ -140,12 +140,12 @@ target_is letter object listing t lt1 lt2 e =
       ]
     ]
 
--- a letter and two pieces, joined
+-- a letter and two pieces, joined, are a target's bytes
 target_parts : (letter : ℕ) (bytes a x b rest text : List ℕ) → bytes ≡ a ++ x → x ≡ b ++ rest → letter ∷ a ++ b ≡ text → letter ∷ bytes ≡ text ++ rest
 target_parts letter bytes a x b rest text p q r =
     ap (λ (t : List ℕ). letter ∷ t) (p ∙ ap (λ (t : List ℕ). a ++ t) q ∙ sym (append_assoc a b rest)) ∙ ap (λ (t : List ℕ). t ++ rest) r
 
--- a target that is read was written so
+-- a target that is read was written as these bytes
 target_takes : (bytes : List ℕ) (x : Target × List ℕ) → IsBytes bytes → target_at bytes ≡ Some x → Takes bytes (target_bytes x.0) x.1 × IsTarget x.0
 unfolding target_at
 target_takes [] x fits e = absurd cc
@@ -201,7 +201,7 @@ target_again (Directory container listing) rest h =
 
 -- ---- entries
 
--- a length, a name and a target, joined
+-- a length, a name and a target, joined, are an entry's bytes
 entry_parts : (len : ℕ) (bytes text after name target rest : List ℕ) → length text ≡ len → bytes ≡ text ++ after
     → text ≡ name → after ≡ target ++ rest → len ∷ bytes ≡ (length name ∷ name ++ target) ++ rest
 entry_parts len bytes text after name target rest l p n a =
@@ -210,13 +210,13 @@ entry_parts len bytes text after name target rest l p n a =
     let size : len ≡ length name = sym l ∙ ap length n in
     λ i. size i ∷ whole i
 
--- what an entry that is read was
+-- the front of the bytes is this entry
 pub record IsAtFront (bytes : List ℕ) (x : (Name × Target) × List ℕ) : Type 0 where
   pub parts : bytes ≡ entry_bytes x.0 ++ x.1
   pub entry : IsEntry x.0
   pub rest_fits : IsBytes x.1
 
--- an entry that is read was written so
+-- an entry that is read was written as these bytes
 pub entry_takes : (bytes : List ℕ) (x : (Name × Target) × List ℕ) → IsBytes bytes → entry_at bytes ≡ Some x → IsAtFront bytes x
 unfolding entry_at
 entry_takes [] x fits e = absurd cc
@@ -239,7 +239,7 @@ entry_takes (len ∷ bytes) x fits e =
 name_again : (name : List ℕ) → is_name name ≡ true → name_of name ≡ Some name
 name_again name h = rw h refl
 
--- an entry that was written is read again, whatever follows
+-- a written entry is read again, whatever follows
 pub entry_again : (e : Name × Target) (rest : List ℕ) → IsEntry e → entry_at (entry_bytes e ++ rest) ≡ Some (e, rest)
 unfolding entry_at
 entry_again e rest h =

@@ -1,4 +1,4 @@
--- Looking a name up: what one entry at the front leaves to be looked up, and what is found in a directory.
+-- Looking up a name: what one entry at the front leaves to be searched, and what is found in a directory.
 use Rattle.std.proofs.Common.{◌≡◌, ℕ, zero, suc, ◌+◌, ◌-◌, ◌<◌, ◌≤◌, Bool, true, false, refl, cond, leb, List, [], ◌∷◌, ◌++◌, length, take, drop}
 use Rattle.std.proofs.Common.{Some, None, sym, ap, ◌∙◌, append_assoc, append-nil, inl, inr, arith}
 use Rattle.std.specs.Prelude.{slice_get}
@@ -20,7 +20,7 @@ use Rattle.histar_layout.proofs.EntryLemmas.{bind_at, front_again, target_again}
 use Rattle.histar_layout.proofs.MapLemmas.{by_bytes}
 use Rattle.histar_layout.proofs.DirectoryLemmas.{Entry}
 
--- what is looked up in the whole is looked up in the rest, which has no more bytes than entries are still gone over
+-- searching the whole is searching the rest, and the rest has no more bytes than entries that may still be passed
 pub record IsLeft (bytes rest : List ℕ) (name : Name) : Type 0 where
   pub most : ℕ
   pub enough : length rest ≤ most
@@ -31,12 +31,12 @@ pub all_left : (bytes : List ℕ) (name : Name) → IsLeft bytes bytes name
 unfolding found_in
 all_left bytes name = record { most = length bytes; enough = omega arith; same_found = refl }
 
--- no bytes have no entry at the front
+-- no bytes begin with no entry
 pub none_at_end : slot_at [] ≡ None
 unfolding slot_at
 none_at_end = refl
 
--- where no entry is at the front, the name leads nowhere
+-- where no entry is at the front, the name is not found
 nowhere : (most : ℕ) (rest : List ℕ) (name : Name) → slot_at rest ≡ None → found_among most rest name ≡ None
 unfolding found_among
 nowhere zero rest name none = refl
@@ -47,14 +47,14 @@ leads_nowhere bytes rest name left none = left.same_found ∙ nowhere left.most 
 
 -- ---- one entry at the front
 
--- what is split off leaves no more bytes
+-- splitting off a front leaves no more bytes
 front_shorter : (n : ℕ) (bytes : List ℕ) (x : List ℕ × List ℕ) → front_at n bytes ≡ Some x → length x.1 ≤ length bytes
 unfolding front_at
 front_shorter n bytes x e =
     let g = cond_some (leb n (length bytes)) (take n bytes, drop n bytes) x e in
     omega (arith, ap (λ (y : List ℕ × List ℕ). length y.1) g.1, length-drop n bytes)
 
--- behind an entry there are fewer bytes
+-- after an entry there are fewer bytes
 pub slot_shorter : (rest : List ℕ) (x : (List ℕ × List ℕ) × List ℕ) → slot_at rest ≡ Some x → length x.1 < length rest
 unfolding slot_at
 slot_shorter [] x e = absurd cc
@@ -64,18 +64,18 @@ slot_shorter (len ∷ bytes) x e =
     let same_rest : b.0.1 ≡ x.1 = ap (λ (y : (List ℕ × List ℕ) × List ℕ). y.1) (same_Some ((a.0.0, b.0.0), b.0.1) x b.2) in
     omega (arith, ap length same_rest, front_shorter len bytes a.0 a.1, front_shorter 17 a.0.1 b.0 b.1)
 
--- the first n bytes are there, where there are as many
+-- the first n bytes are there, where there are that many
 front_there : (n : ℕ) (bytes : List ℕ) → n ≤ length bytes → front_at n bytes ≡ Some (take n bytes, drop n bytes)
 unfolding front_at
 front_there n bytes long = rw (le-leb n (length bytes) long) refl
 
--- and are not, where there are fewer
+-- and are not there, where there are fewer
 front_short : (n : ℕ) (bytes : List ℕ) → length bytes < n → front_at n bytes ≡ None
 unfolding front_at
 front_short n bytes short = rw (lt-leb n (length bytes) short) refl
 
 module _ (bytes : List ℕ) (start len : ℕ) (read : slice_get bytes start ≡ Some len) where
-  -- from its length on an entry is read so
+  -- reading an entry goes on after its length
   begun : slot_at (drop start bytes)
       ≡ (front_at len (drop (start + 1) bytes) >>= λ text. front_at 17 text.1 >>= λ revealed. Some
       ((text.0, revealed.0), revealed.1))
@@ -84,7 +84,7 @@ module _ (bytes : List ℕ) (start len : ℕ) (read : slice_get bytes start ≡ 
       ap slot_at (drop_more bytes start 0 (slice_get_within bytes start len read)
       ∙ ap (λ b. b ∷ drop (start + 1) bytes) (get_or_from_slice_get bytes start len 0 read))
 
-  -- an entry of which there are all bytes lies between its two ends
+  -- an entry with all its bytes lies between its two ends
   pub entry_there : start + len + 18 ≤ length bytes → slot_at (drop start bytes) ≡ Some (entry_between bytes start (start + len + 18))
   entry_there fits =
       let rest = drop (start + 1) bytes in
@@ -109,7 +109,7 @@ module _ (bytes : List ℕ) (start len : ℕ) (read : slice_get bytes start ≡ 
       after : drop 17 (drop len (drop (start + 1) bytes)) ≡ drop (start + len + 18) bytes
       after = ap (drop 17) target ∙ drop-drop 17 (start + len + 18 - 17) bytes ∙ ap (λ n. drop n bytes) (omega arith)
 
-  -- an entry that breaks off is none
+  -- an entry that breaks off is no entry
   pub entry_broken : length bytes < start + len + 18 → slot_at (drop start bytes) ≡ None
   entry_broken short = begun ∙ elim (cases_lt (length (drop (start + 1) bytes)) len) [
     | inl less ↦
@@ -123,19 +123,19 @@ module _ (bytes : List ℕ) (start len : ℕ) (read : slice_get bytes start ≡ 
         (front_short 17 (drop len rest) (omega (arith, length-drop len rest, length-drop (start + 1) bytes)))
   ]
 
--- behind the bytes there is no entry
+-- after the bytes there is no entry
 pub entry_past : (bytes : List ℕ) (start : ℕ) → length bytes ≤ start → slot_at (drop start bytes) ≡ None
 entry_past bytes start past = ap slot_at (drop_all start bytes past) ∙ none_at_end
 
 module _ (rest : List ℕ) (name : Name) (x : (List ℕ × List ℕ) × List ℕ) (is : slot_at rest ≡ Some x) where
-  -- one entry is gone over
+  -- searching passes over one entry
   over_one : (most : ℕ) (b : Bool) → same name x.0.0 ≡ b → found_among (suc most) rest name ≡ cond b (target_from x.0.1) (found_among most x.1 name)
   unfolding found_among
   over_one most b test =
       bind_at (slot_at rest) (λ slot. cond (same name slot.0.0) (target_from slot.0.1) (found_among most slot.1 name)) x is
       ∙ ap (λ (c : Bool). cond c (target_from x.0.1) (found_among most x.1 name)) test
 
-  -- so where at most so many are
+  -- so it does where at most this many entries are there
   over_first : (most : ℕ) → length rest ≤ most → (b : Bool) → same name x.0.0 ≡ b
       → (fewer : ℕ) × (most ≡ suc fewer)
       × (found_among most rest name ≡ cond b (target_from x.0.1) (found_among fewer x.1 name))
@@ -143,13 +143,13 @@ module _ (rest : List ℕ) (name : Name) (x : (List ℕ × List ℕ) × List ℕ
   over_first (suc most) enough b test = (most, refl, over_one most b test)
 
   module _ (bytes : List ℕ) (left : IsLeft bytes rest name) where
-    -- where it has the name, that is what is found
+    -- where the entry has the name, its target is found
     pub found_here : same name x.0.0 ≡ true → found_in bytes name ≡ target_from x.0.1
     found_here test =
         let first = over_first left.most left.enough true test in
         left.same_found ∙ first.2
 
-    -- else what is behind it is left
+    -- otherwise the rest after it is left
     pub left_behind : same name x.0.0 ≡ false → IsLeft bytes x.1 name
     left_behind test =
         let first = over_first left.most left.enough false test in
@@ -162,7 +162,7 @@ pub target_len : (t : Target) → length (target_bytes t) ≡ 17
 target_len (File file) = refl
 target_len (Directory container listing) = refl
 
--- they tell the target
+-- the bytes of a target spell it
 revealed_again : (t : Target) → IsTarget t → target_from (target_bytes t) ≡ Some t
 unfolding target_from
 revealed_again t is =
@@ -195,7 +195,7 @@ found_of_entries most (e ∷ es) name each enough =
     first.2
     ∙ (λ i. cond (texts_ties name e.0 i) (revealed_again e.1 each.0.1 i) (later i))
 
--- in the bytes of a directory a name is found where its entry leads
+-- in the bytes of a directory the target of the entry of a name is found
 pub found_in_directory : (bytes : List ℕ) (dir : Entries) (name : Name) → IsDirectory bytes dir → found_in bytes name ≡ map.get dir name
 unfolding found_in
 found_in_directory bytes dir name is =

@@ -1,4 +1,4 @@
--- Looking a user's number up by the name.
+-- Looking up the number of a user by the name.
 use Rattle.std.proofs.Common.{◌≡◌, ◌≢◌, ℕ, zero, suc, ◌+◌, ◌<◌, ◌≤◌, Bool, true, false, cond, List, [], ◌∷◌, ◌++◌, length, get_or, take, None, Some}
 use Rattle.std.proofs.Common.{refl, sym, ap, ◌∙◌, arith, if◌then◌else◌}
 use Rattle.std.specs.Prelude.{◌||◌, map, nat_eq, nat_lt, not, option_map, position}
@@ -14,19 +14,19 @@ use Rattle.histar_layout.specs.declared.user_table.UserName.{UserName}
 use Rattle.histar_layout.specs.UserTable.{HaveOwnNames, called, without_password}
 use Rattle.histar_layout.proofs.LabellingLemmas.{take_next}
 
--- what a user is looked up by
+-- the key by which a user is looked up
 abbrev pub key : User → UserName
 key user = record { name = user.name }
 
--- the same user
+-- two keys are the same
 abbrev pub same_user : UserName → UserName → Bool
 same_user a b = pointwise nat_eq a.name b.name
 
--- the user of a name that is kept
+-- the user of a key that is kept
 abbrev pub known : UserName → User
 known kept = called kept.name
 
--- a test that none passes
+-- where the first test can't pass and the second fails, neither passes
 not_first : (b c : Bool) → (b ≡ true → b ≡ false) → c ≡ false → (b || c) ≡ false
 not_first true c never none = never refl
 not_first false c never none = none
@@ -43,7 +43,7 @@ none_before user (x ∷ users) (suc place) within apart =
     (λ e. absurd (apart 0 (omega arith) (sym (same_text user.name x.name (sym e)))))
     (none_before user users place (omega arith) (λ j lt. apart (suc j) (omega arith)))
 
--- one name more is kept
+-- one more name is kept
 pub names_more : (users : List User) (place : ℕ) (user : User) → HaveOwnNames users → place < length users
     → user ≡ get_or users place user → (kept : List UserName) → kept ≡ map key (take place users)
     → insert_key same_user kept (key user) ≡ map key (take (place + 1) users)
@@ -53,7 +53,7 @@ names_more users place user own below at kept is =
     ∙ ap (λ (b : Bool). if b then map key (take place users) else map key (take place users) ++ key user ∷ []) alone
     ∙ sym (ap (map key) (take_next users place user below at) ∙ map-append key (take place users) (user ∷ []))
 
--- a name stands at the place of its user
+-- a name is at the place of its user
 same_place : (name : Name) (kept : List UserName)
     → position_or_len (λ (u : User). same u.name name) (map known kept)
     ≡ position_or_len (same_user (record { name = name })) kept
@@ -72,7 +72,7 @@ number_is name kept groups =
     λ i. option_map (λ (place : ℕ). place + 1) (cond (nat_lt (sym (same_place name kept) i) (sym (as_many kept) i))
     (Some (sym (same_place name kept) i)) None)
 
--- the users of the names that are kept are those of the session, with no passwords
+-- the users of the names that are kept are those that were declared, without passwords
 pub known_again : (users : List User) → map known (map key users) ≡ map without_password users
 known_again [] = refl
 known_again (user ∷ users) = ap (λ (l : List User). without_password user ∷ l) (known_again users)

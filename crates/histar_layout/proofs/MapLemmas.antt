@@ -1,4 +1,4 @@
--- Directories as finite maps: the entries in their order, and what one entry more or less changes.
+-- Directories as finite maps: the entries in their order, and what one more or one less changes.
 use Rattle.std.proofs.Common.{◌≡◌, ℕ, ◌+◌, ◌-◌, ◌<◌, ◌≤◌, Bool, true, false, cond, List, [], ◌∷◌, ◌++◌, length, Some, refl, sym, ap, subst, ◌∙◌}
 use Rattle.std.proofs.Common.{arith, Option, None}
 use Rattle.std.specs.Prelude.{T, is_some}
@@ -27,7 +27,7 @@ antisymmetric = slice_cmp-IsAntisymmetric nat_cmp-IsAntisymmetric
 
 -- ---- entries in order
 
--- entries in order are those of the directory that they make
+-- entries in order are those of the directory made of them
 pub sorted_made : (es : List (Name × Target)) → T (is_sorted by_bytes es) → entries (from_entries {R = by_bytes} es) ≡ es
 sorted_made es h =
     let same : from_entries {R = by_bytes} es ≡ from_sorted es =
@@ -35,21 +35,21 @@ sorted_made es h =
     (λ q. get-from_entries nat_list_cmp_total es q ∙ sym (get-from_sorted by_bytes es q h)) in
     ap entries same ∙ entries-from_sorted by_bytes es h
 
--- and they are as many
+-- and there are as many
 pub len_sorted : (es : List (Name × Target)) → T (is_sorted by_bytes es) → len (from_entries {R = by_bytes} es) ≡ length es
 len_sorted es h = len-entries (from_entries es) ∙ ap length (sorted_made es h)
 
--- ---- what a segment can hold
+-- ---- directories that fit a segment
 
 -- the empty directory has no entries
 pub entries-empty : entries (empty {X = Target} {R = by_bytes}) ≡ []
 entries-empty = nil_from_length _ (sym (len-entries empty) ∙ len-empty by_bytes Target)
 
--- a segment can hold the empty directory
+-- the empty directory fits a segment
 pub listable_empty : IsListable empty
 listable_empty = record { each = subst (AllByRecursion IsEntry) (sym entries-empty) tt; few = omega (arith, len-empty by_bytes Target) }
 
--- what holds of each entry holds after one more
+-- a property of each entry holds after one more
 all_put : (k : Name) (v : Target) (es : List (Name × Target)) → AllByRecursion IsEntry es → IsEntry (k, v)
     → AllByRecursion IsEntry (put by_bytes k v es)
 all_put k v [] h p = (p, tt)
@@ -61,12 +61,12 @@ all_put k v (e ∷ es) h p =
       | Greater ↦ (h.0, all_put k v es h.1 p)
     ]
 
--- one more than less than the most
+-- one more than fewer than 64 is at most 64
 one_more_at_most : (b : Bool) (n : ℕ) → n < 64 → cond b n (n + 1) ≤ 64
 one_more_at_most true n h = omega arith
 one_more_at_most false n h = omega arith
 
--- with room left, a segment can hold one entry more
+-- with room left, the directory with one more entry fits a segment
 pub listable_insert : (dir : Entries) (k : Name) (v : Target) → IsListable dir → len dir < 64 → IsEntry (k, v) → IsListable (insert dir k v)
 listable_insert dir k v h room p = record {
   each = subst (AllByRecursion IsEntry) (sym (entries-insert nat_list_cmp_total dir k v)) (all_put k v (entries dir) h.each p);
@@ -75,7 +75,7 @@ listable_insert dir k v h room p = record {
 
 -- ---- one entry less
 
--- an entry that is found is one
+-- where all are entries, a name and the target that is found for it are one
 found_entry : (es : List (Name × Target)) (q : Name) (v : Target) → AllByRecursion IsEntry es → find by_bytes q es ≡ Some v → IsEntry (q, v)
 found_entry [] q v h e = absurd cc
 found_entry (x ∷ es) q v h e =
@@ -87,17 +87,17 @@ found_entry (x ∷ es) q v h e =
       | false ↦ λ t f. found_entry es q v h.1 f
     ] refl e
 
--- what a directory that can be listed has at a name is an entry
+-- the target at a name of a directory that fits a segment makes an entry
 pub entry_found : (dir : Entries) (q : Name) (v : Target) → IsListable dir → get dir q ≡ Some v → IsEntry (q, v)
 entry_found dir q v h at = found_entry (entries dir) q v h.each (sym (get-entries dir q) ∙ at)
 
--- without an entry that it has, it has room for one
+-- a directory that fits a segment, without an entry that it has, has room for one
 pub room_without : (dir : Entries) (q : Name) (v : Target) → IsListable dir → get dir q ≡ Some v → len (remove dir q) < 64
 room_without dir q v h at =
     let fewer = len-remove nat_list_cmp_total dir q ∙ ap (λ b. cond b (len dir - 1) (len dir)) (ap is_some at) in
     omega (arith, fewer, h.few)
 
--- where what is found is an entry, each is
+-- where each name and the target found for it are an entry, all are entries
 each_from_find : (es : List (Name × Target)) → T (is_sorted by_bytes es)
     → ((q : Name) (v : Target) → find by_bytes q es ≡ Some v → IsEntry (q, v)) → AllByRecursion IsEntry es
 each_from_find [] h p = tt
@@ -108,17 +108,17 @@ each_from_find (e ∷ es) h p = (
       p q v (find_later nat_list_cmp_total antisymmetric e.0 e.1 es q v (first _ (is_sorted by_bytes es) h) f)),
 )
 
--- what is not cleared was there
+-- a value that is not cleared was there
 kept : (b : Bool) (o : Option Target) (v : Target) → cond b None o ≡ Some v → o ≡ Some v
 kept true o v e = absurd cc
 kept false o v e = e
 
--- one less than at most the most
+-- one less than at most 64 is at most 64
 one_less_at_most : (b : Bool) (n : ℕ) → n ≤ 64 → cond b (n - 1) n ≤ 64
 one_less_at_most true n h = omega arith
 one_less_at_most false n h = h
 
--- a segment can hold one entry less
+-- the directory with one entry less fits a segment
 pub listable_remove : (dir : Entries) (k : Name) → IsListable dir → IsListable (remove dir k)
 listable_remove dir k h = record {
   each = each_from_find (entries (remove dir k)) (entries_sorted (remove dir k)) (λ q v f.
@@ -127,14 +127,14 @@ listable_remove dir k h = record {
   few = subst (λ (n : ℕ). n ≤ 64) (sym (len-remove nat_list_cmp_total dir k)) (one_less_at_most (contains_key dir k) (len dir) h.few);
 }
 
--- ---- one entry more behind the last one
+-- ---- one more entry after the last one
 
--- what is below all entries is below the last
+-- a name below all entries is below the last
 below_last : (b : Name) (before : List (Name × Target)) (x : Name × Target) → T (below_all by_bytes b (before ++ x ∷ [])) → by_bytes b x.0 ≡ Less
 below_last b [] x h = less _ (first _ _ h)
 below_last b (e ∷ before) x h = below_last b before x (second (is_lt (by_bytes b e.0)) _ h)
 
--- what is greater than the first entry comes behind it
+-- a name greater than the first entry comes after it
 pub put_behind : (e : Name × Target) (es : List (Name × Target)) (k : Name) (v : Target) → by_bytes e.0 k ≡ Less
     → put by_bytes k v (e ∷ es) ≡ e ∷ put by_bytes k v es
 put_behind e es k v h =
@@ -151,7 +151,7 @@ put_last (e ∷ before) x k v h lt =
     (below_last e.0 before x (first _ (is_sorted by_bytes (before ++ x ∷ [])) h)) lt)
     ∙ ap (λ (es : List (Name × Target)). e ∷ es) (put_last before x k v (second (below_all by_bytes e.0 (before ++ x ∷ [])) _ h) lt)
 
--- in entries by rising names, the one behind the last has a greater name
+-- in entries by rising names, the one after the last has a greater name
 pub last_below : (before : List (Name × Target)) (x e : Name × Target) (es : List (Name × Target))
     → T (is_sorted by_bytes ((before ++ x ∷ []) ++ e ∷ es)) → by_bytes x.0 e.0 ≡ Less
 last_below [] x e es h = less _ (first (is_lt (by_bytes x.0 e.0)) _ (first _ (is_sorted by_bytes (e ∷ es)) h))

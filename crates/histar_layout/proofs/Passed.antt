@@ -22,11 +22,11 @@ module _ (test : ℕ × Level → Bool) where
   abbrev Passes : List (ℕ × Level) → ℕ → Type 0
   Passes es c = (l : Level) × Contains es (c, l) × (test (c, l) ≡ true)
 
-  -- what is listed later is listed
+  -- a category that passes in the rest passes
   passes_later : (x : ℕ × Level) (es : List (ℕ × Level)) (c : ℕ) → Passes es c → Passes (x ∷ es) c
   passes_later x es c found = let low = found.1.1 in (found.0, (suc found.1.0, omega (arith, low), found.1.2), found.2)
 
-  -- a category that was picked passes, by the level of the first one
+  -- a picked category passes, depending on the level of the first one
   passed_by : (x : ℕ × Level) (es more : List (ℕ × Level)) (c : ℕ) → (is_in (map (λ (e : ℕ × Level). e.0) more) c ≡ true → Passes es c)
       → (b : Bool) → test x ≡ b → is_in (map (λ (e : ℕ × Level). e.0) (cond b (x ∷ more) more)) c ≡ true → Passes (x ∷ es) c
   passed_by x es more c rest true passes e = elim (eqb_tells c x.0) [
@@ -39,13 +39,13 @@ module _ (test : ℕ × Level → Bool) where
   passed_there [] c e = absurd (true≢false (sym e))
   passed_there (x ∷ es) c e = passed_by x es (filter test es) c (passed_there es c) (test x) refl e
 
-  -- what is picked later is picked
+  -- a category that is picked from the rest is picked
   passed_later : (x : ℕ × Level) (more : List (ℕ × Level)) (c : ℕ) → is_in (map (λ (e : ℕ × Level). e.0) more) c ≡ true
       → (b : Bool) → is_in (map (λ (e : ℕ × Level). e.0) (cond b (x ∷ more) more)) c ≡ true
   passed_later x more c found true = or_right (c == x.0) _ found
   passed_later x more c found false = found
 
-  -- and a category that is listed with a level that passes is picked
+  -- a category that is listed with a level that passes is picked
   passed_if_there : (es : List (ℕ × Level)) (c : ℕ) (l : Level) → test (c, l) ≡ true → (j : ℕ) → j < length es
       → get_or es j (0, Star) ≡ (c, l) → is_in (passed test es) c ≡ true
   passed_if_there [] c l passes j low at = absurd (omega (arith, low))
@@ -55,7 +55,7 @@ module _ (test : ℕ × Level → Bool) where
   passed_if_there (x ∷ es) c l passes (suc j) low at =
       passed_later x (filter test es) c (passed_if_there es c l passes j (omega (arith, low)) at) (test x)
 
-  -- where the default fails, the categories that pass are those whose levels do
+  -- where the default fails the test, the categories that pass are those whose levels pass
   pub in_passed : (L : Levels) → ((c : ℕ) → test (c, default_of L) ≡ false) → (c : ℕ)
       → is_in (passed test (exceptions_of L)) c ≡ test (c, level_of L c)
   in_passed L fails c = same_truth (is_in (passed test (exceptions_of L)) c) (test (c, level_of L c))
@@ -66,7 +66,7 @@ module _ (test : ℕ × Level → Bool) where
       passed_if_there (exceptions_of L) c (level_of L c) e there.0 there.1
       (get_or_default (exceptions_of L) there.0 (0, Star) (c, level_of L c) there.1 ∙ there.2))
 
-  -- they rise, by the test of the first one
+  -- the picked ones rise, depending on the test of the first one
   rise_by : (n : ℕ) (x : ℕ × Level) (more : List (ℕ × Level)) (b : Bool) → n ≤ x.0
       → IsRisingFrom (x.0 + 1) (map (λ (e : ℕ × Level). e.0) more) → IsRisingFrom n (map (λ (e : ℕ × Level). e.0) more)
       → IsRisingFrom n (map (λ (e : ℕ × Level). e.0) (cond b (x ∷ more) more))

@@ -1,4 +1,4 @@
--- Going over the bytes of a process segment, child by child.
+-- Reading the bytes of a process segment, child by child.
 use Rattle.std.proofs.Common.{◌≡◌, ℕ, zero, suc, ◌-◌, ◌<◌, ◌≤◌, Bool, true, false, cond, eqb, leb, List, [], ◌∷◌, length, take, drop, Option, Some}
 use Rattle.std.proofs.Common.{None, Result, Ok, refl, sym, ap, ◌∙◌, length-drop, eq-eqb, get_or, arith}
 use Rattle.std.proofs.lemmas.List.{drop-drop}
@@ -27,7 +27,7 @@ number_there bytes long =
     ap (λ (b : Bool). cond b (Some (take 8 bytes, drop 8 bytes)) None >>= λ (front : List ℕ × List ℕ). Some
     (from_be_bytes w64 front.0, front.1)) enough
 
--- fewer are none
+-- fewer are no number
 number_short : (bytes : List ℕ) → length bytes < 8 → number_at bytes ≡ None
 unfolding number_at front_at
 number_short bytes short =
@@ -68,7 +68,7 @@ pub whole_child : (rest : List ℕ) → 17 ≤ length rest
 whole_child [] long = absurd (omega arith)
 whole_child (number ∷ bytes) long = (_, child_there number bytes (omega arith), refl)
 
--- fewer are none
+-- fewer are no child
 pub short_child : (rest : List ℕ) → length rest < 17 → child_in rest ≡ None
 unfolding child_in
 short_child [] short = refl
@@ -91,14 +91,14 @@ short_child (number ∷ bytes) short = elim (leb 8 (length bytes)) as (λ b. leb
 
 -- ---- the children of the rest
 
--- no bytes list no child
+-- empty bytes list no child
 pub no_children : (left : ℕ) (rest : List ℕ) → length rest ≡ 0 → children_in left rest ≡ Some []
 unfolding children_in
 no_children zero [] none = refl
 no_children (suc left) [] none = refl
 no_children left (b ∷ rest) none = absurd (omega arith)
 
--- one child more
+-- one more child is listed
 pub next_child : (left : ℕ) (rest after : List ℕ) (child : Child) → 0 < left → child_in rest ≡ Some (child, after)
     → children_in left rest ≡ (children_in (left - 1) after >>= λ more. Some (child ∷ more))
 unfolding children_in child_in
@@ -109,14 +109,14 @@ next_child (suc left) (b ∷ rest) after child room e =
     bind_at (child_in (b ∷ rest)) (λ found. children_in left found.1 >>= λ more. Some (found.0 ∷ more)) (child, after) e
     ∙ ap (λ (n : ℕ). children_in n after >>= λ more. Some (child ∷ more)) (sym less)
 
--- bytes behind the last child that there may be
+-- bytes after the last possible child list no children
 pub no_room : (left : ℕ) (rest : List ℕ) → 0 < length rest → left ≡ 0 → children_in left rest ≡ None
 unfolding children_in
 no_room left [] some none = absurd (omega arith)
 no_room zero (b ∷ rest) some none = refl
 no_room (suc left) (b ∷ rest) some none = absurd (omega arith)
 
--- bytes that are no child
+-- bytes that are no child list no children
 pub no_child : (left : ℕ) (rest : List ℕ) → 0 < length rest → child_in rest ≡ None → children_in left rest ≡ None
 unfolding children_in
 no_child left [] some none = absurd (omega arith)
@@ -129,13 +129,13 @@ some_more : (child : Child) (more : Option (List Child)) → is_some (more >>= �
 some_more child None = refl
 some_more child (Some cs) = refl
 
--- they do where the rest does
+-- the bytes list children where the rest does
 pub list_on : (left : ℕ) (rest after : List ℕ) (child : Child) (all : Bool) → all ≡ is_some (children_in left rest)
     → 0 < left → child_in rest ≡ Some (child, after) → all ≡ is_some (children_in (left - 1) after)
 list_on left rest after child all so_far room e =
     so_far ∙ ap is_some (next_child left rest after child room e) ∙ some_more child (children_in (left - 1) after)
 
--- bytes too short for a child list children where there are none
+-- bytes too short for a child list children only where there are none
 pub list_end : (left : ℕ) (rest : List ℕ) (all empty : Bool) → all ≡ is_some (children_in left rest) → length rest < 17
     → eqb (length rest) 0 ≡ empty → empty ≡ all
 list_end left [] all empty so_far short is =
@@ -153,11 +153,11 @@ list_end left (b ∷ rest) all empty so_far short is =
 pub differs : (a b : ℕ) → (a ≡ b → ⊥) → eqb a b ≡ false
 differs a b other = grind (arith, nat_tests)
 
--- the rest lists children, and the one that is due is the first of this number among them
+-- the rest lists children, and the expected child is the first of this number among them
 abbrev pub IsSought : Result (Option Child) NotAStatus → ℕ → List ℕ → Type 0
 IsSought due number rest = (left : ℕ) × (children : List Child) × (children_in left rest ≡ Some children) × (due ≡ Ok (child_at children number))
 
--- at the front of bytes that are long enough there is one of them
+-- bytes that are long enough begin with one of the children
 front_child : (left : ℕ) (rest : List ℕ) (children : List Child) → children_in left rest ≡ Some children → 17 ≤ length rest
     → (child : Child) × (more : List Child) × (children ≡ child ∷ more)
     × (children_in (left - 1) (drop 17 rest) ≡ Some more) × (child_in rest ≡ Some (child, drop 17 rest))
@@ -172,7 +172,7 @@ front_child (suc left) rest children is long =
     (sym (next_child (suc left) rest (drop 17 rest) child.0 (omega arith) child.1) ∙ is) in
     (child.0, more.0, sym (same_Some (child.0 ∷ more.0) children more.2), more.1, child.1, child.2)
 
--- where it has another number, the one that is due is in the bytes behind it
+-- where it has another number, the expected child is in the bytes after it
 pub seek_on : (due : Result (Option Child) NotAStatus) (number : ℕ) (rest front after : List ℕ)
     → IsSought due number rest → 17 ≤ length rest → front ≡ take 17 rest → after ≡ drop 17 rest
     → (get_or front 0 0 ≡ number → ⊥) → IsSought due number after
@@ -187,7 +187,7 @@ seek_on due number rest front after (left, children, is, due_is) long front_is a
           ∙ ap (λ (b : Bool). Ok (cond b (Some at.0) (child_at at.1 number))) differ,
     )
 
--- where it has the number, it is the one
+-- where it has the number, it is the expected child
 pub sought_here : (due : Result (Option Child) NotAStatus) (number : ℕ) (rest front : List ℕ) → IsSought due number rest
     → 17 ≤ length rest → front ≡ take 17 rest → get_or front 0 0 ≡ number
     → due ≡ Ok (option_map (λ (found : Child × List ℕ). found.0) (child_in rest))
@@ -197,7 +197,7 @@ sought_here due number rest front (left, children, is, due_is) long front_is sam
     due_is ∙ ap (λ cs. Ok (child_at cs number)) at.2 ∙ ap (λ (b : Bool). Ok (cond b (Some at.0) (child_at at.1 number))) it
     ∙ ap (λ o. Ok (option_map (λ (found : Child × List ℕ). found.0) o)) (sym at.4)
 
--- where the bytes are too short for one, there is none
+-- where the bytes are too short for a child, there is none
 pub sought_nowhere : (due : Result (Option Child) NotAStatus) (number : ℕ) (rest : List ℕ) → IsSought due number rest
     → length rest < 17 → due ≡ Ok None
 sought_nowhere due number [] (left, children, is, due_is) short =
@@ -207,7 +207,7 @@ sought_nowhere due number (b ∷ rest) (left, children, is, due_is) short =
     sym (no_child left (b ∷ rest) (omega arith) (short_child (b ∷ rest) short)) ∙ is in
     absurd cc
 
--- where bytes have a head, what is looked for is looked for in the bytes of the children
+-- where bytes have a head, the child is searched in the bytes of the children
 look_behind : (bytes : List ℕ) (head : StatusHead) (rest : List ℕ) (number : ℕ) → head_in bytes ≡ Some (head, rest)
     → (o : Option (List Child)) → children_in most_children rest ≡ o
     → look_for (status_in bytes) number ≡ look_for (option_map (status_of head) o) number
@@ -223,7 +223,7 @@ look_behind bytes head rest number h o is =
     by None = refl
     by (Some children) = refl
 
--- they list the one that is due
+-- the bytes of the children list the expected child
 pub sought_first : (bytes : List ℕ) (head : StatusHead) (rest : List ℕ) (number : ℕ) → head_in bytes ≡ Some (head, rest)
     → is_some (children_in most_children rest) ≡ true → IsSought (look_for (status_in bytes) number) number rest
 sought_first bytes head rest number h some = by (children_in most_children rest) refl some
@@ -232,7 +232,7 @@ sought_first bytes head rest number h some = by (children_in most_children rest)
     by None is none = absurd cc
     by (Some children) is some = (most_children, children, is, look_behind bytes head rest number h (Some children) is)
 
--- where they have none, they tell nothing
+-- bytes without a head are no process segment
 pub no_head : (bytes : List ℕ) → head_in bytes ≡ None → status_in bytes ≡ None
 unfolding status_in
 no_head bytes none =
@@ -241,7 +241,7 @@ no_head bytes none =
 
 -- ---- the head and the bytes of the children
 
--- where the children are none, bytes tell nothing
+-- where the rest is no list of children, bytes are no process segment
 pub not_split : (bytes : List ℕ) (head : StatusHead) (rest : List ℕ) → head_in bytes ≡ Some (head, rest)
     → is_some (children_in most_children rest) ≡ false → status_in bytes ≡ None
 unfolding status_in
@@ -253,7 +253,7 @@ not_split bytes head rest h none =
     by None is = refl
     by (Some children) is = absurd cc
 
--- where they are some, bytes are split into the head and them
+-- where it is one, bytes are split into the head and the rest
 pub is_split : (bytes : List ℕ) (head : StatusHead) (rest : List ℕ) → IsBytes bytes → head_in bytes ≡ Some (head, rest)
     → is_some (children_in most_children rest) ≡ true → IsSplit bytes head rest
 is_split bytes head rest fits h some = by (children_in most_children rest) refl some
@@ -262,6 +262,6 @@ is_split bytes head rest fits h some = by (children_in most_children rest) refl 
     by None is none = absurd cc
     by (Some children) is some = status_split bytes head rest children fits h is
 
--- what is split tells the head
+-- the head of split bytes is that of the process segment
 pub head_revealed : (bytes : List ℕ) (head : StatusHead) (rest : List ℕ) → IsSplit bytes head rest → Some head ≡ option_map head_of (status_in bytes)
 head_revealed bytes head rest split = ap Some split.head_is ∙ ap (option_map head_of) (sym split.status_is)

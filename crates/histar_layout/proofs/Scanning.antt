@@ -1,4 +1,4 @@
--- Going over the exceptions of a label.
+-- The categories of a label's exceptions that pass a test.
 use Rattle.std.proofs.Common.{ℕ, Bool, List}
 use Rattle.std.specs.Prelude.{map}
 use Rattle.std.specs.List.{filter}

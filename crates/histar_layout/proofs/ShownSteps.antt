@@ -1,4 +1,4 @@
--- The class that a label tells, one user and one group after another.
+-- The class that a label shows, one user and one group after another.
 use Rattle.std.proofs.Common.{◌≡◌, ℕ, ◌+◌, ◌<◌, ◌≤◌, Bool, true, false, List, ◌∷◌, length, get_or, drop, None, Some, arith, sym, ap, ◌∙◌}
 use Rattle.std.proofs.Common.{if◌then◌else◌}
 use Rattle.std.proofs.lemmas.List.{drop_all, drop_more}
@@ -11,7 +11,7 @@ use Rattle.histar_layout.specs.ShownClass.{class_at, group_class_at, is_unnamed,
 
 module _ (label : Levels) (groups : List Group) (users : List User) (place : ℕ) (user : User)
     (below : place < length users) (at : user ≡ get_or users place user) where
-  -- by whether the label names the user
+  -- the class, depending on whether the label names the user
   by_name : (unnamed : Bool) → is_unnamed label (place + 1) ≡ unnamed → class_from label (place + 1) groups (drop place users)
       ≡ (if unnamed then class_from label (place + 1 + 1) groups (drop (place + 1) users) else class_at user.name
       (level_of label (read_category (place + 1))) (level_of label (write_category (place + 1))))
@@ -27,29 +27,29 @@ module _ (label : Levels) (groups : List Group) (users : List User) (place : ℕ
       ≡ class_from label (place + 1 + 1) groups (drop (place + 1) users)
   passed_over is = by_name true is
 
-  -- one whom it names tells the class
+  -- a user whom it names shows the class
   pub revealed_here : is_unnamed label (place + 1) ≡ false
       → class_from label (place + 1) groups (drop place users)
       ≡ class_at user.name (level_of label (read_category (place + 1)))
       (level_of label (write_category (place + 1)))
   revealed_here is = by_name false is
 
--- where it names no user the groups tell
+-- where it names no user, the groups show the class
 pub revealed_last : (label : Levels) (groups : List Group) (users : List User) (place : ℕ) → length users ≤ place
     → class_from label (place + 1) groups (drop place users) ≡ group_class_from label (place + 1) groups
 revealed_last label groups users place end = ap (class_from label (place + 1) groups) (drop_all place users end)
 
--- group number place + 1 comes so far behind the users
+-- group number place + 1 comes after the users by its place
 pub behind : (users place : ℕ) → users + (place + 1) ≡ users + 1 + place
 behind users place = omega arith
 
 module _ (label : Levels) (first : ℕ) (groups : List Group) (place : ℕ) (group : Group) (below : place < length groups)
     (at : group ≡ get_or groups place group) where
-  -- the number by which the group's categories go
+  -- the owner number of the group
   abbrev owner : ℕ
   owner = first + place
 
-  -- by whether the label names the group
+  -- the class, depending on whether the label names the group
   by_group : (unnamed : Bool) → is_unnamed label (first + place) ≡ unnamed → group_class_from label (first + place) (drop place groups)
       ≡ (if unnamed then group_class_from label (first + place + 1) (drop (place + 1) groups) else group_class_at
       group.name (level_of label (read_category (first + place)))
@@ -66,14 +66,14 @@ module _ (label : Levels) (first : ℕ) (groups : List Group) (place : ℕ) (gro
       ≡ group_class_from label (first + place + 1) (drop (place + 1) groups)
   group_passed_over is = by_group true is
 
-  -- one that it names tells the class
+  -- a group that it names shows the class
   pub group_revealed_here : is_unnamed label (first + place) ≡ false
       → group_class_from label (first + place) (drop place groups)
       ≡ group_class_at group.name (level_of label (read_category (first + place)))
       (level_of label (write_category (first + place)))
   group_revealed_here is = by_group false is
 
--- where it names no group it is open or tells no class
+-- where it names no group, the class is open, or there is none
 pub group_revealed_last : (label : Levels) (first : ℕ) (groups : List Group) (place : ℕ) (plain : Bool)
     → length groups ≤ place → is_all_plain label ≡ plain
     → group_class_from label (first + place) (drop place groups) ≡ (if plain then Some Open else None)

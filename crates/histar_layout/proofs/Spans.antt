@@ -1,4 +1,4 @@
--- Where the entry of a name lies: what the entries before it leave to be looked at.
+-- Finding where the entry of a name lies: what is left after the entries before it.
 use Rattle.std.proofs.Common.{◌≡◌, ℕ, ◌-◌, ◌<◌, Bool, true, false, cond, not, List, [], ◌∷◌, ◌++◌, length, take, drop, Some, None, refl, sym, ap}
 use Rattle.std.proofs.Common.{subst, ◌∙◌, append_assoc, append-nil, length-append, arith}
 use Rattle.std.specs.Prelude.{T}
@@ -33,12 +33,12 @@ text = flat_map entry_bytes
 abbrev others : Name → List Entry → List Entry
 others name = where_key by_bytes (λ x. not (eq_by_cmp by_bytes name x))
 
--- a test and its opposite
+-- a choice by a test is the reversed choice by its opposite
 turned : {A : Type 0} (b : Bool) (x y : A) → cond b x y ≡ cond (not b) y x
 turned true x y = refl
 turned false x y = refl
 
--- without a name a directory has the entries of all others
+-- without a name a directory has the entries of all other names
 removed : (dir : Entries) (name : Name) → map.entries (map.remove dir name) ≡ others name (map.entries dir)
 removed dir name =
     same_entries by_bytes nat_list_cmp_total antisymmetric (map.entries (map.remove dir name))
@@ -51,7 +51,7 @@ removed dir name =
     ∙ sym (find-where_key by_bytes (λ x. not (eq_by_cmp by_bytes name x)) q
     (λ x ties. ap (λ y. not (eq_by_cmp by_bytes name y)) (sym (antisymmetric q x ties))) (map.entries dir)))
 
--- the other way round the order is turned
+-- compared the other way round, the order is turned
 reversed : (a b : Name) (o : Ordering) → by_bytes a b ≡ o → by_bytes b a ≡ ordering_reverse o
 reversed a b o is = nat_list_cmp_total.antisymm b a ∙ ap ordering_reverse is
 
@@ -66,7 +66,7 @@ all_kept name (e ∷ es) below =
     ap (λ (o : Ordering). cond (not (is_eq o)) (e ∷ others name es) (others name es)) (less _ (first _ _ below))
     ∙ ap (λ (rest : List Entry). e ∷ rest) (all_kept name es (second (is_lt (by_bytes name e.0)) _ below))
 
--- what is below a name is below all that this is below
+-- a name below another one is below all names that this is below
 below_more : (name other : Name) (es : List Entry) → by_bytes name other ≡ Less → T (below_all by_bytes other es) → T (below_all by_bytes name es)
 below_more name other [] is below = tt
 below_more name other (e ∷ es) is below =
@@ -79,7 +79,7 @@ first_left_out name e es is below =
     ap (λ (o : Ordering). cond (not (is_eq o)) (e ∷ others name es) (others name es)) (reversed e.0 name Equal is)
     ∙ all_kept name es (subst (λ n. T (below_all by_bytes n es)) (antisymmetric e.0 name is) below)
 
--- what is behind entries by rising names rises too
+-- the rest of entries by rising names rises too
 rises_behind : (before after : List Entry) → T (is_sorted by_bytes (before ++ after)) → T (is_sorted by_bytes after)
 rises_behind [] after rises = rises
 rises_behind (e ∷ before) after rises = rises_behind before after (second (below_all by_bytes e.0 (before ++ after)) _ rises)
@@ -97,7 +97,7 @@ pub record IsPassed (bytes rest : List ℕ) (name : Name) (dir : Entries) : Type
   puts : (target : Target) → put by_bytes name target (map.entries dir) ≡ before ++ put by_bytes name target after
   leaves : others name (map.entries dir) ≡ before ++ others name after
 
--- at the start none was
+-- at the start no entry was passed
 pub none_passed : (bytes : List ℕ) (name : Name) (dir : Entries) → IsDirectory bytes dir → IsPassed bytes bytes name dir
 none_passed bytes name dir is = record {
   before = [];
@@ -110,7 +110,7 @@ none_passed bytes name dir is = record {
   leaves = refl;
 }
 
--- the bytes before the rest, and those behind what the rest begins with
+-- the bytes before the rest are the front
 front_is : (bytes front rest : List ℕ) → bytes ≡ front ++ rest → take (length bytes - length rest) bytes ≡ front
 front_is bytes front rest is =
     (λ i. take (length bytes - length rest) (is i))
@@ -122,7 +122,7 @@ rest_is bytes front rest is =
     ∙ drop_at front rest (length bytes - length rest) (omega (arith, ap length is, length-append front rest))
 
 module _ (bytes rest : List ℕ) (name : Name) (dir : Entries) (h : IsPassed bytes rest name dir) where
-  -- the span of the name, where between the entries before and those behind it these bytes lie
+  -- these bytes are the span of the name, if they lie between the entries before it and those after it
   span : (between behind : List ℕ) (after : List Entry) → rest ≡ between ++ behind → behind ≡ text after
       → ((target : Target) → put by_bytes name target h.after ≡ (name, target) ∷ after) → others name h.after ≡ after
       → IsSpan bytes dir name (length bytes - length rest) (length bytes - length behind)
@@ -139,7 +139,7 @@ module _ (bytes rest : List ℕ) (name : Name) (dir : Entries) (h : IsPassed byt
     taken = removed dir name ∙ h.leaves ∙ ap (λ (es : List Entry). h.before ++ es) left;
   }
 
-  -- where nothing is left, it is at the end
+  -- where no entry is left, the span is at the end
   pub span_at_end : slot_at rest ≡ None → IsSpan bytes dir name (length bytes - length rest) (length bytes - length rest)
   span_at_end none = go h.after h.spelled refl
     where
@@ -149,7 +149,7 @@ module _ (bytes rest : List ℕ) (name : Name) (dir : Entries) (h : IsPassed byt
       go (e ∷ more) spelled is = absurd (let seen = sym none ∙ ap slot_at spelled ∙ slot_again e (text more) in cc)
 
   module _ (x : (List ℕ × List ℕ) × List ℕ) (slot : slot_at rest ≡ Some x) where
-    -- the entry at the front, and those behind it
+    -- the rest begins with an entry, and goes on with these
     record HasFirst : Type 0 where
       e : Entry
       more : List Entry
@@ -184,7 +184,7 @@ module _ (bytes rest : List ℕ) (name : Name) (dir : Entries) (h : IsPassed byt
     compared : (o : Ordering) → by_bytes x.0.0 name ≡ o → by_bytes f.e.0 name ≡ o
     compared o is = ap (λ (n : Name). by_bytes n name) (sym f.name_is) ∙ is
 
-    -- all behind it have greater names
+    -- all entries after it have greater names
     below_behind : T (below_all by_bytes f.e.0 f.more)
     below_behind =
         first (below_all by_bytes f.e.0 f.more) _
@@ -228,7 +228,7 @@ module _ (bytes rest : List ℕ) (name : Name) (dir : Entries) (h : IsPassed byt
         ∙ ap (λ (n : Name). (n, target) ∷ f.more) same)
         (ap (others name) f.is ∙ first_left_out name f.e f.more is below_behind)
 
-    -- or it would be before the front
+    -- where the name at the front is greater, the span is empty and before it
     pub span_before : by_bytes x.0.0 name ≡ Greater → IsSpan bytes dir name (length bytes - length rest) (length bytes - length rest)
     span_before greater =
         let is : by_bytes name f.e.0 ≡ Less = reversed f.e.0 name Greater (compared Greater greater) in
@@ -240,9 +240,9 @@ module _ (bytes rest : List ℕ) (name : Name) (dir : Entries) (h : IsPassed byt
         ∙ all_kept name (f.e ∷ f.more)
         (both _ _ (subst (λ o. T (is_lt o)) (sym is) tt) (below_more name f.e.0 f.more is below_behind)))
 
--- ---- what is made and taken out
+-- ---- entries that are inserted and removed
 
--- bytes with an entry made in the span of its name are the directory with it
+-- bytes with an entry inserted in the span of its name are the directory with it
 pub entry_made : (bytes new : List ℕ) (dir : Entries) (name : Name) (target : Target) (start end : ℕ)
     → IsDirectory bytes dir → IsSpan bytes dir name start end → map.len dir < 64 → IsEntry (name, target)
     → new ≡ (take start bytes ++ entry_bytes (name, target)) ++ drop end bytes → IsDirectory new (map.insert dir name target)

@@ -1,4 +1,4 @@
--- A directory is what its bytes spell.
+-- The directory that bytes are is the one that they spell.
 use Rattle.std.proofs.Common.{◌≡◌, ℕ, zero, suc, ◌≤◌, List, [], ◌∷◌, length, Option, None, Some, refl, sym, ap, subst, ◌∙◌, length-append, arith}
 use Rattle.std.specs.List.{flat_map, AllByRecursion}
 use Rattle.std.specs.FinMap as map
@@ -9,7 +9,7 @@ use Rattle.histar_layout.proofs.DirectoryLemmas.{Entry}
 use Rattle.histar_layout.proofs.EntryLemmas.{entry_again}
 use Rattle.histar_layout.proofs.MapLemmas.{by_bytes, sorted_made}
 
--- no entry is at the front of no bytes
+-- no bytes begin with no entry
 pub none_in_none : entry_at [] ≡ None
 unfolding entry_at
 none_in_none = refl

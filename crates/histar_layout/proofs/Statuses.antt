@@ -1,4 +1,4 @@
--- What process segments tell is what was written, and what was written is told again.
+-- The status that is read from a process segment is the one that was written, and a written status is read again.
 use Rattle.std.proofs.Common.{◌≡◌, ℕ, zero, suc, ◌^◌, ◌<◌, ◌≤◌, Bool, true, false, cond, eqb, ◌&&◌, List, [], ◌∷◌, ◌++◌, length, Option, Some, None}
 use Rattle.std.proofs.Common.{refl, sym, ap, subst, ◌∙◌, append_assoc, arith}
 use Rattle.std.specs.Int.{w64, to_be_bytes}
@@ -17,14 +17,14 @@ use Rattle.histar_layout.proofs.EntryLemmas.{IsBytes, IsBytes-rest, Takes, bind_
 
 -- ---- the parts of a process segment
 
--- what is made of the parts of a head, and of those of a child
+-- the head that is made of its parts
 abbrev head_made : Option ℕ → ℕ → ℕ × List ℕ → ℕ × List ℕ → StatusHead × List ℕ
 head_made life born internal thread = (record { exited = life; born = born; internal = internal.0; thread = thread.0 }, thread.1)
 
 abbrev child_made : ℕ → ℕ × List ℕ → ℕ × List ℕ → Child × List ℕ
 child_made number container segment = (record { number = number; container = container.0; segment = segment.0 }, segment.1)
 
--- ---- what is told was written
+-- ---- reading what was written
 
 -- whether a process runs
 life_takes : (letter number : ℕ) (life : Option ℕ) → life_in letter number ≡ Some life → letter ∷ number ∷ [] ≡ life_bytes life
@@ -43,7 +43,7 @@ life_takes letter number life e = by (eqb letter 114 && eqb number 0) refl e
         let l : letter ≡ 120 = eqb-true letter 120 g.0 in
         (λ i. l i ∷ number ∷ []) ∙ ap life_bytes g.1
 
--- three bytes and two numbers, joined
+-- three bytes and two numbers, joined, are a head's bytes
 head_parts : (letter number born : ℕ) (bytes a x b rest : List ℕ) (life : Option ℕ)
     → letter ∷ number ∷ [] ≡ life_bytes life → bytes ≡ a ++ x → x ≡ b ++ rest
     → letter ∷ number ∷ born ∷ bytes ≡ (life_bytes life ++ (born ∷ a) ++ b) ++ rest
@@ -51,7 +51,7 @@ head_parts letter number born bytes a x b rest life l p q =
     ap (λ (t : List ℕ). letter ∷ number ∷ born ∷ t) (p ∙ ap (λ (t : List ℕ). a ++ t) q ∙ sym (append_assoc a b rest))
     ∙ ap (λ (t : List ℕ). (t ++ (born ∷ a) ++ b) ++ rest) l
 
--- what stands at the head of a process segment was written so
+-- the head of a process segment was written as these bytes
 record HeadTakes (bytes : List ℕ) (x : StatusHead × List ℕ) : Type 0 where
   taken : Takes bytes (head_bytes x.0) x.1
   internal : x.0.internal < 2 ^ 64
@@ -83,7 +83,7 @@ head_takes (letter ∷ number ∷ born ∷ bytes) x fits e =
       thread = thread.1;
     })
 
--- a child that is read was written so
+-- a child that is read was written as these bytes
 child_takes : (bytes : List ℕ) (x : Child × List ℕ) → IsBytes bytes → child_in bytes ≡ Some x → Takes bytes (child_bytes x.0) x.1 × IsChild x.0
 unfolding child_in
 child_takes [] x fits e = absurd cc
@@ -120,7 +120,7 @@ children_takes (suc most) (b ∷ bytes) children fits e =
     (same_Some (c.0.0 ∷ m.0) children m.2)
     (child.0.parts ∙ ap (λ (t : List ℕ). child_bytes c.0.0 ++ t) more.0, (child.1, more.1))
 
--- the head and the children, joined
+-- the head and the children, joined, are the bytes of the status
 pub status_parts : (status : ProcessStatus) → head_bytes (head_of status) ++ flat_map child_bytes status.children ≡ status_bytes status
 status_parts status = by status.exited
   where
@@ -131,11 +131,11 @@ status_parts status = by status.exited
     by None = refl
     by (Some number) = refl
 
--- what is told of the head and of the children
+-- the status with this head and these children
 abbrev pub status_of : StatusHead → List Child → ProcessStatus
 status_of head children = record { exited = head.exited; born = head.born; internal = head.internal; thread = head.thread; children = children }
 
--- what bytes tell stands in them
+-- the bytes consist of the head and the children of this status
 pub record HasParts (bytes : List ℕ) (status : ProcessStatus) : Type 0 where
   pub rest : List ℕ
   pub head : head_in bytes ≡ Some (head_of status, rest)
@@ -148,7 +148,7 @@ parts_of bytes status e =
     let c = bind_some (children_in most_children h.0.1) (λ children. Some (status_of h.0.0 children)) status h.2 in
     subst (HasParts bytes) {x = status_of h.0.0 c.0} (same_Some (status_of h.0.0 c.0) status c.2) (record { rest = h.0.1; head = h.1; listed = c.1 })
 
--- a head and children are what bytes tell
+-- where bytes have a head and children, they are the status of these
 pub status_read : (bytes : List ℕ) (head : StatusHead) (rest : List ℕ) (children : List Child)
     → head_in bytes ≡ Some (head, rest) → children_in most_children rest ≡ Some children
     → status_in bytes ≡ Some (status_of head children)
@@ -157,7 +157,7 @@ status_read bytes head rest children h c =
     bind_at (head_in bytes) (λ head. children_in most_children head.1 >>= λ children. Some (status_of head.0 children)) (head, rest) h
     ∙ bind_at (children_in most_children rest) (λ children. Some (status_of head children)) children c
 
--- what bytes tell was written so
+-- the status that is read from bytes was written as these bytes
 pub status_takes : (bytes : List ℕ) (status : ProcessStatus) → IsBytes bytes → status_in bytes ≡ Some status → IsStatus bytes status
 status_takes bytes status fits e =
     let revealed = parts_of bytes status e in
@@ -180,9 +180,9 @@ status_split bytes head rest children fits h c = record {
   children_are = (children_takes most_children rest children (head_takes bytes (head, rest) fits h).taken.rest_fits c).0;
 }
 
--- ---- what was written is told again
+-- ---- writing and reading again
 
--- the head, whatever follows
+-- a written head is read again, whatever follows
 head_again : (head : StatusHead) (rest : List ℕ) → head.internal < 2 ^ 64 → head.thread < 2 ^ 64
     → head_in (head_bytes head ++ rest) ≡ Some (head, rest)
 unfolding head_in
@@ -220,7 +220,7 @@ head_again head rest internal thread = by head.exited refl
           rest,
         )) (sym is) (numbers (Some number))
 
--- a child, whatever follows
+-- so is a child, whatever follows
 child_again : (child : Child) (rest : List ℕ) → IsChild child → child_in (child_bytes child ++ rest) ≡ Some (child, rest)
 unfolding child_in
 child_again child rest is =
@@ -233,7 +233,7 @@ child_again child rest is =
     (λ segment. Some (child_made child.number (child.container, rest) segment)) (child.segment, rest)
     (number_again child.segment rest is.1)
 
--- children, as many as there may be
+-- so are children, no more than are allowed
 children_again : (most : ℕ) (children : List Child) → AllByRecursion IsChild children → length children ≤ most
     → children_in most (flat_map child_bytes children) ≡ Some children
 unfolding children_in
@@ -247,7 +247,7 @@ children_again (suc most) (child ∷ children) each few =
     ∙ bind_at (children_in most (flat_map child_bytes children)) (λ more. Some (child ∷ more)) children
     (children_again most children each.1 (omega arith))
 
--- all of a process segment
+-- so is all of a process segment
 pub status_again : (bytes : List ℕ) (status : ProcessStatus) → IsStatus bytes status
     → length status.children ≤ most_children → status_in bytes ≡ Some status
 status_again bytes status is few =
@@ -257,6 +257,6 @@ status_again bytes status is few =
     (head_again (head_of status) (flat_map child_bytes status.children) is.internal is.thread)
     (children_again most_children status.children is.each few)
 
--- both
+-- both facts in one
 pub statuses_are_spelled : StatusesAreSpelled
 statuses_are_spelled = record { read_is_spelled = status_takes; spelled_is_read = status_again }

@@ -49,7 +49,7 @@ module _ (own : Levels) (users user : ℕ) (is : IsUserOf own users user) where
   unfolding user_of
   user_is = from users 1 (omega arith) (omega arith) (elim (cases_lt 0 user) [ inl less ↦ inr less | inr none ↦ inl (omega arith) ])
 
--- in no job what is made is made in the mode
+-- in no job, the label that is made is that of the mode
 pub made_free : {E : Type 0} (result : Result Levels E) (own : Levels) (accounts : Accounts) (user : ℕ) (mode : Mode)
     → IsUserOf own (length accounts.users) user → is_empty (jobs_in own) ≡ true
     → IfOk result (λ label. label ≡ file_label accounts mode user) → IfOk result (λ label. label ≡ label_made accounts own mode)
@@ -59,7 +59,7 @@ made_free (Ok label) own accounts user mode is free right =
     (user_of own (length accounts.users)) (jobs_in own)) (sym free)
 made_free (Err error) own accounts user mode is free right = right
 
--- and in jobs it is for these
+-- in jobs, the label that is made is that of the jobs
 pub made_in_jobs : {E : Type 0} (result : Result Levels E) (own : Levels) (accounts : Accounts) (user : ℕ) (mode : Mode)
     → IsUserOf own (length accounts.users) user → is_empty (jobs_in own) ≡ false
     → IfOk result (λ label. label ≡ scratch_label user (jobs_in own)) → IfOk result (λ label. label ≡ label_made accounts own mode)
@@ -69,7 +69,7 @@ made_in_jobs (Ok label) own accounts user mode is busy right =
     (user_of own (length accounts.users)) (jobs_in own)) (sym busy)
 made_in_jobs (Err error) own accounts user mode is busy right = right
 
--- what is not so twice is so
+-- a test that is negated twice is the test
 pub not_twice : (b c d : Bool) → c ≡ not b → not c ≡ d → b ≡ d
 not_twice true c d is twice = ap not (sym is) ∙ twice
 not_twice false c d is twice = ap not (sym is) ∙ twice

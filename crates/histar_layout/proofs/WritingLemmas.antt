@@ -1,4 +1,4 @@
--- What is pushed piece by piece.
+-- Bytes that are pushed piece by piece.
 use Rattle.std.proofs.Common.{◌≡◌, ℕ, List, [], ◌∷◌, ◌++◌, refl, ap, ◌∙◌, append_assoc}
 use Rattle.std.specs.Int.{w64, to_be_bytes}
 use Rattle.histar_layout.specs.declared.entry.Target.{Target}
@@ -6,7 +6,7 @@ use Rattle.histar_layout.specs.declared.entry.Target.TheVariants.{File, Director
 use Rattle.histar_layout.specs.Directory.{target_bytes}
 use Rattle.histar_layout.specs.Writing.{letter_of, numbers_of}
 
--- three pieces, one after another
+-- three pieces, one after another, are one piece
 in_pieces : (old one two three : List ℕ) → ((old ++ one) ++ two) ++ three ≡ old ++ ((one ++ two) ++ three)
 in_pieces old one two three = simp append_assoc
 

@@ -1,4 +1,4 @@
--- Process segments that are written from the head and the children's bytes of others.
+-- Process segments that are written from the head and the children's bytes of old ones.
 use Rattle.std.proofs.Common.{◌≡◌, ℕ, ◌+◌, ◌<◌, ◌≤◌, Bool, true, false, not, cond, eqb, List, [], ◌∷◌, ◌++◌, length, get_or, take, drop, Some, refl}
 use Rattle.std.proofs.Common.{sym, ap, ◌∙◌, append_assoc, append-nil, arith}
 use Rattle.std.specs.Int.{w64, to_be_bytes}
@@ -20,9 +20,9 @@ child_written old first second third a b child p q x y z =
     in_pieces : (one two three : List ℕ) → ((old ++ one) ++ two) ++ three ≡ old ++ ((one ++ two) ++ three)
     in_pieces one two three = simp append_assoc
 
--- ---- one child more
+-- ---- one more child
 
--- the children's bytes with one child more
+-- the children's bytes with one more child
 children_more : (children : List Child) (child : Child)
     → flat_map child_bytes children ++ child_bytes child ≡ flat_map child_bytes (children ++ child ∷ [])
 children_more [] child = sym (append-nil (child_bytes child))
@@ -30,7 +30,7 @@ children_more (other ∷ children) child =
     append_assoc (child_bytes other) (flat_map child_bytes children) (child_bytes child)
     ∙ ap (λ (t : List ℕ). child_bytes other ++ t) (children_more children child)
 
--- the head with one more born
+-- the head, with one more child born
 abbrev pub more_born : StatusHead → StatusHead
 more_born head = record { exited = head.exited; born = head.born + 1; internal = head.internal; thread = head.thread }
 
@@ -39,7 +39,7 @@ module _ (container segment : ℕ) where
   abbrev new_child : StatusHead → Child
   new_child head = record { number = head.born + 1; container = container; segment = segment }
 
-  -- the head, the children's bytes and the new child are those of the status with it
+  -- the head, the children's bytes and the new child are the bytes of the status with it
   pub child_added : (bytes : List ℕ) (head : StatusHead) (children first second third : List ℕ) (status : ProcessStatus)
       → IsSplit bytes head children → status_in bytes ≡ Some status
       → first ≡ head_bytes (more_born head) → second ≡ first ++ children
@@ -59,7 +59,7 @@ module _ (container segment : ℕ) where
 
 -- ---- one child less
 
--- the rest are the bytes of children, of which those of other numbers are still due
+-- the rest are the bytes of children, and the expected bytes are the pushed ones and those of other numbers in the rest
 abbrev pub IsLeft : ℕ → List ℕ → List ℕ → List ℕ → Type 0
 IsLeft number out rest due = (left : List Child) × (rest ≡ flat_map child_bytes left) × (out ++ flat_map child_bytes (others number left) ≡ due)
 
@@ -87,7 +87,7 @@ child_passed number out rest due chunk after long front behind (child ∷ left, 
         ap (λ (t : List ℕ). (out ++ t) ++ flat_map child_bytes (others number left)) front_is
         ∙ append_assoc out (child_bytes child) (flat_map child_bytes (others number left)) ∙ e
 
--- where no child is left, all are pushed
+-- where no child is left, all expected bytes are pushed
 pub all_passed : (number : ℕ) (out rest due : List ℕ) → length rest < 17 → IsLeft number out rest due → out ≡ due
 all_passed number out rest due short ([], is, whole) = sym (append-nil out) ∙ whole
 all_passed number out rest due short (child ∷ left, is, whole) = absurd (omega (arith, ap length is))

@@ -10,28 +10,28 @@ use Rattle.histar_label.specs.Levels.{Levels, constant, level_of}
 use Rattle.histar_layout.specs.Jobs.{is_empty, jobs_in}
 use Rattle.histar_layout.specs.Labelling.{guarded_by, written_by, secret_of}
 
--- boot makes two categories for nobody, who is number 0, two for each user in turn, and then two for each group; this is the first of them
+-- the first category of a user; boot makes two for nobody, who is number 0, two for each user in turn, and then two for each group
 abbrev pub read_category : ℕ → ℕ
 read_category user = 2 + 2 * user
 
--- and this the second
+-- the second category of a user
 abbrev pub write_category : ℕ → ℕ
 write_category user = 3 + 2 * user
 
--- the number by which the categories of group k go, where there are so many users: groups are numbered on behind the users
+-- the owner number of group k, where there are this many users: groups are numbered on after the users
 abbrev pub group_owner : ℕ → ℕ → ℕ
 group_owner users k = users + k
 
--- the number by which the categories of the group of this name go; where there is none it is nobody's
+-- the owner number of the group of this name; nobody's, where there is none
 abbrev pub owner_of_group : Accounts → Name → ℕ
 owner_of_group accounts group = elim (group_number accounts group) [ None ↦ 0 | Some k ↦ group_owner (length accounts.users) k ]
 
--- the numbers by which the categories go that the user i of this name owns, of so many users and of these groups: its own, and those of
--- the groups that it is a member of
+-- the owner numbers whose categories the user i of this name owns, with this many users and these groups: its own, and those of the
+-- groups that it is a member of
 abbrev pub owners_among : ℕ → List DeclaredGroup → ℕ → Name → List ℕ
 owners_among users groups i name = i ∷ map (group_owner users) (numbers_with 1 groups name)
 
--- those that the user owns of the users and the groups of a session
+-- the same, with the declared users and groups
 abbrev pub owners_of : Accounts → ℕ → Name → List ℕ
 owners_of accounts i name = owners_among (length accounts.users) accounts.groups i name
 
@@ -39,16 +39,16 @@ owners_of accounts i name = owners_among (length accounts.users) accounts.groups
 abbrev pub owns : Levels → ℕ → Bool
 owns own user = is_star (level_of own (read_category user))
 
--- The user whose a thread of this label is, of so many: the first whose read category the label owns, or nobody, who is 0.
+-- The user of a thread of this label, among this many: the first whose read category the label owns, or nobody, who is 0.
 pub record IsUserOf (own : Levels) (users user : ℕ) : Type 0 where
   pub owner : 0 < user → owns own user ≡ true
   pub first : (other : ℕ) → 0 < other → other < user → owns own other ≡ false
   pub nobody : user ≡ 0 → (other : ℕ) → 0 < other → other ≤ users → owns own other ≡ false
   pub known : user ≤ users
 
--- The label of a file that a user makes: everyone may read a readable one, and its owner alone a private one, and its owner alone
--- writes both; everyone may read and write an open one, and the members of a group what is the group's. What is for a group that
--- is not declared has nobody's categories.
+-- The label of a file that a user makes: everyone may read a readable one, and its owner alone a private one, and its owner alone writes
+-- both; everyone may read and write an open one, and the members of a group a group's. A file for a group that is not declared has nobody's
+-- categories.
 abbrev pub file_label : Accounts → Mode → ℕ → Levels
 file_label accounts Readable user = written_by (write_category user)
 file_label accounts Private user = secret_of (read_category user) (write_category user)
@@ -60,15 +60,15 @@ abbrev pub owner_from : Levels → ℕ → ℕ → ℕ
 owner_from own k zero = 0
 owner_from own k (suc n) = if owns own k then k else owner_from own (suc k) n
 
--- the user of a thread of this label, of so many
+-- the user of a thread of this label, among this many
 unfoldable pub user_of : Levels → ℕ → ℕ
 user_of own users = owner_from own 1 users
 
--- the label of what a user makes in jobs with these categories: the user alone reads it, and only in these jobs or holding them
+-- the label of an object that a user makes in jobs with these categories: the user alone reads it, and only in these jobs or holding them
 abbrev pub scratch_label : ℕ → List ℕ → Levels
 scratch_label user jobs = guarded_by (read_category user ∷ jobs) []
 
--- the label of what a thread of this label makes: what is its user's in this mode, and in jobs what is for these
+-- the label of an object that a thread of this label makes: its user's in this mode, or in jobs the one for these jobs
 abbrev pub label_made : Accounts → Levels → Mode → Levels
 label_made accounts own mode =
     if is_empty (jobs_in own) then file_label accounts mode (user_of own (length accounts.users))

@@ -22,11 +22,11 @@ IsRisingFrom n (m ∷ more) = (n ≤ m) × IsRisingFrom (m + 1) more
 abbrev pub first_after_groups : Accounts → ℕ
 first_after_groups accounts = 4 + 2 * (length accounts.users + length accounts.groups)
 
--- the label of what the user or the group of this number alone reads and writes
+-- the label of an object that the user or the group of this number alone reads and writes
 abbrev pub owned_label : ℕ → Levels
 owned_label owner = secret_of (read_category owner) (write_category owner)
 
--- the label of what is of a class, where its owner or its group is declared
+-- the label of a class, where its owner or its group is declared
 abbrev pub class_label : Accounts → Class → Option Levels
 class_label accounts (Private owner) = option_map owned_label (user_number accounts owner)
 class_label accounts (Readable owner) = option_map (λ user. written_by (write_category user)) (user_number accounts owner)
@@ -42,12 +42,12 @@ HasJobs accounts Open = Unit {0}
 HasJobs accounts (Scratch owner jobs) = IsRisingFrom (first_after_groups accounts) jobs
 HasJobs accounts (Group group) = Unit {0}
 
--- what is of this class has this label
+-- this is the label of this class
 pub record IsClassLabel (accounts : Accounts) (class : Class) (label : Levels) : Type 0 where
   pub jobs : HasJobs accounts class
   pub is : class_label accounts class ≡ Some label
 
--- what was found is the class of a label, and nothing was found exactly where the label is of no class
+-- the class that was found is that of a label, and none was found exactly where the label is of no class
 abbrev pub FindsClass : Accounts → Levels → Option Class → Type 0
 FindsClass accounts label found =
     MatchOption found ((class : Class) → IsClassLabel accounts class label → ⊥)
@@ -57,7 +57,7 @@ FindsClass accounts label found =
 abbrev pub LabelsHaveOneClass : Type 0
 LabelsHaveOneClass = (accounts : Accounts) (label : Levels) (a b : Class) → IsClassLabel accounts a label → IsClassLabel accounts b label → a ≡ b
 
--- a class but for its jobs
+-- a class without its jobs
 abbrev pub without_jobs : Class → ShownClass
 without_jobs (Private owner) = shown.Private owner
 without_jobs (Readable owner) = shown.Readable owner
@@ -65,13 +65,13 @@ without_jobs Open = shown.Open
 without_jobs (Scratch owner jobs) = shown.Scratch owner
 without_jobs (Group group) = shown.Group group
 
--- a label of a class shows this class, but for its jobs
+-- a label of a class shows this class, except for its jobs
 abbrev pub ClassesAreShown : Type 0
 ClassesAreShown =
     (accounts : Accounts) (class : Class) (label : Levels) → IsClassLabel accounts class label
     → class_shown accounts label ≡ Some (without_jobs class)
 
--- a class that is shown, for these jobs
+-- the class with these jobs that shows this class
 abbrev pub with_jobs : List ℕ → ShownClass → Class
 with_jobs jobs (shown.Private owner) = Private owner
 with_jobs jobs (shown.Readable owner) = Readable owner
@@ -79,10 +79,10 @@ with_jobs jobs shown.Open = Open
 with_jobs jobs (shown.Scratch owner) = Scratch owner jobs
 with_jobs jobs (shown.Group group) = Group group
 
--- the categories of jobs that a label has at 3
+-- the categories of jobs that are at 3 in a label
 abbrev pub jobs_of : Accounts → Levels → List ℕ
 jobs_of accounts label = map (λ e. e.0) (filter (λ e. is_three e.1 && nat_le (first_after_groups accounts) e.0) (exceptions_of label))
 
--- the one class that a label can be of: the one that it shows, with the jobs that it has
+-- the only class that a label can have: the one that it shows, with the jobs that it has
 abbrev pub likely_class : Accounts → Levels → Option Class
 likely_class accounts label = option_map (with_jobs (jobs_of accounts label)) (class_shown accounts label)

@@ -10,7 +10,7 @@ use Rattle.histar_flat.specs.Words.{Name, is_name}
 use Rattle.histar_layout.specs.declared.entry.Target.{Target}
 use Rattle.histar_layout.specs.declared.entry.Target.TheVariants.{File, Directory}
 
--- a directory: where the entry of each name leads, by rising names
+-- a directory: the target of each name, by rising names
 abbrev pub Entries : Type 0
 Entries = map.FinMap (slice_cmp nat_cmp) Target
 
@@ -19,11 +19,11 @@ abbrev pub target_bytes : Target → List ℕ
 target_bytes (File file) = 102 ∷ to_be_bytes w64 file ++ to_be_bytes w64 0
 target_bytes (Directory container listing) = 100 ∷ to_be_bytes w64 container ++ to_be_bytes w64 listing
 
--- the length of the name, the name, and where it leads
+-- the length of the name, the name, and the target
 abbrev pub entry_bytes : Name × Target → List ℕ
 entry_bytes e = length e.0 ∷ e.0 ++ target_bytes e.1
 
--- the numbers of objects are numbers of 64 bits, and none is 0
+-- the number of an object: it has 64 bits, and is not 0
 abbrev pub IsNumber : ℕ → Type 0
 IsNumber n = (0 < n) × (n < 2 ^ 64)
 
@@ -41,7 +41,7 @@ LeadsSomewhere (Directory container listing) = (0 < container) × (0 < listing)
 abbrev pub IsEntry : Name × Target → Type 0
 IsEntry e = IsTrue (is_name e.0) × IsTarget e.1
 
--- a directory that a segment can hold: each entry is one, and there are no more than 64
+-- a directory that fits a segment: each entry has a name and a target, and there are no more than 64
 pub record IsListable (dir : Entries) : Type 0 where
   pub each : AllByRecursion IsEntry (map.entries dir)
   pub few : map.len dir ≤ most_entries
@@ -55,6 +55,6 @@ pub record IsDirectory (bytes : List ℕ) (dir : Entries) : Type 0 where
   pub listable : IsListable dir
   pub spelled : bytes ≡ spelling dir
 
--- what was read is the directory that the bytes are, and nothing was read exactly where they are none
+-- the directory that was read is the one that the bytes are, and none was read exactly where they are none
 abbrev pub ReadsDirectory : List ℕ → Option Entries → Type 0
 ReadsDirectory bytes found = MatchOption found ((dir : Entries) → IsDirectory bytes dir → ⊥) (IsDirectory bytes)

@@ -1,4 +1,4 @@
--- What a thread's own label tells of the jobs that its process is in.
+-- The jobs of a process, from the own label of its thread.
 use Rattle.std.specs.Prelude.{ℕ, Bool, true, false, List, [], ◌∷◌, map}
 use Rattle.std.specs.List.{filter}
 use Rattle.histar_label.specs.declared.levels.Level.{Level}
@@ -10,11 +10,11 @@ abbrev pub is_three : Level → Bool
 is_three L3 = true
 is_three level = false
 
--- the categories of the jobs that a process is in: those that its thread has at 3
+-- the categories of the jobs that a process is in: those at 3 in its thread's label
 abbrev pub jobs_in : Levels → List ℕ
 jobs_in own = map (λ e. e.0) (filter (λ e. is_three e.1) (exceptions_of own))
 
--- there are none
+-- the list has no categories
 abbrev pub is_empty : List ℕ → Bool
 is_empty [] = true
 is_empty (c ∷ cs) = false

@@ -1,4 +1,4 @@
--- Labels by their exceptions: of what its owner alone may write or read, and of what owns.
+-- Labels by their exceptions: those of objects that their owners alone write or read, and those of owners.
 use Rattle.std.specs.Prelude.{ℕ, List, [], ◌∷◌, ◌++◌}
 use Rattle.histar_label.specs.declared.levels.Level.{Level}
 use Rattle.histar_label.specs.declared.levels.Level.TheVariants.{Star, L0, L1, L2, L3}
@@ -25,7 +25,7 @@ secret_of r w = labelled ((r, L3) ∷ (w, L0) ∷ []) L1
 abbrev pub owner_of : ℕ → ℕ → Levels
 owner_of r w = labelled ((r, Star) ∷ (w, Star) ∷ []) L1
 
--- `{r:3, w:3, 2}`: the clearance of what owns r and w
+-- `{r:3, w:3, 2}`: the clearance of a thread that owns r and w
 abbrev pub cleared_of : ℕ → ℕ → Levels
 cleared_of r w = labelled ((r, L3) ∷ (w, L3) ∷ []) L2
 
@@ -34,11 +34,11 @@ abbrev pub each_at : Level → List ℕ → List (ℕ × Level)
 each_at level [] = []
 each_at level (c ∷ cs) = (c, level) ∷ each_at level cs
 
--- `{s:3 .., w:0 .., 1}`: level 3 at the first categories, 0 at the others, and else 1
+-- `{s:3 .., w:0 .., 1}`: level 3 at the first categories, 0 at the others, and 1 elsewhere
 abbrev pub guarded_by : List ℕ → List ℕ → Levels
 guarded_by secret written = labelled (each_at L3 secret ++ each_at L0 written) L1
 
--- `{o:* .., t:3 .., 1}`: the first categories are owned, level 3 at the others, and else 1
+-- `{o:* .., t:3 .., 1}`: star at the first categories, 3 at the others, and 1 elsewhere
 abbrev pub owner_label : List ℕ → List ℕ → Levels
 owner_label owned tainted = labelled (each_at Star owned ++ each_at L3 tainted) L1
 

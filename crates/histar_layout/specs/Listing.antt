@@ -11,7 +11,7 @@ abbrev pub is_directory : Target → Bool
 is_directory (File file) = false
 is_directory (Directory container listing) = true
 
--- the object that stands there: a file's segment, or a directory's container
+-- the object of the target: a file's segment, or a directory's container
 abbrev pub object_of : Target → ℕ
 object_of (File file) = file
 object_of (Directory container listing) = container
@@ -20,6 +20,6 @@ object_of (Directory container listing) = container
 abbrev pub shown_entry : Name × Target → Name × Bool
 shown_entry e = (e.0, is_directory e.1)
 
--- the names of a directory's entries, by rising names, and of each whether it is a directory
+-- the names of a directory's entries, by rising names, each with whether it is a directory
 abbrev pub names_in : Entries → List (Name × Bool)
 names_in dir = map shown_entry (finite.entries dir)

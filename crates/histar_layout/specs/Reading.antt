@@ -5,17 +5,17 @@ use Rattle.histar_flat.specs.Words.{Name, name_of}
 use Rattle.histar_layout.specs.declared.entry.Target.{Target}
 use Rattle.histar_layout.specs.declared.entry.Target.TheVariants.{File, Directory}
 
--- a step, and then what follows where the step gave a value
+-- a step, and then the next one if the step gave a value
 infixl 10 ◌>>=◌
 abbrev pub ◌>>=◌ : {A B : Type 0} → Option A → (A → Option B) → Option B
 o >>= f = option_and_then f o
 
--- what a function returned, seen by view, is what reading gives
+-- the result of a function, mapped by view, is what reading gives
 abbrev pub Gives : {X Y : Type 0} → (X → Y) → Option X → Option Y → Type 0
 Gives view None read = read ≡ None
 Gives view (Some x) read = read ≡ Some (view x)
 
--- the first n bytes and those after them, if there are as many
+-- the first n bytes and those after them, if there are that many
 unfoldable pub front_at : ℕ → List ℕ → Option (List ℕ × List ℕ)
 front_at n bytes = if nat_le n (length bytes) then Some (take n bytes, drop n bytes) else None
 
@@ -25,7 +25,7 @@ number_at bytes = do
   front ← front_at 8 bytes
   Some (from_be_bytes w64 front.0, front.1)
 
--- where an entry with this letter and these numbers leads
+-- the target with this letter and these numbers
 unfoldable pub target_of : ℕ → ℕ → ℕ → Option Target
 target_of letter object listing =
     if object == 0 then None

@@ -1,4 +1,4 @@
--- The class that few levels of a label show.
+-- The class that a few levels of a label show.
 use Rattle.std.specs.Prelude.{ℕ, ◌+◌, Bool, true, false, ◌&&◌, List, [], ◌∷◌, Option, None, Some, if◌then◌else◌}
 use Rattle.histar_flat.specs.Words.{Name}
 use Rattle.histar_flat.specs.Accounts.{Group, Accounts}
@@ -14,14 +14,14 @@ use Rattle.histar_layout.specs.declared.shown.ShownClass.{ShownClass}
 use Rattle.histar_layout.specs.declared.shown.ShownClass.TheVariants as classes
 use Rattle.histar_layout.specs.declared.shown.ShownClass.TheVariants.{Private, Readable, Open, Scratch}
 
--- what the levels at a user's two categories show
+-- the class that the levels at a user's two categories show
 abbrev pub class_at : Name → Level → Level → Option ShownClass
 class_at owner L3 L0 = Some (Private owner)
 class_at owner L1 L0 = Some (Readable owner)
 class_at owner L3 L1 = Some (Scratch owner)
 class_at owner read write = None
 
--- what the levels at a group's two categories show
+-- the class that the levels at a group's two categories show
 abbrev pub group_class_at : Name → Level → Level → Option ShownClass
 group_class_at group L3 L0 = Some (classes.Group group)
 group_class_at group read write = None
@@ -39,15 +39,15 @@ is_unnamed label user = is_plain_level (level_of label (read_category user)) && 
 abbrev pub is_all_plain : Levels → Bool
 is_all_plain label = elim (exceptions_of label) [ [] ↦ is_plain_level (default_of label) | e ∷ es ↦ false ]
 
--- The class that a label shows, of the groups whose categories go by the numbers from k on: of the first whose categories it names.
--- Where it names none of them it is open if it is `{1}`, and else no class's.
+-- The class that a label shows by the groups from number k on: that of the first whose categories it names. Where it names none of them the
+-- class is open if the label is `{1}`, and otherwise there is none.
 abbrev pub group_class_from : Levels → ℕ → List Group → Option ShownClass
 group_class_from label k [] = if is_all_plain label then Some Open else None
 group_class_from label k (group ∷ groups) =
     if is_unnamed label k then group_class_from label (k + 1) groups
     else group_class_at group.name (level_of label (read_category k)) (level_of label (write_category k))
 
--- the class that a label shows, of the users from number k on, and of these groups where it names none of them
+-- the class that a label shows by the users from number k on, and by these groups where it names none of the users
 abbrev pub class_from : Levels → ℕ → List Group → List User → Option ShownClass
 class_from label k groups [] = group_class_from label k groups
 class_from label k groups (user ∷ users) =
@@ -58,7 +58,7 @@ class_from label k groups (user ∷ users) =
 unfoldable pub class_shown : Accounts → Levels → Option ShownClass
 class_shown accounts label = class_from label 1 accounts.groups accounts.users
 
--- the owner of what is of a class, if it has one
+-- the owner of an object of a class, if it has one
 abbrev pub owner_shown : ShownClass → Option Name
 owner_shown (Private owner) = Some owner
 owner_shown (Readable owner) = Some owner
@@ -66,7 +66,7 @@ owner_shown Open = None
 owner_shown (Scratch owner) = Some owner
 owner_shown (classes.Group group) = None
 
--- the mode of what is of a class
+-- the mode of an object of a class
 abbrev pub mode_of : ShownClass → FileMode
 mode_of (Private owner) = modes.Private
 mode_of (Readable owner) = modes.Readable
@@ -74,6 +74,6 @@ mode_of Open = modes.Open
 mode_of (Scratch owner) = modes.Scratch
 mode_of (classes.Group group) = modes.Group group
 
--- what `stat` answers of what is of a class
+-- the answer of `stat` for an object of a class
 abbrev pub stat_of : ShownClass → Bool → Stat
 stat_of class is_directory = record { is_directory = is_directory; owner = owner_shown class; mode = mode_of class }

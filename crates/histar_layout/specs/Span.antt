@@ -6,8 +6,8 @@ use Rattle.histar_flat.specs.Words.{Name}
 use Rattle.histar_layout.specs.Directory.{Entries, entry_bytes}
 use Rattle.histar_layout.specs.declared.entry.Target.{Target}
 
--- The bytes before the span are those of some entries, and those behind it of others; between these an entry of the name is made, and
--- without it the directory has them alone.
+-- The bytes before the span are those of some entries, and the bytes after it those of others. With an entry of the name between them they
+-- are the directory with this entry, and without it the directory without the name.
 pub record IsSpan (bytes : List ℕ) (dir : Entries) (name : Name) (start end : ℕ) : Type 0 where
   pub before : List (Name × Target)
   pub after : List (Name × Target)

@@ -6,7 +6,7 @@ use Rattle.histar_layout.specs.Directory.{Entries}
 use Rattle.histar_layout.specs.Reading.{entry_at}
 use Rattle.histar_layout.specs.declared.entry.Target.{Target}
 
--- the entries at the front of bytes, at most so many
+-- the entries at the front of bytes, at most this many
 unfoldable pub entries_among : ℕ → List ℕ → List (Name × Target)
 entries_among zero bytes = []
 entries_among (suc most) bytes = elim (entry_at bytes) [

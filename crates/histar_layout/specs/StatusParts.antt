@@ -7,11 +7,11 @@ use Rattle.histar_layout.specs.Status.{ProcessStatus, IsStatus, child_bytes, hea
 use Rattle.histar_layout.specs.declared.status.Child.{Child}
 use Rattle.histar_layout.specs.declared.status.StatusHead.{StatusHead}
 
--- the bytes at the head of a process segment
+-- the bytes of the head of a process segment
 abbrev pub head_bytes : StatusHead → List ℕ
 head_bytes head = life_bytes head.exited ++ (head.born ∷ to_be_bytes w64 head.internal) ++ to_be_bytes w64 head.thread
 
--- the bytes tell something, this at the head, and list its children in these bytes
+-- the bytes are a process segment with this head and these bytes of children
 pub record IsSplit (bytes : List ℕ) (head : StatusHead) (children : List ℕ) : Type 0 where
   pub status : ProcessStatus
   pub status_is : status_in bytes ≡ Some status
@@ -22,17 +22,17 @@ pub record IsSplit (bytes : List ℕ) (head : StatusHead) (children : List ℕ) 
 abbrev pub others : ℕ → List Child → List Child
 others number children = filter (λ (child : Child). not (child.number == number)) children
 
--- the children of other numbers than this stand behind the old bytes, as they stood in the listed ones
+-- the children of other numbers are appended to the old bytes, as they are in the listed ones
 abbrev pub AppendsOthers : ℕ → List ℕ → List ℕ → List ℕ → Type 0
 AppendsOthers number listed old new =
     (children : List Child) → listed ≡ flat_map child_bytes children
     → new ≡ old ++ flat_map child_bytes (others number children)
 
--- the process that the bytes tell of can have a child more
+-- the process of this segment can have one more child
 abbrev pub HasRoomForChild : List ℕ → Type 0
 HasRoomForChild bytes = (status : ProcessStatus) → status_in bytes ≡ Some status → status.born < most_children
 
--- What is read in bytes of a process is spelled by them; and what is spelled, with no more children than a process can have, is read.
+-- A status that is read from bytes is spelled by them; and a spelled one, with no more children than a process can have, is read again.
 pub record StatusesAreSpelled : Type 0 where
   pub read_is_spelled : (bytes : List ℕ) (status : ProcessStatus) → ((i : ℕ) → slice_index bytes i < 256)
       → status_in bytes ≡ Some status → IsStatus bytes status

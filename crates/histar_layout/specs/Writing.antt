@@ -8,7 +8,7 @@ abbrev pub letter_of : Target → ℕ
 letter_of (File file) = 102
 letter_of (Directory container listing) = 100
 
--- the numbers that stand behind the letter
+-- the two numbers after the letter
 abbrev pub numbers_of : Target → ℕ × ℕ
 numbers_of (File file) = (file, 0)
 numbers_of (Directory container listing) = (container, listing)

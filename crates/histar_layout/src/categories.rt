@@ -4,14 +4,14 @@ ghost use Rattle.histar_layout.specs.Categories.{read_category, write_category};
 
 use histar_label::Category;
 
-/// The category by whose level the files of a user, or of a group, are kept from being read.
+/// Returns the category whose level keeps others from reading the files of a user or a group.
 pub fn read_category(user: u8) -> Category
     ensures { result ≡ read_category user }
 {
     Category::new(2 + 2 * u64::from(user))
 }
 
-/// The category by whose level the files of a user, or of a group, are kept from being written.
+/// Returns the category whose level keeps others from writing the files of a user or a group.
 pub fn write_category(user: u8) -> Category
     ensures { result ≡ write_category user }
 {

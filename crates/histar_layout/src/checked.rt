@@ -1,4 +1,4 @@
-//! Bytes that may be no directory.
+//! Directories in bytes that may be no directory.
 ghost use Rattle.std.specs.Prelude.{◌≡◌};
 ghost use Rattle.std.specs.Cmp.Lexicographic.{slice_cmp};
 ghost use Rattle.std.specs.Ordering.{is_lt, nat_cmp};
@@ -11,12 +11,12 @@ use crate::read_entry::read_named;
 use histar_flat::Name;
 use std::cmp::Ordering;
 
-/// Bytes are no directory.
+/// The bytes are no directory.
 #[derive(Clone, Copy, Debug, PartialEq, Eq)]
 pub struct NotADirectory;
 
-/// Whether the bytes are a directory: entries by rising names, none twice, at most 64, and nothing else. It goes
-/// over the bytes once, and takes no memory.
+/// Checks that the bytes are a directory: at most 64 entries by rising names, none twice, and nothing else.
+/// It goes over the bytes once, and takes no memory.
 pub fn check_directory(bytes: &[u8]) -> Result<(), NotADirectory>
     ensures { IsChecked bytes.now result }
 {
@@ -37,7 +37,7 @@ pub fn check_directory(bytes: &[u8]) -> Result<(), NotADirectory>
     Ok(())
 }
 
-/// Where the entry of this name leads in the directory that the bytes are, if they are one. It takes no memory.
+/// Looks up an entry by its name in the directory that the bytes are, if they are one. It takes no memory.
 pub fn look_up_checked(bytes: &[u8], name: &Name) -> Result<Option<Target>, NotADirectory>
     ensures { IsLookedUp bytes.now name.now result }
 {
@@ -45,7 +45,7 @@ pub fn look_up_checked(bytes: &[u8], name: &Name) -> Result<Option<Target>, NotA
     Ok(look_up(bytes, name))
 }
 
-/// Whether the bytes of one name come before those of another.
+/// Checks whether the bytes of one name come before those of another.
 fn precedes(first: &[u8], second: &[u8]) -> bool
     ensures { result ≡ is_lt (slice_cmp nat_cmp first.now second.now) }
 {

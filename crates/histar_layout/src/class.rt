@@ -45,7 +45,7 @@ impl Chain {
     }
 }
 
-/// Whose a file or a directory is, and for whom.
+/// The owner of a file or a directory, and who else may read or write it.
 #[derive(Drop)]
 pub enum Class {
     /// For its owner alone.
@@ -82,10 +82,10 @@ impl Class {
     }
 }
 
-/// Returns the class of a label, which is of a class exactly where it is the label of that class: what is
-/// private to a user has `{r:3, w:0, 1}`, of the user's two categories, what everyone may read and a user
-/// may write `{w:0, 1}`, what is open `{1}`, what is for a user in jobs `{r:3, 1}` with level 3 at each
-/// job's category, and what is a group's `{r:3, w:0, 1}`, of the group's two.
+/// Returns the class of a label, if it has one: the class whose label it is. A label is private to a user if
+/// it is `{r:3, w:0, 1}` with the user's two categories, readable for everyone and writable for a user if it
+/// is `{w:0, 1}`, open if it is `{1}`, a user's in jobs if it is `{r:3, 1}` with level 3 at each job's
+/// category, and a group's if it is `{r:3, w:0, 1}` with the group's two categories.
 pub fn class_of(
     alloc: Global,
     label: &Label,
@@ -103,7 +103,7 @@ pub fn class_of(
     }
 }
 
-/// Returns the one class that a label can be of: the one that it shows, with the jobs that it has.
+/// Returns the only class that a label can have: the one that it shows, with the jobs that it has.
 fn likely_class(
     alloc: Global,
     label: &Label,
@@ -124,7 +124,7 @@ fn likely_class(
     Ok(Some(class))
 }
 
-/// Returns the categories of jobs that a label has at 3.
+/// Returns the categories of jobs that are at 3 in a label.
 fn jobs_of(alloc: Global, label: &Label, users: &UserTable) -> Result<Chain, AllocError>
     ensures { IfOk result (λ chain. chain ≡ jobs_of users.now label.now) }
 {
@@ -142,7 +142,7 @@ fn first_after_groups(users: &UserTable) -> u64
     4 + 2 * (users.len() as u64 + users.groups().len() as u64)
 }
 
-/// Checks whether this is the label of a class.
+/// Checks whether a label is that of a class.
 fn has_label(
     alloc: Global,
     class: &Class,
@@ -157,7 +157,7 @@ fn has_label(
     }
 }
 
-/// Returns the label of what is of a class. None where its owner or its group is not declared.
+/// Returns the label of a class. None where its owner or its group is not declared.
 pub fn class_label(
     alloc: Global,
     class: &Class,
@@ -195,12 +195,12 @@ pub fn class_label(
     Ok(Some(label))
 }
 
-/// A label is of one class at most.
+/// Proves that a label is of one class at most.
 pub fn labels_have_one_class()
     ensures { LabelsHaveOneClass }
 {}
 
-/// A label of a class shows this class, but for its jobs.
+/// Proves that a label of a class shows this class, except for its jobs.
 pub fn classes_are_shown()
     ensures { ClassesAreShown }
 {}

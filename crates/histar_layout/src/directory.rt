@@ -1,4 +1,4 @@
-//! Directories and the bytes that they lie in.
+//! Directories, which are kept as the bytes of their segments.
 ghost use Rattle.std.specs.Prelude.{◌≡◌, ℕ, ◌+◌, ◌++◌, ◌<◌, ◌≤◌, ◌↔◌, List, IfOk, OnOk, OnErr, IsTrue};
 ghost use Rattle.std.specs.FinMap as map;
 ghost use Rattle.std.specs.Vec.{vec_len, vec_capacity};
@@ -17,15 +17,15 @@ use histar_flat::Name;
 use std::alloc::{AllocError, Global};
 use std::marker::Model;
 
-/// The most entries that a directory has.
+/// The greatest number of entries of a directory.
 pub const MOST_ENTRIES: usize = 64;
 
-/// How many bytes an entry has at most: a length, a name of 32 bytes, a letter and two numbers.
+/// The greatest number of bytes of an entry: a length, a name of 32 bytes, a letter and two numbers.
 const MOST_ENTRY_LEN: usize = 50;
 
-/// A directory, which is kept as the bytes of its segment. An entry is looked up, made and taken out in these, and the
-/// bytes of the others are left as they are. Each entry leads to objects with numbers that are not 0, and there are at
-/// most 64.
+/// A directory, which is kept as the bytes of its segment. Entries are looked up, inserted and removed in
+/// these bytes, and the bytes of the others stay as they are. Each entry leads to objects with numbers that
+/// are not 0, and there are at most 64 entries.
 #[derive(Drop)]
 pub struct Dir {
     bytes: Vec<u8>,
@@ -48,14 +48,14 @@ impl Model for Dir {
 }
 
 impl Dir {
-    /// Where the entry of this name leads.
+    /// Returns the target of the entry of this name.
     pub fn get(&self, name: &Name) -> Option<Target>
         ensures { result ≡ map.get self.now name.now }
     {
         look_up(self.bytes.as_slice(), name)
     }
 
-    /// How many entries it has.
+    /// Counts the entries.
     pub fn len(&self) -> usize
         ensures value { result ≡ map.len self.now }
         ensures listable { IsListable self.now }
@@ -63,7 +63,7 @@ impl Dir {
         count_entries(self.bytes.as_slice())
     }
 
-    /// Whether no entry more can be made.
+    /// Checks whether the directory has no room for another entry.
     pub fn is_full(&self) -> bool
         ensures full { IsTrue result ↔ (map.len self.now ≡ most_entries) }
         ensures listable { IsListable self.now }
@@ -71,7 +71,7 @@ impl Dir {
         self.len() == MOST_ENTRIES
     }
 
-    /// Makes an entry, in the place of one that has the name.
+    /// Inserts an entry, which replaces one of the same name.
     pub fn insert(&mut self, alloc: Global, name: &Name, target: Target) -> Result<(), AllocError>
         requires room { map.len self.old < most_entries }
         requires leads { LeadsSomewhere target }
@@ -88,7 +88,7 @@ impl Dir {
         Ok(())
     }
 
-    /// Takes the entry of this name out.
+    /// Removes the entry of this name.
     pub fn remove(&mut self, name: &Name)
         ensures without { self.new ≡ map.remove self.old name.now }
         ensures listable { IsListable self.old }
@@ -97,8 +97,8 @@ impl Dir {
         self.bytes.drain(span);
     }
 
-    /// Puts the names of the entries, by rising bytes, and of each whether it is a directory, behind what a list
-    /// has, which has room for them. So a listing grows before its directory is read.
+    /// Appends the names of the entries, by rising bytes, each with whether it is a directory, to a list that
+    /// has room for them. In this way a listing allocates before its directory is read.
     pub fn list(&self, names: &mut Vec<(Name, bool)>)
         requires { vec_len names.old + most_entries ≤ vec_capacity names.old }
         ensures { names.new.items ≡ names.old.items ++ names_in self.now }
@@ -111,7 +111,7 @@ impl Dir {
         }
     }
 
-    /// The entries themselves, by rising names.
+    /// Returns the entries, by rising names.
     pub fn entries(&self, alloc: Global) -> Result<Vec<(Name, Target)>, AllocError>
         ensures { IfOk result (λ entries. entries.items ≡ map.entries self.now) }
     {
@@ -125,7 +125,7 @@ impl Dir {
         Ok(entries)
     }
 
-    /// Takes bytes for the directory that they are, if they are one.
+    /// Takes bytes as the directory that they are, if they are one.
     pub fn from_bytes(bytes: Bytes) -> Option<Dir>
         ensures { ReadsDirectory bytes result }
     {
@@ -137,7 +137,7 @@ impl Dir {
         }
     }
 
-    /// The bytes of its segment.
+    /// Returns the bytes of its segment.
     pub fn into_bytes(self) -> Bytes
         ensures { IsDirectory result self }
     {
@@ -145,21 +145,21 @@ impl Dir {
     }
 }
 
-/// Reads a directory from the bytes of its segment, which are copied. None where they are no directory.
+/// Reads a directory from a copy of the bytes of its segment. None where they are no directory.
 pub fn read_dir(alloc: Global, bytes: &[u8]) -> Result<Option<Dir>, AllocError>
     ensures { IfOk result (ReadsDirectory bytes.now) }
 {
     Ok(Dir::from_bytes(Bytes::copy_of(alloc, bytes)?))
 }
 
-/// Writes the bytes of a directory's segment.
+/// Returns a copy of the bytes of a directory's segment.
 pub fn write_dir(alloc: Global, dir: &Dir) -> Result<Bytes, AllocError>
     ensures { IfOk result (λ bytes. IsDirectory bytes dir.now) }
 {
     Bytes::copy_of(alloc, dir.bytes.as_slice())
 }
 
-/// Bytes are one directory at most.
+/// Proves that bytes are one directory at most.
 pub fn one_directory()
     ensures { (bytes : List ℕ) (a b : Entries) → IsDirectory bytes a → IsDirectory bytes b → a ≡ b }
 {}

@@ -3,8 +3,8 @@ ghost use Rattle.std.specs.Prelude.{◌≡◌};
 
 use histar_object::ObjId;
 
-/// Where an entry of a directory leads: to a file's segment, or to a directory's container, of which
-/// it also tells the directory segment.
+/// The target of an entry of a directory: a file's segment, or a directory's container together with its
+/// directory segment.
 #[derive(Clone, Copy, Debug, PartialEq, Eq)]
 pub enum Target {
     File(ObjId),
@@ -16,14 +16,14 @@ impl Target {
     ghost use Rattle.histar_layout.specs.Listing.{is_directory, object_of};
     ghost use Rattle.histar_layout.specs.Writing.{letter_of, numbers_of};
 
-    /// Whether it is a directory.
+    /// Checks whether the target is a directory.
     pub fn is_directory(&self) -> bool
         ensures { result ≡ is_directory self.now }
     {
         matches!(self, Target::Directory(_, _))
     }
 
-    /// The object that stands there: a file's segment, or a directory's container.
+    /// Returns the object of the target: a file's segment, or a directory's container.
     pub fn object(&self) -> ObjId
         ensures { result ≡ object_of self.now }
     {
@@ -33,7 +33,7 @@ impl Target {
         }
     }
 
-    /// The byte that tells a file from a directory.
+    /// Returns the byte that says whether the target is a file or a directory.
     pub(crate) fn letter(&self) -> u8
         ensures { result ≡ letter_of self.now }
     {
@@ -43,7 +43,7 @@ impl Target {
         }
     }
 
-    /// The number of the file's segment, and 0; or those of the container and its directory segment.
+    /// Returns the number of the file's segment, and 0; or those of the container and its directory segment.
     pub(crate) fn numbers(&self) -> (u64, u64)
         ensures value { result ≡ numbers_of self.now }
         ensures fits { LeadsSomewhere self.now → IsTarget self.now }

@@ -1,18 +1,18 @@
-//! What a thread's own label tells of the jobs that its process is in.
+//! The jobs of a process, from the own label of its thread.
 ghost use Rattle.std.specs.Prelude.{◌≡◌, not, IfOk};
 ghost use Rattle.histar_layout.specs.Jobs.{is_empty, is_three, jobs_in};
 
 use histar_label::{Category, Label, Level};
 use std::alloc::{AllocError, Global};
 
-/// Whether it is level 3.
+/// Checks whether a level is 3.
 pub fn is_three(level: Level) -> bool
     ensures { result ≡ is_three level }
 {
     matches!(level, Level::L3)
 }
 
-/// Whether the process of a thread is in a job.
+/// Checks whether the process of a thread is in a job.
 pub fn is_in_job(own: &Label) -> bool
     ensures { result ≡ not (is_empty (jobs_in own.now)) }
 {
@@ -25,7 +25,7 @@ pub fn is_in_job(own: &Label) -> bool
     false
 }
 
-/// The categories of the jobs that the process of a thread is in.
+/// Returns the categories of the jobs that the process of a thread is in.
 pub fn jobs_in(alloc: Global, own: &Label) -> Result<Vec<Category>, AllocError>
     ensures { IfOk result (λ jobs. jobs.items ≡ jobs_in own.now) }
 {

@@ -11,7 +11,7 @@ use histar_flat::Mode;
 use histar_label::{Category, Label, Level};
 use std::alloc::{AllocError, Global};
 
-/// A label with one level for all categories but for a few.
+/// Makes a label with one level for all categories except a few.
 pub fn label_of(
     alloc: Global,
     default: Level,
@@ -26,7 +26,8 @@ pub fn label_of(
     Ok(label)
 }
 
-/// The label of what has secrets of the first categories, and is written by the owners of the others.
+/// Makes the label of an object with secrets of the first categories, which the owners of the others may
+/// write.
 pub fn guarded_by(
     alloc: Global,
     secret: &[Category],
@@ -39,7 +40,7 @@ pub fn guarded_by(
     with_each(label, Level::L0, written)
 }
 
-/// The label of a thread that owns the first categories, and has the secrets of the others.
+/// Makes the label of a thread that owns the first categories, and has the secrets of the others.
 pub fn owner_label(
     alloc: Global,
     owned: &[Category],
@@ -52,7 +53,7 @@ pub fn owner_label(
     with_each(label, Level::L3, tainted)
 }
 
-/// The clearance of a thread that may have the secrets of these categories.
+/// Makes the clearance of a thread that may have the secrets of these categories.
 pub fn cleared_at(alloc: Global, categories: &[Category]) -> Result<Label, AllocError>
     ensures { IfOk result (λ label. label ≡ cleared_at categories.now) }
 {
@@ -60,7 +61,7 @@ pub fn cleared_at(alloc: Global, categories: &[Category]) -> Result<Label, Alloc
     with_each(empty, Level::L3, categories)
 }
 
-// A label with one level at each of these categories, and at all others as before.
+// Sets one level at each of these categories, and leaves all others as before.
 fn with_each(label: Label, level: Level, categories: &[Category]) -> Result<Label, AllocError>
     ensures { IfOk result (λ made. made ≡ with_levels label (each_at level categories.now)) }
 {
@@ -71,8 +72,8 @@ fn with_each(label: Label, level: Level, categories: &[Category]) -> Result<Labe
     Ok(label)
 }
 
-/// The number of the user whose read category a thread owns by its label: 0, nobody's, where it owns
-/// none. That it is the thread's user is read off its label alone, as the kernel does.
+/// Returns the number of the user whose read category a thread owns by its label: 0, nobody's, where it owns
+/// none. Like the kernel, it decides by the label alone whose thread it is.
 pub fn user_of(own: &Label, users: &UserTable) -> u8
     ensures { IsUserOf own.now (length users.now.users) result }
 {
@@ -85,7 +86,7 @@ pub fn user_of(own: &Label, users: &UserTable) -> u8
     0
 }
 
-/// The label of what one user or group alone reads and writes.
+/// Makes the label of an object that one user or group alone may read and write.
 pub fn secret_of(alloc: Global, owner: u8) -> Result<Label, AllocError>
     ensures { IfOk result (λ label. label ≡ secret_of (read_category owner) (write_category owner)) }
 {
@@ -93,7 +94,7 @@ pub fn secret_of(alloc: Global, owner: u8) -> Result<Label, AllocError>
     label_of(alloc, Level::L1, &[(read, Level::L3), (write, Level::L0)])
 }
 
-/// The label of what a user makes in jobs with these categories.
+/// Makes the label of an object that a user makes in jobs with these categories.
 pub fn scratch_label(alloc: Global, user: u8, jobs: &[Category]) -> Result<Label, AllocError>
     ensures { IfOk result (λ label. label ≡ scratch_label user jobs.now) }
 {
@@ -102,8 +103,8 @@ pub fn scratch_label(alloc: Global, user: u8, jobs: &[Category]) -> Result<Label
     guarded_by(alloc, secret.as_slice(), &[])
 }
 
-/// The label of what a user makes in no job, in this mode. Nobody's categories are owned by no thread, so
-/// nobody may make no file with them, and nobody makes a file for a group that is not declared.
+/// Makes the label of a file that a user makes in no job, in this mode. No thread owns nobody's categories,
+/// so nobody may make no file with them, and nobody makes a file for a group that is not declared.
 fn file_label(alloc: Global, users: &UserTable, mode: Mode, user: u8) -> Result<Label, AllocError>
     ensures { IfOk result (λ label. label ≡ file_label users.now mode user) }
 {
@@ -115,7 +116,8 @@ fn file_label(alloc: Global, users: &UserTable, mode: Mode, user: u8) -> Result<
     }
 }
 
-/// The label of a file that a thread of this label makes. In jobs no mode counts: it is for the jobs.
+/// Makes the label of a file that a thread of this label makes. In jobs the mode doesn't count: the file is
+/// for the jobs.
 pub fn label_made(
     alloc: Global,
     own: &Label,

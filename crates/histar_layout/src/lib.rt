@@ -1,4 +1,4 @@
-//! How files and directories lie in the bytes of segments, and which labels they have.
+//! The bytes of files and directories in segments, and their labels.
 #![tactic(auto)]
 
 mod categories;

@@ -1,4 +1,4 @@
-//! Looking a name up in the bytes of a directory.
+//! Looking up a name in the bytes of a directory.
 ghost use Rattle.std.specs.Prelude.{◌≡◌, ◌+◌, ◌≤◌, IfSome, drop, length, slice_range};
 ghost use Rattle.std.specs.FinMap as map;
 ghost use Rattle.histar_flat.specs.PathOrder.{same};
@@ -10,12 +10,12 @@ use crate::entry::Target;
 use crate::read_entry::{TARGET_LENGTH, target_from};
 use histar_flat::Name;
 
-/// How many bytes an entry has beside its name: its length, and those that tell where it leads.
+/// The number of bytes of an entry beside its name: its length, and those of its target.
 const BESIDE_NAME: usize = 1 + TARGET_LENGTH;
 
-/// Where the entry of this name leads. It goes from entry to entry, up to the one that has the name and no
-/// further, and looks at no byte of where the others lead. Where the bytes end or break off before one that has
-/// the name, it leads nowhere. It takes no memory.
+/// Looks up the target of the entry of this name. It goes from entry to entry, up to the one that has the
+/// name and no further, and reads no target of another entry. Where the bytes end or break off before one
+/// that has the name, there is none. It takes no memory.
 pub fn look_up(bytes: &[u8], name: &Name) -> Option<Target>
     ensures found { result ≡ found_in bytes.now name.now }
     ensures entry { (dir : Entries) → IsDirectory bytes.now dir → result ≡ map.get dir name.now }
@@ -31,7 +31,8 @@ pub fn look_up(bytes: &[u8], name: &Name) -> Option<Target>
     None
 }
 
-/// Returns how long the name is of the entry that begins at a position, and where the entry ends.
+/// Returns the length of the name of the entry that begins at a position, and the position at which the entry
+/// ends.
 #[inline]
 fn measure_entry(bytes: &[u8], start: usize) -> Option<(usize, usize)>
     requires { start ≤ length bytes.now }
@@ -46,8 +47,8 @@ fn measure_entry(bytes: &[u8], start: usize) -> Option<(usize, usize)>
     Some((len, end))
 }
 
-/// Whether a name lies at a position, where one of this length does. Names of one directory differ most often in
-/// their lengths or in their last bytes, so these are compared first.
+/// Checks whether a name lies at a position, where one of this length does. Names of one directory differ
+/// most often in their lengths or in their last bytes, so these are compared first.
 #[inline]
 fn is_same_at(name: &[u8], bytes: &[u8], start: usize, len: usize) -> bool
     requires { start + len ≤ length bytes.now }

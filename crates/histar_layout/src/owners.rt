@@ -1,5 +1,5 @@
-//! The numbers by which the categories of users and groups go: nobody is 0, and behind it come the users,
-//! and then the groups, in the order in which they were declared.
+//! The owner numbers, by which categories go: nobody is 0, then come the users, and then the groups, in the
+//! order in which they were declared.
 ghost use Rattle.std.specs.Prelude.{◌≡◌, ◌≤◌, length, IfOk};
 ghost use Rattle.histar_flat.specs.Accounts.{most_groups, most_users};
 ghost use Rattle.histar_layout.specs.Categories.{group_owner, owner_of_group, owners_among, owners_of};
@@ -11,7 +11,7 @@ use std::alloc::{AllocError, Global};
 /// The number of nobody, whose categories no thread owns.
 const NOBODY: u8 = 0;
 
-/// The number by which the categories of a group go, where there are so many users.
+/// Returns the owner number of a group, where there are this many users.
 pub fn group_owner(users: usize, number: u8) -> u8
     requires users { users ≤ most_users }
     requires number { number ≤ most_groups }
@@ -20,7 +20,7 @@ pub fn group_owner(users: usize, number: u8) -> u8
     users as u8 + number
 }
 
-/// The number by which the categories of the group of this name go; nobody's, where no group has it.
+/// Returns the owner number of the group of this name; nobody's, where no group has it.
 pub fn owner_of_group(users: &UserTable, name: Name) -> u8
     ensures { result ≡ owner_of_group users.now name }
 {
@@ -30,8 +30,7 @@ pub fn owner_of_group(users: &UserTable, name: Name) -> u8
     }
 }
 
-/// The numbers by which the categories go that a user owns: its own, and those of the groups that it is a
-/// member of.
+/// Returns the owner numbers whose categories a user owns: its own, and those of its groups.
 pub fn owners_of(
     alloc: Global,
     users: &UserTable,
@@ -43,7 +42,7 @@ pub fn owners_of(
     owners_among(alloc, users.len(), users.groups(), number, name)
 }
 
-/// The same, where there are so many users and these groups.
+/// Returns the same for this many users and these groups.
 pub fn owners_among(
     alloc: Global,
     users: usize,

@@ -6,7 +6,7 @@ use crate::entry::Target;
 use histar_flat::Name;
 use std::alloc::AllocError;
 
-/// Writes an entry at the end.
+/// Appends the bytes of an entry.
 pub fn push_entry(out: &mut Vec<u8>, name: &Name, target: Target) -> Result<(), AllocError>
     ensures written { OnOk result (out.new.items ≡ out.old.items ++ entry_bytes (name.now, target)) }
     ensures entry { OnOk result (LeadsSomewhere target → IsEntry (name.now, target)) }
@@ -17,7 +17,7 @@ pub fn push_entry(out: &mut Vec<u8>, name: &Name, target: Target) -> Result<(), 
     push_target(out, target)
 }
 
-/// Writes where an entry leads at the end: a letter and two numbers.
+/// Appends the bytes of a target: a letter and two numbers.
 fn push_target(out: &mut Vec<u8>, target: Target) -> Result<(), AllocError>
     ensures written { OnOk result (out.new.items ≡ out.old.items ++ target_bytes target) }
     ensures fits { OnOk result (LeadsSomewhere target → IsTarget target) }

@@ -8,10 +8,10 @@ use crate::entry::Target;
 use histar_flat::{Name, is_name, read_name};
 use histar_object::ObjId;
 
-/// How many bytes tell where an entry leads: a letter and two numbers.
+/// The number of bytes of a target: a letter and two numbers.
 pub const TARGET_LENGTH: usize = 17;
 
-/// The entry at the front, and the bytes after it.
+/// Reads the entry at the front, and returns it with the bytes after it.
 pub fn read_entry(bytes: &[u8]) -> Option<(Name, Target, &[u8])>
     ensures { Gives (λ found. ((found.0, found.1), found.2.now)) result (entry_at bytes.now) }
 {
@@ -22,7 +22,7 @@ pub fn read_entry(bytes: &[u8]) -> Option<(Name, Target, &[u8])>
     Some((name, target, rest))
 }
 
-/// The entry at the front, with the bytes of its name in place, and the bytes after it.
+/// Reads the entry at the front, and returns it with the bytes of its name in place, and the bytes after it.
 #[tactic(auto, unfolding(crate::specs::Reading::entry_at))]
 pub fn read_named(bytes: &[u8]) -> Option<(&[u8], Target, &[u8])>
     ensures entry { Gives (λ found. ((found.0.now, found.1), found.2.now)) result (entry_at bytes.now) }
@@ -41,7 +41,7 @@ pub fn read_named(bytes: &[u8]) -> Option<(&[u8], Target, &[u8])>
     Some((text, target, rest))
 }
 
-/// The bytes of the name at the front and those that tell where it leads, all in place, and the bytes after
+/// Returns the bytes of the name at the front and those of the target, all in place, and the bytes after
 /// them.
 #[tactic(auto, unfolding(crate::specs::Found::slot_at, crate::specs::Reading::front_at))]
 pub fn read_slot(bytes: &[u8]) -> Option<(&[u8], &[u8], &[u8])>
@@ -59,7 +59,7 @@ pub fn read_slot(bytes: &[u8]) -> Option<(&[u8], &[u8], &[u8])>
     Some((text, target, after))
 }
 
-/// Where these bytes tell that an entry leads.
+/// Reads a target from its bytes.
 #[tactic(auto, unfolding(crate::specs::Found::target_from))]
 pub fn target_from(bytes: &[u8]) -> Option<Target>
     ensures { result ≡ target_from bytes.now }

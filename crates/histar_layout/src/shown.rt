@@ -1,4 +1,4 @@
-//! Whose a file or a directory is, and for whom, as few levels of its label show it.
+//! The owner of a file or a directory, and its readers and writers, as a few levels of its label show them.
 ghost use Rattle.std.specs.Prelude.{◌≡◌, ◌+◌, ◌&&◌, length};
 ghost use Rattle.histar_layout.specs.ShownClass.{class_at, class_shown, group_class_at, group_class_from, is_all_plain, is_plain_level, stat_of};
 
@@ -8,7 +8,7 @@ use crate::user_table::UserTable;
 use histar_flat::{FileMode, Name, Stat};
 use histar_label::{Label, Level};
 
-/// Whose a file or a directory is, and for whom, without the jobs that it is for.
+/// The owner of a file or a directory, and who else may read or write it, without the jobs that it is for.
 #[derive(Clone, Copy)]
 pub enum ShownClass {
     /// For its owner alone.
@@ -43,7 +43,7 @@ impl ShownClass {
     }
 }
 
-/// The class that the levels at its owner's two categories show.
+/// Returns the class that the levels at its owner's two categories show.
 fn class_at(owner: Name, read: Level, write: Level) -> Option<ShownClass>
     ensures { result ≡ class_at owner read write }
 {
@@ -55,7 +55,7 @@ fn class_at(owner: Name, read: Level, write: Level) -> Option<ShownClass>
     }
 }
 
-/// The class that the levels at a group's two categories show.
+/// Returns the class that the levels at a group's two categories show.
 fn group_class_at(group: Name, read: Level, write: Level) -> Option<ShownClass>
     ensures { result ≡ group_class_at group read write }
 {
@@ -65,21 +65,21 @@ fn group_class_at(group: Name, read: Level, write: Level) -> Option<ShownClass>
     }
 }
 
-/// Whether it is the level that labels of files have at the categories that they don't name.
+/// Checks whether it is the level that labels of files have at the categories that they don't name.
 fn is_plain(level: Level) -> bool
     ensures { result ≡ is_plain_level level }
 {
     matches!(level, Level::L1)
 }
 
-/// Whether these are the levels at the two categories of a user or a group that a label doesn't name.
+/// Checks whether these are the levels at the two categories of a user or a group that a label doesn't name.
 fn are_plain(read: Level, write: Level) -> bool
     ensures { result ≡ (is_plain_level read && is_plain_level write) }
 {
     is_plain(read) && is_plain(write)
 }
 
-/// Whether a label names no category, and has the level of such labels at all of them.
+/// Checks whether a label is `{1}`: it names no category, and has the level of such labels at all of them.
 fn is_all_plain(label: &Label) -> bool
     ensures { result ≡ is_all_plain label.now }
 {
@@ -87,9 +87,9 @@ fn is_all_plain(label: &Label) -> bool
 }
 
 /// Returns the class that a label shows by the levels at the categories of users and groups: that of the
-/// first user or group whose categories it names. Where it names none's the class is open, if it names no
-/// category at all, and else there is none. Of a label of a class, as [`class_of`](crate::class_of) reads
-/// it whole, this is the class but for its jobs.
+/// first user or group whose categories it names. Where it names none of them the class is open if the label
+/// names no category at all, and otherwise there is none. If the label has a class, which
+/// [`class_of`](crate::class_of) finds from the whole label, this is the class without its jobs.
 pub fn shown_class(label: &Label, users: &UserTable) -> Option<ShownClass>
     ensures { result ≡ class_shown users.now label.now }
 {
@@ -104,7 +104,7 @@ pub fn shown_class(label: &Label, users: &UserTable) -> Option<ShownClass>
     shown_group(label, users)
 }
 
-/// Returns the class that a label shows which names no user's category.
+/// Returns the class that a label without a user's category shows.
 fn shown_group(label: &Label, users: &UserTable) -> Option<ShownClass>
     ensures { result ≡ group_class_from label.now (length users.now.users + 1) users.now.groups }
 {

@@ -1,4 +1,4 @@
-//! Where the entries of a directory lie in its bytes.
+//! The places of the entries of a directory in its bytes.
 ghost use Rattle.std.specs.Prelude.{◌≡◌, ◌≤◌, length};
 ghost use Rattle.std.specs.FinMap as map;
 ghost use Rattle.histar_layout.specs.Directory.{Entries, IsDirectory};
@@ -9,8 +9,9 @@ use histar_flat::Name;
 use std::cmp::Ordering;
 use std::ops::Range;
 
-/// Where the entry of this name lies in the bytes of a directory; or the empty range at which it would lie, where
-/// there is none. It goes from entry to entry, up to the first whose name is not less, and no further.
+/// Returns where the entry of this name lies in the bytes of a directory, or the empty range at which it
+/// would lie, where there is none. It goes from entry to entry, up to the first whose name is not less, and
+/// no further.
 pub fn span_of(bytes: &[u8], name: &Name) -> Range<usize>
     ensures { (dir : Entries) → IsDirectory bytes.now dir → IsSpan bytes.now dir name.now result.start result.end }
 {
@@ -26,7 +27,7 @@ pub fn span_of(bytes: &[u8], name: &Name) -> Range<usize>
     bytes.len() - rest.len()..bytes.len() - rest.len()
 }
 
-/// How many entries the bytes of a directory have.
+/// Counts the entries in the bytes of a directory.
 pub fn count_entries(bytes: &[u8]) -> usize
     ensures { (dir : Entries) → IsDirectory bytes.now dir → result ≡ map.len dir }
 {

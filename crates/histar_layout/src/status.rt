@@ -15,7 +15,7 @@ use std::alloc::{AllocError, Global};
 /// A child of a process, as the process's segment lists it.
 #[derive(Clone, Copy, Debug, PartialEq, Eq)]
 pub struct Child {
-    /// The last number of its name.
+    /// Its number, the last one of its name.
     pub number: u8,
     /// Its container.
     pub container: ObjId,
@@ -23,12 +23,12 @@ pub struct Child {
     pub segment: ObjId,
 }
 
-/// What stands at the head of a process segment.
+/// The head of a process segment.
 #[derive(Clone, Copy, Debug, PartialEq, Eq)]
 pub struct StatusHead {
-    /// What the process has exited with, if it has.
+    /// The number that the process has exited with, if it has.
     pub exited: Option<u8>,
-    /// How many children were born to it.
+    /// The number of children that were born to it.
     pub born: u8,
     /// Its internal container, which holds its thread; 0 once it has exited.
     pub internal: ObjId,
@@ -36,21 +36,21 @@ pub struct StatusHead {
     pub thread: ObjId,
 }
 
-/// Bytes are no process segment's.
+/// The bytes are no process segment's.
 #[derive(Clone, Copy, Debug, PartialEq, Eq)]
 pub struct NotAStatus;
 
-/// The most children that a process segment lists.
+/// The greatest number of children that a process segment lists.
 const MOST_CHILDREN: usize = 64;
 
-/// How many bytes the head of a process segment has.
+/// The number of bytes of the head of a process segment.
 const HEAD_LEN: usize = 19;
 
-/// How many bytes a child has in a process segment.
+/// The number of bytes of a child in a process segment.
 const CHILD_LEN: usize = 17;
 
-/// The head of a process segment; or none, where the bytes are no process segment's. It goes over the bytes
-/// once, and takes no memory.
+/// Reads the head of a process segment; none, where the bytes are no process segment's. It goes over the
+/// bytes once, and takes no memory.
 pub fn read_status(bytes: &[u8]) -> Option<StatusHead>
     ensures { result ≡ option_map head_of (status_in bytes.now) }
 {
@@ -60,8 +60,8 @@ pub fn read_status(bytes: &[u8]) -> Option<StatusHead>
     Some(head)
 }
 
-/// The child of this number that a process segment lists. It steps from child to child by their length,
-/// up to the one that has the number, and takes no memory.
+/// Looks up the child of this number in a process segment. It steps from child to child by their length, up
+/// to the one that has the number, and takes no memory.
 pub fn find_child(bytes: &[u8], number: u8) -> Result<Option<Child>, NotAStatus>
     ensures { result ≡ look_for (status_in bytes.now) number }
 {
@@ -81,7 +81,7 @@ pub fn find_child(bytes: &[u8], number: u8) -> Result<Option<Child>, NotAStatus>
     Ok(None)
 }
 
-/// The bytes of the segment of a process that has just started.
+/// Returns the bytes of the segment of a process that has just started.
 pub fn first_status(alloc: Global, internal: ObjId, thread: ObjId) -> Result<Bytes, AllocError>
     ensures { IfOk result (λ bytes. bytes ≡ status_bytes (started internal thread)) }
 {
@@ -96,8 +96,8 @@ pub fn first_status(alloc: Global, internal: ObjId, thread: ObjId) -> Result<Byt
     Ok(Bytes::from_vec(out))
 }
 
-/// The bytes of a process segment once the process has exited with this number. Where they are no process
-/// segment's, there are none.
+/// Returns the bytes of a process segment after the process has exited with this number. Where the old ones
+/// are no process segment's, there are none.
 pub fn exit_status(alloc: Global, bytes: &[u8], number: u8) -> Result<Bytes, AllocError>
     ensures { IfOk result (IsChanged (once_exited number) bytes.now) }
 {
@@ -116,8 +116,8 @@ pub fn exit_status(alloc: Global, bytes: &[u8], number: u8) -> Result<Bytes, All
     Ok(Bytes::from_vec(out))
 }
 
-/// The bytes of a process segment once one child more was born, with these objects. Where they are no
-/// process segment's, there are none.
+/// Returns the bytes of a process segment after one more child was born, with these objects. Where the old
+/// ones are no process segment's, there are none.
 pub fn add_child(
     alloc: Global,
     bytes: &[u8],
@@ -151,8 +151,8 @@ pub fn add_child(
     Ok(Bytes::from_vec(out))
 }
 
-/// The bytes of a process segment once the child of this number was killed. Where they are no process
-/// segment's, there are none.
+/// Returns the bytes of a process segment after the child of this number was killed. Where the old ones are
+/// no process segment's, there are none.
 pub fn remove_child(alloc: Global, bytes: &[u8], number: u8) -> Result<Bytes, AllocError>
     ensures { IfOk result (IsChanged (without_child number) bytes.now) }
 {
@@ -165,12 +165,13 @@ pub fn remove_child(alloc: Global, bytes: &[u8], number: u8) -> Result<Bytes, Al
     Ok(Bytes::from_vec(out))
 }
 
-/// What is read is spelled, and what is spelled is read.
+/// Proves that the status that is read from bytes is spelled by them, and that a spelled status is read
+/// again.
 pub fn statuses_are_spelled()
     ensures { StatusesAreSpelled }
 {}
 
-// The head of a process segment and the bytes of its children, all of which are looked at.
+// Splits a process segment into its head and the bytes of its children, which are all checked.
 fn split_status(bytes: &[u8]) -> Option<(StatusHead, &[u8])>
     ensures { MatchOption result (status_in bytes.now ≡ None) (λ found. IsSplit bytes.now found.0 found.1.now) }
 {
@@ -183,7 +184,7 @@ fn split_status(bytes: &[u8]) -> Option<(StatusHead, &[u8])>
     Some((head, children))
 }
 
-// Whether bytes list children, no more than a process can have. Any bytes of its length are a child.
+// Checks whether bytes list children, no more than a process can have. Any bytes of its length are a child.
 fn are_children(bytes: &[u8]) -> bool
     ensures { result ≡ is_some (children_in most_children bytes.now) }
 {
@@ -218,7 +219,7 @@ fn read_head(bytes: &[u8]) -> Option<(StatusHead, &[u8])>
     Some((head, rest))
 }
 
-// Whether a process runs, or what it has exited with.
+// Reads whether a process runs, or the number that it has exited with.
 fn read_life(letter: u8, number: u8) -> Option<Option<u8>>
     ensures { result ≡ life_in letter number }
 {
@@ -229,7 +230,7 @@ fn read_life(letter: u8, number: u8) -> Option<Option<u8>>
     }
 }
 
-// The child at the front.
+// Reads the child at the front.
 #[tactic(auto, unfolding(crate::specs::Status::child_in))]
 fn first_child(bytes: &[u8]) -> Option<Child>
     ensures { result ≡ option_map (λ found. found.0) (child_in bytes.now) }
@@ -246,7 +247,7 @@ fn first_child(bytes: &[u8]) -> Option<Child>
     })
 }
 
-// Writes what stands at the head of a process segment at the end.
+// Appends the head of a process segment.
 fn push_head(out: &mut Vec<u8>, head: StatusHead) -> Result<(), AllocError>
     ensures { OnOk result (out.new.items ≡ out.old.items ++ head_bytes head) }
 {
@@ -262,7 +263,7 @@ fn push_head(out: &mut Vec<u8>, head: StatusHead) -> Result<(), AllocError>
     Ok(())
 }
 
-// Writes a child at the end.
+// Appends a child.
 fn push_child(out: &mut Vec<u8>, child: Child) -> Result<(), AllocError>
     ensures { OnOk result (out.new.items ≡ out.old.items ++ child_bytes child) }
 {
@@ -272,7 +273,7 @@ fn push_child(out: &mut Vec<u8>, child: Child) -> Result<(), AllocError>
     Ok(())
 }
 
-// Writes the children of other numbers at the end, as they stand in the bytes.
+// Appends the children of other numbers, as they are in the bytes.
 fn push_others(out: &mut Vec<u8>, children: &[u8], number: u8) -> Result<(), AllocError>
     ensures { OnOk result (AppendsOthers number children.now out.old.items out.new.items) }
 {

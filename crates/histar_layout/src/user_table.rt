@@ -1,4 +1,4 @@
-//! The users and the groups of a machine, with no passwords.
+//! The users and the groups of a machine, without passwords.
 ghost use Rattle.std.specs.Prelude.{◌≡◌, ◌<◌, ◌≤◌, length, map, position, slice_get, Some, IfOk, IfSome};
 ghost use Rattle.histar_flat.specs.PathOrder.{same};
 ghost use Rattle.histar_flat.specs.Accounts.{IsSmall, group_number, most_groups, most_users, user_number};
@@ -50,9 +50,9 @@ impl Hash for UserName {
     }
 }
 
-/// The users of a machine and the groups of these. It has no passwords: only boot needs these, which
-/// keeps each in the segment of its user. The users have their numbers, from 1 on, and a user's number is
-/// looked up by the name. Contracts see the session that was declared, with each password empty.
+/// The users of a machine and its groups. It has no passwords: only boot needs these, and it keeps each in
+/// the segment of its user. The users have the numbers from 1 on, and the table looks up a user's number by
+/// the name. Contracts see the declared accounts, with each password empty.
 #[derive(Drop)]
 pub struct UserTable {
     names: IndexSet<UserName>,
@@ -72,7 +72,7 @@ impl Model for UserTable {
 }
 
 impl UserTable {
-    /// The users and the groups of a session.
+    /// Makes the table of the declared users and groups.
     pub fn of(alloc: Global, accounts: &Accounts) -> Result<UserTable, AllocError>
         requires { HaveOwnNames accounts.now.users }
         ensures { IfOk result (λ table. table ≡ without_passwords accounts.now) }
@@ -83,7 +83,7 @@ impl UserTable {
         })
     }
 
-    /// How many users there are.
+    /// Counts the users.
     pub fn len(&self) -> usize
         ensures len { result ≡ length self.now.users }
         ensures few { result ≤ most_users }
@@ -91,7 +91,7 @@ impl UserTable {
         self.names.len()
     }
 
-    /// The name of the user at a place, which is before its number.
+    /// Returns the name of the user at a place, which is one less than its number.
     pub fn name_at(&self, place: usize) -> Name
         requires { place < length self.now.users }
         ensures { slice_get self.now.users place ≡ Some (called result) }
@@ -99,7 +99,7 @@ impl UserTable {
         self.names.as_slice()[place].name
     }
 
-    /// The number of the user of this name.
+    /// Looks up the number of the user of this name.
     pub fn number_of(&self, name: Name) -> Option<u8>
         ensures number { result ≡ user_number self.now name }
     {
@@ -109,7 +109,7 @@ impl UserTable {
         }
     }
 
-    /// The groups, in the order in which they were declared.
+    /// Returns the groups, in the order in which they were declared.
     pub fn groups(&self) -> &[Group]
         ensures groups { result.now ≡ self.now.groups }
         ensures few { length self.now.groups ≤ most_groups }
@@ -117,7 +117,7 @@ impl UserTable {
         self.groups.as_slice()
     }
 
-    /// The number of the group of this name.
+    /// Looks up the number of the group of this name.
     pub fn group_number(&self, name: Name) -> Option<u8>
         ensures number { result ≡ group_number self.now name }
         ensures small { IfSome result (λ number. number ≤ most_groups) }
@@ -129,7 +129,7 @@ impl UserTable {
     }
 }
 
-/// The names of users, in their order.
+/// Returns the names of users, in their order.
 fn names_of(alloc: Global, users: &[User]) -> Result<IndexSet<UserName>, AllocError>
     requires { HaveOwnNames users.now }
     ensures { IfOk result (λ names. names.keys ≡ map (λ user. record { name = user.name }) users.now) }
@@ -141,7 +141,7 @@ fn names_of(alloc: Global, users: &[User]) -> Result<IndexSet<UserName>, AllocEr
     Ok(names)
 }
 
-/// Copies of groups.
+/// Copies groups.
 fn copies_of(alloc: Global, groups: &[Group]) -> Result<Vec<Group>, AllocError>
     ensures { IfOk result (λ copies. copies.items ≡ groups.now) }
 {
@@ -153,7 +153,7 @@ fn copies_of(alloc: Global, groups: &[Group]) -> Result<Vec<Group>, AllocError>
     Ok(copies)
 }
 
-/// The place of the group of this name.
+/// Looks up the place of the group of this name.
 fn place_of(groups: &[Group], name: Name) -> Option<usize>
     ensures place { result ≡ position (λ group. same group.name name) groups.now }
     ensures within { IfSome result (λ place. place < length groups.now) }

@@ -30,16 +30,16 @@ use Rattle.histar_login.proofs.MadeLabels.{IsMadeLabel, IsMadeGuard, under_made,
 passes : (b : Bool) (e : Denied) → b ≡ true → unless b e ≡ None
 passes b e holds = ap (λ (x : Bool). unless x e) holds
 
--- where the first refuses nothing and the second neither, both refuse nothing
+-- where neither test refuses anything, both together refuse nothing
 and_then_none : (a b : Option Denied) → a ≡ None → b ≡ None → (a orelse b) ≡ None
 and_then_none a b first second = ap (λ (x : Option Denied). x orelse b) first ∙ second
 
 module _ (s : State) (boot : Object Levels) (is_boot : s.objects 2 ≡ Some boot) (owner : OwnsMade s.next_category boot) where
-  -- the boot thread is one
+  -- the boot thread is a thread
   thread_passes : no_thread s 2 ≡ None
   thread_passes = passes _ _ (ap is_thread is_boot ∙ ap kind_is_thread owner.is_thread)
 
-  -- it makes a category
+  -- the boot thread makes a category
   category_passes : s.next_category < greatest → check s 2 MakeCategory ≡ None
   category_passes few = and_then_none _ _ thread_passes (passes _ _ (grind (arith, nat_tests)))
 
@@ -62,7 +62,7 @@ module _ (s : State) (boot : Object Levels) (is_boot : s.objects 2 ≡ Some boot
 
   module _ (d : ℕ) (o : Object Levels) (there : s.objects d ≡ Some o) (holds : kind_is_container o.kind ≡ true)
       (made : IsMadeLabel s.next_category L1 o.label) where
-    -- it may look into a container with such a label
+    -- the boot thread may look into a container with such a label
     container_passes : no_container s 2 d ≡ None
     container_passes =
         and_then_none _ _ thread_passes
@@ -70,7 +70,7 @@ module _ (s : State) (boot : Object Levels) (is_boot : s.objects 2 ≡ Some boot
         (and_then_none _ _ (passes _ _ (ap is_container there ∙ holds))
         (passes _ _ ((λ i. observes (is_boot i) (there i)) ∙ sees_made s.next_category boot owner o.label made))))
 
-    -- and change it
+    -- the boot thread may change the container
     modify_passes : modifies (s.objects 2) (s.objects d) ≡ true
     modify_passes =
         (λ i. modifies (is_boot i) (there i))
@@ -80,7 +80,7 @@ module _ (s : State) (boot : Object Levels) (is_boot : s.objects 2 ≡ Some boot
     making_passes : no_making s 2 d ≡ None
     making_passes = and_then_none _ _ container_passes (passes _ _ modify_passes)
 
-    -- it makes a segment there
+    -- the boot thread makes a segment there
     segment_passes : (label : Levels) (bytes : List ℕ) → IsMadeGuard s.next_category label → length bytes ≤ 4096
         → s.next_object < greatest → check s 2 (MakeSegment d label bytes) ≡ None
     segment_passes label bytes guard few room =
@@ -91,7 +91,7 @@ module _ (s : State) (boot : Object Levels) (is_boot : s.objects 2 ≡ Some boot
         (and_then_none _ _ (passes (fits_segment (length bytes)) _ (grind (arith, nat_tests)))
         (passes (has_number s) _ (grind (arith, nat_tests)))))))
 
-    -- a container
+    -- the boot thread makes a container there
     inner_passes : (label : Levels) → IsMadeGuard s.next_category label → s.next_object < greatest → check s 2 (MakeContainer d label) ≡ None
     inner_passes label guard room =
         and_then_none _ _ making_passes
@@ -99,7 +99,7 @@ module _ (s : State) (boot : Object Levels) (is_boot : s.objects 2 ≡ Some boot
         (and_then_none _ _ (passes _ _ guard.label.made)
         (and_then_none _ _ (passes _ _ (ap not guard.starless)) (passes (has_number s) _ (grind (arith, nat_tests))))))
 
-    -- a thread
+    -- the boot thread makes a thread there
     born_passes : (label clearance : Levels) → IsMadeLabel s.next_category L1 label
         → IsMadeLabel s.next_category L2 clearance → is_below label clearance ≡ true → s.next_object < greatest
         → check s 2 (MakeThread d label clearance) ≡ None
@@ -108,7 +108,7 @@ module _ (s : State) (boot : Object Levels) (is_boot : s.objects 2 ≡ Some boot
         (and_then_none _ _ (passes _ _ (span_passes label clearance owns cleared below))
         (and_then_none _ _ (passes _ _ owns.made) (and_then_none _ _ (passes _ _ cleared.made) (passes (has_number s) _ (grind (arith, nat_tests))))))
 
-    -- a gate
+    -- the boot thread makes a gate there
     gate_passes : (label clearance : Levels) (entry : Entry) → IsMadeLabel s.next_category L1 label
         → IsMadeLabel s.next_category L2 clearance → is_below label clearance ≡ true → s.next_object < greatest
         → check s 2 (MakeGate d label clearance entry) ≡ None
@@ -117,14 +117,14 @@ module _ (s : State) (boot : Object Levels) (is_boot : s.objects 2 ≡ Some boot
         (and_then_none _ _ (passes _ _ (span_passes label clearance owns cleared below))
         (and_then_none _ _ (passes _ _ owns.made) (and_then_none _ _ (passes _ _ cleared.made) (passes (has_number s) _ (grind (arith, nat_tests))))))
 
-    -- and takes away what it links
+    -- the boot thread unlinks what the container links
     unlink_passes : (q : ℕ) → set.contains (kind_links o.kind) q ≡ true → check s 2 (Unlink d q) ≡ None
     unlink_passes q linked =
         and_then_none _ _ (and_then_none _ _ container_passes
         (passes _ _ (ap (λ (x : Found). set.contains (links_in x) q) there ∙ linked)))
         (passes _ _ modify_passes)
 
--- what stands behind the front
+-- the object after the front of a table
 found_behind : (front : List Found) (x : Found) (back : List Found) → get_or (front ++ x ∷ back) (length front) None ≡ x
 found_behind [] x back = refl
 found_behind (y ∷ front) x back = found_behind front x back
@@ -137,7 +137,7 @@ module _ (first now : KernelModel) (p : Part) (boots : Boots first now p) where
     pub there : object_at (table_of boots.boot p) d ≡ container label numbers
     pub made : IsMadeLabel (next_made p) L1 label
 
-  -- the root container is one
+  -- the root container is a container that the boot thread may change
   pub root_there : HasContainer root_number
   root_there = record {
     label = written_by root_category;
@@ -146,7 +146,7 @@ module _ (first now : KernelModel) (p : Part) (boots : Boots first now p) where
     made = (written_made (next_made p) root_category (omega arith) (omega arith)).label;
   }
 
-  -- and so is one of the objects behind the boot thread
+  -- an object after the boot thread is such a container
   pub inside_there : (d : ℕ) (front back : List Found) (label : Levels) (numbers : List ℕ)
       → p.objects ≡ front ++ container label numbers ∷ back → d ≡ 3 + length front
       → IsMadeLabel (next_made p) L1 label → HasContainer d
@@ -161,29 +161,29 @@ module _ (first now : KernelModel) (p : Part) (boots : Boots first now p) where
         made = made;
       }
 
-  -- what the rules allow on the table that stands, they allow
+  -- what the rules allow on the table of boot's objects, they allow on the state
   allowed : (call : RawCall) → check (state_with (table_of boots.boot p) (next_made p)) 2 call ≡ None → Allows now call
   allowed call none = ap (λ (s : State). check s 2 call) boots.agrees ∙ none
 
-  -- a category
+  -- a category may be made
   pub category_allowed : next_made p < greatest → Allows now MakeCategory
   category_allowed few = allowed MakeCategory (category_passes (state_with (table_of boots.boot p) (next_made p)) boots.boot refl boots.owner few)
 
   module _ (d : ℕ) (at : HasContainer d) (room : next_number p < greatest) where
-    -- a segment
+    -- a segment may be made
     pub segment_allowed : (label : Levels) (bytes : List ℕ) → IsMadeGuard (next_made p) label → length bytes ≤ 4096
         → Allows now (MakeSegment d label bytes)
     segment_allowed label bytes guard few =
         allowed (MakeSegment d label bytes) (segment_passes (state_with (table_of boots.boot p) (next_made p))
         boots.boot refl boots.owner d _ at.there refl at.made label bytes guard few (omega (arith, room)))
 
-    -- a container
+    -- a container may be made
     pub container_allowed : (label : Levels) → IsMadeGuard (next_made p) label → Allows now (MakeContainer d label)
     container_allowed label guard =
         allowed (MakeContainer d label) (inner_passes (state_with (table_of boots.boot p) (next_made p)) boots.boot
         refl boots.owner d _ at.there refl at.made label guard (omega (arith, room)))
 
-    -- a thread
+    -- a thread may be made
     pub thread_allowed : (label clearance : Levels) → IsMadeLabel (next_made p) L1 label
         → IsMadeLabel (next_made p) L2 clearance → is_below label clearance ≡ true
         → Allows now (MakeThread d label clearance)
@@ -192,7 +192,7 @@ module _ (first now : KernelModel) (p : Part) (boots : Boots first now p) where
         boots.boot refl boots.owner d _ at.there refl at.made label clearance owns cleared below
         (omega (arith, room)))
 
-    -- a gate
+    -- a gate may be made
     pub gate_allowed : (label clearance : Levels) (entry : Entry) → IsMadeLabel (next_made p) L1 label
         → IsMadeLabel (next_made p) L2 clearance → is_below label clearance ≡ true
         → Allows now (MakeGate d label clearance entry)
@@ -201,7 +201,7 @@ module _ (first now : KernelModel) (p : Part) (boots : Boots first now p) where
         boots.boot refl boots.owner d _ at.there refl at.made label clearance entry owns cleared below
         (omega (arith, room)))
 
-  -- the boot thread takes itself away
+  -- the boot thread may unlink itself
   pub last_allowed : Allows now last_call
   unfolding root_there
   last_allowed =

@@ -1,4 +1,4 @@
--- What was made of boot where it stops.
+-- The raw calls that boot made where it stops.
 use Rattle.std.proofs.Common.{◌≡◌, ℕ, suc, ◌+◌, ◌<◌, List, [], ◌∷◌, ◌++◌, length, take, None, sym, ap, ◌∙◌, subst, arith, append_assoc}
 use Rattle.std.proofs.lemmas.List.{length-append, take-append-le}
 use Rattle.histar_rules.specs.declared.raw.RawCall.{RawCall}
@@ -8,7 +8,7 @@ use Rattle.histar_syscall.proofs.Runs.{made_unchanged}
 use Rattle.histar_login.specs.Boot.{boot_thread_number}
 use Rattle.histar_login.specs.Booting.{Part, Boots, HasBegun}
 
--- boot stops behind so many raw calls of a part
+-- boot stops after this many raw calls of a part
 pub begun_at : (first old new : KernelModel) (before : List RawCall) (q : Part) (calls : List RawCall) (made : ℕ)
     → Boots first old q → IsUnchanged old new → q.calls ≡ before ++ take made calls → made < length calls
     → HasBegun first new before calls
@@ -20,7 +20,7 @@ begun_at first old new before q calls made boots same is few = record {
       (made_unchanged boot_thread_number first old new q.calls None boots.granted same);
 }
 
--- one raw call more behind those of a part
+-- one raw call more after those of a part
 pub calls_more : (before made calls : List RawCall) (call : RawCall) → calls ≡ before ++ made → calls ++ call ∷ [] ≡ before ++ (made ++ call ∷ [])
 calls_more before made calls call is = ap (λ (l : List RawCall). l ++ call ∷ []) is ∙ append_assoc before made (call ∷ [])
 

@@ -1,4 +1,4 @@
--- What the part of boot that makes `/` adds to what stands.
+-- The objects that are added by the part of boot that makes `/`.
 use Rattle.std.proofs.Common.{◌≡◌, ℕ, ◌+◌, ◌*◌, ◌<◌, ◌≤◌, [], ◌∷◌, ◌++◌, length, None, Some, refl, sym, ap, ◌∙◌, arith, append_assoc, append-nil}
 use Rattle.std.proofs.lemmas.List.{length-append}
 use Rattle.std.specs.FinSet as set
@@ -19,7 +19,7 @@ use Rattle.histar_login.proofs.AllowedCalls.{segment_allowed, container_allowed,
 use Rattle.histar_login.proofs.Beginnings.{begun_at, calls_more}
 use Rattle.histar_login.proofs.Parts.{one_object, next_number_is, boots_shared, boots_within}
 
--- the user table and `/`, of which the container is used under the number that the kernel answered
+-- the user table and `/`, where the container of `/` has the number that the kernel answered
 module _ (accounts : Accounts) (first k0 : KernelModel) (p : Part) (b0 : Boots first k0 p) where
   -- the rules allow to make the user table
   pub table_allowed : IsBeforeDirectory accounts p → length (user_table accounts) ≤ 4096 → Allows k0 (table_call accounts)
@@ -37,7 +37,7 @@ module _ (accounts : Accounts) (first k0 : KernelModel) (p : Part) (b0 : Boots f
     table_object : Object Levels
     table_object = record { label = written_by root_category; kind = Segment (user_table accounts) }
 
-    -- what stands with it
+    -- the objects with the user table
     p1 : Part
     p1 = one_object p (table_call accounts) table_object
 
@@ -67,7 +67,7 @@ module _ (accounts : Accounts) (first k0 : KernelModel) (p : Part) (b0 : Boots f
       root_object : Object Levels
       root_object = record { label = written_by (write_category 1); kind = Container set.empty }
 
-      -- what stands with it
+      -- the objects with `/`
       p2 : Part
       p2 = one_object p1 slash_call root_object
 
@@ -75,7 +75,7 @@ module _ (accounts : Accounts) (first k0 : KernelModel) (p : Part) (b0 : Boots f
       unfolding root_object p1 p2
       b2 = boots_shared first k1 k2 p1 b1 slash_call root_object c2 c2.state
 
-      -- where `/` stands
+      -- the number of `/`
       root_at : root ≡ 3 + length (p.objects ++ Some table_object ∷ [])
       unfolding p1
       root_at = is_root ∙ next_number_is first k1 k1 p1 b1
@@ -85,7 +85,7 @@ module _ (accounts : Accounts) (first k0 : KernelModel) (p : Part) (b0 : Boots f
       unfolding p1 p2
       calls2 = calls_more p.calls (table_call accounts ∷ []) p1.calls slash_call refl
 
-      -- the number behind both
+      -- the next number after both objects
       after2 : next_number p2 ≡ 2 + next_number p
       unfolding p1 p2
       after2 =
@@ -111,11 +111,11 @@ module _ (accounts : Accounts) (first k0 : KernelModel) (p : Part) (b0 : Boots f
 
       module _ (listing : ℕ) (k3 : KernelModel) (c3 : Called k2 k3 boot_thread_number (listing_call root) None)
           (is_listing : listing ≡ k2.kept.next_object) (n : ℕ) (at : next_number p ≡ 3 + 2 * n) where
-        -- its directory segment
+        -- the directory segment of `/`
         listing_object : Object Levels
         listing_object = record { label = written_by (write_category 1); kind = Segment [] }
 
-        -- what stands with it
+        -- the objects with the directory segment
         p3 : Part
         p3 = record {
           calls = p2.calls ++ listing_call root ∷ [];
@@ -144,11 +144,11 @@ module _ (accounts : Accounts) (first k0 : KernelModel) (p : Part) (b0 : Boots f
         directory_root : root ≡ 4 + 2 * n
         directory_root = is_root ∙ next_number_is first k1 k1 p1 b1 ∙ next1
 
-        -- and so has its directory segment
+        -- the directory segment of `/` has its number
         directory_listing : listing ≡ 5 + 2 * n
         directory_listing = is_listing ∙ next_number_is first k2 k2 p2 b2 ∙ next2
 
-        -- all three together
+        -- all three objects together
         directory_boots : Boots first k3 (and_then p (directory_part n accounts))
         unfolding table_object root_object listing_object p1 p2 p3
         directory_boots =
@@ -161,6 +161,6 @@ module _ (accounts : Accounts) (first k0 : KernelModel) (p : Part) (b0 : Boots f
             ∙ (λ j. p.objects ++ Some table_object ∷ container (written_by (write_category 1)) (next2 j ∷ []) ∷ Some listing_object ∷ []))
             (omega arith)
 
-        -- what stands then, and the two numbers
+        -- the objects after this part, and the two numbers
         pub directory_stage : Boots first k3 (and_then p (directory_part n accounts)) × (root ≡ 4 + 2 * n) × (listing ≡ 5 + 2 * n)
         directory_stage = (directory_boots, directory_root, directory_listing)

@@ -1,4 +1,4 @@
--- The table of the empty kernel, and what is left once the boot thread took itself away.
+-- The table of the empty kernel, and what is left once the boot thread unlinked itself.
 use Rattle.std.proofs.Common.{◌≡◌, ℕ, zero, suc, ◌+◌, ◌<◌, ◌==◌, Bool, true, false, not, ◌&&◌, ◌||◌, List, [], ◌∷◌, ◌++◌, None, Some, if◌then◌else◌}
 use Rattle.std.proofs.Common.{refl, sym, ap, ◌∙◌, arith}
 use Rattle.std.proofs.lemmas.Bool.{eqb-true, or_from}
@@ -43,12 +43,12 @@ empty_at (suc (suc (suc k))) = neither (suc (suc (suc k)) == 2) (suc (suc (suc k
 pub empty_is : empty_state ≡ state_with (table_of boot_thread nothing_yet) 2
 empty_is = λ i. record { objects = λ q. empty_at q i; next_object = 3; next_category = 2 }
 
--- what is taken out again was there before or is not there
+-- what is removed again was there before or is not there
 put_and_taken : (b x : Bool) → (b ≡ true → x ≡ false) → (not b && (b || x)) ≡ x
 put_and_taken true x h = sym (h refl)
 put_and_taken false x h = refl
 
--- a number that was put into a set and taken out of it again
+-- a number that was put into a set and removed again
 pub removed_again : (numbers : Numbers) (n : ℕ) → set.contains numbers n ≡ false → set.remove (set.insert numbers n) n ≡ numbers
 removed_again numbers n none =
     set.same_set nat_cmp_total set.nat_cmp-IsAntisymmetric (set.remove (set.insert numbers n) n) numbers (λ q.
@@ -61,12 +61,12 @@ removed_again numbers n none =
 differs : (a : ℕ) → 2 < a → eq_by_cmp nat_cmp 2 a ≡ false
 differs a lt = unsigned_tied 2 a ∙ grind (arith, nat_tests)
 
--- 2 is none of the numbers in a row of greater ones
+-- 2 is not in a range of greater numbers and one more
 not_in_row : (a n k : ℕ) → 2 < a → 2 < k → list_any (eq_by_cmp nat_cmp 2) (range_with_len a n ++ k ∷ []) ≡ false
 not_in_row a zero k lt last = or_from (eq_by_cmp nat_cmp 2 k) false (differs k last) refl
 not_in_row a (suc n) k lt last = or_from (eq_by_cmp nat_cmp 2 a) _ (differs a lt) (not_in_row (a + 1) n k (omega arith) last)
 
--- 2 is not in a row of greater numbers with one more
+-- the set of a range of greater numbers and one more doesn't contain 2
 pub two_not_in_row : (a n k : ℕ) → 2 < a → 2 < k → set.contains (set.from_list {R = nat_cmp} (range_with_len a n ++ k ∷ [])) 2 ≡ false
 two_not_in_row a n k lt last = set.contains-from_list nat_cmp_total (range_with_len a n ++ k ∷ []) 2 ∙ not_in_row a n k lt last
 
@@ -77,13 +77,13 @@ thread_links (Container links) e = cc
 thread_links (Thread clearance) e = refl
 thread_links (Gate clearance entry) e = cc
 
--- nothing is both
+-- no test both holds and fails
 false_true : (b : Bool) → b ≡ false → b ≡ true → ⊥
 false_true true e f = cc
 false_true false e f = cc
 
 module _ (root boot : Object Levels) (objects : List Found) (c : ℕ) (is_thread : kind_is_thread boot.kind ≡ true) where
-  -- the root container, a thread, and what stands behind them
+  -- the root container, a thread, and the objects after them
   rooted : List Found
   rooted = Some root ∷ Some boot ∷ objects
 
@@ -98,7 +98,7 @@ module _ (root boot : Object Levels) (objects : List Found) (c : ℕ) (is_thread
       ∙ set.contains-empty nat_cmp q in
       absurd (false_true _ empty linked)
 
-  -- the thread was taken away, and with it the link to it
+  -- the thread was unlinked, and with it the link to it
   pub thread_gone : (new : State) → CutsOff (state_with (Some root ∷ Some boot ∷ objects) c) 1 2 new
       → new ≡ state_with (Some (unlinking 2 root) ∷ None ∷ objects) c
   unfolding rooted

@@ -17,7 +17,7 @@ use Rattle.histar_layout.proofs.OwnersOf.{behind_choice}
 use Rattle.histar_login.specs.Start.{numbered, at_both, declared, own_read_category, numbers_among, group_entry, group_part}
 use Rattle.histar_login.proofs.StartLemmas.{numbered_next}
 
--- both categories of one more come last
+-- both categories of one more owner come last
 both-more : (L : Levels) (level : Level) (owners : List ℕ) (i : ℕ)
     → with_levels L (at_both level (owners ++ i ∷ []))
     ≡ with_level (with_level (with_levels L (at_both level owners)) (read_category i) level) (write_category i)
@@ -55,7 +55,7 @@ numbers_next users names k user b lt is member =
     ap (λ (l : List User). numbers_among 1 l names) (take_next users k user lt is) ∙ numbers_behind 1 (take k users) user names
     ∙ (λ j. numbers_among 1 (take k users) names ++ (if member j then place j ∷ [] else []))
 
--- the number of a member is put behind those before
+-- the number of a member is appended to those before
 pub member_more : (users : List User) (names : List Name) (k : ℕ) (user : User) (front before after : List ℕ)
     → k < length users → user ≡ get_or users k user → has names user.name ≡ true
     → before ≡ front ++ numbers_among 1 (take k users) names → after ≡ before ++ (k + 1) ∷ []
@@ -77,7 +77,7 @@ parts : (t0 t1 t2 t3 t4 t5 t6 : List ℕ) (n m : ℕ) (a b c d : List ℕ) → t
 parts t0 t1 t2 t3 t4 t5 t6 n m a b c d e1 e2 e3 e4 e5 e6 =
     e6 ∙ ap (λ t. t ++ d) (e5 ∙ ap (λ t. t ++ m ∷ []) (e4 ∙ ap (λ t. t ++ c) (e3 ∙ ap (λ t. t ++ b) (e2 ∙ ap (λ t. t ++ a) e1)))) ∙ simp append_assoc
 
--- the parts of a group are put behind a table one by one
+-- the parts of a group are appended to a table one by one
 pub group_grows : (t0 t1 t2 t3 t4 t5 t6 : List ℕ) (users : List User) (k : ℕ) (group : Group)
     → t1 ≡ t0 ++ length group.name ∷ [] → t2 ≡ t1 ++ group.name → t3 ≡ t2 ++ to_be_bytes w64 (read_category (group_owner (length users) k))
     → t4 ≡ t3 ++ to_be_bytes w64 (write_category (group_owner (length users) k)) → t5 ≡ t4 ++ length group.members ∷ []
@@ -96,14 +96,14 @@ groups_next users groups k x front before after lt is old new =
     ∙ append_assoc front (numbered (group_entry users) 1 (take k groups)) (group_entry users (k + 1) x)
     ∙ ap (λ (l : List ℕ). front ++ l) (sym (numbered_next (group_entry users) groups k x lt is))
 
--- all groups of the user table, where one is
+-- all groups of the user table, if there is one
 pub groups_all : (users : List User) (groups : List Group) (front after : List ℕ) → 0 < length groups
     → after ≡ (front ++ 0 ∷ []) ++ numbered (group_entry users) 1 groups
     → after ≡ front ++ group_part users groups
 groups_all users [] front after some e = absurd (omega (arith, some))
 groups_all users (g ∷ groups) front after some e = e ∙ append_assoc front (0 ∷ []) (numbered (group_entry users) 1 (g ∷ groups))
 
--- by whether a group has the member: what holds of the group's number and of all others holds of all that the member owns
+-- what holds of a group's number and of all others holds of all that the member owns, whether the group has the member or not
 choice_within : (b : Bool) (P : ℕ → Type 0) (n k : ℕ) (ks : List ℕ) → P (group_owner n k)
     → All P (map (group_owner n) ks) → All P (map (group_owner n) (if b then k ∷ ks else ks))
 choice_within true P n k ks here rest = All-cons P (group_owner n k) (map (group_owner n) ks) here rest

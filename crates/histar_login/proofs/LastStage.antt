@@ -1,4 +1,4 @@
--- Where the parts of boot begin, and what stands after the last.
+-- Where the parts of boot begin, and the objects after the last part.
 use Rattle.std.proofs.Common.{◌≡◌, ℕ, suc, ◌+◌, ◌*◌, List, [], ◌∷◌, ◌++◌, length, None, refl, sym, ap, ◌∙◌, arith, append_assoc}
 use Rattle.std.proofs.lemmas.List.{length-append}
 use Rattle.std.specs.List.{range_with_len}
@@ -91,7 +91,7 @@ root_numbers n =
 
 module _ (accounts : Accounts) (first before after : KernelModel) (boots : Boots first before (all_parts accounts))
     (called : Called before after boot_thread_number (calls.Unlink root_number boot_thread_number) None) where
-  -- all parts of boot, with the numbers of the root container in a row
+  -- all parts of boot, where the numbers of the root container are a range and one more
   last_part : Part
   last_part = record {
     calls = (all_parts accounts).calls;
@@ -100,7 +100,7 @@ module _ (accounts : Accounts) (first before after : KernelModel) (boots : Boots
     categories = (all_parts accounts).categories;
   }
 
-  -- they stand
+  -- all parts of boot were made
   last_boots : Boots first before last_part
   unfolding last_part
   last_boots = boots_same first before (all_parts accounts) last_part boots refl (root_numbers (length accounts.users)) refl refl
@@ -117,7 +117,7 @@ module _ (accounts : Accounts) (first before after : KernelModel) (boots : Boots
         (calls.Unlink root_number boot_thread_number) boots.granted called;
   }
 
-  -- and is in its start state
+  -- the machine is in its start state
   pub started : state after ≡ start_state accounts
   unfolding last_part
   started =

@@ -31,13 +31,13 @@ module _ (t i : ℕ) (password : List ℕ) (old new : KernelModel) where
   abbrev compared : List ℕ → Part Bool
   compared kept rest = rest (bytes_eq kept password)
 
-  -- its segment isn't read
+  -- the password's segment isn't read
   pub asks_none : (call_error : CallError)
       → RunsPart {A = List ℕ} (ask (Read root_number (password_of i))) old new t (Err call_error)
       → RunsPart (ask_password i password) old new t (Err call_error)
   asks_none call_error first = part_fails t (ask (Read root_number (password_of i))) old new compared call_error first
 
-  -- it is
+  -- the password's segment is read
   pub asks_password : (kept : List ℕ) (right : Bool)
       → RunsPart {A = List ℕ} (ask (Read root_number (password_of i))) old new t (Ok kept)
       → right ≡ bytes_eq kept password → RunsPart (ask_password i password) old new t (Ok right)
@@ -52,7 +52,7 @@ pub reads : (t : ℕ) (old new : KernelModel) (result : Result (List ℕ) CallEr
 reads t old new result d o i root segment runs =
     subst (λ (p : Part (List ℕ)). RunsPart {A = List ℕ} p old new t result) (λ j. ask (Read (root j) (segment j))) runs
 
--- labels that are taken are those that are due
+-- labels that are taken are the expected ones
 module _ (t : ℕ) (old new : KernelModel) (result : Result (Unit {0}) CallError) (label due : Levels) (same : label ≡ due) where
   pub takes_label : RunsPart {A = Unit {0}} (ask (SetLabel label)) old new t result → RunsPart {A = Unit {0}} (ask (SetLabel due)) old new t result
   takes_label runs = subst (λ (p : Part (Unit {0})). RunsPart {A = Unit {0}} p old new t result) (λ j. ask (SetLabel (same j))) runs
@@ -61,7 +61,7 @@ module _ (t : ℕ) (old new : KernelModel) (result : Result (Unit {0}) CallError
       → RunsPart {A = Unit {0}} (ask (SetClearance due)) old new t result
   takes_clearance runs = subst (λ (p : Part (Unit {0})). RunsPart {A = Unit {0}} p old new t result) (λ j. ask (SetClearance (same j))) runs
 
--- what is due is taken, the label first
+-- the expected labels are taken, the label first
 module _ (t : ℕ) (right : Bool) (caller : Caller) (owners : List ℕ) (own : Levels × Levels) (old new : KernelModel) where
   abbrev due_label : Levels
   due_label = label_if right caller owners own.0
@@ -75,7 +75,7 @@ module _ (t : ℕ) (right : Bool) (caller : Caller) (owners : List ℕ) (own : L
       → RunsPart (take_due right caller owners own) old new t (Err call_error)
   takes_none call_error first = part_fails t (ask (SetLabel due_label)) old new after_label call_error first
 
-  -- it is, and the clearance too, or not
+  -- the label is taken, and the clearance too, or not
   pub takes_due : (mid : KernelModel) → RunsPart {A = Unit {0}} (ask (SetLabel due_label)) old mid t (Ok tt) → (result : Result (Unit {0}) CallError)
       → RunsPart {A = Unit {0}} (ask (SetClearance (clearance_if right caller owners own.1))) mid new t result
       → RunsPart (take_due right caller owners own) old new t result

@@ -57,7 +57,7 @@ made_with next level L c l low high label = record {
   others = λ q none. level_of-with_level L c l q ∙ ap (λ b. if b then l else level_of L q) (apart next c q low high none) ∙ label.others q none;
 }
 
--- a level that a test picks is no star where neither is
+-- the chosen one of two levels is no star if neither is
 picked : (b : Bool) (l m : Level) → l ≢ Star → m ≢ Star → (if b then l else m) ≢ Star
 picked true l m first second = first
 picked false l m first second = second
@@ -110,7 +110,7 @@ both_made next level l L (o ∷ owners) all label =
     (All-tail (λ o. write_category o < next) o owners all)
     (made_with next level _ (write_category o) l (omega arith) here (made_with next level L _ l (omega arith) (omega (arith, here)) label))
 
--- what a test picks, where the first is the lowest and the highest
+-- a choice between star and a level is below the same choice between 3 and a higher level
 picked_below : (b : Bool) (l m : Level) → rank l ≤ rank m → rank (if b then Star else l) ≤ rank (if b then L3 else m)
 picked_below true l m under = omega arith
 picked_below false l m under = under
@@ -136,16 +136,16 @@ below_both L C (o ∷ owners) under =
 pub owner_below : (r w : ℕ) → is_below (owner_of r w) (cleared_of r w) ≡ true
 owner_below r w = (is_below-law (owner_of r w) (cleared_of r w)).1 (below_with _ _ w (below_with _ _ r below_constant))
 
--- and so is what owns the categories of users and groups
+-- what owns the categories of users and groups is below its clearance
 pub owners_below : (owners : List ℕ) → is_below (owners_label owners) (owners_clearance owners) ≡ true
 owners_below owners = (is_below-law (owners_label owners) (owners_clearance owners)).1 (below_both (constant L1) (constant L2) owners below_constant)
 
--- by whether a category was made: the boot thread's level is under another one that is 1 where it was not
+-- a level that is star where a category was made is under another that is 1 where it was not
 owner_under : (b : Bool) (l m : Level) → l ≡ (if b then Star else L1) → (b ≡ false → m ≡ L1) → rank l ≤ rank m
 owner_under true l m is other = omega (arith, ap rank is)
 owner_under false l m is other = omega (arith, ap rank is, ap rank (other refl))
 
--- and above it where star is the highest
+-- the clearance is above the label where star is the highest
 owner_over : (b : Bool) (l m : Level) → l ≡ (if b then Star else L1) → (b ≡ false → m ≡ L1) → rank m ≤ raised l
 owner_over true l m is other = omega (arith, ap raised is, rank-at_most m)
 owner_over false l m is other = omega (arith, ap raised is, ap rank (other refl))
@@ -162,20 +162,20 @@ module _ (next : ℕ) (o : Object Levels) (owner : OwnsMade next o) where
       (is_below-law o.label L).1
       (λ q. owner_under (was_made next q) (level_of o.label q) (level_of L q) (owner.owns q) (label.others q))
 
-  -- it may see what has such a label
+  -- the boot thread may see what has such a label
   pub sees_made : (L : Levels) → IsMadeLabel next L1 L → is_below_raised L o.label ≡ true
   sees_made L label =
       (is_below_raised-law L o.label).1
       (λ q. owner_over (was_made next q) (level_of o.label q) (level_of L q) (owner.owns q) (label.others q))
 
-  -- and is cleared for it
+  -- the boot thread is cleared for such a label
   pub cleared_made : (level : Level) (L : Levels) → rank level ≤ 3 → IsMadeLabel next level L → is_below L owner.clearance ≡ true
   cleared_made level L few label =
       (is_below-law L owner.clearance).1
       (λ q. cleared_over (was_made next q) (level_of owner.clearance q) (level_of L q) level (owner.cleared q)
       (label.others q) few)
 
-  -- by whether a category is the new one, and whether it was made
+  -- the categories that were made with the new one are the new one and the old ones
   owning_level : (q : ℕ) (l m : Level) → 0 < next
       → (if q == next then l else (if was_made next q then l else m)) ≡ (if was_made (next + 1) q then l else m)
   owning_level q l m some =
@@ -201,7 +201,7 @@ module _ (next : ℕ) (o : Object Levels) (owner : OwnsMade next o) where
         ∙ owning_level q L3 L2 some;
   }
 
--- by whether a category is 1
+-- after the first category, only category 1 was made
 first_level : (q : ℕ) (l m : Level) → (if q == 1 then l else m) ≡ (if was_made 2 q then l else m)
 first_level q l m = ap (λ b. if b then l else m) (one q)
   where

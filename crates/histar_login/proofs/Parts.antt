@@ -1,4 +1,4 @@
--- What one raw call of boot adds to what stands.
+-- The objects that one raw call of boot adds.
 use Rattle.std.proofs.Common.{◌≡◌, ℕ, suc, ◌+◌, false, List, [], ◌∷◌, ◌++◌, length, None, Some, Result, Ok, Err, sym, ap, ◌∙◌, subst, arith}
 use Rattle.std.proofs.Common.{append_assoc}
 use Rattle.std.specs.Prelude.{option_map}
@@ -28,7 +28,7 @@ use Rattle.histar_login.proofs.Tables.{changed, changed_behind, with_category_is
 use Rattle.histar_login.proofs.MadeLabels.{boot_owns, owns_next}
 use Rattle.histar_login.proofs.FirstAndLast.{empty_is, thread_gone, removed_again}
 
--- a test that two answers can't both pass
+-- a raw call that the rules allow is not denied
 no_denial : {A : Type 0} (old new : KernelModel) (t : ℕ) (call : RawCall) (r : Result A Refusal) (P : A → Type 0)
     → Answered old new t call r P → check (state old) t call ≡ None → IsUndenied r
 no_denial old new t call (Ok a) P answered none = tt
@@ -50,7 +50,7 @@ grants {A = A} old new call r (Ok a) P answered passes =
 grants {A = A} old new call r (Err stopped) P answered passes =
     subst (λ (x : Result A Refusal). Answered old new boot_thread_number call x P) passes answered
 
--- the same under equal texts
+-- a raw call that was answered was granted, or memory ran out, under equal texts
 pub grants_as : {A E : Type 0} (old new : KernelModel) (t : ℕ) (call revealed : RawCall) (r : Result A Refusal)
     (out : Result A E) (P : A → Type 0) → Answered old new t call r P → Passes r out → t ≡ boot_thread_number
     → call ≡ revealed
@@ -94,7 +94,7 @@ module _ (first old new : KernelModel) (p : Part) (boots : Boots first old p) wh
   pub next_made_is : old.kept.next_category ≡ next_made p
   next_made_is = ap (λ (s : State). s.next_category) boots.agrees
 
-  -- one category more
+  -- boot makes one category more
   pub boots_category : Called old new boot_thread_number MakeCategory None → Boots first new (one_category p)
   boots_category called = record {
     granted = granted_more boot_thread_number first old new p.calls MakeCategory boots.granted called;
@@ -108,7 +108,7 @@ module _ (first old new : KernelModel) (p : Part) (boots : Boots first old p) wh
         ∙ ap (state_with (table_of (with_star_at (next_made p) boots.boot) p)) (omega arith);
   }
 
-  -- one object more in the root container
+  -- boot makes one object more in the root container
   pub boots_shared : (call : RawCall) (o : Object Levels) → Called old new boot_thread_number call None
       → state new ≡ with_object (state old) root_number o → Boots first new (one_object p call o)
   boots_shared call o called makes =
@@ -132,7 +132,7 @@ module _ (first old new : KernelModel) (p : Part) (boots : Boots first old p) wh
             ∙ ap (λ (table : List Found). state_with table (next_made p)) linked;
       }
 
-  -- one object more in a container that boot made
+  -- boot makes one object more in a container that it made
   pub boots_within : (call : RawCall) (o : Object Levels) (d : ℕ) (front back : List Found) (label : Levels)
       (numbers : List ℕ) → p.objects ≡ front ++ container label numbers ∷ back → d ≡ 3 + length front
       → Called old new boot_thread_number call None → state new ≡ with_object (state old) d o

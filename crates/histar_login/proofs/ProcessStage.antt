@@ -1,4 +1,4 @@
--- What the part of boot that makes process 0 adds to what stands.
+-- The objects that are added by the part of boot that makes process 0.
 use Rattle.std.proofs.Common.{◌≡◌, ℕ, ◌+◌, ◌*◌, List, [], ◌∷◌, ◌++◌, length, None, Some, refl, sym, ◌∙◌, arith, append_assoc, append-nil}
 use Rattle.std.proofs.lemmas.List.{length-append}
 use Rattle.std.specs.FinSet as set
@@ -26,26 +26,26 @@ module _ (first k0 : KernelModel) (p : Part) (b0 : Boots first k0 p) where
   pub read_allowed : HasRoom 2 4 p → Allows k0 calls.MakeCategory
   read_allowed room = category_allowed first k0 p b0 (omega (arith, room.room_for_categories))
 
-  -- boot stops before it
+  -- boot stops before the first category
   pub process_begun_none : (n owners : ℕ) (new : KernelModel) → IsUnchanged k0 new → HasBegun first new p.calls (process_calls n owners)
   process_begun_none n owners new same = begun_at first k0 new p.calls p (process_calls n owners) 0 b0 same (sym (append-nil p.calls)) (omega arith)
 
   module _ (read : ℕ) (k1 : KernelModel) (c1 : Called k0 k1 boot_thread_number calls.MakeCategory None) (is_read : read ≡ k0.kept.next_category) where
-    -- what stands after it
+    -- the objects after the first category
     b1 : Boots first k1 (one_category p)
     b1 = boots_category first k0 k1 p b0 c1
 
-    -- the rules allow the second
+    -- the rules allow the second category
     pub write_allowed : HasRoom 2 4 p → Allows k1 calls.MakeCategory
     write_allowed room = category_allowed first k1 (one_category p) b1 (omega (arith, room.room_for_categories))
 
-    -- boot stops before it
+    -- boot stops before the second category
     pub process_begun_one : (n owners : ℕ) (new : KernelModel) → IsUnchanged k1 new → HasBegun first new p.calls (process_calls n owners)
     process_begun_one n owners new same = begun_at first k1 new p.calls (one_category p) (process_calls n owners) 1 b1 same refl (omega arith)
 
     module _ (write : ℕ) (k2 : KernelModel) (c2 : Called k1 k2 boot_thread_number calls.MakeCategory None)
         (is_write : write ≡ k1.kept.next_category) where
-      -- what stands after both
+      -- the objects after both categories
       p2 : Part
       p2 = one_category (one_category p)
 
@@ -62,7 +62,7 @@ module _ (first k0 : KernelModel) (p : Part) (b0 : Boots first k0 p) where
       unfolding p2
       write_last = omega (arith, is_write, next_made_is first k1 k1 (one_category p) b1)
 
-      -- so labels may name them
+      -- labels may name the two categories
       guarded : IsMadeGuard (next_made p2) (written_by write)
       unfolding p2
       guarded = written_made (next_made p2) write (omega (arith, write_last)) (omega (arith, write_last))
@@ -94,7 +94,7 @@ module _ (first k0 : KernelModel) (p : Part) (b0 : Boots first k0 p) where
           container_allowed first k2 p2 b2 root_number (root_there first k2 p2 b2)
           (omega (arith, room.room_for_objects)) (written_by write) guarded
 
-      -- boot stops before it
+      -- boot stops before the container
       pub process_begun_two : (n owners : ℕ) (new : KernelModel) → IsUnchanged k2 new → HasBegun first new p.calls (process_calls n owners)
       process_begun_two n owners new same = begun_at first k2 new p.calls p2 (process_calls n owners) 2 b2 same calls2 (omega arith)
 
@@ -104,7 +104,7 @@ module _ (first k0 : KernelModel) (p : Part) (b0 : Boots first k0 p) where
         outer_object : Object Levels
         outer_object = record { label = written_by write; kind = Container set.empty }
 
-        -- what stands with it
+        -- the objects with the container
         p3 : Part
         p3 = one_object p2 (outer_call write) outer_object
 
@@ -112,7 +112,7 @@ module _ (first k0 : KernelModel) (p : Part) (b0 : Boots first k0 p) where
         unfolding outer_object p2 p3
         b3 = boots_shared first k2 k3 p2 b2 (outer_call write) outer_object c3 c3.state
 
-        -- where it stands
+        -- the number of the container
         outer_at : outer ≡ 3 + length p.objects
         unfolding p2
         outer_at = is_outer ∙ next_number_is first k2 k2 p2 b2
@@ -133,7 +133,7 @@ module _ (first k0 : KernelModel) (p : Part) (b0 : Boots first k0 p) where
             (inside_there first k3 p3 b3 outer p.objects [] (written_by write) [] refl outer_at guarded.label)
             (omega (arith, room.room_for_objects, after3)) (secret_of read write) secret
 
-        -- boot stops before it
+        -- boot stops before the internal container
         pub process_begun_three : (n owners : ℕ) → IsBeforeBoth (6 + 2 * n) (own_read_category owners) p
             → (new : KernelModel) → IsUnchanged k3 new → HasBegun first new p.calls (process_calls n owners)
         process_begun_three n owners at new same =
@@ -147,7 +147,7 @@ module _ (first k0 : KernelModel) (p : Part) (b0 : Boots first k0 p) where
           inner_object : Object Levels
           inner_object = record { label = secret_of read write; kind = Container set.empty }
 
-          -- what stands with it
+          -- the objects with the internal container
           p4 : Part
           p4 = record {
             calls = p3.calls ++ inner_call outer read write ∷ [];
@@ -156,7 +156,7 @@ module _ (first k0 : KernelModel) (p : Part) (b0 : Boots first k0 p) where
             categories = p2.categories;
           }
 
-          -- what stands before the internal container
+          -- the objects before the internal container
           front5 : List Found
           front5 = p.objects ++ container (written_by write) (next_number p3 ∷ []) ∷ []
 
@@ -166,7 +166,7 @@ module _ (first k0 : KernelModel) (p : Part) (b0 : Boots first k0 p) where
               boots_within first k3 k4 p3 b3 (inner_call outer read write) inner_object outer p.objects []
               (written_by write) [] refl outer_at c4 c4.state
 
-          -- where it stands
+          -- the number of the internal container
           inner_at : inner ≡ 3 + length front5
           unfolding front5
           inner_at =
@@ -207,7 +207,7 @@ module _ (first k0 : KernelModel) (p : Part) (b0 : Boots first k0 p) where
               (omega (arith, write_last)) (omega (arith, write_last)))
               (owner_below read write)
 
-          -- boot stops before it
+          -- boot stops before the thread
           pub process_begun_four : (n owners : ℕ) → IsBeforeBoth (6 + 2 * n) (own_read_category owners) p
               → (new : KernelModel) → IsUnchanged k4 new → HasBegun first new p.calls (process_calls n owners)
           process_begun_four n owners at new same =
@@ -218,11 +218,11 @@ module _ (first k0 : KernelModel) (p : Part) (b0 : Boots first k0 p) where
           module _ (thread : ℕ) (k5 : KernelModel)
               (c5 : Called k4 k5 boot_thread_number (thread_call inner read write) None)
               (is_thread : thread ≡ k4.kept.next_object) where
-            -- its thread
+            -- the thread of process 0
             thread_object : Object Levels
             thread_object = record { label = owner_of read write; kind = Thread (cleared_of read write) }
 
-            -- what stands with it
+            -- the objects with the thread
             p5 : Part
             p5 = record {
               calls = p4.calls ++ thread_call inner read write ∷ [];
@@ -282,7 +282,7 @@ module _ (first k0 : KernelModel) (p : Part) (b0 : Boots first k0 p) where
                 (written_by write) (next_number p3 ∷ []) parts5 outer_at guarded.label)
                 (omega (arith, room.room_for_objects, after5)) (written_by write) (first_process_bytes inner thread) guarded (omega arith)
 
-            -- boot stops before it
+            -- boot stops before the process segment
             pub process_begun_five : (n owners : ℕ) → IsBeforeBoth (6 + 2 * n) (own_read_category owners) p
                 → (new : KernelModel) → IsUnchanged k5 new → HasBegun first new p.calls (process_calls n owners)
             process_begun_five n owners at new same =
@@ -298,11 +298,11 @@ module _ (first k0 : KernelModel) (p : Part) (b0 : Boots first k0 p) where
                 (c6 : Called k5 k6 boot_thread_number (status_call outer write inner thread) None)
                 (is_status : status ≡ k5.kept.next_object) (n owners : ℕ)
                 (at : IsBeforeBoth (6 + 2 * n) (own_read_category owners) p) where
-              -- its process segment
+              -- the process segment of process 0
               process_object : Object Levels
               process_object = record { label = written_by write; kind = Segment (first_process_bytes inner thread) }
 
-              -- what stands with it
+              -- the objects with the process segment
               p6 : Part
               p6 = record {
                 calls = p5.calls ++ status_call outer write inner thread ∷ [];
@@ -347,7 +347,7 @@ module _ (first k0 : KernelModel) (p : Part) (b0 : Boots first k0 p) where
               next5 : next_number p5 ≡ 9 + 2 * n
               next5 = omega (arith, after5, at.0)
 
-              -- all six together
+              -- all six objects together
               process_boots : Boots first k6 (and_then p (process_part n owners))
               unfolding outer_object inner_object thread_object process_object p2 p3 p4 p5 p6
               process_boots =
@@ -364,10 +364,10 @@ module _ (first k0 : KernelModel) (p : Part) (b0 : Boots first k0 p) where
                   ∷ segment (written_by (w_is j)) (first_process_bytes (i_is j) (t_is j)) ∷ [])
                   (omega arith)
 
-              -- its process segment has its number too
+              -- the process segment has its number too
               process_status : status ≡ 9 + 2 * n
               process_status = is_status ∙ next_number_is first k5 k5 p5 b5 ∙ next5
 
-              -- what stands then, and where process 0 is found
+              -- the objects after this part, and where process 0 is found
               pub process_stage : Boots first k6 (and_then p (process_part n owners)) × (outer ≡ 6 + 2 * n) × (status ≡ 9 + 2 * n)
               process_stage = (process_boots, o_is, process_status)

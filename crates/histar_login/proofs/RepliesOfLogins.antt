@@ -13,7 +13,7 @@ use Rattle.histar_process.specs.declared.caller.Caller.{Caller}
 use Rattle.histar_login.specs.Login.{place_of, password_of, entering, label_if, clearance_if, reply_if, login_as_program, login_at}
 use Rattle.histar_login.specs.Login.{LoginsReplyToRefusals}
 
--- behind the gate no refusal is left to tell
+-- the reply after the gate is no refusal that the kernel caused
 replied : (right : Bool) → RepliesToRefusals (Answers (reply_if right))
 replied true = (refl, refl)
 replied false = (refl, refl)

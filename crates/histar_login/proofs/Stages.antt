@@ -1,4 +1,4 @@
--- What the parts of boot add to what stands.
+-- The objects that the parts of boot add.
 use Rattle.std.proofs.Common.{◌≡◌, ℕ, zero, suc, ◌+◌, ◌*◌, ◌<◌, ◌≤◌, List, [], ◌∷◌, ◌++◌, length, get_or, take, drop, add-zero, None, Some, refl, sym}
 use Rattle.std.proofs.Common.{ap, ◌∙◌, subst, arith, append_assoc, append-nil}
 use Rattle.std.proofs.lemmas.List.{length-append, length-take-le, take-append-drop}
@@ -28,7 +28,7 @@ use Rattle.histar_login.proofs.AllowedCalls.{category_allowed, segment_allowed, 
 use Rattle.histar_login.proofs.Beginnings.{begun_at, begun_more, begun_after}
 use Rattle.histar_login.proofs.Parts.{one_category, one_object, boots_category, boots_shared}
 
--- parts that are equal in all are equal
+-- parts with equal fields are equal
 pub boots_same : (first now : KernelModel) (p q : Part) → Boots first now p → p.calls ≡ q.calls → p.linked ≡ q.linked
     → p.objects ≡ q.objects → p.categories ≡ q.categories → Boots first now q
 boots_same first now p q boots calls linked objects categories =
@@ -36,26 +36,26 @@ boots_same first now p q boots calls linked objects categories =
     (λ i. record { calls = calls i; linked = linked i; objects = objects i; categories = categories i }) boots
 
 module _ (first k0 : KernelModel) (p : Part) (b0 : Boots first k0 p) where
-  -- the first of two categories
+  -- the rules allow the first of two categories
   pub first_allowed : HasRoom 2 0 p → Allows k0 calls.MakeCategory
   first_allowed room = category_allowed first k0 p b0 (omega (arith, room.room_for_categories))
 
-  -- boot stops before them
+  -- boot stops before the two categories
   pub two_begun_none : (new : KernelModel) → IsUnchanged k0 new → HasBegun first new p.calls two_categories.calls
   two_begun_none new same = begun_at first k0 new p.calls p two_categories.calls 0 b0 same (sym (append-nil p.calls)) (omega arith)
 
   module _ (k1 : KernelModel) (c1 : Called k0 k1 boot_thread_number calls.MakeCategory None) where
-    -- the second
+    -- the rules allow the second category
     pub second_allowed : HasRoom 2 0 p → Allows k1 calls.MakeCategory
     second_allowed room = category_allowed first k1 (one_category p) (boots_category first k0 k1 p b0 c1) (omega (arith, room.room_for_categories))
 
-    -- boot stops between them
+    -- boot stops between the two categories
     pub two_begun_one : (new : KernelModel) → IsUnchanged k1 new → HasBegun first new p.calls two_categories.calls
     two_begun_one new same =
         begun_at first k1 new p.calls (one_category p) two_categories.calls 1 (boots_category first k0 k1 p b0 c1) same
         refl (omega arith)
 
-    -- both
+    -- both categories were made
     pub two_boot : (k2 : KernelModel) → Called k1 k2 boot_thread_number calls.MakeCategory None → Boots first k2 (and_then p two_categories)
     two_boot k2 c2 =
         let b1 : Boots first k1 (one_category p) = boots_category first k0 k1 p b0 c1 in
@@ -64,7 +64,7 @@ module _ (first k0 : KernelModel) (p : Part) (b0 : Boots first k0 p) where
         (append_assoc p.calls (calls.MakeCategory ∷ []) (calls.MakeCategory ∷ [])) (sym (append-nil p.linked))
         (sym (append-nil p.objects)) (omega arith)
 
--- one more of two calls each
+-- one more pair of categories is one more pair of calls at the end
 category_calls-more : (count : ℕ) → category_calls (suc count) ≡ category_calls count ++ calls.MakeCategory ∷ calls.MakeCategory ∷ []
 category_calls-more zero = refl
 category_calls-more (suc count) = ap (λ (l : List RawCall). calls.MakeCategory ∷ calls.MakeCategory ∷ l) (category_calls-more count)
@@ -101,7 +101,7 @@ categories_room old mid count i lt way before =
       before way.0 way.1 tt way.3,
     )
 
--- the calls that come behind the first ones
+-- the calls that come after the first ones
 calls_behind : (i count : ℕ) → i < count → (rest : List RawCall) × (category_calls count ≡ (category_calls i ++ two_categories.calls) ++ rest)
 calls_behind i zero lt = absurd (omega (arith, lt))
 calls_behind zero (suc count) lt = (category_calls count, refl)
@@ -126,7 +126,7 @@ pub password_made : (old new : KernelModel) (i : ℕ) (password revealed : List 
     → Called old new boot_thread_number (password_call i revealed) None
 password_made old new i password revealed same called = subst (λ (l : List ℕ). Called old new boot_thread_number (password_call i l) None) same called
 
--- the gate that was made gives what these own
+-- the gate that was made gives the categories of these users and groups
 pub gate_made : (old new : KernelModel) (i : ℕ) (owners revealed : List ℕ) → owners ≡ revealed
     → Called old new boot_thread_number (gate_call i owners) None
     → Called old new boot_thread_number (gate_call i revealed) None
@@ -156,7 +156,7 @@ module _ (accounts : Accounts) (i : ℕ) (user : User) (first k0 : KernelModel) 
     password_object : Object Levels
     password_object = record { label = secret_of (read_category i) (write_category i); kind = Segment user.password }
 
-    -- what stands with it
+    -- the objects with the password
     p1 : Part
     p1 = one_object p (password_call i user.password) password_object
 
@@ -215,7 +215,7 @@ users_none accounts k users first p at b =
     boots_same first k p (and_then p (users_part accounts [])) b (sym (append-nil p.calls)) (sym (append-nil p.linked))
     (sym (append-nil p.objects)) (omega arith)
 
--- a row with two numbers more
+-- a range with two numbers more
 row_next : (m n : ℕ) → n ≡ m + 1 → range_with_len 3 (2 * m) ++ (1 + 2 * n) ∷ (2 + 2 * n) ∷ [] ≡ range_with_len 3 (2 * n)
 row_next m n e =
     let first : 1 + 2 * n ≡ 3 + 2 * m = omega arith in
@@ -265,7 +265,7 @@ users_way accounts old mid i lt way before =
       before way.0 way.1 way.2.0 way.3,
     )
 
--- what is put together of all from number k on begins with what is put together of the first
+-- the numbered list of two lists together is that of the first, and then that of the second
 numbered_split : {A B : Type 0} (f : ℕ → B → List A) (k : ℕ) (xs ys : List B)
     → numbered f k (xs ++ ys) ≡ numbered f k xs ++ numbered f (k + length xs) ys
 numbered_split f k [] ys = ap (λ n. numbered f n ys) (sym (add-zero k))

@@ -10,7 +10,7 @@ use Rattle.histar_layout.specs.Categories.{read_category, write_category}
 use Rattle.histar_layout.proofs.LabellingLemmas.{take_next}
 use Rattle.histar_login.specs.Start.{numbered, user_entry, user_entries, entry_of}
 
--- numbers in a row with the next one
+-- a range with the next number
 pub range-suc : (a n : ℕ) → range_with_len a (suc n) ≡ range_with_len a n ++ (a + n) ∷ []
 range-suc a zero = ap (λ x. x ∷ []) (sym (add-zero a))
 range-suc a (suc n) = ap (λ l. a ∷ l) (range-suc (a + 1) n ∙ ap (λ y. range_with_len (a + 1) n ++ y ∷ []) (omega arith))
@@ -49,7 +49,7 @@ parts t0 t1 t2 t3 t4 t5 t6 n a b c d e e1 e2 e3 e4 e5 e6 =
     (e5 ∙ ap (λ t. t ++ d) (e4 ∙ ap (λ t. t ++ c) (e3 ∙ ap (λ t. t ++ b) (e2 ∙ ap (λ t. t ++ a) e1))))
     ∙ simp append_assoc
 
--- the parts of an entry are put behind a table one by one
+-- the parts of an entry are appended to a table one by one
 pub entry_grows : (t0 t1 t2 t3 t4 t5 t6 : List ℕ) (name : Name) (i gate password : ℕ) → t1 ≡ t0 ++ length name ∷ [] → t2 ≡ t1 ++ name
     → t3 ≡ t2 ++ to_be_bytes w64 (read_category i) → t4 ≡ t3 ++ to_be_bytes w64 (write_category i)
     → t5 ≡ t4 ++ to_be_bytes w64 gate → t6 ≡ t5 ++ to_be_bytes w64 password

@@ -14,7 +14,7 @@ use Rattle.histar_login.proofs.Beginnings.{begun_at, begun_more, begun_after}
 use Rattle.histar_login.proofs.Parts.{boots_first}
 use Rattle.histar_login.proofs.LastStage.{first_parts, more_parts, all_parts, directory_is_next, process_is_next}
 
--- five lists one after another, by the third and by the second
+-- five lists one after another, split at the third and at the second
 three_behind : (x c d e : List RawCall) → ((x ++ c) ++ d) ++ e ≡ x ++ (c ++ (d ++ e))
 three_behind x c d e = append_assoc (x ++ c) d e ∙ append_assoc x c (d ++ e)
 
@@ -51,7 +51,7 @@ module _ (accounts : Accounts) (few : IsSmall accounts) (first : KernelModel) (e
     boots_first first empty,
   )
 
-  -- boot stops in the middle of them
+  -- boot stops in the middle of the categories
   pub categories_stop : (new : KernelModel) (count : ℕ) → count ≡ 1 + declared accounts
       → BeginsOn first new IsAnywhere (categories_part count) → HasBegunBoot accounts first new
   unfolding calls_of_users calls_of_directory calls_of_process
@@ -101,7 +101,7 @@ module _ (accounts : Accounts) (few : IsSmall accounts) (first : KernelModel) (e
             b2,
           )
 
-      -- boot stops in the middle of them
+      -- boot stops in the middle of the user table and `/`
       pub directory_stop : (new : KernelModel) → BeginsDirectory k2 new accounts → HasBegunBoot accounts first new
       unfolding calls_of_users calls_of_directory calls_of_process
       directory_stop new begins =
@@ -127,7 +127,7 @@ module _ (accounts : Accounts) (few : IsSmall accounts) (first : KernelModel) (e
               b3,
             )
 
-        -- boot stops in the middle of it
+        -- boot stops in the middle of process 0
         pub process_stop : (new : KernelModel) → BeginsProcess k3 new → HasBegunBoot accounts first new
         unfolding calls_of_users calls_of_directory calls_of_process
         process_stop new begins =
@@ -145,7 +145,7 @@ module _ (accounts : Accounts) (few : IsSmall accounts) (first : KernelModel) (e
           pub unlink_way : Allows k4 last_call
           unlink_way = last_allowed first k4 (all_parts accounts) b4
 
-          -- boot stops before it
+          -- boot stops before the last raw call
           pub unlink_stop : (new : KernelModel) → IsUnchanged k4 new → HasBegunBoot accounts first new
           unlink_stop new same =
               begins_boot accounts first new (all_parts accounts).calls last_calls [] refl

@@ -13,7 +13,7 @@ longer : (b : Bool) (i n : ℕ) (xs : List ℕ) → length xs ≤ n → length (
 longer true i n xs few = omega (arith, few)
 longer false i n xs few = omega (arith, few)
 
--- of so many users no more are members
+-- no more users are members than there are
 members_few : (i : ℕ) (users : List User) (names : List Name) → length (numbers_among i users names) ≤ length users
 members_few i [] names = omega arith
 members_few i (user ∷ users) names =
@@ -45,7 +45,7 @@ user_few before after name i gate password is short =
     (to_be_bytes w64 gate) (to_be_bytes w64 password) in
     omega (arith, ap length is, length-append before (user_entry name i gate password), parts, short)
 
--- a group adds 66
+-- a group adds 66 bytes at most
 pub group_few : (before after : List ℕ) (users : List User) (k : ℕ) (group : Group)
     → after ≡ before ++ group_entry users k group → length group.name ≤ 32 → length users ≤ 16
     → length after ≤ length before + 66

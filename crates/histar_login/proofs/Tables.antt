@@ -1,4 +1,4 @@
--- What the raw calls of boot make of the state of a table: entries are changed, and objects are put behind.
+-- What the raw calls of boot make of the state of a table: entries are changed, and objects are appended.
 use Rattle.std.proofs.Common.{◌≡◌, ℕ, zero, suc, ◌+◌, ◌==◌, Bool, true, false, List, [], ◌∷◌, ◌++◌, length, get_or, None, Some, if◌then◌else◌, refl}
 use Rattle.std.proofs.Common.{sym, ap, ◌∙◌, arith}
 use Rattle.std.specs.Prelude.{option_map}
@@ -11,7 +11,7 @@ use Rattle.histar_rules.specs.Rights.{with_category, with_star_at}
 use Rattle.histar_object.specs.State.{Found, with_object}
 use Rattle.histar_login.specs.Start.{object_at, state_with}
 
--- a table with one of its entries changed, if something stands there
+-- a table with one of its entries changed, if it has an object
 abbrev pub changed : (Object Levels → Object Levels) → ℕ → List Found → List Found
 changed f k [] = []
 changed f zero (x ∷ table) = option_map f x ∷ table
@@ -33,7 +33,7 @@ both_later k n = grind (arith, nat_tests)
 other : (b : Bool) (x y : Found) → b ≡ false → (if b then x else y) ≡ y
 other b x y h = ap (λ t. if t then x else y) h
 
--- an object that is put at the end of a table stands behind it
+-- an object that is put at the end of a table is after the others
 put_behind : (objects : List Found) (o : Object Levels) (k : ℕ)
     → (if k == length objects then Some o else get_or objects k None) ≡ get_or (objects ++ Some o ∷ []) k None
 put_behind [] o zero = refl
@@ -41,11 +41,11 @@ put_behind [] o (suc k) = other (suc k == 0) (Some o) None (first_is_last k)
 put_behind (x ∷ objects) o zero = other (0 == suc (length objects)) (Some o) x (last_is_first (length objects))
 put_behind (x ∷ objects) o (suc k) = ap (λ t. if t then Some o else get_or objects k None) (both_later k (length objects)) ∙ put_behind objects o k
 
--- the number behind a table
+-- the number after those of a table
 one_more : (n : ℕ) → 1 + n ≡ suc n
 one_more n = omega arith
 
--- what is put under the next number stands behind
+-- what is put under the next number is appended
 put_is : (objects : List Found) (o : Object Levels) (q : ℕ) → put (object_at objects) (1 + length objects) o q ≡ object_at (objects ++ Some o ∷ []) q
 put_is objects o zero =
     ap (λ n. put (object_at objects) n o zero) (one_more (length objects))
@@ -85,7 +85,7 @@ length-changed f [] k = refl
 length-changed f (x ∷ table) zero = refl
 length-changed f (x ∷ table) (suc k) = ap suc (length-changed f table k)
 
--- the entry behind the front is changed
+-- the entry after the front is changed
 pub changed_behind : (f : Object Levels → Object Levels) (front : List Found) (x : Found) (back : List Found)
     → changed f (length front) (front ++ x ∷ back) ≡ front ++ option_map f x ∷ back
 changed_behind f [] x back = refl

@@ -19,7 +19,7 @@ use Rattle.histar_login.specs.Start.{user_table, first_process_bytes}
 abbrev pub boot_thread_number : ℕ
 boot_thread_number = 2
 
--- two categories, made so often
+-- this many pairs of categories are made
 abbrev pub category_calls : ℕ → List RawCall
 category_calls zero = []
 category_calls (suc more) = MakeCategory ∷ MakeCategory ∷ category_calls more
@@ -44,7 +44,7 @@ table_call accounts = MakeSegment root_number (written_by root_category) (user_t
 abbrev pub slash_call : RawCall
 slash_call = MakeContainer root_number (written_by (write_category 1))
 
--- the directory segment of `/`, which stands in this container
+-- the directory segment of `/`, which lies in this container
 abbrev pub listing_call : ℕ → RawCall
 listing_call slash = MakeSegment slash (written_by (write_category 1)) []
 
@@ -56,19 +56,19 @@ directory_calls n accounts = table_call accounts ∷ slash_call ∷ listing_call
 abbrev pub outer_call : ℕ → RawCall
 outer_call w = MakeContainer root_number (written_by w)
 
--- its internal container in that one, which the owner of r reads
+-- the internal container of process 0 in this container, which the owner of r reads
 abbrev pub inner_call : ℕ → ℕ → ℕ → RawCall
 inner_call outer r w = MakeContainer outer (secret_of r w)
 
--- its thread in the internal container, which owns r and w
+-- the thread of process 0 in the internal container, which owns r and w
 abbrev pub thread_call : ℕ → ℕ → ℕ → RawCall
 thread_call inner r w = MakeThread inner (owner_of r w) (cleared_of r w)
 
--- its process segment, which tells the internal container and the thread
+-- the process segment of process 0, which records the internal container and the thread
 abbrev pub status_call : ℕ → ℕ → ℕ → ℕ → RawCall
 status_call outer w inner thread = MakeSegment outer (written_by w) (first_process_bytes inner thread)
 
--- the two categories of process 0, behind those of all users and groups; its container, which is the object 6 + 2n, and its internal
+-- the two categories of process 0, after those of all users and groups; its container, which is the object 6 + 2n, and its internal
 -- container, which is 7 + 2n; its thread 8 + 2n, which owns the two categories alone; and its process segment
 abbrev pub process_calls : ℕ → ℕ → List RawCall
 process_calls n owners =
@@ -80,7 +80,7 @@ process_calls n owners =
     ∷ status_call (6 + 2 * n) (own_write_category owners) (7 + 2 * n) (8 + 2 * n)
     ∷ []
 
--- at last the boot thread takes itself away
+-- at last the boot thread unlinks itself
 abbrev pub last_call : RawCall
 last_call = Unlink root_number boot_thread_number
 
@@ -106,7 +106,7 @@ pub record IsBooted (accounts : Accounts) (kernel : KernelModel) : Type 0 where
   pub line : first.line ≡ 0
   pub made : Granted first kernel boot_thread_number (boot_calls accounts)
 
--- a beginning of boot that is not all of it was made, and each of its raw calls was granted
+-- boot made some of its raw calls and not all, from the first on, and each was granted
 abbrev pub HasBegunBoot : Accounts → KernelModel → KernelModel → Type 0
 HasBegunBoot accounts old new =
     (made : ℕ) × (made < length (boot_calls accounts))

@@ -53,7 +53,7 @@ next_number p = 3 + length p.objects
 abbrev pub next_made : Part → ℕ
 next_made p = 2 + p.categories
 
--- what stands from number 1 on after the first part of boot, where this is the boot thread
+-- the objects from number 1 on after the first part of boot, where this is the boot thread
 abbrev pub table_of : Object Levels → Part → List Found
 table_of boot p = container (written_by root_category) (boot_thread_number ∷ p.linked) ∷ Some boot ∷ p.objects
 
@@ -68,28 +68,28 @@ pub record OwnsMade (next : ℕ) (o : Object Levels) : Type 0 where
   pub owns : (c : ℕ) → level_of o.label c ≡ (if was_made next c then Star else L1)
   pub cleared : (c : ℕ) → level_of clearance c ≡ (if was_made next c then L3 else L2)
 
--- the first part of boot is done: the boot thread made its calls, each was granted, and this stands by them
+-- the first part of boot is done: the boot thread made its calls, each was granted, and they led to these objects
 pub record Boots (first now : KernelModel) (p : Part) : Type 0 where
   pub granted : Granted first now boot_thread_number p.calls
   pub boot : Object Levels
   pub owner : OwnsMade (next_made p) boot
   pub agrees : state now ≡ state_with (table_of boot p) (next_made p)
 
--- where boot had come so far that this holds, it has gone on by this part
+-- if boot had come so far that this holds, it has gone on by this part
 abbrev pub BootsOn : KernelModel → KernelModel → (Part → Type 0) → Part → Type 0
 BootsOn old new IsSo more = (first : KernelModel) (p : Part) → IsSo p → Boots first old p → Boots first new (and_then p more)
 
--- where boot had come so far that this holds, this holds too
+-- if boot had come so far that this holds, the second proposition holds too
 abbrev pub FollowsOfBoot : KernelModel → (Part → Type 0) → Type 0 → Type 0
 FollowsOfBoot old IsSo Shown = (first : KernelModel) (p : Part) → IsSo p → Boots first old p → Shown
 
--- of these raw calls, behind those before, a beginning that is not all of them was made, and each was granted
+-- some of these raw calls and not all were made, after those before them; each was granted
 pub record HasBegun (first now : KernelModel) (before calls : List RawCall) : Type 0 where
   pub made : ℕ
   pub few : made < length calls
   pub granted : Granted first now boot_thread_number (before ++ take made calls)
 
--- where boot had come so far that this holds, it has begun this part and not ended it
+-- if boot had come so far that this holds, it has begun this part and not ended it
 abbrev pub BeginsOn : KernelModel → KernelModel → (Part → Type 0) → Part → Type 0
 BeginsOn old new IsSo more = (first : KernelModel) (p : Part) → IsSo p → Boots first old p → HasBegun first new p.calls more.calls
 
@@ -97,7 +97,7 @@ BeginsOn old new IsSo more = (first : KernelModel) (p : Part) → IsSo p → Boo
 abbrev pub IsUnderWay : (Part → Type 0) → KernelModel → Type 0
 IsUnderWay IsSo now = (first : KernelModel) × (p : Part) × IsSo p × Boots first now p
 
--- so many categories and so many objects more have numbers
+-- there are numbers for this many more categories and objects
 pub record HasRoom (categories_more objects_more : ℕ) (p : Part) : Type 0 where
   pub room_for_categories : next_made p + categories_more ≤ greatest
   pub room_for_objects : next_number p + objects_more ≤ greatest
@@ -112,7 +112,7 @@ IsUndenied (Ok a) = ⊤
 IsUndenied (Err (refusals.Denied denied)) = ⊥
 IsUndenied (Err refusals.OutOfMemory) = ⊤
 
--- what was answered is passed on, and memory that ran out as an error
+-- an answer is passed on, and lack of memory becomes an error
 abbrev pub Passes : {A E : Type 0} → Result A Refusal → Result A E → Type 0
 Passes answer (Ok a) = answer ≡ Ok a
 Passes answer (Err stopped) = answer ≡ Err refusals.OutOfMemory
@@ -134,11 +134,11 @@ IsNextCategory old category = category ≡ old.kept.next_category
 abbrev pub IsBefore : ℕ → Part → Type 0
 IsBefore number p = next_number p ≡ number
 
--- the next object gets this number, and the next category that one
+-- the next object gets this number, and the next category is this one
 abbrev pub IsBeforeBoth : ℕ → ℕ → Part → Type 0
 IsBeforeBoth number category p = (next_number p ≡ number) × (next_made p ≡ category)
 
--- wherever boot had come
+-- boot has come to any point
 abbrev pub IsAnywhere : Part → Type 0
 IsAnywhere p = Unit {0}
 
@@ -146,7 +146,7 @@ IsAnywhere p = Unit {0}
 abbrev pub two_categories : Part
 two_categories = record { calls = MakeCategory ∷ MakeCategory ∷ []; linked = []; objects = []; categories = 2 }
 
--- two categories, made so often
+-- this many pairs of categories
 abbrev pub categories_part : ℕ → Part
 categories_part count = record { calls = category_calls count; linked = []; objects = []; categories = 2 * count }
 
@@ -208,7 +208,7 @@ pub record IsBeforeDirectory (accounts : Accounts) (p : Part) : Type 0 where
 abbrev pub BeginsDirectory : KernelModel → KernelModel → Accounts → Type 0
 BeginsDirectory old new accounts = BeginsOn old new (IsBefore (3 + 2 * length accounts.users)) (directory_part (length accounts.users) accounts)
 
--- the user table and `/` were made behind the passwords and the gates of all users
+-- the user table and `/` were made after the passwords and the gates of all users
 abbrev pub MakesDirectory : KernelModel → KernelModel → Accounts → Type 0
 MakesDirectory old new accounts = BootsOn old new (IsBefore (3 + 2 * length accounts.users)) (directory_part (length accounts.users) accounts)
 
@@ -220,7 +220,7 @@ IsFirstDirectory old accounts slash = FollowsOfBoot old (IsBefore (3 + 2 * lengt
 abbrev pub process_part : ℕ → ℕ → Part
 process_part n owners = record { calls = process_calls n owners; linked = (6 + 2 * n) ∷ []; objects = of_process n owners; categories = 2 }
 
--- process 0 was made behind `/`, where there are n users, and so many users and groups together
+-- process 0 was made after `/`, where there are n users, and this many users and groups together
 abbrev pub MakesProcess : KernelModel → KernelModel → Type 0
 MakesProcess old new = (n owners : ℕ) → BootsOn old new (IsBeforeBoth (6 + 2 * n) (own_read_category owners)) (process_part n owners)
 
@@ -228,6 +228,6 @@ MakesProcess old new = (n owners : ℕ) → BootsOn old new (IsBeforeBoth (6 + 2
 abbrev pub BeginsProcess : KernelModel → KernelModel → Type 0
 BeginsProcess old new = (n owners : ℕ) → BeginsOn old new (IsBeforeBoth (6 + 2 * n) (own_read_category owners)) (process_part n owners)
 
--- the container and the segment that are made behind `/` are those of process 0
+-- the container and the segment that are made after `/` are those of process 0
 abbrev pub IsFirstHome : KernelModel → Home → Type 0
 IsFirstHome old home = (n owners : ℕ) → FollowsOfBoot old (IsBeforeBoth (6 + 2 * n) (own_read_category owners)) (home ≡ (roots_of n).home)

@@ -34,24 +34,24 @@ password_of i = 1 + 2 * i
 abbrev pub gate_of : ℕ → ℕ
 gate_of i = 2 + 2 * i
 
--- what a process owns as a user who owns the categories of these users and groups: its own two categories, and those
+-- the categories that a process owns as a user with the categories of these users and groups: its own two, and those
 abbrev pub owned_as_user : Caller → List ℕ → List ℕ
 owned_as_user caller owners = caller.read ∷ caller.write ∷ categories_of owners true
 
--- the label of its thread then: it owns these, and holds no job
+-- the label of the process's thread as that user: it owns these, and is in no job
 abbrev pub user_label : Caller → List ℕ → Levels
 user_label caller owners = owner_label (owned_as_user caller owners) []
 
--- its clearance then
+-- the clearance of the process's thread as that user
 abbrev pub user_clearance : Caller → List ℕ → Levels
 user_clearance caller owners = cleared_at (owned_as_user caller owners)
 
--- a thread that has this label and this clearance enters the gate of user i, who owns the categories of these users and groups: it
+-- a thread that has this label and this clearance enters the gate of user i, which gives the categories of these users and groups: it
 -- wants all that it owns and all that the gate gives, and its verify label is its own label
 abbrev pub entering : List ℕ → ℕ → Levels → Levels → RawCall
 entering owners i own clearance = Enter root_number (gate_of i) (floor_of own (owners_label owners)) (join_of clearance (owners_clearance owners)) own
 
--- these are the labels that it hands over
+-- these are the labels with which the thread enters the gate
 pub record AreEntryLabels (owners : List ℕ) (own clearance : Levels) (labels : EntryLabels) : Type 0 where
   pub wanted_is : labels.wanted ≡ floor_of own (owners_label owners)
   pub clearance_is : labels.clearance ≡ join_of clearance (owners_clearance owners)
@@ -63,30 +63,30 @@ ask_password i password rest = do
   kept ← ask (Read root_number (password_of i))
   rest (bytes_eq kept password)
 
--- the label that the thread takes behind the gate: that of the user where the password is right, and else its own again
+-- the label that the thread takes after the gate: that of the user if the password is right, and its own again if not
 abbrev pub label_if : Bool → Caller → List ℕ → Levels → Levels
 label_if true caller owners own = user_label caller owners
 label_if false caller owners own = own
 
--- and the clearance
+-- the clearance that the thread takes after the gate
 abbrev pub clearance_if : Bool → Caller → List ℕ → Levels → Levels
 clearance_if true caller owners own_clearance = user_clearance caller owners
 clearance_if false caller owners own_clearance = own_clearance
 
--- the thread takes the label and the clearance that are its due
+-- the thread takes the expected label and clearance
 abbrev pub take_due : Bool → Caller → List ℕ → Levels × Levels → Part (Unit {0})
 take_due right caller owners own rest = do
   ask (SetLabel (label_if right caller owners own.0))
   ask (SetClearance (clearance_if right caller owners own.1))
   rest tt
 
--- what is replied behind the gate
+-- the reply after the gate was entered
 abbrev pub reply_if : Bool → Reply
 reply_if true = Done
 reply_if false = Refused EAUTH
 
 -- A login as user i, who owns the categories of these users and groups: the thread asks for its own labels, enters the gate of the
--- user, reads the user's password, which the gate lets it read, and takes the labels that are its due.
+-- user, reads the user's password, which the gate lets it read, and takes the expected labels.
 unfoldable pub login_as_program : Caller → ℕ → List ℕ → List ℕ → Program
 login_as_program caller i owners password = do
   own ← ask OwnLabel
@@ -95,7 +95,7 @@ login_as_program caller i owners password = do
   take_due right caller owners own
   Answers (reply_if right)
 
--- a login as the user of this name at a place, if there is one
+-- a login as the user at this place of the list of users; where there is none, ENOENT
 abbrev pub login_at : Accounts → Caller → Name → List ℕ → Option ℕ → Program
 login_at accounts caller name password None = Answers (Refused ENOENT)
 login_at accounts caller name password (Some place) = login_as_program caller (place + 1) (owners_of accounts (place + 1) name) password

@@ -31,11 +31,11 @@ root_category = 1
 abbrev pub declared : Accounts → ℕ
 declared accounts = length accounts.users + length accounts.groups
 
--- where there are so many users and groups together, the category that process 0 owns to keep its secrets
+-- the category that process 0 owns to keep its secrets, with this many users and groups together
 abbrev pub own_read_category : ℕ → ℕ
 own_read_category owners = 4 + 2 * owners
 
--- and the one that it owns to keep its objects from being written
+-- the category that process 0 owns to keep its objects from being written
 abbrev pub own_write_category : ℕ → ℕ
 own_write_category owners = 5 + 2 * owners
 
@@ -48,7 +48,7 @@ at_both level (i ∷ owners) = (read_category i, level) ∷ (write_category i, l
 abbrev pub owners_label : List ℕ → Levels
 owners_label owners = labelled (at_both Star owners) L1
 
--- and the clearance of what owns them
+-- the clearance of what owns the categories of these users and groups
 abbrev pub owners_clearance : List ℕ → Levels
 owners_clearance owners = labelled (at_both L3 owners) L2
 
@@ -56,7 +56,7 @@ owners_clearance owners = labelled (at_both L3 owners) L2
 abbrev pub gate_label : Accounts → ℕ → Name → Levels
 gate_label accounts i name = owners_label (owners_of accounts i name)
 
--- and the clearance of that gate
+-- the clearance of the gate of user i
 abbrev pub gate_clearance : Accounts → ℕ → Name → Levels
 gate_clearance accounts i name = owners_clearance (owners_of accounts i name)
 
@@ -68,7 +68,7 @@ segment label bytes = Some (record { label = label; kind = Segment bytes })
 abbrev pub container : Levels → List ℕ → Found
 container label numbers = Some (record { label = label; kind = Container (set.from_list numbers) })
 
--- 1 is the root container, which links all that boot made in it: 3 to 4 + 2n, and 6 + 2n; 2 is nothing, since the boot thread is gone
+-- 1 is the root container, which links what boot made in it: 3 to 4 + 2n, and 6 + 2n; 2 is nothing, since the boot thread is gone
 abbrev pub of_root : ℕ → List Found
 of_root n = container (written_by root_category) (range_with_len 3 (2 + 2 * n) ++ (6 + 2 * n) ∷ []) ∷ None ∷ []
 
@@ -111,7 +111,7 @@ group_entry users k group =
     ++ to_be_bytes w64 (read_category (group_owner (length users) k)) ++ to_be_bytes w64 (write_category (group_owner (length users) k))
     ++ length group.members ∷ numbers_among 1 users group.members
 
--- the groups in the user table, which has them only where a group is: a zero, which is no name's length, and the groups
+-- the groups in the user table: nothing where there is no group; else a zero, which is no name's length, and the groups
 abbrev pub group_part : List User → List Group → List ℕ
 group_part users [] = []
 group_part users (group ∷ groups) = 0 ∷ numbered (group_entry users) 1 (group ∷ groups)
@@ -133,7 +133,7 @@ abbrev pub first_process_bytes : ℕ → ℕ → List ℕ
 first_process_bytes internal thread = (114 ∷ 0 ∷ 0 ∷ []) ++ to_be_bytes w64 internal ++ to_be_bytes w64 thread
 
 -- 6 + 2n is the container of process 0, 7 + 2n its internal container, 8 + 2n its thread, which owns its own two categories alone, and
--- 9 + 2n its process segment; its categories come behind those of all users and groups
+-- 9 + 2n its process segment; its categories come after those of all users and groups
 abbrev pub of_process : ℕ → ℕ → List Found
 of_process n owners =
     container (written_by (own_write_category owners)) ((7 + 2 * n) ∷ (9 + 2 * n) ∷ [])
@@ -153,12 +153,12 @@ start_objects accounts =
     ++ of_directory (length accounts.users) accounts
     ++ of_process (length accounts.users) (declared accounts)
 
--- what a table has at each number: the first entry is that of 1, and at 0 is nothing
+-- what a table has at each number: its first entry is at 1, and nothing is at 0
 abbrev pub object_at : List Found → Objects Levels
 object_at objects zero = None
 object_at objects (suc k) = slice_index_or objects k None
 
--- the state whose objects stand in this table, and the next number is the one behind it
+-- the state whose objects are those of this table, and whose next number is the one after them
 abbrev pub state_with : List Found → ℕ → State
 state_with objects next_category = record { objects = object_at objects; next_object = 1 + length objects; next_category = next_category }
 
@@ -166,7 +166,7 @@ state_with objects next_category = record { objects = object_at objects; next_ob
 abbrev pub start_state : Accounts → State
 start_state accounts = state_with (start_objects accounts) (6 + 2 * declared accounts)
 
--- where `/` and process 0 are found, where there are so many users
+-- where `/` and process 0 are found, with this many users
 abbrev pub roots_of : ℕ → Roots
 roots_of users = record {
   slash = record { container = 4 + 2 * users; listing = 5 + 2 * users };

@@ -29,21 +29,21 @@ use std::alloc::{AllocError, Global};
 /// The category that the boot thread alone owns.
 const BOOT: u64 = 1;
 
-/// The root container, which the empty kernel has.
+/// Returns the root container, which the empty kernel has.
 fn root_container() -> ObjId
     ensures { result ≡ root_number }
 {
     ObjId::new(1)
 }
 
-/// The boot thread, which the empty kernel has.
+/// Returns the boot thread, which the empty kernel has.
 fn boot_thread() -> ObjId
     ensures { result ≡ boot_thread_number }
 {
     ObjId::new(2)
 }
 
-/// What a raw call of boot answered. None is denied, so boot stops only where memory ran out.
+/// Returns the answer of a raw call of boot. None is denied, so boot stops only where memory runs out.
 fn granted<A: Drop>(answer: Result<A, Refusal>) -> Result<A, Stopped>
     requires { IsUndenied answer }
     ensures { Passes answer result }
@@ -55,7 +55,7 @@ fn granted<A: Drop>(answer: Result<A, Refusal>) -> Result<A, Stopped>
     }
 }
 
-/// Makes a category, which the boot thread owns from then on.
+/// Makes a category, which the boot thread then owns.
 fn make_category<S: LabelStore + Drop>(kernel: &mut Kernel<S>) -> Result<Category, Stopped>
     requires { Allows kernel.old calls.MakeCategory }
     ensures { Grants kernel.old kernel.new calls.MakeCategory result (IsNextCategory kernel.old) }
@@ -74,7 +74,7 @@ fn make_two_categories<S: LabelStore + Drop>(kernel: &mut Kernel<S>) -> Result<(
     Ok(())
 }
 
-/// Makes two categories so often.
+/// Makes this many pairs of categories.
 fn make_categories<S: LabelStore + Drop>(
     kernel: &mut Kernel<S>,
     count: usize,
@@ -172,7 +172,7 @@ fn make_user_table<S: LabelStore + Drop>(
     granted(kernel.make_segment(alloc, boot_thread(), root_container(), guarded, table))
 }
 
-/// The label of what the first user alone may write, and everyone may read.
+/// Returns the label of what the first user alone may write, and everyone may read.
 fn first_users_label(alloc: Global) -> Result<Label, AllocError>
     ensures { IfOk result (λ label. label ≡ written_by (write_category 1)) }
 {
@@ -220,7 +220,7 @@ fn make_directory<S: LabelStore + Drop>(
     Ok(Place { container, listing })
 }
 
-/// The bytes of the process segment of process 0: it runs, and no child was born.
+/// Returns the bytes of the process segment of process 0: it runs, and no child was born.
 fn process_bytes(alloc: Global, internal: ObjId, thread: ObjId) -> Result<Bytes, AllocError>
     ensures { IfOk result (λ b. b ≡ first_process_bytes internal thread) }
 {
@@ -296,7 +296,7 @@ fn make_status<S: LabelStore + Drop>(
 }
 
 /// Makes process 0: its two categories, its container, its internal container, its thread, and its
-/// process segment. It answers where the process is found.
+/// process segment. Returns where the process is found.
 fn make_process<S: LabelStore + Drop>(
     alloc: Global,
     kernel: &mut Kernel<S>,
@@ -318,7 +318,7 @@ fn make_process<S: LabelStore + Drop>(
     })
 }
 
-/// Takes the boot thread away.
+/// Unlinks the boot thread.
 fn unlink_boot_thread<S: LabelStore + Drop>(
     alloc: Global,
     kernel: &mut Kernel<S>,
@@ -331,7 +331,7 @@ fn unlink_boot_thread<S: LabelStore + Drop>(
 
 /// Makes the raw calls of boot on the empty kernel: the boot thread makes two categories for nobody,
 /// for each user and for each group, the users' passwords and gates, the user table, `/`, and process
-/// 0, and takes itself away. It returns where `/` and process 0 are found. Where it stops, each call that
+/// 0, and unlinks itself. Returns where `/` and process 0 are found. Where it stops, each call that
 /// it made was granted.
 fn boot_on<S: LabelStore + Drop>(
     alloc: Global,

@@ -7,7 +7,7 @@ use histar_label::{Label, Level};
 use histar_layout::{read_category, write_category};
 use std::alloc::{AllocError, Global};
 
-/// The label that a gate gives, and its clearance: it owns the categories of these users and groups.
+/// Returns the label and the clearance of a gate: the label owns the categories of these users and groups.
 pub(crate) fn gate_labels(alloc: Global, owners: &[u8]) -> Result<(Label, Label), AllocError>
     ensures { IfOk result (λ gate. (gate.0 ≡ owners_label owners.now) × (gate.1 ≡ owners_clearance owners.now)) }
 {
@@ -16,7 +16,7 @@ pub(crate) fn gate_labels(alloc: Global, owners: &[u8]) -> Result<(Label, Label)
     Ok((given, clearance))
 }
 
-/// The label with one level at both categories of each of these users and groups, and another at all
+/// Returns the label with one level at both categories of each of these users and groups, and another at all
 /// others.
 fn label_at_both(
     alloc: Global,

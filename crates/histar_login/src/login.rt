@@ -19,8 +19,8 @@ use histar_process::{Caller, categories_of, joined};
 use histar_syscall::Kernel;
 use std::alloc::{AllocError, Global};
 
-/// The label and the clearance of a process's thread as a user who owns the categories of these users and
-/// groups: it owns these and the process's own.
+/// Returns the label and the clearance of a process's thread as a user with the categories of these users
+/// and groups: it owns these and the process's own.
 fn user_labels(alloc: Global, caller: &Caller, owners: &[u8]) -> Result<(Label, Label), AllocError>
     ensures { IfOk result (λ own. (own.0 ≡ user_label caller.now owners.now)
         × (own.1 ≡ user_clearance caller.now owners.now)) }
@@ -39,7 +39,7 @@ fn password_segment(number: u8) -> ObjId
     ObjId::new(1 + 2 * u64::from(number))
 }
 
-/// The labels that a thread hands over to enter a gate.
+/// The labels with which a thread enters a gate.
 #[derive(Drop)]
 struct EntryLabels {
     /// The label that it wants.
@@ -104,8 +104,8 @@ fn ask_password<S: LabelStore + Drop>(
     Ok(is_password(&kept, password))
 }
 
-/// Returns the label and the clearance that a thread takes behind the gate: the user's where the password is
-/// right, and else its own again.
+/// Returns the label and the clearance that a thread takes after entering the gate: the user's where the
+/// password is right, and else its own again.
 fn due_labels(
     alloc: Global,
     right: bool,
@@ -122,7 +122,7 @@ fn due_labels(
     Ok(own)
 }
 
-/// Gives the thread the label and the clearance that are its due.
+/// Gives the thread the label and the clearance that are expected: the user's, or its own again.
 fn take_due<S: LabelStore + Drop>(
     alloc: Global,
     kernel: &mut Kernel<S>,
@@ -139,7 +139,7 @@ fn take_due<S: LabelStore + Drop>(
     Ok(())
 }
 
-/// Returns the reply behind the gate.
+/// Returns the reply after the gate was entered.
 fn reply_if(right: bool) -> Reply
     ensures { result ≡ reply_if right }
 {
@@ -158,8 +158,8 @@ fn is_password(kept: &Bytes, password: Password) -> bool
 
 /// Gives the thread of a process the label and the clearance of a user, by the user's password: ENOENT
 /// where no user has the name, EACCES where the user's gate doesn't let the thread in, EAUTH where the
-/// password is another; the thread has then its own label and clearance again. Who logs in owns the
-/// categories of the user and of its groups, those of no other user, and holds no job.
+/// password is another; the thread then has its own label and clearance again. After a login the thread
+/// owns the categories of the user and of its groups, those of no other user, and is in no job.
 pub fn login<S: LabelStore + Drop>(
     alloc: Global,
     kernel: &mut Kernel<S>,
@@ -178,7 +178,7 @@ pub fn login<S: LabelStore + Drop>(
     login_as(alloc, kernel, caller, number, owners.as_slice(), password)
 }
 
-/// Logs in as the user of this number, who owns the categories of these users and groups.
+/// Logs in as the user of this number, which owns the categories of these users and groups.
 fn login_as<S: LabelStore + Drop>(
     alloc: Global,
     kernel: &mut Kernel<S>,

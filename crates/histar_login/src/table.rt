@@ -1,5 +1,5 @@
-//! The bytes of the user table: who the users are, which groups they are in, and where boot left what
-//! is theirs.
+//! The bytes of the user table: who the users are, which groups they are in, and where boot left their
+//! objects.
 ghost use Rattle.std.specs.Prelude.{◌≡◌, ◌+◌, ◌<◌, ◌≤◌, ◌++◌, length, IfOk, OnOk};
 ghost use Rattle.histar_flat.specs.Accounts.{most_groups, most_users};
 ghost use Rattle.histar_login.specs.Start.{numbers_among, user_entry, group_entry, group_part, user_table};
@@ -31,7 +31,7 @@ fn push_user(
     Ok(())
 }
 
-/// Adds the numbers of the members of a group, which rise.
+/// Adds the numbers of a group's members, in rising order.
 fn push_members(table: &mut Vec<u8>, users: &[User], group: &Group) -> Result<(), AllocError>
     requires { length users.now ≤ most_users }
     ensures { OnOk result (table.new.items
@@ -69,7 +69,7 @@ fn push_group(
     push_members(table, users, group)
 }
 
-/// Adds the groups to the user table, which has a zero before them where a group is.
+/// Adds the groups to the user table, with a zero before them if there is a group.
 fn push_groups(table: &mut Vec<u8>, accounts: &Accounts) -> Result<(), AllocError>
     ensures adds { OnOk result (table.new.items
         ≡ table.old.items ++ group_part accounts.now.users accounts.now.groups) }
@@ -86,7 +86,7 @@ fn push_groups(table: &mut Vec<u8>, accounts: &Accounts) -> Result<(), AllocErro
     Ok(())
 }
 
-/// The bytes of the user table: nobody first, then the users in their order, and then the groups.
+/// Returns the bytes of the user table: nobody first, then the users in their order, and then the groups.
 pub(crate) fn user_table(alloc: Global, accounts: &Accounts) -> Result<Bytes, AllocError>
     ensures value { IfOk result (λ b. b ≡ user_table accounts.now) }
 

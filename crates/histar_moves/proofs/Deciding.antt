@@ -1,4 +1,4 @@
--- How the code of a call goes on, or is refused, by what it has decided with no raw call.
+-- How the code of a call goes on, or is refused, by what it decided with no raw call.
 use Rattle.std.proofs.Common.{◌≡◌, ℕ, Result, Ok, Err, subst}
 use Rattle.histar_flat.specs.declared.replies.Errno.{Errno}
 use Rattle.histar_flat.specs.declared.replies.Reply.{Reply}
@@ -17,7 +17,7 @@ module _ {A : Type 0} (t : ℕ) (decided : Result A Errno) (rest : A → Program
       → Runs (rest x) old new t result → Runs (given decided rest) old new t result
   goes_on old new x is result runs = subst (λ (d : Result A Errno). Runs (given d rest) old new t result) is runs
 
-  -- or is refused
+  -- the call is refused by what was decided
   pub is_refused : (k : KernelModel) (errno : Errno) → Err errno ≡ decided → Runs (given decided rest) k k t (settled (Err (Refused errno)))
   is_refused k errno is =
       subst (λ (d : Result A Errno). Runs (given d rest) k k t (settled (Err (Refused errno)))) is

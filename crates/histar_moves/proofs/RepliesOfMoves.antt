@@ -39,11 +39,11 @@ entry_replies roots (name ∷ parent) rest obeys = walk_replies roots parent _ (
     by directory None = (refl, refl)
     by directory (Some target) = obeys (record { place = directory.place; entries = directory.entries; name = name; target = target })
 
--- and so does the last part of a call, which writes a directory and is done
+-- the last part of a call, which writes a directory and is done, replies to its refusals
 written_replies : (place : Place) (entries : Entries) → RepliesToRefusals (write_entries place entries (λ _. Answers Done))
 written_replies place entries = ask_replies (Write place.container place.listing 0 (spelling entries)) (λ _. Answers Done) (λ done. (refl, refl))
 
--- and that which takes an entry away
+-- the part that removes an entry replies to its refusals
 away_replies : (entry : FoundEntry) → RepliesToRefusals (take_away entry (λ _. Answers Done))
 unfolding take_away
 away_replies entry =
@@ -74,7 +74,7 @@ rename_program_replies roots path name = entry_replies roots path _ (λ entry. b
     by entry None = written_replies entry.place (map.insert (map.remove entry.entries entry.name) name entry.target)
     by entry (Some target) = (refl, refl)
 
--- and that which does so where a directory is empty
+-- the part that removes the entry of an empty directory replies to its refusals
 empty_replies : (entry : FoundEntry) (empty : Bool)
     → RepliesToRefusals
     (given {A = Unit {0}} (if empty then Ok tt else Err ENOTEMPTY) (λ _. take_away entry (λ _. Answers Done)))

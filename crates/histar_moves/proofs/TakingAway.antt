@@ -1,4 +1,4 @@
--- How the code that looks for an entry, and takes it away, runs its parts.
+-- How the code that looks for an entry, and removes it, runs its parts.
 use Rattle.std.proofs.Common.{◌≡◌, ℕ, Some, Result, Ok, Err, subst}
 use Rattle.std.specs.FinMap as map
 use Rattle.histar_flat.specs.Words.{Name}
@@ -34,7 +34,7 @@ entry_of directory name target = record { place = directory.place; entries = dir
 abbrev pub within : Name → Directory → Part FoundEntry
 within name directory rest = given (entry_at (target_named directory name)) (λ target. rest (entry_of directory name target))
 
--- entries are written that are those which are due
+-- the entries that are written are the expected ones
 pub writes_due : (t : ℕ) (old new : KernelModel) (place : Place) (entries due : Entries) → entries ≡ due
     → (result : Result (Unit {0}) CallError) → RunsPart (write_entries place entries) old new t result
     → RunsPart (write_entries place due) old new t result
@@ -42,7 +42,7 @@ writes_due t old new place entries due is result runs =
     subst (λ (dir : Entries). RunsPart {A = Unit {0}} (write_entries place dir) old new t result) is runs
 
 module _ (t : ℕ) (old new : KernelModel) (entry : FoundEntry) where
-  -- what comes after the object is taken out
+  -- what comes after the object is unlinked
   abbrev gone : Unit {0} → Part (Unit {0})
   gone _ rest = write_entries entry.place (map.remove entry.entries entry.name) rest
 
@@ -52,14 +52,14 @@ module _ (t : ℕ) (old new : KernelModel) (entry : FoundEntry) where
       → RunsPart (ask (Unlink entry.place.container (object_of entry.target))) old new t result
   unlinks object is result runs = subst (λ (o : ℕ). RunsPart {A = Unit {0}} (ask (Unlink entry.place.container o)) old new t result) is runs
 
-  -- the object was not taken out
+  -- the object was not unlinked
   pub unlink_fails : (call_error : CallError)
       → RunsPart (ask (Unlink entry.place.container (object_of entry.target))) old new t (Err call_error)
       → RunsPart (take_away entry) old new t (Err call_error)
   unfolding take_away
   unlink_fails call_error first = part_fails t (ask (Unlink entry.place.container (object_of entry.target))) old new gone call_error first
 
-  -- it was, and the directory is written
+  -- the object was unlinked, and the directory is written
   pub takes_away : (mid : KernelModel)
       → RunsPart (ask (Unlink entry.place.container (object_of entry.target))) old mid t (Ok tt)
       → (result : Result (Unit {0}) CallError)
@@ -68,10 +68,10 @@ module _ (t : ℕ) (old new : KernelModel) (entry : FoundEntry) where
   takes_away mid first result second =
       then_part t (ask (Unlink entry.place.container (object_of entry.target))) old new gone mid tt first result second
 
--- what comes after the directory that is to be taken away was read
+-- what comes after the directory that is to be removed was read
 abbrev pub if_empty : FoundEntry → Directory → Program
 if_empty entry directory = given (must_be_empty directory.entries) (λ _. take_away entry (λ _. Answers Done))
 
--- what comes after its place is known
+-- what comes after the place of the directory is known
 abbrev pub of_directory : FoundEntry → Place → Program
 of_directory entry place = read_directory place (if_empty entry)

@@ -1,4 +1,4 @@
--- What the kernel's refusals come to in these programs.
+-- The replies to which the kernel's refusals lead in these programs.
 use Rattle.histar_flat.specs.Words.{Name, Path}
 use Rattle.histar_calls.specs.declared.roots.Roots.{Roots}
 use Rattle.histar_calls.specs.Laws.{RepliesToRefusals}

@@ -30,7 +30,7 @@ abbrev pub must_be_file : Target → Result (Unit {0}) Errno
 must_be_file (File file) = Ok tt
 must_be_file (Directory container listing) = Err EISDIR
 
--- or a directory
+-- what the entry leads to must be a directory
 abbrev pub must_be_directory : Target → Result Place Errno
 must_be_directory (File file) = Err ENOTDIR
 must_be_directory (Directory container listing) = Ok (record { container = container; listing = listing })
@@ -39,12 +39,12 @@ must_be_directory (Directory container listing) = Ok (record { container = conta
 abbrev pub must_be_empty : Entries → Result (Unit {0}) Errno
 must_be_empty entries = if map.len entries == 0 then Ok tt else Err ENOTEMPTY
 
--- and a name must lead nowhere
+-- a name must lead nowhere
 abbrev pub must_be_free : Option Target → Result (Unit {0}) Errno
 must_be_free None = Ok tt
 must_be_free (Some target) = Err EEXIST
 
--- the object of the entry is taken out of the directory's container, with all below it, and the directory is written without the entry
+-- the entry's object is unlinked from the directory's container, with all below it, and the directory is written without the entry
 unfoldable pub take_away : FoundEntry → Part (Unit {0})
 take_away entry rest = do
   ask (Unlink entry.place.container (object_of entry.target))

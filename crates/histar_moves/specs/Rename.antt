@@ -8,7 +8,7 @@ use Rattle.histar_calls.specs.Programs.Program.{Answers}
 use Rattle.histar_calls.specs.Parts.{◌>>=◌, ◌>>◌, given, write_entries}
 use Rattle.histar_moves.specs.Parts.{find_entry, must_be_free}
 
--- the entry is found, its directory must not have the new name, and is written with the entry under the new name in place of the old
+-- the entry is found; its directory must not have the new name, and is written with the entry under the new name in place of the old
 unfoldable pub rename_program : Roots → Path → Name → Program
 rename_program roots path name = do
   entry ← find_entry roots path

@@ -7,7 +7,7 @@ use Rattle.histar_calls.specs.Programs.Program.{Answers}
 use Rattle.histar_calls.specs.Parts.{◌>>=◌, ◌>>◌, given, read_directory}
 use Rattle.histar_moves.specs.Parts.{find_entry, must_be_directory, must_be_empty, take_away}
 
--- the entry is found, which must be a directory's; that is read, must have no entry, and is taken away
+-- the entry is found, and must be a directory's; the directory is read, must have no entry, and is removed
 unfoldable pub rmdir_program : Roots → Path → Program
 rmdir_program roots path = do
   entry ← find_entry roots path

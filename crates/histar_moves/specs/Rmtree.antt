@@ -7,7 +7,7 @@ use Rattle.histar_calls.specs.Programs.Program.{Answers}
 use Rattle.histar_calls.specs.Parts.{◌>>=◌, ◌>>◌}
 use Rattle.histar_moves.specs.Parts.{find_entry, take_away}
 
--- the entry is found, a file's or a directory's, and is taken away
+-- the entry is found, a file's or a directory's, and is removed
 unfoldable pub rmtree_program : Roots → Path → Program
 rmtree_program roots path = do
   entry ← find_entry roots path

@@ -7,7 +7,7 @@ use Rattle.histar_calls.specs.Programs.Program.{Answers}
 use Rattle.histar_calls.specs.Parts.{◌>>=◌, ◌>>◌, given}
 use Rattle.histar_moves.specs.Parts.{find_entry, must_be_file, take_away}
 
--- the entry is found, which must be a file's, and is taken away
+-- the entry is found, must be a file's, and is removed
 unfoldable pub unlink_program : Roots → Path → Program
 unlink_program roots path = do
   entry ← find_entry roots path

@@ -26,7 +26,7 @@ pub struct FoundEntry {
 }
 
 impl FoundEntry {
-    /// Whether the entry is a file's. EISDIR for a directory's.
+    /// Checks that the entry is a file's. EISDIR for a directory's.
     pub fn must_be_file(&self) -> Result<(), Errno>
         ensures { result ≡ must_be_file self.now.target }
     {
@@ -36,7 +36,7 @@ impl FoundEntry {
         }
     }
 
-    /// The place of the directory that the entry leads to. ENOTDIR for a file's.
+    /// Returns the place of the directory that the entry leads to. ENOTDIR for a file's.
     pub fn must_be_directory(&self) -> Result<Place, Errno>
         ensures { result ≡ must_be_directory self.now.target }
     {
@@ -46,7 +46,7 @@ impl FoundEntry {
         }
     }
 
-    /// Whether the directory of the entry can have one of this name. EEXIST where it has one.
+    /// Checks that the directory of the entry has none of this name. EEXIST where it has one.
     pub fn must_be_free(&self, name: &Name) -> Result<(), Errno>
         ensures { result ≡ must_be_free (map.get self.now.entries name.now) }
     {
@@ -56,7 +56,7 @@ impl FoundEntry {
         }
     }
 
-    /// The entries with this one under another name.
+    /// Returns the entries with this one under another name.
     pub fn renamed(self, alloc: Global, name: &Name) -> Result<Dir, AllocError>
         requires { map.get self.entries self.name ≡ Some self.target }
         ensures { IfOk result (λ entries. entries
@@ -74,7 +74,7 @@ impl FoundEntry {
     }
 }
 
-/// Whether a directory has no entry. ENOTEMPTY where it has one.
+/// Checks that a directory has no entry. ENOTEMPTY where it has one.
 pub fn must_be_empty(entries: &Dir) -> Result<(), Errno>
     ensures { result ≡ must_be_empty entries.now }
 {
@@ -85,8 +85,8 @@ pub fn must_be_empty(entries: &Dir) -> Result<(), Errno>
     }
 }
 
-/// The entry of a path: EBUSY where the path is `/`, ENOENT where nothing stands there, and what refuses
-/// the walk.
+/// Finds the entry of a path: EBUSY where the path is `/`, ENOENT where nothing is there, and the errno of
+/// the walk where that is refused.
 pub fn find_entry<S: LabelStore + Drop>(
     alloc: Global,
     kernel: &mut Kernel<S>,
@@ -111,7 +111,7 @@ pub fn find_entry<S: LabelStore + Drop>(
     })
 }
 
-/// Takes the object of an entry out of its directory's container, with all below it, and writes the
+/// Unlinks the object of an entry from its directory's container, with all below it, and writes the
 /// directory without the entry: EACCES where the kernel doesn't let the thread modify these.
 pub fn take_away<S: LabelStore + Drop>(
     alloc: Global,

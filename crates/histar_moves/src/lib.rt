@@ -1,4 +1,4 @@
-//! The calls of the Unix library that take entries of directories away or rename them, each made of raw
+//! The calls of the Unix library that remove or rename entries of directories, each made of raw
 //! calls that the kernel grants or refuses.
 //!
 //! Each call runs its program, of the same name in `specs/`: what it asks the kernel, one raw call after

@@ -1,4 +1,4 @@
-//! Giving an entry another name.
+//! Renaming an entry.
 ghost use Rattle.histar_calls.specs.Programs.{Runs};
 ghost use Rattle.histar_calls.specs.Refusals.{settled};
 ghost use Rattle.histar_moves.specs.Rename.{rename_program};
@@ -11,9 +11,9 @@ use histar_object::ObjId;
 use histar_syscall::Kernel;
 use std::alloc::Global;
 
-/// Gives what stands at a path another name in its directory. EBUSY for `/`, ENOENT or ENOTDIR where the
-/// way to it breaks off, ENOENT where nothing stands there, EEXIST where its directory has an entry of the
-/// new name, be it this one, EACCES where the kernel doesn't let the thread observe a directory on the way
+/// Gives the entry of a path another name in its directory. EBUSY for `/`, ENOENT or ENOTDIR where the
+/// way to it breaks off, ENOENT where nothing is there, EEXIST where its directory has an entry of the
+/// new name, even this one, EACCES where the kernel doesn't let the thread observe a directory on the way
 /// or modify the last one.
 pub fn rename<S: LabelStore + Drop>(
     alloc: Global,

@@ -1,4 +1,4 @@
-//! Taking an empty directory away.
+//! Removing an empty directory.
 ghost use Rattle.histar_calls.specs.Programs.{Runs};
 ghost use Rattle.histar_calls.specs.Refusals.{settled};
 ghost use Rattle.histar_moves.specs.Rmdir.{rmdir_program};
@@ -11,8 +11,8 @@ use histar_object::ObjId;
 use histar_syscall::Kernel;
 use std::alloc::Global;
 
-/// Takes an empty directory away. EBUSY for `/`, ENOENT or ENOTDIR where the way to it breaks off, ENOENT
-/// where nothing stands there, ENOTDIR for a file, EACCES where the kernel doesn't let the thread observe
+/// Removes an empty directory. EBUSY for `/`, ENOENT or ENOTDIR where the way to it breaks off, ENOENT
+/// where nothing is there, ENOTDIR for a file, EACCES where the kernel doesn't let the thread observe
 /// the directory or one on the way, ENOTEMPTY where it has an entry, EACCES where the kernel doesn't let
 /// the thread modify the directory above it.
 pub fn rmdir<S: LabelStore + Drop>(

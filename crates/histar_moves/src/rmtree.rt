@@ -1,4 +1,4 @@
-//! Taking away whatever stands at a path.
+//! Removing whatever is at a path.
 ghost use Rattle.histar_calls.specs.Programs.{Runs};
 ghost use Rattle.histar_calls.specs.Refusals.{settled};
 ghost use Rattle.histar_moves.specs.Rmtree.{rmtree_program};
@@ -11,8 +11,8 @@ use histar_object::ObjId;
 use histar_syscall::Kernel;
 use std::alloc::Global;
 
-/// Takes a file away, or a directory with all below it, whoever's that is. EBUSY for `/`, ENOENT or
-/// ENOTDIR where the way to it breaks off, ENOENT where nothing stands there, EACCES where the kernel
+/// Removes a file, or a directory with all below it, whoever owns that. EBUSY for `/`, ENOENT or
+/// ENOTDIR where the way to it breaks off, ENOENT where nothing is there, EACCES where the kernel
 /// doesn't let the thread observe a directory on the way or modify the last one.
 pub fn rmtree<S: LabelStore + Drop>(
     alloc: Global,

@@ -1,4 +1,4 @@
-//! Taking a file away.
+//! Removing a file.
 ghost use Rattle.histar_calls.specs.Programs.{Runs};
 ghost use Rattle.histar_calls.specs.Refusals.{settled};
 ghost use Rattle.histar_moves.specs.Unlink.{unlink_program};
@@ -11,8 +11,8 @@ use histar_object::ObjId;
 use histar_syscall::Kernel;
 use std::alloc::Global;
 
-/// Takes a file away. EBUSY for `/`, ENOENT or ENOTDIR where the way to it breaks off, ENOENT where
-/// nothing stands there, EISDIR for a directory, EACCES where the kernel doesn't let the thread observe a
+/// Removes a file. EBUSY for `/`, ENOENT or ENOTDIR where the way to it breaks off, ENOENT where
+/// nothing is there, EISDIR for a directory, EACCES where the kernel doesn't let the thread observe a
 /// directory on the way or modify the last one.
 pub fn unlink<S: LabelStore + Drop>(
     alloc: Global,

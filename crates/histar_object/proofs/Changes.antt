@@ -1,4 +1,4 @@
--- What objects are after a change at one number.
+-- Objects after a change at one number.
 use Rattle.std.proofs.Common.{◌≡◌, ◌≢◌, ℕ, ◌==◌, None, Some, inl, inr, refl, sym, ap, ◌∙◌, if◌then◌else◌}
 use Rattle.std.specs.Prelude.{option_map}
 use Rattle.std.proofs.lemmas.Bool.Decides.{eqb_tells}
@@ -17,7 +17,7 @@ module _ {L : Type 0} (objects : Objects L) (n : ℕ) where
   pub put_back : (o : Object L) → Some o ≡ objects n → put objects n o ≡ objects
   put_back o here i q = at_each q (Some o) (objects q) (objects q) (λ e. here ∙ ap objects (sym e)) (λ e. refl) i
 
-  -- to put the changed object is to change the object that is there
+  -- putting the changed object changes the object that is there
   pub put_changed : (f : Object L → Object L) (o : Object L) → Some o ≡ objects n → put objects n (f o) ≡ changed_at objects n f
   put_changed f o here i q = (elim (eqb_tells q n) as (λ _. put objects n (f o) q ≡ changed_at objects n f q) [
     | inl h ↦
@@ -26,6 +26,6 @@ module _ {L : Type 0} (objects : Objects L) (n : ℕ) where
     | inr h ↦ ap (λ b. if b then Some (f o) else objects q) h.0 ∙ sym (ap (λ b. if b then option_map f (objects q) else objects q) h.0)
   ]) i
 
-  -- where nothing is, nothing is after a change
+  -- where no object is, none is after a change
   pub none_changed : (f : Object L → Object L) (q : ℕ) → objects q ≡ None → changed_at objects n f q ≡ None
   none_changed f q none = at_each q (option_map f (objects q)) (objects q) None (λ e. ap (option_map f) none) (λ e. none)

@@ -1,4 +1,4 @@
--- Sets of numbers, as their keys are listed.
+-- Sets of numbers, by the lists of their keys.
 use Rattle.std.proofs.Common.{◌≡◌, ℕ, Bool, true, false, cond, List, [], ◌++◌, refl, sym, ap, subst, ◌∙◌}
 use Rattle.std.proofs.lemmas.List.{append-nil}
 use Rattle.std.proofs.lemmas.Map.Keys.{IsDistinct-from_sorted}
@@ -12,11 +12,11 @@ use Rattle.std.specs.FinSet.{nat_cmp-IsAntisymmetric}
 use Rattle.std.specs.BTreeMap.{is_at}
 use Rattle.histar_object.specs.Objects.{Numbers, IsListOf, AppendsAll}
 
--- whether a number is listed
+-- a number is listed
 abbrev pub is_listed : List ℕ → ℕ → Bool
 is_listed ks q = list_any (is_at (nat_cmp q)) ks
 
--- a set contains exactly what is listed
+-- a set contains exactly the listed numbers
 pub contains_listed : (ks : List ℕ) (q : ℕ) → set.contains (set.from_list {R = nat_cmp} ks) q ≡ is_listed ks q
 contains_listed ks q = set.contains-from_list nat_cmp_total ks q
 
@@ -32,7 +32,7 @@ neither : (b x : Bool) → cond b false x ≡ (not b && x)
 neither true x = refl
 neither false x = refl
 
--- a number more in the list is a number more in the set
+-- one more number in the list is one more in the set
 pub inserted : (old new : List ℕ) (n : ℕ)
     → ((q : ℕ) → is_listed new q ≡ cond (is_at (nat_cmp n) q) true (is_listed old q))
     → set.from_list {R = nat_cmp} new ≡ set.insert (set.from_list old) n
@@ -41,7 +41,7 @@ inserted old new n updates = set.same_set nat_cmp_total nat_cmp-IsAntisymmetric 
     ∙ (λ i. tied_back n q i || sym (contains_listed old q) i)
     ∙ sym (set.contains-insert nat_cmp_total (set.from_list old) n q))
 
--- a number less in the list is a number less in the set
+-- one number less in the list is one less in the set
 pub removed : (old new : List ℕ) (n : ℕ)
     → ((q : ℕ) → is_listed new q ≡ cond (is_at (nat_cmp n) q) false (is_listed old q))
     → set.from_list {R = nat_cmp} new ≡ set.remove (set.from_list old) n
@@ -57,7 +57,7 @@ lists_keys ks rise = record {
   once = subst (λ (e : ℕ → ℕ → Bool). IsDistinct e ks) (λ i x y. unsigned_tied x y i) (IsDistinct-from_sorted nat_cmp ks rise);
 }
 
--- a list that took all keys of a set
+-- a list to which all keys of a set were appended
 pub appended : (ks all left old new : List ℕ) (links : Numbers) → set.from_list ks ≡ links → all ≡ ks
     → IsStrictlySortedBy nat_cmp ks → left ≡ [] → new ++ left ≡ old ++ all → AppendsAll links old new
 appended ks all left old new links is all_is rise done e = record {

@@ -1,4 +1,4 @@
--- The slots of a list in places and of a map behind it: what is looked up in both, and that no number is there twice.
+-- Looking up slots in a list by places and in a map after it, where no number is there twice.
 use Prim.Native.Nat as Nat
 use Rattle.std.proofs.Common.{◌≡◌, ◌≢◌, ℕ, suc, ◌+◌, ◌<◌, ◌≤◌, Bool, true, false, cond, List, [], ◌∷◌, ◌++◌, length, Option, None, Some, inl, inr}
 use Rattle.std.proofs.Common.{refl, sym, ap, subst, ◌∙◌, arith}
@@ -21,7 +21,7 @@ slot_at slots q = lookup (nat_eq q) slots
 abbrev IsApart : ℕ → List (ℕ × ℕ) → Type 0
 IsApart n slots = AllByRecursion (λ m. nat_eq n m ≡ false) (keys_of slots)
 
--- the first, where it is found, or else the second
+-- the first, where it is found, and otherwise the second
 abbrev or_else : Option ℕ → Option ℕ → Option ℕ
 or_else None later = later
 or_else (Some k) later = Some k
@@ -40,7 +40,7 @@ second_none (Some k) b none = absurd (cc)
 unlike : (n q : ℕ) → q < n → nat_eq q n ≡ false
 unlike n q less = ne_eqb q n (λ e. omega (arith, e, less))
 
--- the list in places begins behind a number
+-- the list in places has no number before its first
 behind : (n q : ℕ) (xs : List (Option ℕ)) (fs : List (ℕ × ℕ)) → q < n → slot_at (numbered n xs ++ fs) q ≡ slot_at fs q
 behind n q [] fs less = refl
 behind n q (None ∷ xs) fs less = behind (suc n) q xs fs (omega (arith, less))
@@ -48,7 +48,7 @@ behind n q (Some k ∷ xs) fs less =
     ap (λ b. cond b (Some k) (slot_at (numbered (suc n) xs ++ fs) q)) (unlike n q less)
     ∙ behind (suc n) q xs fs (omega (arith, less))
 
--- a number's place in the list is found first, and then the map
+-- a number is looked up at its place in the list first, and then in the map
 ahead : (n j q : ℕ) (xs : List (Option ℕ)) (fs : List (ℕ × ℕ)) → q ≡ n + j → slot_at (numbered n xs ++ fs) q ≡ or_else (in_place xs j) (slot_at fs q)
 ahead n j q [] fs is = refl
 ahead n Nat.zero q (None ∷ xs) fs is = behind (suc n) q xs fs (omega (arith, is))
@@ -60,7 +60,7 @@ ahead n (suc j) q (Some k ∷ xs) fs is =
     let there : nat_eq q n ≡ false = ne_eqb q n (λ e. omega (arith, e, is)) in
     ap (λ b. cond b (Some k) (slot_at (numbered (suc n) xs ++ fs) q)) there ∙ ahead (suc n) j q xs fs (omega (arith, is))
 
--- the slot of a number is in its place of the list, or else in the map
+-- the slot of a number is in its place of the list, and otherwise in the map
 pub found_in_either : (q : ℕ) (xs : List (Option ℕ)) (fs : List (ℕ × ℕ)) → slot_at (numbered 0 xs ++ fs) q ≡ or_else (in_place xs q) (slot_at fs q)
 found_in_either q xs fs = ahead 0 q q xs fs (omega arith)
 
@@ -93,12 +93,12 @@ distinct_from n (Some k ∷ xs) fs once apart = (
 pub distinct_in_both : (xs : List (Option ℕ)) (fs : List (ℕ × ℕ)) → AreApart xs fs → IsDistinct nat_eq (keys_of (numbered 0 xs ++ fs))
 distinct_in_both xs fs are = distinct_from 0 xs fs are.once (λ j q k is found. are.apart q k (ap (in_place xs) (omega (arith, is)) ∙ found))
 
--- nothing is in no place, whether it is asked for or not
+-- a choice between two missing values is missing
 none_either : (b : Bool) → ◌≡◌ {A = Option ℕ} None (cond b None None)
 none_either true = refl
 none_either false = refl
 
--- a place more at the end of a list
+-- one more place at the end of a list
 pushed : (q : ℕ) (xs : List (Option ℕ)) (w : Option ℕ) → in_place (xs ++ w ∷ []) q ≡ cond (nat_eq (length xs) q) w (in_place xs q)
 pushed Nat.zero [] w = refl
 pushed (suc q) [] w = sym (ap (λ b. cond b w None) (eqb-zero-suc q))
@@ -113,29 +113,29 @@ emptied (suc q) Nat.zero (x ∷ xs) = sym (ap (λ b. cond b None (in_place xs q)
 emptied Nat.zero (suc i) (x ∷ xs) = sym (ap (λ b. cond b None x) (eqb-suc-zero i))
 emptied (suc q) (suc i) (x ∷ xs) = emptied q i xs ∙ sym (ap (λ b. cond b None (in_place xs q)) (eqb-suc-suc i q))
 
--- one place of nothing holds nothing
+-- a place without a slot has none
 pub nothing_placed : (q : ℕ) → in_place (None ∷ []) q ≡ None
 nothing_placed Nat.zero = refl
 nothing_placed (suc q) = refl
 
--- a number that has something in its place has a place
+-- a number that has a slot in its place has a place
 pub in_place_within : (q k : ℕ) (xs : List (Option ℕ)) → in_place xs q ≡ Some k → q < length xs
 in_place_within q k xs found = elim (slice_get_cases xs q).1 [
   | inl here ↦ here.1
   | inr past ↦ absurd (let both : None ≡ Some k = ap flat (sym past.1) ∙ found in cc)
 ]
 
--- what is found first changes
+-- the value found first changes
 first_changes : (b : Bool) (k : ℕ) (a c : Option ℕ) → or_else (cond b (Some k) a) c ≡ cond b (Some k) (or_else a c)
 first_changes true k a c = refl
 first_changes false k a c = refl
 
--- what is found second changes, where nothing is found first
+-- the value found second changes, where none is found first
 second_changes : (b : Bool) (w a c : Option ℕ) → (b ≡ true → a ≡ None) → or_else a (cond b w c) ≡ cond b w (or_else a c)
 second_changes true w a c none = ap (λ o. or_else o w) (none refl)
 second_changes false w a c none = refl
 
--- what is found first is no more, where nothing is found second
+-- the value found first goes, where none is found second
 first_leaves : (b : Bool) (a c : Option ℕ) → (b ≡ true → c ≡ None) → or_else (cond b None a) c ≡ cond b None (or_else a c)
 first_leaves true a c none = none refl
 first_leaves false a c none = refl
@@ -148,7 +148,7 @@ of_equal P n q holds equal = elim (eqb_tells n q) [
 ]
 
 module _ (xs : List (Option ℕ)) (fs : List (ℕ × ℕ)) where
-  -- a number that is found in neither has nothing in its place
+  -- a number that is found in neither has no slot in its place
   pub none_in_place : (n : ℕ) → slot_at (numbered 0 xs ++ fs) n ≡ None → in_place xs n ≡ None
   none_in_place n none = first_none (in_place xs n) (slot_at fs n) (sym (found_in_either n xs fs) ∙ none)
 
@@ -156,15 +156,15 @@ module _ (xs : List (Option ℕ)) (fs : List (ℕ × ℕ)) where
   pub none_in_map : (n : ℕ) → slot_at (numbered 0 xs ++ fs) n ≡ None → slot_at fs n ≡ None
   none_in_map n none = second_none (in_place xs n) (slot_at fs n) (sym (found_in_either n xs fs) ∙ none)
 
-  -- what is in its place is found
+  -- a slot in a number's place is found
   pub found_in_place : (n k : ℕ) → in_place xs n ≡ Some k → slot_at (numbered 0 xs ++ fs) n ≡ Some k
   found_in_place n k here = found_in_either n xs fs ∙ ap (λ a. or_else a (slot_at fs n)) here
 
-  -- where nothing is in its place, the map answers
+  -- where no slot is in its place, it is looked up in the map
   pub found_in_map : (n : ℕ) → in_place xs n ≡ None → slot_at (numbered 0 xs ++ fs) n ≡ slot_at fs n
   found_in_map n none = found_in_either n xs fs ∙ ap (λ a. or_else a (slot_at fs n)) none
 
-  -- where both answer the same for each number, they do together
+  -- where list and map each give the same for each number, they do together
   pub found_alike : (ys : List (Option ℕ)) (gs : List (ℕ × ℕ)) (q : ℕ) → in_place ys q ≡ in_place xs q → slot_at gs q ≡ slot_at fs q
       → slot_at (numbered 0 ys ++ gs) q ≡ slot_at (numbered 0 xs ++ fs) q
   found_alike ys gs q first second = found_in_either q ys gs ∙ (λ i. or_else (first i) (second i)) ∙ sym (found_in_either q xs fs)
@@ -179,7 +179,7 @@ module _ (xs : List (Option ℕ)) (fs : List (ℕ × ℕ)) where
         ∙ first_changes (nat_eq (length xs) q) k (in_place xs q) (slot_at fs q)
         ∙ (λ i. cond (nat_eq (at i) q) (Some k) (sym (found_in_either q xs fs) i))
 
-    -- the map changes at a number that has nothing in its place
+    -- the map changes at a number that has no slot in its place
     pub found_put : (gs : List (ℕ × ℕ)) (w : Option ℕ) → in_place xs n ≡ None → (q : ℕ) → slot_at gs q ≡ cond (nat_eq n q) w (slot_at fs q)
         → slot_at (numbered 0 xs ++ gs) q ≡ cond (nat_eq n q) w (slot_at (numbered 0 xs ++ fs) q)
     found_put gs w none q updated =
@@ -196,12 +196,12 @@ module _ (xs : List (Option ℕ)) (fs : List (ℕ × ℕ)) where
         ∙ ap (cond (nat_eq n q) None) (sym (found_in_either q xs fs))
 
   module _ (are : AreApart xs fs) where
-    -- list and map are apart still, where both answer the same for each number
+    -- list and map stay apart where both give the same for each number
     pub AreApart-alike : (ys : List (Option ℕ)) (gs : List (ℕ × ℕ)) → IsDistinct nat_eq (keys_of gs) → ((q : ℕ) → in_place ys q ≡ in_place xs q)
         → ((q : ℕ) → slot_at gs q ≡ slot_at fs q) → AreApart ys gs
     AreApart-alike ys gs once first second = record { once = once; apart = λ q k found. second q ∙ are.apart q k (sym (first q) ∙ found) }
 
-    -- and with a slot more at the end of the list
+    -- where a slot is added at the end of the list
     pub AreApart-pushed : (n k : ℕ) → length xs ≡ n → slot_at fs n ≡ None → AreApart (xs ++ Some k ∷ []) fs
     AreApart-pushed n k at none = record {
       once = are.once;
@@ -211,7 +211,7 @@ module _ (xs : List (Option ℕ)) (fs : List (ℕ × ℕ)) where
       ];
     }
 
-    -- and with another map, which changes at a number that has nothing in its place
+    -- where another map changes at a number that has no slot in its place
     pub AreApart-put : (n : ℕ) (gs : List (ℕ × ℕ)) (w : Option ℕ) → in_place xs n ≡ None → IsDistinct nat_eq (keys_of gs)
         → ((q : ℕ) → slot_at gs q ≡ cond (nat_eq n q) w (slot_at fs q)) → AreApart xs gs
     AreApart-put n gs w none once updated = record {
@@ -222,7 +222,7 @@ module _ (xs : List (Option ℕ)) (fs : List (ℕ × ℕ)) where
       ];
     }
 
-    -- and with a place that is emptied
+    -- and where a place is emptied
     pub AreApart-emptied : (n : ℕ) → AreApart (slice_set xs n None) fs
     AreApart-emptied n = record {
       once = are.once;

@@ -1,4 +1,4 @@
--- What is found in a table whose objects stand in slots, and how it changes with one number.
+-- Looking up objects in a table of slots, before and after a change of one number.
 use Rattle.std.proofs.Common.{◌≡◌, ◌≢◌, ℕ, true, false, cond, List, [], ◌∷◌, Option, None, Some, IsSome, ◌↔◌, inl, inr, if◌then◌else◌, refl, sym, ap}
 use Rattle.std.proofs.Common.{subst, ◌∙◌, arith}
 use Rattle.std.specs.Prelude.{◌==◌, nat_eq, is_some}
@@ -26,14 +26,14 @@ object_at es q = lookup (is_at (nat_cmp q)) es
 abbrev pub HasSlot : List (ℕ × ℕ) → List (ℕ × ℕ) → ℕ → Option ℕ → Type 0
 HasSlot es fs n w = (q : ℕ) → slot_at fs q ≡ cond (nat_eq n q) w (slot_at es q)
 
--- so all others keep theirs
+-- so all others keep their slots
 pub other_slots : (es fs : List (ℕ × ℕ)) (n : ℕ) (w : Option ℕ) → HasSlot es fs n w → (q : ℕ) → q ≢ n → slot_at fs q ≡ slot_at es q
 other_slots es fs n w updated q differs = elim (eqb_tells n q) [
   | inl same ↦ absurd (differs (sym same.1))
   | inr other ↦ updated q ∙ ap (λ b. cond b w (slot_at es q)) other.0
 ]
 
--- each slot that is told has an object
+-- each slot of a number has an object
 abbrev Stand : {X : Type 0} → (ℕ → Option X) → List (ℕ × ℕ) → Type 0
 Stand at slots = (q k : ℕ) → slot_at slots q ≡ Some k → IsSome (at k)
 
@@ -41,25 +41,25 @@ Stand at slots = (q k : ℕ) → slot_at slots q ≡ Some k → IsSome (at k)
 abbrev IsApart : ℕ → List (ℕ × ℕ) → Type 0
 IsApart n slots = AllByRecursion (λ m. nat_eq n m ≡ false) (keys_of slots)
 
--- all slots but s have the objects that they had
+-- all slots except s keep their objects
 abbrev KeepsOthers : {X : Type 0} → (ℕ → Option X) → (ℕ → Option X) → ℕ → Type 0
 KeepsOthers at new_at s = (k : ℕ) → k ≢ s → new_at k ≡ at k
 
--- nothing is not something
+-- a missing value is not there
 none_or_some : {A : Type 0} (k : A) → None ≡ Some k → ⊥
 none_or_some k h = cc
 
--- one number is told once
+-- a value that is there is one value
 one_some : (j k : ℕ) → Some j ≡ Some k → j ≡ k
 one_some j k h = cc
 
--- a number that is before the others stands at no later place
+-- a number that comes before the others has no slot among them
 none_behind : (n : ℕ) (slots : List (ℕ × ℕ)) → IsApart n slots → slot_at slots n ≡ None
 none_behind n [] apart = refl
 none_behind n (e ∷ slots) apart = ap (λ b. cond b (Some e.1) (slot_at slots n)) apart.0 ∙ none_behind n slots apart.1
 
 module _ {X : Type 0} (at : ℕ → Option X) where
-  -- the object of a slot that may be told
+  -- the object of a slot, if there is a slot
   abbrev pub found : Option ℕ → Option X
   found None = None
   found (Some k) = at k
@@ -76,7 +76,7 @@ module _ {X : Type 0} (at : ℕ → Option X) where
         | false ↦ rest
       ]
 
-  -- the slots behind the first one have objects too
+  -- the slots after the first one have objects too
   stands_behind : (e : ℕ × ℕ) (slots : List (ℕ × ℕ)) → IsApart e.0 slots → Stand at (e ∷ slots) → Stand at slots
   stands_behind e slots apart stands q k is = elim (eqb_tells q e.0) [
     | inl same ↦ absurd (none_or_some k (sym (none_behind e.0 slots apart) ∙ ap (λ n. slot_at slots n) (sym same.1) ∙ is))
@@ -92,19 +92,19 @@ module _ {X : Type 0} (at : ℕ → Option X) where
       let here : IsSome (at e.1) = stands e.0 e.1 (ap (λ b. cond b (Some e.1) (slot_at slots e.0)) (nat_eq_equiv.refl e.0)) in
       found_step e (at e.1) (placed at slots) q (slot_at slots q) refl here (found_by_slot slots once.1 (stands_behind e slots once.0 stands) q)
 
-  -- so it is in a table
+  -- so it is in a table, for each number
   pub lookup-placed : (slots : List (ℕ × ℕ)) → IsPlaced at slots → (q : ℕ) → object_at (placed at slots) q ≡ found (slot_at slots q)
   lookup-placed slots is q = found_by_slot slots is.once is.stands q
 
-  -- where the number has a slot, and that slot is told
+  -- where the number has a slot, it is the object of the slot
   pub found_at : (slots : List (ℕ × ℕ)) → IsPlaced at slots → (q k : ℕ) → Some k ≡ slot_at slots q → at k ≡ object_at (placed at slots) q
   found_at slots is q k here = ap found here ∙ sym (lookup-placed slots is q)
 
-  -- where the number has no slot
+  -- where the number has no slot, it has no object
   pub none_at : (slots : List (ℕ × ℕ)) → IsPlaced at slots → (q : ℕ) → slot_at slots q ≡ None → object_at (placed at slots) q ≡ None
   none_at slots is q none = lookup-placed slots is q ∙ ap found none
 
-  -- a slot that is told has an object
+  -- a slot of a number has an object
   slot_revealed : (o : Option ℕ) → ((k : ℕ) → o ≡ Some k → IsSome (at k)) → found o ≡ None → o ≡ None
   slot_revealed None stands none = refl
   slot_revealed (Some k) stands none = absurd (false≢true (ap is_some (sym none) ∙ stands k refl))
@@ -115,7 +115,7 @@ module _ {X : Type 0} (at : ℕ → Option X) where
 
 module _ {X : Type 0} (at new_at : ℕ → Option X) (es fs : List (ℕ × ℕ)) (was : IsPlaced at es) (kept : new_at ≡ at)
     (same : (q : ℕ) → slot_at fs q ≡ slot_at es q) where
-  -- slots are kept in another order, and their objects stay
+  -- slots in another order keep their objects in place
   pub IsPlaced-reordered : IsDistinct nat_eq (keys_of fs) → IsPlaced new_at fs
   IsPlaced-reordered once = record {
     once = once;
@@ -133,7 +133,7 @@ module _ {X : Type 0} (at new_at : ℕ → Option X) (es fs : List (ℕ × ℕ))
 
 -- One number changes: n, whose slot is s where it has or had one. It has the slot w then, and s has the object x.
 module _ {X : Type 0} (at new_at : ℕ → Option X) (es fs : List (ℕ × ℕ)) (n s : ℕ) (w : Option ℕ) (x : Option X) where
-  -- what a change of one number does to the slots of numbers and to the objects of slots
+  -- the facts of a change of one number: the slots of numbers and the objects of slots
   pub record ChangesOne : Type 0 where
     pub updated : HasSlot es fs n w
     pub changed : new_at s ≡ x
@@ -197,7 +197,7 @@ module _ {X : Type 0} (at new_at : ℕ → Option X) (es fs : List (ℕ × ℕ))
           (before.0, at_other before.0 (λ same. there.1 (one.own k (ap (λ m. slot_at es m) (sym same) ∙ before.1))) ∙ before.1))
     ]
 
-    -- the objects stand in slots still
+    -- the objects still have places
     pub IsPlaced-changed : IsDistinct nat_eq (keys_of fs) → IsPlaced new_at fs
     IsPlaced-changed once = record { once = once; stands = stands_after; apart = apart_after; named = named_after }
 
@@ -214,7 +214,7 @@ module _ {X : Type 0} (at new_at : ℕ → Option X) (es : List (ℕ × ℕ)) (w
   slot_apart : slot_at es n ≡ Some s → (q k : ℕ) → q ≢ n → slot_at es q ≡ Some k → k ≢ s
   slot_apart here q k differs is same = differs (was.apart q n k is (here ∙ ap Some (sym same)))
 
-  -- the number has no slot but the one
+  -- the number has no slot except this one
   slot_own : slot_at es n ≡ Some s → (k : ℕ) → slot_at es n ≡ Some k → k ≡ s
   slot_own here k is = one_some k s (sym is ∙ here)
 
@@ -271,7 +271,7 @@ module _ {X : Type 0} (at : ℕ → Option X) (slots : List (ℕ × ℕ)) (is : 
   pub slot_none : (q : ℕ) → (slot_at slots q ≡ None) ↔ (object_at (placed at slots) q ≡ None)
   slot_none q = (none_at at slots is q, no_slot at slots is q)
 
-  -- where there is no object, nothing is taken out
+  -- where there is no object, removing one changes nothing
   pub none_without : (n : ℕ) → slot_at slots n ≡ None → (q : ℕ)
       → object_at (placed at slots) q ≡ (if q == n then None else object_at (placed at slots) q)
   none_without n none q = elim (eqb_tells q n) [
@@ -281,7 +281,7 @@ module _ {X : Type 0} (at : ℕ → Option X) (slots : List (ℕ × ℕ)) (is : 
     | inr other ↦ sym (ap (λ b. if b then None else object_at (placed at slots) q) other.0)
   ]
 
--- a slab that has another value in place of one has as many
+-- a slab with one value replaced has as many values
 pub slab_len-with_value : {X : Type 0} (slab : Slab X) (k : ℕ) (x : X) → ContainsKey slab k → slab_len (with_value slab k x) ≡ slab_len slab
 slab_len-with_value slab k x present =
     let counted = sum_by-set (λ o. cond (is_some o) 1 0) slab.slots k (Some x) None (ContainsKey-within slab k present) in

@@ -1,4 +1,4 @@
--- What a table ends as, where one of its objects is lent.
+-- The state of a table at the end, where one of its objects is lent.
 use Rattle.std.specs.Prelude.{◌≡◌, ℕ, Option, OnSome}
 use Rattle.std.specs.Borrow.{LendsSo, MutBor, Fml, RattleType}
 use Rattle.histar_object.specs.contracts.table.Table as table
@@ -12,6 +12,6 @@ pub record ChangesObject {L : Type 0} (old : TableModel L) (id : ℕ) (o : Objec
   pub slots : slot_of new ≡ slot_of old
   pub room : new.room ≡ old.room
 
--- the table ends with the lent object as it was left, and with all else as it was; where none was lent, as it was
+-- the table ends with the lent object as it was left, and everything else as it was; where none was lent, the table stays
 abbrev pub LendsObject : (L : RattleType) → MutBor (TableModel L.Denot) → ℕ → Option (MutBor (Object L.Denot)) → Fml
 LendsObject L s id r = LendsSo (table.the_row L) (object.the_row L) s r (λ n o. OnSome r (ChangesObject s.now id o n)) (λ n. n ≡ s.now)

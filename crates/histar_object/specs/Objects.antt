@@ -1,4 +1,4 @@
--- Objects by number, what each says of itself, and how they change. L is what stands for a label.
+-- Objects by number, their parts, and their changes. L is the type of labels, or of Ids that stand for them.
 use Rattle.std.specs.Prelude.{◌≡◌, ℕ, ◌<◌, Bool, true, false, ◌==◌, nat_eq, List, [], ◌++◌, Option, None, Some, option_map, if◌then◌else◌}
 use Rattle.std.specs.Ordering.{nat_cmp}
 use Rattle.std.specs.List.{IsDistinct}
@@ -20,13 +20,13 @@ pub record IsListOf (numbers : List ℕ) (links : Numbers) : Type 0 where
   pub members : (q : ℕ) → is_member nat_eq numbers q ≡ set.contains links q
   pub once : IsDistinct nat_eq numbers
 
--- the new list is the old one, and then the numbers of a set
+-- the new list is the old one followed by the numbers of a set
 pub record AppendsAll (links : Numbers) (old new : List ℕ) : Type 0 where
   pub added : List ℕ
   pub is : new ≡ old ++ added
   pub listed : IsListOf added links
 
--- a table: its objects by number, the slot of each number, and how many objects more have room
+-- a table: its objects by number, the slot of each number, and the number of objects for which there is room
 pub record TableModel (L : Type 0) : Type 0 where
   pub objects : List (ℕ × Object L)
   pub slots : List (ℕ × ℕ)
@@ -36,7 +36,7 @@ pub record TableModel (L : Type 0) : Type 0 where
 abbrev pub Objects : Type 0 → Type 0
 Objects L = ℕ → Option (Object L)
 
--- bytes, and none where they are not told
+-- these bytes, and none where they are missing
 abbrev pub or_no_bytes : Option (List ℕ) → List ℕ
 or_no_bytes None = []
 or_no_bytes (Some bytes) = bytes
@@ -50,7 +50,7 @@ module _ {L : Type 0} where
   abbrev pub slot_of : TableModel L → ℕ → Option ℕ
   slot_of t q = lookup (nat_eq q) t.slots
 
-  -- there is room for one object more
+  -- there is room for one more object
   abbrev pub HasRoom : TableModel L → Type 0
   HasRoom t = 0 < t.room
 
@@ -70,16 +70,16 @@ module _ {L : Type 0} where
   abbrev pub changed_at : Objects L → ℕ → (Object L → Object L) → Objects L
   changed_at objects n f q = if q == n then option_map f (objects q) else objects q
 
-  -- a container that links one number more; no other object links any
+  -- a container that links one more number; another kind stays as it is
   abbrev pub kind_linking : ℕ → Kind L → Kind L
   kind_linking n (Container links) = Container (set.insert links n)
   kind_linking n kind = kind
 
-  -- an object with its label, and one link more if it is a container
+  -- an object with its label, and one more link if it is a container
   abbrev pub linking : ℕ → Object L → Object L
   linking n o = record { label = o.label; kind = kind_linking n o.kind }
 
-  -- a container that links one number no more; no other object links any
+  -- a container that links one number less; another kind stays as it is
   abbrev pub kind_unlinking : ℕ → Kind L → Kind L
   kind_unlinking n (Container links) = Container (set.remove links n)
   kind_unlinking n kind = kind
@@ -150,7 +150,7 @@ module _ {L : Type 0} where
   kind_links (Container links) = links
   kind_links kind = set.empty
 
-  -- what an object links: nothing, unless it is a container
+  -- the numbers that an object links: none, unless it is a container
   abbrev pub links_in : Option (Object L) → Numbers
   links_in None = set.empty
   links_in (Some o) = kind_links o.kind
@@ -164,7 +164,7 @@ module _ {L : Type 0} where
   bytes_there None = None
   bytes_there (Some o) = kind_bytes o.kind
 
-  -- the bytes of a segment, and none of anything else
+  -- the bytes of a segment; an object of another kind has none
   abbrev pub bytes_in : Option (Object L) → List ℕ
   bytes_in o = or_no_bytes (bytes_there o)
 
@@ -187,7 +187,7 @@ module _ {L : Type 0} where
   kind_entry (Gate clearance entry) = Some entry
   kind_entry kind = None
 
-  -- what a gate that is there gives to those who enter it
+  -- the entry of a gate that is there, which it gives to threads that enter it
   abbrev pub entry_there : Option (Object L) → Option Entry
   entry_there None = None
   entry_there (Some o) = kind_entry o.kind

@@ -1,4 +1,4 @@
--- How a table places its objects: each number has a slot, and each slot an object or none.
+-- The places of objects in a table: each number has a slot or none, and each slot an object or none.
 use Rattle.std.specs.Prelude.{◌≡◌, ℕ, nat_eq, List, [], ◌∷◌, Option, None, Some, IsSome, slice_get, refl, suc}
 use Rattle.std.specs.Coded.{Coded, code_by, coded×, coded_ℕ, coded_list}
 use Rattle.std.specs.List.{IsDistinct}
@@ -15,7 +15,7 @@ module _ {X : Type 0} where
   placed at [] = []
   placed at (e ∷ slots) = place e.0 (at e.1) (placed at slots)
 
-  -- each number has one slot, where its object is; no two numbers have one slot, and no object is without a number
+  -- each number has one slot, with its object; no two numbers have one slot, and no object is without a number
   pub record IsPlaced (at : ℕ → Option X) (slots : List (ℕ × ℕ)) : Type 0 where
     pub once : IsDistinct nat_eq (keys_of slots)
     pub stands : (q k : ℕ) → lookup (nat_eq q) slots ≡ Some k → IsSome (at k)
@@ -37,16 +37,16 @@ abbrev pub numbered : ℕ → List (Option ℕ) → List (ℕ × ℕ)
 numbered n [] = []
 numbered n (slot ∷ slots) = place n slot (numbered (suc n) slots)
 
--- what is there, where something is
+-- the inner value, where both are there
 abbrev pub flat : Option (Option ℕ) → Option ℕ
 flat None = None
 flat (Some slot) = slot
 
--- the slot in the place of a number
+-- the slot at the place of a number
 abbrev pub in_place : List (Option ℕ) → ℕ → Option ℕ
 in_place slots q = flat (slice_get slots q)
 
--- no number of the map is there twice, and none that has a slot in its place of the list is in the map too
+-- no number of the map is there twice, and none that has a slot in its place of the list is also in the map
 pub record AreApart (listed : List (Option ℕ)) (others : List (ℕ × ℕ)) : Type 0 where
   pub once : IsDistinct nat_eq (keys_of others)
   pub apart : (q k : ℕ) → in_place listed q ≡ Some k → lookup (nat_eq q) others ≡ None

@@ -56,7 +56,7 @@ with_own s t label clearance = record {
   next_category = s.next_category;
 }
 
--- the state in which one category more was made
+-- the state after one more category was made
 abbrev pub with_next_category : State → State
 with_next_category s = record { objects = s.objects; next_object = s.next_object; next_category = s.next_category + 1 }
 
@@ -68,7 +68,7 @@ with_segment_bytes s o bytes = record {
   next_category = s.next_category;
 }
 
--- the root container links the boot thread, and is written by the owner of category 1 alone
+-- the root container links the boot thread, and only the owner of category 1 may write it
 abbrev pub root_object : Object Levels
 root_object = record { label = with_level (constant L1) 1 L0; kind = Container (set.insert set.empty 2) }
 

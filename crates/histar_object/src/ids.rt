@@ -3,8 +3,8 @@ ghost use Rattle.std.specs.Prelude.{◌≡◌};
 
 use std::marker::Model;
 
-/// The number of an object. The kernel gives each number once and never again, so a number that was
-/// learnt can't come to name another object. 0 is never an object.
+/// The number of an object. The kernel gives each number once and never again, so a known number can't come
+/// to name another object. 0 is never an object.
 #[derive(Clone, Copy, Debug, PartialEq, Eq, PartialOrd, Ord, Hash)]
 pub struct ObjId(u64);
 
@@ -19,14 +19,14 @@ impl Model for ObjId {
 }
 
 impl ObjId {
-    /// The object of this number.
+    /// Returns the object id of this number.
     pub fn new(number: u64) -> Self
         ensures { result ≡ number }
     {
         ObjId(number)
     }
 
-    /// The number itself, for texts and for layouts in bytes.
+    /// Returns the number itself, for texts and for layouts in bytes.
     pub fn number(self) -> u64
         ensures { result ≡ self }
     {

@@ -1,4 +1,4 @@
-//! What a container links.
+//! The links of a container.
 ghost use Rattle.std.specs.Prelude.{◌≡◌, OnOk, OnErr};
 ghost use Rattle.std.specs.Ordering.{nat_cmp};
 ghost use Rattle.std.specs.FinSet as set;
@@ -28,7 +28,7 @@ impl Model for Links {
 }
 
 impl Links {
-    /// Links to nothing.
+    /// Makes an empty set of links.
     pub fn new(alloc: Global) -> Self
         ensures { result ≡ set.empty }
     {
@@ -37,14 +37,14 @@ impl Links {
         }
     }
 
-    /// Whether the object is linked.
+    /// Checks whether the object is linked.
     pub fn contains(&self, object: ObjId) -> bool
         ensures { result ≡ set.contains self.now object }
     {
         self.numbers.contains(&object.number())
     }
 
-    /// Links an object too.
+    /// Links one more object.
     pub fn insert(&mut self, object: ObjId) -> Result<(), AllocError>
         ensures ok { OnOk result (self.new ≡ set.insert self.old object) }
         ensures err { OnErr result (self.new ≡ self.old) }
@@ -63,7 +63,7 @@ impl Links {
         Ok(())
     }
 
-    /// Links the object no more.
+    /// Removes the link to the object.
     pub fn remove(&mut self, object: ObjId)
         ensures { self.new ≡ set.remove self.old object }
     {

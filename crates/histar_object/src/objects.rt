@@ -11,7 +11,7 @@ pub enum Entry {
     Mark(u32),
 }
 
-/// What an object is, beside its label. `L` is what stands for a label.
+/// What an object is, without its label. `L` is the type of labels, or of Ids that stand for them.
 #[derive(Drop)]
 pub enum Kind<L> {
     /// Bytes.
@@ -24,7 +24,7 @@ pub enum Kind<L> {
     Gate(L, Entry),
 }
 
-/// An object with its label, which says what may flow from it and to it (HiStar, OSDI 2006).
+/// An object with its label, which controls what may flow from it and to it (HiStar, OSDI 2006).
 #[derive(Drop)]
 pub struct Object<L> {
     pub label: L,

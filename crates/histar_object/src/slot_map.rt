@@ -1,4 +1,4 @@
-//! The slots that numbers have.
+//! The slots of numbers.
 ghost use Rattle.std.specs.Prelude.{◌≡◌, ◌<◌, ℕ, None, Some, IfNone, IsOk, OnOk, nat_eq, cond, [], max, vec_len, vec_capacity};
 ghost use Rattle.std.specs.List.{IsDistinct};
 ghost use Rattle.std.specs.Map.{keys_of, lookup};
@@ -11,8 +11,8 @@ use std::marker::Model;
 
 /// The slot of each number that has one.
 ///
-/// Numbers that come in order are looked up in a list, by their place in it, where a number without a
-/// slot keeps its place; all others in a map.
+/// Numbers in order are looked up in a list, by their place in it, where a number without a slot keeps its
+/// place; all others are in a map.
 #[derive(Drop)]
 pub(crate) struct SlotMap {
     listed: Vec<Option<usize>>,
@@ -37,7 +37,7 @@ impl Model for SlotMap {
 }
 
 impl SlotMap {
-    /// No number has a slot.
+    /// Makes a map in which no number has a slot.
     pub(crate) fn new(alloc: Global) -> Self
         ensures empty { result.entries ≡ [] }
         ensures once { IsDistinct nat_eq (keys_of result.entries) }
@@ -58,7 +58,7 @@ impl SlotMap {
         Some(slot)
     }
 
-    /// Makes room for one number more. No slot changes, whether or not there is memory.
+    /// Makes room for one more number. No slot changes, whether or not there is memory.
     pub(crate) fn reserve(&mut self) -> Result<(), AllocError>
         ensures room { OnOk result (0 < self.new.room) }
         ensures succeeds { 0 < self.old.room → IsOk result }
@@ -89,7 +89,7 @@ impl SlotMap {
         }
     }
 
-    /// Takes the slot of a number from it.
+    /// Removes the slot of a number.
     pub(crate) fn remove(&mut self, id: ObjId) -> Option<usize>
         ensures value { result ≡ lookup (nat_eq id) self.old.entries }
         ensures unchanged { IfNone result (self.new.entries ≡ self.old.entries) }
@@ -105,14 +105,14 @@ impl SlotMap {
     }
 }
 
-// The slot at the place of a number.
+// Returns the slot at the place of a number.
 fn place(listed: &[Option<usize>], id: ObjId) -> Option<usize>
     ensures { result ≡ in_place listed.now id }
 {
     *listed.get(id.number() as usize)?
 }
 
-// Makes room for one place more, behind that of 0, which is never an object.
+// Makes room for one more place, after that of 0, which is never an object.
 fn reserve_place(listed: &mut Vec<Option<usize>>) -> Result<(), AllocError>
     ensures room { OnOk result (max 1 (vec_len listed.new) < vec_capacity listed.new) }
     ensures succeeds { max 1 (vec_len listed.old) < vec_capacity listed.old → IsOk result }

@@ -10,10 +10,10 @@ use slab::Slab;
 use std::alloc::{AllocError, Global};
 use std::marker::Model;
 
-/// Objects by number. `L` is what stands for a label.
+/// Objects by number. `L` is the type of labels, or of Ids that stand for them.
 ///
-/// Each object has a slot. A slot is used again once its object is taken out; numbers are the
-/// caller's, who gives none again. Numbers that come in order are looked up fastest.
+/// Each object has a slot. A slot is used again after its object is removed; numbers are chosen by the
+/// caller, which gives none again. Numbers in order are looked up fastest.
 #[derive(Drop)]
 pub struct Table<L> {
     slots: SlotMap,
@@ -44,7 +44,7 @@ impl<L> Table<L> {
     ghost use Rattle.std.specs.Borrow.{sem};
     ghost use Rattle.histar_object.specs.Lending.{LendsObject};
 
-    /// A table of no objects.
+    /// Makes a table of no objects.
     pub fn new(alloc: Global) -> Self
         ensures { objects_of result ≡ no_objects }
     {
@@ -54,15 +54,14 @@ impl<L> Table<L> {
         }
     }
 
-    /// Returns the slot of an object: a small number, which another object may get once this one is
-    /// taken out.
+    /// Returns the slot of an object: a small number, which another object may get after this one is removed.
     pub fn slot(&self, id: ObjId) -> Option<usize>
         ensures { result ≡ slot_of self.now id }
     {
         self.slots.get(id)
     }
 
-    /// The object of this number.
+    /// Returns the object of this number.
     pub fn get(&self, id: ObjId) -> Option<&Object<L>>
         ensures { option_copied result ≡ objects_of self.now id }
     {
@@ -79,7 +78,7 @@ impl<L> Table<L> {
         self.objects.get_mut(slot)
     }
 
-    /// Makes room for one object more. Objects and slots stay, whether or not there is memory.
+    /// Makes room for one more object. Objects and slots stay, whether or not there is memory.
     pub fn reserve(&mut self) -> Result<(), AllocError>
         ensures room { OnOk result (HasRoom self.new) }
         ensures succeeds { HasRoom self.old → IsOk result }
@@ -90,7 +89,7 @@ impl<L> Table<L> {
         self.slots.reserve()
     }
 
-    /// Keeps an object under a number that has none. There is room for it, so it needs no memory.
+    /// Adds an object under a number that has none. There is room for it, so it needs no memory.
     pub fn add_reserved(&mut self, id: ObjId, object: Object<L>)
         requires absent { objects_of self.old id ≡ None }
         requires room { HasRoom self.old }
@@ -101,7 +100,7 @@ impl<L> Table<L> {
         self.slots.insert_reserved(id, slot);
     }
 
-    /// Keeps an object under a number that has none. Where memory runs out the object is dropped.
+    /// Adds an object under a number that has none. Where memory runs out the object is dropped.
     pub fn add(&mut self, id: ObjId, object: Object<L>) -> Result<(), AllocError>
     where
         L: Drop,
@@ -115,7 +114,7 @@ impl<L> Table<L> {
         Ok(())
     }
 
-    /// Takes the object of this number out.
+    /// Removes the object of this number.
     pub fn remove(&mut self, id: ObjId) -> Option<Object<L>>
         ensures value { result ≡ objects_of self.old id }
         ensures without { objects_of self.new ≡ without (objects_of self.old) id }
@@ -125,7 +124,7 @@ impl<L> Table<L> {
         self.objects.try_remove(slot)
     }
 
-    /// The bytes of the segment of this number.
+    /// Returns the bytes of the segment of this number.
     pub fn bytes(&self, id: ObjId) -> Option<&[u8]>
         ensures { option_copied result ≡ bytes_there (objects_of self.now id) }
     {
@@ -136,8 +135,7 @@ impl<L> Table<L> {
     }
 }
 
-/// States the law of slots, and does nothing: a number has a slot exactly where it has an object, and
-/// no two objects have one slot.
+/// Proves that a number has a slot exactly where it has an object, and that no two objects have one slot.
 pub fn slots_are_apart<L>(table: &Table<L>)
     ensures present { (n : ℕ) → (slot_of table.now n ≡ None) ↔ (objects_of table.now n ≡ None) }
     ensures apart { (a b k : ℕ) → slot_of table.now a ≡ Some k → slot_of table.now b ≡ Some k → a ≡ b }

@@ -16,7 +16,7 @@ use Rattle.histar_process.specs.Births.{make_categories, make_containers, make_t
 use Rattle.histar_process.specs.Kin.{Kin}
 use Rattle.histar_process.specs.Parts.{write_status}
 
--- ---- a raw call with what it should have
+-- ---- a raw call with the expected arguments
 
 module _ (t : ℕ) (old new : KernelModel) where
   pub container_so : (container : ℕ) (label due : Levels) → label ≡ due → (result : Result ℕ CallError)
@@ -57,11 +57,11 @@ module _ (t : ℕ) (old new : KernelModel) where
 
 -- ---- the two categories
 
--- what comes after the first
+-- what comes after the first category
 abbrev after_read : ℕ → Part (ℕ × ℕ)
 after_read read rest = ask MakeCategory (λ write. rest (read, write))
 
--- and after both
+-- what comes after both categories
 abbrev after_both : ℕ → ℕ → Part (ℕ × ℕ)
 after_both a b rest = rest (a, b)
 
@@ -95,7 +95,7 @@ module _ (t : ℕ) (old new : KernelModel) (parent : ℕ) (jobs : List ℕ) (rea
   abbrev inner : ℕ → RawCall
   inner container = MakeContainer container (guarded_by (read ∷ jobs) (write ∷ []))
 
-  -- what comes after the first
+  -- what comes after the first container
   abbrev after_container : ℕ → Part (ℕ × ℕ)
   after_container container rest = ask (inner container) (λ internal. rest (container, internal))
 

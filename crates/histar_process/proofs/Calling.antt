@@ -1,4 +1,4 @@
--- What the calls on processes have decided, and asked the kernel.
+-- What the calls on processes have decided, and asked the kernel for.
 use Rattle.std.proofs.Common.{◌≡◌, ℕ, List, Bool, true, false, not, Option, Some, Result, Ok, Err, length, refl, sym, ap, ◌∙◌, subst}
 use Rattle.std.proofs.lemmas.Option.{same_Some}
 use Rattle.histar_flat.specs.Accounts.{Accounts}
@@ -22,7 +22,7 @@ use Rattle.histar_layout.specs.Jobs.{is_empty, jobs_in}
 use Rattle.histar_process.proofs.Births.{no_read, without_categories}
 use Rattle.histar_process.proofs.Segments.{child_looked}
 
--- a child that is looked for in what is told
+-- bytes that spell a status have the child that was looked up in them
 pub found_is : (bytes : List ℕ) (status : ProcessStatus) (number : ℕ) (found : Option Child)
     → status_in bytes ≡ Some status → Ok found ≡ look_for (status_in bytes) number
     → found ≡ child_at status.children number
@@ -30,7 +30,7 @@ found_is bytes status number found revealed is =
     let looked = child_looked (status_in bytes) number found is in
     looked.2 ∙ ap (λ (s : ProcessStatus). child_at s.children number) (same_Some looked.0 status (sym looked.1 ∙ revealed))
 
--- what is told is no fault
+-- looking a child up in bytes that spell a status is no fault
 pub no_fault : (bytes : List ℕ) (status : ProcessStatus) (number : ℕ) (fault : NotAStatus)
     → status_in bytes ≡ Some status → Err fault ≡ look_for (status_in bytes) number → ⊥
 no_fault bytes status number fault revealed is = differ (is ∙ ap (λ o. look_for o number) revealed)
@@ -39,7 +39,7 @@ no_fault bytes status number fault revealed is = differ (is ∙ ap (λ o. look_f
     differ e = cc
 
 module _ (t : ℕ) (old new : KernelModel) where
-  -- the kernel was asked for the object that is due
+  -- the kernel was asked for the expected object
   pub unlinked_so : (container container_due object object_due : ℕ) → container ≡ container_due → object ≡ object_due
       → (result : Result (Unit {0}) CallError) → RunsPart (ask (Unlink container object)) old new t result
       → RunsPart (ask (Unlink container_due object_due)) old new t result
@@ -47,7 +47,7 @@ module _ (t : ℕ) (old new : KernelModel) where
       subst (λ (c : ℕ). RunsPart {A = Unit {0}} (ask (Unlink c object_due)) old new t result) p
       (subst (λ (o : ℕ). RunsPart {A = Unit {0}} (ask (Unlink container o)) old new t result) q runs)
 
-  -- a birth by what the thread's own label tells
+  -- a birth with the expected kin
   pub born_so : (parent : Home) (status : ProcessStatus) (kin due : Kin) → kin ≡ due
       → (result : Result (Unit {0}) CallError) → RunsPart (birth parent status kin) old new t result
       → RunsPart (birth parent status due) old new t result
@@ -58,7 +58,7 @@ pub before_birth : (t : ℕ) (parent : Home) (status : ProcessStatus) (kin : Kin
     → RunsPart (birth parent status kin) k k t (Err Stopped)
 before_birth t parent status kin k = without_categories t parent status kin k k Stopped (no_read t k k Stopped (before_ask t MakeCategory k))
 
--- what the child gets is what the label tells
+-- the kin that the code computed are those that the label determines
 pub kin_is : (own : Levels) (accounts : Accounts) (user : ℕ) (in_job : Bool) (owned jobs : List ℕ)
     → IsUserOf own (length accounts.users) user → in_job ≡ not (is_empty (jobs_in own))
     → owned ≡ owned_by accounts user (not in_job) → jobs ≡ jobs_in own

@@ -21,15 +21,15 @@ module _ (t : ℕ) (home : Home) (status : ProcessStatus) (n : ℕ) (old new : K
   abbrev pub there : Result Child Errno
   there = must_be_there (child_at status.children n)
 
-  -- what comes after the container is taken out
+  -- what comes after the container is unlinked
   abbrev after_unlink : Unit {0} → Part (Unit {0})
   after_unlink done = write_status home (without_child n status)
 
-  -- after the child's own segment was read
+  -- what comes after the child's own segment was read
   abbrev after_head : Child → StatusHead → Part (Unit {0})
   after_head child head rest = ask (Unlink home.container child.container) (λ done. after_unlink done rest)
 
-  -- and after the child was found
+  -- what comes after the child was found
   abbrev after_child : Child → Part (Unit {0})
   after_child child rest = read_head (home_of child) (λ head. after_head child head rest)
 
@@ -44,7 +44,7 @@ module _ (t : ℕ) (home : Home) (status : ProcessStatus) (n : ℕ) (old new : K
     unfolding read_head
     with_child result second = then_part t (given there) old new after_child old child (decided t old there child is) result second
 
-    -- its segment isn't read
+    -- the child's segment isn't read
     pub not_read : (call_error : CallError) → RunsPart (read_head (home_of child)) old new t (Err call_error)
         → RunsPart (kill_known home status n) old new t (Err call_error)
     not_read call_error second = with_child (Err call_error) (part_fails t (read_head (home_of child)) old new (after_head child) call_error second)
@@ -54,7 +54,7 @@ module _ (t : ℕ) (home : Home) (status : ProcessStatus) (n : ℕ) (old new : K
           → RunsPart (kill_known home status n) old new t result
       with_head result third = with_child result (then_part t (read_head (home_of child)) old new (after_head child) mid head second result third)
 
-      -- its container isn't taken out
+      -- the child's container isn't unlinked
       pub not_unlinked : (call_error : CallError)
           → RunsPart (ask (Unlink home.container child.container)) mid new t (Err call_error)
           → RunsPart (kill_known home status n) old new t (Err call_error)
@@ -62,7 +62,7 @@ module _ (t : ℕ) (home : Home) (status : ProcessStatus) (n : ℕ) (old new : K
           with_head (Err call_error)
           (part_fails t (ask (Unlink home.container child.container)) mid new after_unlink call_error third)
 
-      -- it is, and the segment is written without it, or not
+      -- the child's container is unlinked, and the segment is written without the child, or not
       pub unlinked : (late : KernelModel) → RunsPart (ask (Unlink home.container child.container)) mid late t (Ok tt)
           → (result : Result (Unit {0}) CallError)
           → RunsPart (write_status home (without_child n status)) late new t result → RunsPart (kill_known home status n) old new t result

@@ -29,7 +29,7 @@ use Rattle.histar_process.specs.SpawnCall.{must_have_room, room_for_child, spawn
 use Rattle.histar_process.specs.StatusCall.{status_reply, status_program}
 use Rattle.histar_process.specs.Whoami.{whoami_program}
 
--- what comes after a process segment was read tells, where what comes after what it tells does
+-- reading a process segment replies to its refusals, if what comes after it does
 status_replies : (home : Home) (rest : ProcessStatus → Program)
     → ((status : ProcessStatus) → RepliesToRefusals (rest status)) → RepliesToRefusals (read_status home rest)
 unfolding read_status
@@ -41,7 +41,7 @@ status_replies home rest obeys =
     by None = tt
     by (Some status) = obeys status
 
--- the same of a process that is found
+-- finding a process replies to its refusals, if what comes after it does
 home_replies : (first : Home) (name : ProcName) (rest : Home → Program)
     → ((home : Home) → RepliesToRefusals (rest home)) → RepliesToRefusals (find_home first name rest)
 unfolding find_home
@@ -52,7 +52,7 @@ home_replies first (n ∷ above) rest obeys = home_replies first above _ (λ hom
     by None = (refl, refl)
     by (Some child) = obeys (home_of child)
 
--- of a process segment that is written, and of an object that is taken away
+-- writing a process segment and unlinking an object reply to their refusals, if what comes after does
 written_replies : (home : Home) (status : ProcessStatus) (rest : Program) → RepliesToRefusals rest
     → RepliesToRefusals (write_status home status (λ _. rest))
 written_replies home status rest obeys = ask_replies (Write home.container home.segment 0 (status_bytes status)) (λ _. rest) (λ _. obeys)
@@ -125,7 +125,7 @@ module _ (parent : Home) (status : ProcessStatus) (kin : Kin) (rest : Unit {0} �
   abbrev at_read : ℕ → Program
   at_read read = ask MakeCategory (at_write read)
 
-  -- a birth tells, where what comes after it does
+  -- a birth replies to its refusals, if what comes after it does
   pub birth_replies : RepliesToRefusals (rest tt) → RepliesToRefusals (birth parent status kin rest)
   unfolding birth
   birth_replies obeys =
@@ -150,7 +150,7 @@ module _ (name : ProcName) (me : Home) (rest : ProcessStatus → Program) (obeys
   depth_replies false = (refl, refl)
   depth_replies true = status_replies me _ (λ status. children_replies status (nat_lt status.born most_children))
 
-  -- what looks for room for a child tells, where what comes after it does
+  -- looking for room for a child replies to its refusals, if what comes after it does
   pub child_replies : RepliesToRefusals (room_for_child name me rest)
   child_replies = depth_replies (nat_lt (length name) most_numbers)
 

@@ -19,7 +19,7 @@ use Rattle.histar_process.specs.Reading.{RunsRoom}
 use Rattle.histar_process.specs.SpawnCall.{must_have_room, room_for_child}
 use Rattle.histar_process.proofs.Segments.{decided, decided_not}
 
--- what is handed on of a process segment that was read
+-- what comes after a process segment was read
 abbrev if_room : ProcessStatus → Part ProcessStatus
 if_room status rest = given (must_have_room (nat_lt status.born most_children)) (λ _. rest status)
 
@@ -36,7 +36,7 @@ module _ (t : ℕ) (name : ProcName) (home : Home) (old : KernelModel) where
       (Refused errno) (decided_not t old (must_have_room (nat_lt (length name) most_numbers)) errno is)
 
   module _ (new : KernelModel) (deep : Ok tt ≡ must_have_room (nat_lt (length name) most_numbers)) where
-    -- it has
+    -- the name has room
     here : (result : Result ProcessStatus CallError) → RunsPart (after_depth home tt) old new t result
         → RunsPart (room_for_child name home) old new t result
     here result runs =
@@ -61,7 +61,7 @@ module _ (t : ℕ) (name : ProcName) (home : Home) (old : KernelModel) where
           (λ (done : Unit {0}) (rest : ProcessStatus → _). rest status) (Refused errno)
           (decided_not t new (must_have_room (nat_lt status.born most_children)) errno is))
 
-      -- one more may be
+      -- there is room for one child more
       pub room_is_there : Ok tt ≡ must_have_room (nat_lt status.born most_children) → RunsPart (room_for_child name home) old new t (Ok status)
       room_is_there is =
           read (Ok status) (then_part t (given (must_have_room (nat_lt status.born most_children))) new new
@@ -69,7 +69,7 @@ module _ (t : ℕ) (name : ProcName) (home : Home) (old : KernelModel) where
           (decided t new (must_have_room (nat_lt status.born most_children)) tt is) (Ok status)
           (hands t new status))
 
-  -- an error that came by `?`
+  -- an error that `?` passed on
   pub room_fails_so : (new : KernelModel) (call_error : CallError) (result : Result Segment CallError)
       → IsErrAnd result (λ e. e ≡ call_error) → RunsPart (room_for_child name home) old new t (Err call_error)
       → RunsRoom name home old new t result

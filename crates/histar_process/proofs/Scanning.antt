@@ -12,7 +12,7 @@ abbrev pub Exception : Type 0
 Exception = ℕ × Level
 
 module _ (test : Exception → Bool) where
-  -- the category of the first that passes
+  -- the category of the first exception that passes
   abbrev pub first_passed : List Exception → Option ℕ
   first_passed es = option_map (λ e. e.0) (find test es)
 
@@ -30,12 +30,12 @@ name_at (first ∷ users) (suc (suc i)) d some most =
     ap (λ (n : ℕ). (get_or (first ∷ users) n d).name) less ∙ ap (λ (n : ℕ). (get_or users n d).name) same
     ∙ name_at users (suc i) d (omega arith) (omega arith)
 
--- nobody's is that of number 0
+-- the name of user number 0 is nobody's
 pub name_none : (users : List User) → user_name users 0 ≡ nobody
 name_none [] = refl
 name_none (user ∷ users) = refl
 
--- and of one that no user has
+-- the name of a number that no user has is nobody's
 pub name_past : (users : List User) (number : ℕ) → length users < number → user_name users number ≡ nobody
 name_past [] zero past = refl
 name_past (user ∷ users) zero past = refl

@@ -24,25 +24,25 @@ use Rattle.histar_process.specs.declared.find.Segment.{Segment}
 use Rattle.histar_process.specs.Parts.{find_home, home_of, must_be_there, read_status}
 use Rattle.histar_process.specs.Reading.{RunsReading, read_head, look_up}
 
--- ---- what readers answer of bytes
+-- ---- what the readers of bytes return
 
--- no head is told where nothing is
+-- where no head is read, the bytes spell no status
 nothing_revealed : (o : Option ProcessStatus) → None ≡ option_map head_of o → o ≡ None
 nothing_revealed None e = refl
 nothing_revealed (Some status) e = absurd cc
 
--- a head is that of what is told
+-- a head that is read is that of the status
 head_revealed : (o : Option ProcessStatus) (head : StatusHead) → Some head ≡ option_map head_of o
     → (status : ProcessStatus) × (o ≡ Some status) × (head ≡ head_of status)
 head_revealed None head e = absurd cc
 head_revealed (Some status) head e = (status, refl, same_Some head (head_of status) e)
 
--- no child is looked for where nothing is told
+-- looking a child up faults only where the bytes spell no status
 nothing_looked : (o : Option ProcessStatus) (number : ℕ) (fault : NotAStatus) → Err fault ≡ look_for o number → o ≡ None
 nothing_looked None number fault e = refl
 nothing_looked (Some status) number fault e = absurd cc
 
--- a child is looked for in what is told
+-- a child is looked up in the status that the bytes spell
 pub child_looked : (o : Option ProcessStatus) (number : ℕ) (found : Option Child) → Ok found ≡ look_for o number
     → (status : ProcessStatus) × (o ≡ Some status) × (found ≡ child_at status.children number)
 child_looked None number found e = absurd cc
@@ -52,21 +52,21 @@ child_looked (Some status) number found e = (status, refl, ap of_ok e)
     of_ok (Ok child) = child
     of_ok (Err fault) = None
 
--- ---- a process segment is read
+-- ---- reading a process segment
 
 -- what comes after the bytes of a process segment
 abbrev after_bytes : List ℕ → Part ProcessStatus
 after_bytes bytes rest = if_there rest (status_in bytes)
 
 module _ (t : ℕ) (old new : KernelModel) (home : Home) where
-  -- it was not read
+  -- the segment was not read
   pub read_fails : (call_error : CallError)
       → RunsPart (ask (Read home.container home.segment)) old new t (Err call_error)
       → RunsPart (read_status home) old new t (Err call_error)
   unfolding read_status
   read_fails call_error first = part_fails t (ask (Read home.container home.segment)) old new after_bytes call_error first
 
-  -- its head was not
+  -- the head of the segment was not read
   pub head_fails : (call_error : CallError)
       → RunsPart (ask (Read home.container home.segment)) old new t (Err call_error)
       → RunsPart (read_head home) old new t (Err call_error)
@@ -87,7 +87,7 @@ module _ (t : ℕ) (old new : KernelModel) (home : Home) where
       call_error (read_fails call_error first)
 
   module _ (bytes : List ℕ) (first : RunsPart (ask (Read home.container home.segment)) old new t (Ok bytes)) where
-    -- its bytes tell nothing
+    -- the segment's bytes spell no status
     reads_none : status_in bytes ≡ None → RunsPart (read_status home) old new t (Err Stopped)
     unfolding read_status RunsPart
     reads_none none =
@@ -96,7 +96,7 @@ module _ (t : ℕ) (old new : KernelModel) (home : Home) where
         RunsPart {A = ProcessStatus} (λ rest. if_there rest o) new new t (Err Stopped)) (sym none)
         (λ rest. same_kernel new))
 
-    -- its bytes tell this
+    -- the segment's bytes spell this status
     reads : (status : ProcessStatus) → status_in bytes ≡ Some status → RunsPart (read_status home) old new t (Ok status)
     unfolding read_status
     reads status is =
@@ -105,7 +105,7 @@ module _ (t : ℕ) (old new : KernelModel) (home : Home) where
         RunsPart {A = ProcessStatus} (λ rest. if_there rest o) new new t (Ok status)) (sym is)
         (hands t new status))
 
-    -- no head is told
+    -- the bytes have no head
     pub segment_none : None ≡ option_map head_of (status_in bytes) → RunsPart (read_status home) old new t (Err Stopped)
     segment_none none = reads_none (nothing_revealed (status_in bytes) none)
 
@@ -116,7 +116,7 @@ module _ (t : ℕ) (old new : KernelModel) (home : Home) where
         (λ (status : ProcessStatus) (rest : StatusHead → Program). rest (head_of status)) Stopped
         (segment_none none)
 
-    -- this head is told
+    -- the bytes have this head
     pub segment_read : (head : StatusHead) → Some head ≡ option_map head_of (status_in bytes)
         → RunsReading home old new t (Ok (record { head = head; bytes = bytes }))
     segment_read head is =
@@ -132,7 +132,7 @@ module _ (t : ℕ) (old new : KernelModel) (home : Home) where
         (λ (status : ProcessStatus) (rest : StatusHead → Program). rest (head_of status)) new status_is.0
         (reads status_is.0 status_is.1) (Ok (head_of status_is.0)) (hands t new (head_of status_is.0)))
 
-    -- no child is looked for
+    -- the bytes are no status to look a child up in
     pub look_none : (number : ℕ) (fault : NotAStatus) → Err fault ≡ look_for (status_in bytes) number
         → RunsPart (look_up home number) old new t (Err Stopped)
     unfolding look_up
@@ -141,7 +141,7 @@ module _ (t : ℕ) (old new : KernelModel) (home : Home) where
         (λ (status : ProcessStatus) (rest : Option Child → Program). rest (child_at status.children number)) Stopped
         (reads_none (nothing_looked (status_in bytes) number fault is))
 
-    -- this child is looked for
+    -- the child of this number is looked up
     pub looks : (number : ℕ) (found : Option Child) → Ok found ≡ look_for (status_in bytes) number
         → RunsPart (look_up home number) old new t (Ok found)
     unfolding look_up
@@ -153,7 +153,7 @@ module _ (t : ℕ) (old new : KernelModel) (home : Home) where
         status_is.0 (reads status_is.0 status_is.1) (Ok (child_at status_is.0.children number))
         (hands t new (child_at status_is.0.children number)))
 
--- an error that came by `?` from a process segment
+-- an error that `?` passed on from a process segment
 pub reading_fails : (t : ℕ) (home : Home) (old new : KernelModel) (call_error : CallError)
     (result : Result Segment CallError) → IsErrAnd result (λ e. e ≡ call_error)
     → RunsPart (read_status home) old new t (Err call_error) → RunsReading home old new t result
@@ -164,28 +164,28 @@ reading_fails t home old new call_error result gave fails =
 -- ---- what was decided
 
 module _ {A : Type 0} (t : ℕ) (k : KernelModel) (due : Result A Errno) where
-  -- the part hands on what was decided
+  -- the part passes on what was decided
   pub decided : (x : A) → Ok x ≡ due → RunsPart (given due) k k t (Ok x)
   decided x is = subst (λ (d : Result A Errno). RunsPart (given d) k k t (Ok x)) is (gives t k x)
 
-  -- or the call is refused
+  -- the call is refused by what was decided
   pub decided_not : (errno : Errno) → Err errno ≡ due → RunsPart (given due) k k t (Err (Refused errno))
   decided_not errno is = subst (λ (d : Result A Errno). RunsPart (given d) k k t (Err (Refused errno))) is (gives_not t A k errno)
 
--- ---- a process is found
+-- ---- finding a process
 
 take_all : (xs : List ℕ) → take (length xs) xs ≡ xs
 take_all [] = refl
 take_all (x ∷ xs) = ap (λ ys. x ∷ ys) (take_all xs)
 
--- numbers that are at least one are a first number and the others
+-- at least one number is a first number and the others
 pub first_of_numbers : (numbers : List ℕ) (d : ℕ) → 1 ≤ length numbers → numbers ≡ get_or numbers 0 d ∷ take (length numbers - 1) (drop 1 numbers)
 first_of_numbers [] d some = absurd (omega arith)
 first_of_numbers (x ∷ xs) d some =
     let count : length (x ∷ xs) - 1 ≡ length xs = omega arith in
     ap (λ ys. x ∷ ys) (sym (ap (λ (n : ℕ). take n xs) count ∙ take_all xs))
 
--- numbers that are not one are none
+-- less than one number is none
 pub no_numbers : (numbers : List ℕ) → length numbers ≤ 0 → numbers ≡ []
 no_numbers [] none = refl
 no_numbers (x ∷ xs) none = absurd (omega arith)
@@ -204,7 +204,7 @@ module _ (t : ℕ) (old new : KernelModel) (number : ℕ) (home : Home) where
   into_fails call_error first = part_fails t (look_up home number) old new then_there call_error first
 
   module _ (found : Option Child) (first : RunsPart (look_up home number) old new t (Ok found)) where
-    -- a child has it
+    -- a child has the number
     pub into_child : (child : Child) → Ok child ≡ must_be_there found → RunsPart (into number home) old new t (Ok (home_of child))
     into_child child is =
         then_part t (look_up home number) old new then_there new found first (Ok (home_of child))
@@ -212,7 +212,7 @@ module _ (t : ℕ) (old new : KernelModel) (number : ℕ) (home : Home) where
         RunsPart {A = Home} (λ rest. given r (λ child. rest (home_of child))) new new t (Ok (home_of child)))
         is (hands t new (home_of child)))
 
-    -- none has
+    -- no child has the number
     pub into_none : (errno : Errno) → Err errno ≡ must_be_there found → RunsPart (into number home) old new t (Err (Refused errno))
     into_none errno is =
         then_part t (look_up home number) old new then_there new found first (Err (Refused errno))
@@ -238,7 +238,7 @@ module _ (t : ℕ) (first : Home) (old new : KernelModel) (numbers : List ℕ) w
         → RunsPart (find_home first numbers) old new t (Err call_error)
     find_fails call_error before = here (Err call_error) (part_fails t (find_home first above) old new (into number) call_error before)
 
-    -- it was found, and the number is looked up in its segment
+    -- the process above was found, and the number is looked up in its segment
     pub finds_on : (mid : KernelModel) (home : Home) → RunsPart (find_home first above) old mid t (Ok home)
         → (result : Result Home CallError) → RunsPart (into number home) mid new t result
         → RunsPart (find_home first numbers) old new t result

@@ -21,15 +21,15 @@ module _ (accounts : Accounts) (name : ProcName) (me : Home) where
   abbrev pub after_birth : ProcessStatus → Levels × Levels → Program
   after_birth status own = take_labels own (λ (done : Unit {0}). Answers (Child ((status.born + 1) ∷ name)))
 
-  -- once the thread's labels are known
+  -- what is still to do once the thread's labels are known
   abbrev pub after_labels : ProcessStatus → Levels × Levels → Program
   after_labels status own = birth me status (kin_of accounts own.0) (λ (done : Unit {0}). after_birth status own)
 
-  -- and once there is room for a child
+  -- what is still to do once there is room for a child
   abbrev pub after_room : ProcessStatus → Program
   after_room status = ask OwnLabel (after_labels status)
 
-  -- at first all is left
+  -- at first the whole program is left
   pub begun : (t : ℕ) (old : KernelModel) → Leaves t (spawn_program accounts name me) old (room_for_child name me after_room) old
   unfolding spawn_program
   begun t old = record { leads = λ new result on. on }

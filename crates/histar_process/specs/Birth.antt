@@ -15,19 +15,19 @@ use Rattle.histar_process.specs.Parts.{write_status}
 abbrev pub outer_label : Kin → ℕ → Levels
 outer_label kin write = guarded_by kin.jobs (write ∷ [])
 
--- that of its internal container, which is secret to the child too
+-- the label of the child's internal container, which is secret to the child too
 abbrev pub inner_label : Kin → ℕ → ℕ → Levels
 inner_label kin read write = guarded_by (read ∷ kin.jobs) (write ∷ [])
 
--- that of its thread, which owns the child's two categories and what it has of its parent's user, and has those of its jobs at 3
+-- the label of the child's thread, which owns the child's two categories and kin.owned, and has the categories of its jobs at 3
 abbrev pub thread_label : Kin → ℕ → ℕ → Levels
 thread_label kin read write = owner_label (read ∷ write ∷ kin.owned) kin.jobs
 
--- and the clearance of its thread
+-- the clearance of the child's thread
 abbrev pub thread_clearance : Kin → ℕ → ℕ → Levels
 thread_clearance kin read write = cleared_at ((read ∷ write ∷ kin.owned) ++ kin.jobs)
 
--- the raw calls of a birth, by a thread of the parent, whose segment tells this
+-- the raw calls of a birth, by a thread of the parent, whose segment holds this status
 unfoldable pub birth : Home → ProcessStatus → Kin → Part (Unit {0})
 birth parent status kin rest = do
   read ← ask MakeCategory

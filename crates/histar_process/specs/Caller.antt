@@ -22,12 +22,12 @@ is_zero level = false
 abbrev pub write_category_in : Levels → Option ℕ
 write_category_in outer = option_map (λ e. e.0) (find (λ e. is_zero e.1) (exceptions_of outer))
 
--- and the one by which it keeps its secrets: the one at 3 in the label of its internal container that is not at 3 in that of its
--- container
+-- The category by which a process keeps its secrets: the label of its internal container has it at 3, and the label of its container
+-- doesn't.
 abbrev pub read_category_in : Levels → Levels → Option ℕ
 read_category_in outer inner = option_map (λ e. e.0) (find (λ e. is_three e.1 && not (is_three (level_of outer e.0))) (exceptions_of inner))
 
--- what a process segment tells
+-- the status that a process segment holds
 abbrev pub status_at : State → ℕ → Option ProcessStatus
 status_at s segment = status_in (bytes_in (s.objects segment))
 
@@ -45,7 +45,7 @@ abbrev pub if_runs : {A : Type 0} → Option ℕ → Option A → Option A
 if_runs None x = x
 if_runs (Some number) x = None
 
--- a process that runs, with its thread and its own two categories, by what its segment tells
+-- a process that runs, with its thread and its own two categories, by the status in its segment
 abbrev pub caller_by : State → Home → ProcessStatus → Option Caller
 caller_by s home status = if_runs status.exited (do
   outer ← label_there (s.objects home.container)

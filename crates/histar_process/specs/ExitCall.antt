@@ -9,7 +9,7 @@ use Rattle.histar_calls.specs.Programs.Program.{Answers}
 use Rattle.histar_calls.specs.Parts.{◌>>=◌, ◌>>◌, ask}
 use Rattle.histar_process.specs.Parts.{read_status, write_status}
 
--- the process's own segment is read, and written so that it has exited; its internal container is taken away, with its thread
+-- the process's own segment is read, and written with the number of its exit; its internal container is unlinked, with its thread
 unfoldable pub exit_program : Home → ℕ → Program
 exit_program me number = do
   status ← read_status me

@@ -14,8 +14,8 @@ use Rattle.histar_calls.specs.Programs.Program.{Answers}
 use Rattle.histar_calls.specs.Parts.{◌>>=◌, ◌>>◌, ask, given}
 use Rattle.histar_process.specs.Parts.{find_home, home_of, must_be_there, read_status, write_status}
 
--- The child of this number is looked up in the status of the process at this home, and its own segment read. Its container is taken out
--- of the one above it, with all that it holds, and the segment above is written without it.
+-- The child of this number is looked up in the status of the process at this home, and its own segment read. Its container is unlinked
+-- from the one above it, with all that it holds, and the segment above is written without the child.
 abbrev pub kill_known : Home → ProcessStatus → ℕ → Part (Unit {0})
 kill_known home status n rest = do
   child ← given (must_be_there (child_at status.children n))
@@ -29,8 +29,8 @@ abbrev pub KillsKnown : Home → List ℕ → ℕ → KernelModel → KernelMode
 KillsKnown home bytes n old new thread result =
     (status : ProcessStatus) → status_in bytes ≡ Some status → RunsPart (kill_known home status n) old new thread result
 
--- The process above is found and its segment read, as for its status, and the child is killed. Above process 0 is the root container, and
--- no segment.
+-- The process above is found and its segment read, and the child is killed. Process 0 is linked by the root container, and no segment
+-- lists it.
 unfoldable pub kill_program : Roots → ProcName → Program
 kill_program roots [] = do
   status ← read_status roots.home

@@ -30,6 +30,6 @@ pub record Kin : Type 0 where
   pub owned : List ℕ
   pub jobs : List ℕ
 
--- by its parent's own label
+-- what a child gets from its parent, by the parent's own label
 abbrev pub kin_of : Accounts → Levels → Kin
 kin_of accounts own = record { owned = owned_by accounts (user_of own (length accounts.users)) (is_empty (jobs_in own)); jobs = jobs_in own }

@@ -1,4 +1,4 @@
--- What the kernel's refusals come to in these programs.
+-- The replies to which the kernel's refusals lead in these programs.
 use Rattle.std.specs.Prelude.{ℕ}
 use Rattle.histar_flat.specs.Accounts.{Accounts}
 use Rattle.histar_flat.specs.Words.{ProcName}

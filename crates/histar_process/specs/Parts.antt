@@ -10,7 +10,7 @@ use Rattle.histar_calls.specs.declared.roots.Home.{Home}
 use Rattle.histar_calls.specs.Programs.{Part}
 use Rattle.histar_calls.specs.Parts.{◌>>=◌, ask, given, if_there}
 
--- a process segment is read, and its bytes must tell something
+-- a process segment is read, and its bytes must spell a status
 unfoldable pub read_status : Home → Part ProcessStatus
 read_status home rest = do
   bytes ← ask (Read home.container home.segment)

@@ -1,4 +1,4 @@
--- What the code that reads and writes process segments does of a program.
+-- The parts of programs that read and write process segments, as the code runs them.
 use Rattle.std.specs.Prelude.{◌≡◌, ℕ, List, Option, Some, Result, Ok, Err}
 use Rattle.histar_flat.specs.Words.{ProcName}
 use Rattle.histar_syscall.specs.KernelModel.{KernelModel}
@@ -14,7 +14,7 @@ use Rattle.histar_process.specs.Parts.{read_status}
 use Rattle.histar_process.specs.SpawnCall.{room_for_child}
 use Rattle.histar_process.specs.declared.find.Segment.{Segment}
 
--- a process segment is read, and its head is handed on
+-- a process segment is read, and its head is passed on
 unfoldable pub read_head : Home → Part StatusHead
 read_head home rest = do
   status ← read_status home
@@ -26,18 +26,18 @@ look_up home number rest = do
   status ← read_status home
   rest (child_at status.children number)
 
--- a segment that was read has the bytes that tell this
+-- a segment that was read has the bytes of this status, and its head
 pub record IsSegment (segment : Segment) (status : ProcessStatus) : Type 0 where
   pub status_is : status_in segment.bytes ≡ Some status
   pub head : segment.head ≡ head_of status
 
--- a process segment is read, and the code has what it tells
+-- a process segment is read, and the code has the status in it
 abbrev pub RunsReading : Home → KernelModel → KernelModel → ℕ → Result Segment CallError → Type 0
 RunsReading home old new thread (Ok segment) =
     (status : ProcessStatus) × IsSegment segment status × RunsPart (read_status home) old new thread (Ok status)
 RunsReading home old new thread (Err call_error) = RunsPart (read_status home) old new thread (Err call_error)
 
--- there is room for a child more of the process of this name, and the code has what the process segment tells
+-- there is room for one child more of the process of this name, and the code has the status in its segment
 abbrev pub RunsRoom : ProcName → Home → KernelModel → KernelModel → ℕ → Result Segment CallError → Type 0
 RunsRoom name home old new thread (Ok segment) =
     (status : ProcessStatus) × IsSegment segment status × RunsPart (room_for_child name home) old new thread (Ok status)

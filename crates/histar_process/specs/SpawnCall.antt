@@ -21,7 +21,7 @@ abbrev pub must_have_room : Bool → Result (Unit {0}) Errno
 must_have_room true = Ok tt
 must_have_room false = Err EAGAIN
 
--- A name of 8 numbers has no room for one more, which is known without a raw call. The process's own segment is read: fewer than 64
+-- A name of 8 numbers has no room for one more, which is checked without a raw call. The process's own segment is read: fewer than 64
 -- children may have been born.
 abbrev pub room_for_child : ProcName → Home → Part ProcessStatus
 room_for_child name me rest = do

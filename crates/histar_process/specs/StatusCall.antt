@@ -9,7 +9,7 @@ use Rattle.histar_calls.specs.Programs.Program.{Answers}
 use Rattle.histar_calls.specs.Parts.{◌>>=◌}
 use Rattle.histar_process.specs.Parts.{find_home, read_status}
 
--- what `status` answers of a process that has exited with this number, or runs
+-- the reply of `status` for a process that has exited with this number, or runs
 abbrev pub status_reply : Option ℕ → Reply
 status_reply None = Running
 status_reply (Some number) = Exited number

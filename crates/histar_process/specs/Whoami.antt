@@ -10,7 +10,7 @@ use Rattle.histar_calls.specs.Parts.{◌>>=◌, ask}
 use Rattle.histar_process.specs.Kin.{user_name}
 use Rattle.histar_layout.specs.Jobs.{jobs_in, is_empty}
 
--- the thread asks for its own label, which tells the user and whether the process is in a job
+-- the thread asks for its own label, which shows the user and whether the process is in a job
 unfoldable pub whoami_program : Accounts → Program
 whoami_program accounts = do
   own ← ask OwnLabel

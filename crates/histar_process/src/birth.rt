@@ -17,7 +17,7 @@ use histar_object::ObjId;
 use histar_syscall::Kernel;
 use std::alloc::Global;
 
-/// A child is born to the process that is found there, whose segment has these bytes: it owns its own two
+/// Makes a child of the process that is found there, whose segment has these bytes: the child owns its two
 /// categories and these, and is in the jobs of these. Its objects are made, and it is added to the
 /// segment of its parent.
 pub fn give_birth<S: LabelStore + Drop>(
@@ -80,7 +80,7 @@ fn make_containers<S: LabelStore + Drop>(
     Ok((container, internal))
 }
 
-/// Makes a container with secrets of these categories, which the owner of another writes.
+/// Makes a container that is secret in these categories, and that the owner of another category writes.
 fn make_guarded<S: LabelStore + Drop>(
     alloc: Global,
     kernel: &mut Kernel<S>,

@@ -25,8 +25,8 @@ pub struct Caller {
     pub write: Category,
 }
 
-/// The process of this name, if it was born, was not killed and has not exited. It is found by the bytes
-/// of process segments from that of process 0 on, which are read in place, and by the labels of its
+/// Finds the process of this name, if it was born, was not killed and has not exited. It is found by the
+/// bytes of process segments from that of process 0 on, which are read in place, and by the labels of its
 /// containers, with no raw call.
 pub fn find_caller<S: LabelStore + Drop>(
     kernel: &Kernel<S>,
@@ -39,7 +39,7 @@ pub fn find_caller<S: LabelStore + Drop>(
     caller_in(kernel, home)
 }
 
-// Where the process of these numbers is found, of which the last stands first.
+// Finds where the process of these numbers is, the last number first.
 fn home_at<S: LabelStore + Drop>(kernel: &Kernel<S>, first: Home, numbers: &[u8]) -> Option<Home>
     ensures { result ≡ home_at (state kernel.now) first numbers.now }
 {
@@ -53,7 +53,7 @@ fn home_at<S: LabelStore + Drop>(kernel: &Kernel<S>, first: Home, numbers: &[u8]
     Some(home_of(child))
 }
 
-/// The process that is found there, if it runs.
+/// Returns the process that is found there, if it runs.
 pub fn caller_in<S: LabelStore + Drop>(kernel: &Kernel<S>, home: Home) -> Option<Caller>
     ensures { result ≡ caller_in (state kernel.now) home }
 {
@@ -73,7 +73,7 @@ pub fn caller_in<S: LabelStore + Drop>(kernel: &Kernel<S>, home: Home) -> Option
     })
 }
 
-// The category by which a process writes, as the label of its container tells.
+// Returns the category by which a process writes, which the label of its container contains at 0.
 fn write_category_in(outer: &Label) -> Option<Category>
     ensures { result ≡ write_category_in outer.now }
 {
@@ -86,8 +86,8 @@ fn write_category_in(outer: &Label) -> Option<Category>
     None
 }
 
-// The category by which a process keeps its secrets, as the labels of its container and of its internal
-// container tell.
+// Returns the category by which a process keeps its secrets, from the labels of its container and of its
+// internal container.
 fn read_category_in(outer: &Label, inner: &Label) -> Option<Category>
     ensures { result ≡ read_category_in outer.now inner.now }
 {
@@ -100,14 +100,14 @@ fn read_category_in(outer: &Label, inner: &Label) -> Option<Category>
     None
 }
 
-// Whether it is level 0.
+// Checks whether this is level 0.
 fn is_zero(level: Level) -> bool
     ensures { result ≡ is_zero level }
 {
     matches!(level, Level::L0)
 }
 
-// Whether a category has level 3, and not in the label of the container outside.
+// Checks whether a category has level 3, and doesn't in the label of the container outside.
 fn is_own_secret(outer: &Label, category: Category, level: Level) -> bool
     ensures { result ≡ (is_three level && not (is_three (level_of outer.now category))) }
 {

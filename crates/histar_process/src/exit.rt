@@ -1,4 +1,4 @@
-//! Exiting.
+//! Ending a process.
 ghost use Rattle.histar_calls.specs.Programs.{Runs};
 ghost use Rattle.histar_calls.specs.Refusals.{settled};
 ghost use Rattle.histar_process.specs.ExitCall.{exit_program};
@@ -12,8 +12,8 @@ use histar_layout::exit_status;
 use histar_syscall::Kernel;
 use std::alloc::Global;
 
-/// The process exits with this number: its segment tells so from then on, and its internal container is
-/// taken away with its thread. EACCES where the kernel doesn't let the thread modify these.
+/// Ends the process with this number: its segment records the number from then on, and its internal
+/// container is unlinked with its thread. EACCES where the kernel doesn't let the thread modify these.
 pub fn exit<S: LabelStore + Drop>(
     alloc: Global,
     kernel: &mut Kernel<S>,

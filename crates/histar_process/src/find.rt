@@ -16,13 +16,13 @@ use std::alloc::Global;
 /// A process segment that was read.
 #[derive(Drop)]
 pub struct Segment {
-    /// What stands at its head.
+    /// Its head: whether the process runs, how many children were born, and where its objects are.
     pub head: StatusHead,
     /// All its bytes.
     pub bytes: Bytes,
 }
 
-/// Where a child is found.
+/// Returns where a child is found.
 pub fn home_of(child: Child) -> Home
     ensures { result ≡ home_of child }
 {
@@ -32,7 +32,7 @@ pub fn home_of(child: Child) -> Home
     }
 }
 
-/// The child that was looked up. ESRCH where there is none.
+/// Returns the child that was looked up. ESRCH where there is none.
 pub fn must_be_there(child: Option<Child>) -> Result<Child, Errno>
     ensures { result ≡ must_be_there child }
 {
@@ -88,7 +88,7 @@ pub fn write_segment<S: LabelStore + Drop>(
     written(kernel.write(alloc, thread, home.container, home.segment, 0, bytes))
 }
 
-/// The child of this number that a process segment lists, which is read in place: EACCES where the kernel
+/// Looks up the child of this number in a process segment, which is read in place: EACCES where the kernel
 /// doesn't let the thread observe it.
 fn look_up<S: LabelStore + Drop>(
     kernel: &mut Kernel<S>,
@@ -103,7 +103,7 @@ fn look_up<S: LabelStore + Drop>(
     Ok(child)
 }
 
-/// Where the process of these numbers is found, of which the last stands first. The segment of each
+/// Finds the process of these numbers, the last number first. The segment of each
 /// process above it is read in place. EACCES where one may not be observed, ESRCH where it doesn't list
 /// the next number.
 pub fn find_home<S: LabelStore + Drop>(

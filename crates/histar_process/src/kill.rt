@@ -50,7 +50,7 @@ fn kill_first<S: LabelStore + Drop>(
     Ok(Reply::Done)
 }
 
-/// Kills the child of this number of the process of these numbers, of which the last stands first.
+/// Kills the child of this number of the process of these numbers, the last number first.
 fn kill_child<S: LabelStore + Drop>(
     alloc: Global,
     kernel: &mut Kernel<S>,

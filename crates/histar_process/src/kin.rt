@@ -9,7 +9,7 @@ use histar_label::Category;
 use histar_layout::{UserTable, owners_of, read_category, write_category};
 use std::alloc::{AllocError, Global};
 
-/// The categories that a process owns as the user of this number, if it is free of jobs or not.
+/// Returns the categories that a process owns as the user of this number, if it is free of jobs or not.
 pub fn owned_by(
     alloc: Global,
     users: &UserTable,
@@ -26,7 +26,7 @@ pub fn owned_by(
     categories_of(alloc, owners.as_slice(), free)
 }
 
-/// The categories by which these users and groups read and, in a free process, those by which they write.
+/// Returns the categories by which these users and groups read and, in a free process, those by which they
 pub fn categories_of(alloc: Global, owners: &[u8], free: bool) -> Result<Vec<Category>, AllocError>
     ensures { IfOk result (λ owned. owned.items ≡ categories_of owners.now free) }
 {
@@ -37,7 +37,7 @@ pub fn categories_of(alloc: Global, owners: &[u8], free: bool) -> Result<Vec<Cat
     Ok(owned)
 }
 
-// These categories, and those by which these users and groups read.
+// Adds the categories by which these users and groups read to these categories.
 fn with_reading(categories: Vec<Category>, owners: &[u8]) -> Result<Vec<Category>, AllocError>
     ensures { IfOk result (λ made. made.items ≡ categories.items ++ map read_category owners.now) }
 {
@@ -48,7 +48,7 @@ fn with_reading(categories: Vec<Category>, owners: &[u8]) -> Result<Vec<Category
     Ok(made)
 }
 
-// These categories, and those by which these users and groups write.
+// Adds the categories by which these users and groups write to these categories.
 fn with_writing(categories: Vec<Category>, owners: &[u8]) -> Result<Vec<Category>, AllocError>
     ensures { IfOk result (λ made. made.items ≡ categories.items ++ map write_category owners.now) }
 {
@@ -59,7 +59,7 @@ fn with_writing(categories: Vec<Category>, owners: &[u8]) -> Result<Vec<Category
     Ok(made)
 }
 
-/// The categories of both lists.
+/// Returns the categories of both lists.
 pub fn joined(
     alloc: Global,
     first: &[Category],
@@ -73,7 +73,7 @@ pub fn joined(
     Ok(all)
 }
 
-/// The name of the user of this number, from 1 on; nobody's is number 0.
+/// Returns the name of the user of this number, from 1 on; nobody's is number 0.
 pub fn user_name(users: &UserTable, number: u8) -> Name
     ensures { result ≡ user_name users.now.users number }
 {
@@ -83,7 +83,7 @@ pub fn user_name(users: &UserTable, number: u8) -> Name
     nobody()
 }
 
-// The name of nobody.
+// Returns the name of nobody.
 fn nobody() -> Name
     ensures { result ≡ nobody }
 {

@@ -1,8 +1,8 @@
-//! What the kernel's refusals come to in the programs of these calls: the contract of a function that
-//! does nothing.
+//! The replies to which the kernel's refusals lead in the programs of these calls: the contract of a function
+//! that does nothing.
 ghost use Rattle.histar_process.specs.Laws.{ProcessCallsReplyToRefusals};
 
-/// The programs of this crate's calls reply to their refusals.
+/// States that the programs of this crate's calls reply to their refusals.
 pub fn process_calls_reply_to_refusals()
     ensures { ProcessCallsReplyToRefusals }
 {}

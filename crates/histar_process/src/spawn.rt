@@ -21,10 +21,10 @@ use histar_object::ObjId;
 use histar_syscall::Kernel;
 use std::alloc::Global;
 
-/// How many children may be born to a process.
+/// The greatest number of children that are born to a process.
 const MOST_CHILDREN: u8 = 64;
 
-/// A child is born to the process of this name, which makes the call: its user is the caller's, and it is
+/// Makes a child of the process of this name, which makes the call: its user is the caller's, and it is
 /// in the same jobs. EAGAIN where the name has no room for one number more or 64 children were
 /// born already, EACCES where the kernel doesn't let the thread modify the process's own objects.
 pub fn spawn<S: LabelStore + Drop>(
@@ -45,7 +45,7 @@ pub fn spawn<S: LabelStore + Drop>(
     Ok(Reply::Child(name.child(head.born + 1)))
 }
 
-/// Has a child be born to a caller whose thread has this label and whose segment has these bytes: its
+/// Makes a child of a caller whose thread has this label and whose segment has these bytes: its
 /// user is the caller's, and it is in the same jobs.
 fn bear_child<S: LabelStore + Drop>(
     alloc: Global,
@@ -86,8 +86,8 @@ fn take_labels<S: LabelStore + Drop>(
     Ok(())
 }
 
-/// The segment of the process of this name, to which a child more may be born. EAGAIN where the name has
-/// no room for one number more or 64 children were born already, EACCES where the kernel doesn't let the
+/// Reads the segment of the process of this name, if one more child may be born to it. EAGAIN where the name
+/// has no room for one number more or 64 children were born already, EACCES where the kernel doesn't let the
 /// thread observe the segment.
 pub fn room_for_child<S: LabelStore + Drop>(
     alloc: Global,
@@ -106,7 +106,7 @@ pub fn room_for_child<S: LabelStore + Drop>(
     Ok(segment)
 }
 
-/// Whether there is room for one child more. EAGAIN where there is none.
+/// Checks that there is room for one child more. EAGAIN where there is none.
 fn must_have_room(room: bool) -> Result<(), Errno>
     ensures { result ≡ must_have_room room }
 {

@@ -11,7 +11,7 @@ use histar_label::LabelStore;
 use histar_object::ObjId;
 use histar_syscall::Kernel;
 
-/// Whether a process runs, or what it has exited with. EACCES where the kernel doesn't let the thread
+/// Answers whether a process runs, or what it has exited with. EACCES where the kernel doesn't let the thread
 /// observe its segment or one above it, ESRCH where it was not born or was killed.
 pub fn status<S: LabelStore + Drop>(
     kernel: &mut Kernel<S>,
@@ -26,7 +26,7 @@ pub fn status<S: LabelStore + Drop>(
     Ok(status_reply(head.exited))
 }
 
-/// What `status` answers of a process that has exited with this number, or runs.
+/// Returns the reply of `status` for a process that has exited with this number, or runs.
 fn status_reply(exited: Option<u8>) -> Reply
     ensures { result ≡ status_reply exited }
 {

@@ -11,8 +11,8 @@ use histar_layout::{UserTable, is_in_job, user_of};
 use histar_object::ObjId;
 use histar_syscall::Kernel;
 
-/// The user of the process that the thread belongs to, and whether the process is in a job, as the thread's
-/// own label tells.
+/// Answers with the user of the process that the thread belongs to, and whether the process is in a job. Both
+/// are read off the thread's own label.
 pub fn whoami<S: LabelStore + Drop>(
     kernel: &mut Kernel<S>,
     users: &UserTable,

@@ -49,7 +49,7 @@ module _ (k : KernelModel) (S : List TraceEntry) (e : TraceEntry) (d : Denied) (
       at_last k lines S (Some e) same is (subst (λ (o : Option Denied). ExplainsCall (state k) e.line e.thread e.call o lines) (sym denied)
       (x, explained, text))
 
--- the last of a list with one more
+-- the last entry of a trace with one more
 last_is : (xs : List TraceEntry) (e : TraceEntry) → slice_get (xs ++ e ∷ []) (length (xs ++ e ∷ []) - 1) ≡ Some e
 last_is xs e =
     let at : length (xs ++ e ∷ []) - 1 ≡ length xs = omega (arith, length-append xs (e ∷ [])) in

@@ -1,4 +1,4 @@
--- What the function that runs and explains a raw session says, put together from what its parts say.
+-- The facts of a run of a raw session with explanations, from those of its parts.
 use Rattle.std.proofs.Common.{◌≡◌, ℕ, List, Option, Result, Ok, Err, subst, inr}
 use Rattle.std.specs.Prelude.{IfErr, OnOk, OnErr}
 use Rattle.std.specs.Io.KnownBytes.{Appends}
@@ -20,7 +20,7 @@ pub whole_begins : (before after : State) (old new : Option (List ℕ)) (asked :
     → AnswersCall before after old new asked → BeginsAnswer before after old new asked
 whole_begins before after old new asked one = inr (one.line, one.prints, whole_front old new one.line one.written)
 
--- the answers and then the explanations
+-- the answers were written, and then the explanations
 pub all_written : (before after : State) (old mid new : Option (List ℕ)) (calls : List RawLine) (text : List ℕ)
     → AnswersCalls before after old mid calls → ExplainsCalls before calls text after → Appends mid new text
     → ExplainsAnswered before after old new calls
@@ -32,7 +32,7 @@ all_written before after old mid new calls text done explains written = record {
   written = Appends-trans old mid new done.text text done.written written;
 }
 
--- the answers and then a beginning of the explanations
+-- the answers were written, and then a beginning of the explanations
 pub front_written : (before after : State) (old mid new : Option (List ℕ)) (calls : List RawLine) (text : List ℕ)
     → AnswersCalls before after old mid calls → ExplainsCalls before calls text after → AppendsFront mid new text
     → BeginsExplaining before old new calls

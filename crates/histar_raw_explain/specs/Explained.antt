@@ -1,4 +1,4 @@
--- The denied calls of a raw session are explained behind its answers.
+-- The denied calls of a raw session are explained after its answers.
 use Rattle.std.specs.Prelude.{◌≡◌, ℕ, ◌⊎◌, ◌-◌, List, [], ◌∷◌, ◌++◌, length, Option, Some, None, Result, MatchOption}
 use Rattle.std.specs.List.{slice_get}
 use Rattle.std.specs.Io.KnownBytes.{Appends}
@@ -30,21 +30,21 @@ ExplainsLast k lines =
     MatchOption (slice_get k.trace (length k.trace - 1)) (lines ≡ [])
     (λ (e : TraceEntry). ExplainsCall (state k) e.line e.thread e.call e.denied lines)
 
--- By the rules the call leads from a state to another, granted or denied, and the lines explain it at the state before it.
+-- By the rules the call leads from one state to another, granted or denied, and the lines explain it at the state before it.
 pub record ExplainsOne (before after : State) (asked : RawLine) (lines : List ℕ) : Type 0 where
   pub denied : Option Denied
   pub outcome : check before asked.thread asked.call ≡ denied
   pub leaves : Leaves denied before asked.thread asked.call after
   pub explains : ExplainsCall before asked.line asked.thread asked.call denied lines
 
--- From the first state the rules lead to the last one by these calls, each at the state that the one before left, and the text
--- explains each denied one at the state before it.
+-- By the rules these calls lead from the first state to the last one, each from the state that the one before left, and the text explains
+-- each denied call at the state before it.
 abbrev pub ExplainsCalls : State → List RawLine → List ℕ → State → Type 0
 ExplainsCalls s [] text last = (text ≡ []) × (last ≡ s)
 ExplainsCalls s (asked ∷ calls) text last =
     (mid : State) × (lines : List ℕ) × (rest : List ℕ) × ExplainsOne s mid asked lines × (text ≡ lines ++ rest) × ExplainsCalls mid calls rest last
 
--- each call has its outcome by the rules, whose lines were written, and behind them the explanations
+-- each call has its outcome by the rules, the lines of the outcomes were written, and after them the explanations
 pub record ExplainsAnswered (before after : State) (old new : Option (List ℕ)) (calls : List RawLine) : Type 0 where
   pub answers : List ℕ
   pub explanations : List ℕ
@@ -52,7 +52,7 @@ pub record ExplainsAnswered (before after : State) (old new : Option (List ℕ))
   pub explains : ExplainsCalls before calls explanations after
   pub written : Appends old new (answers ++ explanations)
 
--- the same, of which a beginning was written
+-- the same, where only a beginning was written
 pub record BeginsExplanations (before : State) (old new : Option (List ℕ)) (calls : List RawLine) : Type 0 where
   pub last : State
   pub answers : List ℕ
@@ -65,7 +65,7 @@ pub record BeginsExplanations (before : State) (old new : Option (List ℕ)) (ca
 abbrev pub BeginsExplaining : State → Option (List ℕ) → Option (List ℕ) → List RawLine → Type 0
 BeginsExplaining before old new calls = BeginsAnswers before old new calls ⊎ BeginsExplanations before old new calls
 
--- the text is a raw session, and from the empty kernel on each of its calls was answered, and each denied one explained behind all answers
+-- the text is a raw session, each of its calls was answered, from the empty kernel on, and after all answers each denied one was explained
 pub record ExplainsSession (text : List ℕ) (old new : Option (List ℕ)) : Type 0 where
   pub calls : List RawLine
   pub is : IsSession text calls

@@ -1,4 +1,4 @@
--- How the explanation of a denied call is written.
+-- The text of the explanation of a denied call.
 use Rattle.std.specs.Prelude.{ℕ, ◌==◌, List, [], ◌++◌, length, Option, None, Some, codes, decimal, if◌then◌else◌}
 use Rattle.std.specs.List.{flat_map}
 use Rattle.histar_label.specs.declared.levels.Level.{Level}
@@ -15,14 +15,14 @@ use Rattle.histar_explain.specs.declared.reasons.Party.TheVariants.{ThreadCleara
 use Rattle.histar_explain.specs.declared.reasons.Party.TheVariants.{AnySegment, AnyContainer}
 use Rattle.histar_explain.specs.declared.reasons.Reason.{Reason}
 
--- how threads, objects and categories are written, and categories in a list of several
+-- the wording of threads, objects and categories, and of categories in a list of several
 pub record Words : Type 0 where
   pub thread : ℕ → List ℕ
   pub object : ℕ → List ℕ
   pub category : ℕ → List ℕ
   pub listed : ℕ → List ℕ
 
--- each by its number
+-- the wording of each by its number
 abbrev pub raw_words : Words
 raw_words = record {
   thread = λ t. codes "thread " ++ decimal t;
@@ -35,7 +35,7 @@ raw_words = record {
 abbrev pub object_text : Words → List ℕ → ℕ → List ℕ
 object_text words verb q = verb ++ codes " " ++ words.object q
 
--- what a denied call tried
+-- the action that a denied call tried
 abbrev pub act_text : Words → Act → List ℕ
 act_text words acts.Call = codes "call"
 act_text words (acts.Use q) = object_text words (codes "use") q
@@ -52,7 +52,7 @@ act_text words acts.MakeContainer = codes "make that container"
 act_text words acts.MakeThread = codes "make that thread"
 act_text words acts.MakeGate = codes "make that gate"
 
--- what is in the way of a call, where that has no number
+-- an obstacle that has no number
 abbrev pub plain_text : Obstacle → List ℕ
 plain_text obstacles.NoThread = codes "it is no thread"
 plain_text obstacles.NoObject = codes "there is no such object"
@@ -68,17 +68,17 @@ plain_text (obstacles.TooLong n) = []
 abbrev pub not_linked_text : ℕ → List ℕ
 not_linked_text d = codes "container " ++ decimal d ++ codes " does not link it"
 
--- so many bytes, which no segment holds
+-- this many bytes, which no segment holds
 abbrev pub too_long_text : ℕ → List ℕ
 too_long_text n = codes "it would have " ++ decimal n ++ codes " bytes, more than 4096"
 
--- what is in the way of a call
+-- the obstacle of a call
 abbrev pub obstacle_text : Obstacle → List ℕ
 obstacle_text (obstacles.NotLinked d) = not_linked_text d
 obstacle_text (obstacles.TooLong n) = too_long_text n
 obstacle_text obstacle = plain_text obstacle
 
--- whose label is on a side of a comparison
+-- the party whose label is on a side of a comparison
 abbrev pub party_text : Party → List ℕ
 party_text Thread = codes "the thread"
 party_text Object = codes "the object"
@@ -97,13 +97,13 @@ party_text AnyContainer = codes "no container"
 abbrev pub has_text : Party → Level → List ℕ
 has_text party l = party_text party ++ codes " has " ++ level_text l
 
--- the levels of two labels where the lower one is above the other, or the star of a label that no segment or no container has
+-- the levels of two labels where the lower one is above the other, or that a label has star where no segment or no container may
 unfoldable pub excess_text : Party → Party → Level → Level → List ℕ
 excess_text AnySegment upper l m = has_text upper m ++ codes ", which " ++ party_text AnySegment ++ codes " has"
 excess_text AnyContainer upper l m = has_text upper m ++ codes ", which " ++ party_text AnyContainer ++ codes " has"
 excess_text lower upper l m = has_text lower l ++ codes ", " ++ party_text upper ++ codes " " ++ level_text m
 
--- what each line begins with: the number of the call's line, the thread, and what it may not do
+-- the beginning of each line: the number of the call's line, the thread, and what it may not do
 abbrev pub opening_text : Words → ℕ → ℕ → Act → List ℕ
 opening_text words line thread act =
     codes "?" ++ decimal line ++ codes " " ++ words.thread thread ++ codes " may not " ++ act_text words act
@@ -125,11 +125,11 @@ difference_line words opening lower upper d = place_text words opening d.categor
 abbrev pub spared_text : Words → Difference → List ℕ
 spared_text words d = codes " " ++ words.listed d.category
 
--- all that have no line but those that are spared
+-- all other categories except the spared ones
 abbrev pub but_text : Words → List Difference → List ℕ
 but_text words spared = codes "other category but" ++ flat_map (spared_text words) spared
 
--- all categories that no label lists, or all others but those that are spared
+-- all categories that no label lists, or all others except the spared ones
 unfoldable pub elsewhere_text : Words → List Difference → List ℕ
 elsewhere_text words spared = if length spared == 0 then codes "category that neither lists" else but_text words spared
 
@@ -149,7 +149,7 @@ reason_lines words opening r =
     flat_map (difference_line words opening r.lower r.upper) r.named.items
     ++ elsewhere_line words opening r.lower r.upper r.spared.items r.elsewhere
 
--- the line of what is in the way, if anything is
+-- the line of the obstacle, if there is one
 abbrev pub obstacle_lines : List ℕ → Option Obstacle → List ℕ
 obstacle_lines opening None = []
 obstacle_lines opening (Some obstacle) = opening ++ obstacle_text obstacle ++ codes "\n"

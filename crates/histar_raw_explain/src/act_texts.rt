@@ -1,4 +1,4 @@
-//! The words for what a denied call tried, and for what was in its way.
+//! The words for the action that a denied call tried, and for its obstacle.
 ghost use Rattle.std.specs.Prelude.{◌≡◌, ◌++◌, OnOk};
 ghost use Rattle.histar_raw_explain.specs.Texts.{act_text, not_linked_text, object_text, obstacle_text, plain_text, too_long_text};
 
@@ -22,7 +22,7 @@ fn push_object<V: Wording>(
     words.push_object(text, object)
 }
 
-/// Adds what a denied call tried.
+/// Adds the action that a denied call tried.
 pub(crate) fn push_act<V: Wording>(
     text: &mut Vec<u8>,
     words: &V,
@@ -51,7 +51,7 @@ pub(crate) fn push_act<V: Wording>(
     }
 }
 
-/// Returns what is in the way of a call, where that has no number.
+/// Returns the text of an obstacle that has no number.
 fn plain_text(obstacle: Obstacle) -> &'static str
     ensures { result.now ≡ plain_text obstacle }
 {
@@ -76,7 +76,7 @@ fn push_not_linked(text: &mut Vec<u8>, container: ObjId) -> Result<(), AllocErro
     text.extend_from_slice(b" does not link it")
 }
 
-/// Adds that no segment holds so many bytes.
+/// Adds that no segment holds this many bytes.
 fn push_too_long(text: &mut Vec<u8>, bytes: usize) -> Result<(), AllocError>
     ensures { OnOk result (text.new.items ≡ text.old.items ++ too_long_text bytes) }
 {
@@ -85,7 +85,7 @@ fn push_too_long(text: &mut Vec<u8>, bytes: usize) -> Result<(), AllocError>
     text.extend_from_slice(b" bytes, more than 4096")
 }
 
-/// Adds what is in the way of a call.
+/// Adds the obstacle of a call.
 pub(crate) fn push_obstacle(text: &mut Vec<u8>, obstacle: Obstacle) -> Result<(), AllocError>
     ensures { OnOk result (text.new.items ≡ text.old.items ++ obstacle_text obstacle) }
 {

@@ -1,5 +1,5 @@
-//! Raw sessions with explanations: what `run_raw_script` of `histar_raw_session` writes, and behind it why
-//! each denied call was denied.
+//! Raw sessions with explanations: the output of `run_raw_script` of `histar_raw_session`, and after it the
+//! reasons of each denial.
 #![tactic(auto)]
 
 mod act_texts;

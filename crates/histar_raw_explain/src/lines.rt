@@ -15,11 +15,11 @@ use histar_rawtext::push_number;
 use histar_syscall::TraceEntry;
 use std::alloc::{AllocError, Global};
 
-/// For how many bytes the beginning of a line has room at first.
+/// The number of bytes for which the beginning of a line has room at first.
 const OPENING_LEN: usize = 128;
 
-/// Returns what each line of an explanation begins with: a question mark and the number of the call's
-/// line, the thread, and what it may not do.
+/// Returns the beginning of each line of an explanation: a question mark and the number of the call's line,
+/// the thread, and what it may not do.
 fn opening<V: Wording>(
     alloc: Global,
     words: &V,
@@ -138,7 +138,7 @@ fn push_spared<V: Wording>(
     Ok(())
 }
 
-/// Adds that a reason speaks of all other categories but those that are spared.
+/// Adds that a reason is about all other categories except the spared ones.
 fn push_but<V: Wording>(
     text: &mut Vec<u8>,
     words: &V,
@@ -150,8 +150,8 @@ fn push_but<V: Wording>(
     push_spared(text, words, spared)
 }
 
-/// Adds which categories a reason speaks of at last: all that no label lists, or all others but those
-/// that are spared.
+/// Adds the last categories that a reason is about: all that no label lists, or all others except the spared
+/// ones.
 #[tactic(auto, unfolding(crate::specs::Texts::elsewhere_text))]
 fn push_elsewhere<V: Wording>(
     text: &mut Vec<u8>,
@@ -229,7 +229,7 @@ fn push_reasons<V: Wording>(
     Ok(())
 }
 
-/// Adds the line of what is in the way, if anything is.
+/// Adds the line of the obstacle, if there is one.
 fn push_obstacle_line(
     text: &mut Vec<u8>,
     opening: &[u8],

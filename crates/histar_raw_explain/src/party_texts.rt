@@ -7,7 +7,7 @@ use histar_label::Level;
 use histar_rawtext::push_level;
 use std::alloc::AllocError;
 
-/// Returns whose label is on a side of a comparison.
+/// Returns the text of a party whose label is compared.
 fn party_text(party: Party) -> &'static str
     ensures { result.now ≡ party_text party }
 {
@@ -27,7 +27,7 @@ fn party_text(party: Party) -> &'static str
     }
 }
 
-/// Adds whose label has a level.
+/// Adds that a party's label has a level.
 fn push_has(text: &mut Vec<u8>, party: Party, level: Level) -> Result<(), AllocError>
     ensures { OnOk result (text.new.items ≡ text.old.items ++ has_text party level) }
 {
@@ -36,8 +36,8 @@ fn push_has(text: &mut Vec<u8>, party: Party, level: Level) -> Result<(), AllocE
     push_level(text, level)
 }
 
-/// Adds the levels that two labels have where the lower one is above the other, or where a label has star
-/// that no segment or no container has.
+/// Adds the levels of two labels where the lower one is above the other, or that a label has star where no
+/// segment or no container may.
 #[tactic(auto, unfolding(crate::specs::Texts::excess_text))]
 pub(crate) fn push_excess(
     text: &mut Vec<u8>,

@@ -17,8 +17,7 @@ use histar_script::Fault;
 use histar_syscall::Kernel;
 use std::alloc::Global;
 
-/// Runs a raw session as `run_raw_script` does, and writes behind its answers why each denied call was
-/// denied.
+/// Runs a raw session as `run_raw_script` does, and writes after its answers why each denied call was denied.
 ///
 /// A denied call leaves the state of the kernel as it was, so it is explained as soon as it is answered.
 /// The explanations are kept until all calls are answered. It doesn't flush the sink.
@@ -27,16 +26,17 @@ pub fn explain_raw_script<R: Source, W: Sink>(
     reader: &mut R,
     writer: &mut W,
 ) -> Result<(), Fault>
-    // After a bad session, one that is too long and a failed read the sink is as it was.
+    // After a bad session, one that is too long or a failed read the sink is as it was.
     ensures nothing { IfErr result (LeavesSink writer.old writer.new) }
 
-    // A device has failed exactly where its fault is the answer.
+    // A device has failed exactly where its fault is returned.
     ensures reads { CountsFailure (R.failures reader.old) (R.failures reader.new) (is_read_failed result) }
     ensures writes { CountsFailure (W.failures writer.old) (W.failures writer.new) (is_write_failed result) }
 
-    // Whatever the source says, the run took bytes of it, to its end but never more than 1,048,577, and ran the session that
-    // these are: their fault is answered, or exactly the lines of the outcomes that the rules give are written, and then
-    // exactly the explanations of the denied calls, each at the state before its call.
+    // Whatever the source knows of its input, the run took bytes of it, to its end but never more than
+    // 1,048,577, and ran these as a session: it returned their fault, or wrote exactly the lines of the
+    // outcomes that the rules give, and then exactly the explanations of the denied calls, each at the state
+    // before its call.
     ensures runs { RunsInput RunsExplained (R.left reader.old) (R.left reader.new)
         (W.written writer.old) (W.written writer.new) result }
 
@@ -48,7 +48,7 @@ pub fn explain_raw_script<R: Source, W: Sink>(
     explain_text(alloc, input.as_slice(), writer)
 }
 
-/// Runs and explains the raw session that a text is.
+/// Runs a text as a raw session with explanations.
 fn explain_text<W: Sink>(alloc: Global, text: &[u8], writer: &mut W) -> Result<(), Fault>
     ensures nothing { IfErr result (LeavesSink writer.old writer.new) }
     ensures reads { is_read_failed result ≡ false }

@@ -1,4 +1,4 @@
-//! How the things that an explanation names are written.
+//! The wording of the things that an explanation names.
 ghost use Rattle.std.specs.Prelude.{◌≡◌, ◌++◌, OnOk};
 ghost use Rattle.histar_raw_explain.specs.Texts.{Words, raw_words};
 
@@ -7,9 +7,9 @@ use histar_object::ObjId;
 use histar_rawtext::push_number;
 use std::alloc::AllocError;
 
-/// Writes threads, objects and categories: by their numbers, or by what is known of them.
+/// Writes threads, objects and categories: by their numbers, or by known names.
 pub trait Wording {
-    // How each one is written.
+    // The wording of each.
     ghost words: { Self → Words };
 
     /// Adds a thread.

@@ -19,7 +19,7 @@ use Rattle.histar_raw_lint.proofs.Rules.{AreKept, both_kept, first_kept}
 use Rattle.histar_raw_lint.proofs.NumbersKept.{is_there, number_by_digits}
 use Rattle.histar_raw_lint.proofs.CallsKept.{by_first_word, call_by_rules, tail_of}
 
--- where no byte is found that is not printable, each one is
+-- where no unprintable byte is found, each byte is printable
 all_printable : (n : ℕ) (line : List ℕ) → is_some (unprintable_from n line) ≡ false → list_all is_plain_byte line ≡ true
 all_printable n [] none = refl
 all_printable n (b ∷ line) none = by n line (is_plain_byte b) b none (all_printable (n + 1) line)
@@ -50,7 +50,7 @@ second_word line kept =
     let fifth = first_kept (is_none (after_word line)) _ _ fourth.1 in
     is_there (after_word line) fifth.0
 
--- a line that keeps all rules is plain, and says a call
+-- a line that keeps all rules is plain, and contains a call
 says_call : (line : List ℕ) → sentence line ≡ None → IsTrue (is_plain line) × (thread : ℕ) × (call : RawCall) × IsCallLine line thread call
 says_call line kept =
     let last = thread_rules (word_of line) ++ call_rules (rest_of line) in

@@ -19,12 +19,12 @@ use Rattle.histar_raw_lint.proofs.Parts.{split_back, whole_back}
 use Rattle.histar_raw_lint.proofs.LabelsKept.{not_so}
 use Rattle.histar_raw_lint.proofs.ValuesKept.{IsValue, value_by_rules}
 
--- what stands behind a name: nothing, or a space and words
+-- the text after a name: nothing, or a space and words
 abbrev pub tail_of : Option (List ℕ) → List ℕ
 tail_of None = []
 tail_of (Some words) = 32 ∷ words
 
--- a text is a value of this kind, behind a space, and then more
+-- a text is a value of this kind, after a space, and then more
 pub record SpellsOne (kind : Kind) (More : List ℕ → Type 0) (tail : List ℕ) : Type 0 where
   pub word : List ℕ
   pub rest : List ℕ
@@ -32,12 +32,12 @@ pub record SpellsOne (kind : Kind) (More : List ℕ → Type 0) (tail : List ℕ
   pub value : IsValue kind word
   pub next : More rest
 
--- a text is values of these kinds, each behind a space
+-- a text is values of these kinds, each after a space
 abbrev Spells : List Kind → List ℕ → Type 0
 Spells [] tail = tail ≡ []
 Spells (kind ∷ kinds) tail = SpellsOne kind (Spells kinds) tail
 
--- a text, by its first word
+-- a text consists of its first word and the rest
 pub by_first_word : (text : List ℕ) → text ≡ word_of text ++ tail_of (after_word text)
 by_first_word text = by (after_word text) refl
   where
@@ -62,7 +62,7 @@ spelled (kind ∷ kinds) (Some words) fit kept =
       next = spelled kinds (after_word words) fit both.1;
     }
 
--- a name and what stands behind it are the text of a call that can be read
+-- a name and the text after it are the text of a call that can be read
 abbrev IsCallText : List ℕ → List ℕ → Type 0
 IsCallText name tail = (call : RawCall) × (name ++ tail ≡ call_text call) × IsReadable call
 
@@ -74,19 +74,19 @@ MakesCall name kinds = (tail : List ℕ) → Spells kinds tail → IsCallText na
 small : (n : ℕ) → n ≤ greatest → IsNumber n
 small n le = omega arith
 
--- a word that is this one, behind a space, and the rest that is that one
+-- the texts are equal if a word after a space is this one and the rest is that one
 step : {tail word own rest more : List ℕ} → tail ≡ (32 ∷ word) ++ rest → word ≡ own → rest ≡ more → tail ≡ (32 ∷ own) ++ more
 step parts same rest = parts ∙ (λ i. (32 ∷ same i) ++ rest i)
 
--- the last word
+-- so they are where it is the last word
 last : {tail word own rest : List ℕ} → tail ≡ (32 ∷ word) ++ rest → word ≡ own → rest ≡ [] → tail ≡ 32 ∷ own
 last {own = own} parts same end = step parts same end ∙ append-nil (32 ∷ own)
 
--- a name before what stands behind it
+-- so they are with a name before them
 named : {tail words : List ℕ} (name : List ℕ) → tail ≡ words → name ++ tail ≡ name ++ words
 named name is = ap (λ (t : List ℕ). name ++ t) is
 
--- more words, one behind another
+-- so they are with three words
 three : {text : List ℕ} (a b c : List ℕ) → text ≡ a ++ (b ++ c) → text ≡ a ++ b ++ c
 three a b c is = is ∙ sym (append_assoc a b c)
 
@@ -196,7 +196,7 @@ label_of tail s =
       (small s.value.0 s.value.2, small t.value.0 t.value.2),
     )
 
--- the kinds of a name are those of the call that it names, or of one behind
+-- the kinds of a name are those of the call that it names, or of a later one
 chosen : (name other : List ℕ) (own kinds : List Kind) {rest : Option (List Kind)} → MakesCall other own → (rest ≡ Some kinds → MakesCall name kinds)
     → cond (bytes_eq name other) (Some own) rest ≡ Some kinds → MakesCall name kinds
 chosen name other own kinds {rest} makes go_on e = by (bytes_eq name other) refl e
@@ -225,7 +225,7 @@ makes_call name kinds e =
     (chosen name (codes "unlink") (Container ∷ Object ∷ []) kinds unlink
     (chosen name (codes "label") (Container ∷ Object ∷ []) kinds label_of (λ none. absurd cc))))))))))))) e
 
--- a text that keeps the rules for a call is that of one which can be read
+-- a text that keeps the rules for a call is that of a call that can be read
 pub call_by_rules : (text : List ℕ) → AreKept (call_rules text) → (call : RawCall) × (text ≡ call_text call) × IsReadable call
 call_by_rules text kept = by (kinds_among raw_calls (word_of text)) refl kept
   where

@@ -214,7 +214,7 @@ words_right (calls.Write a b c d) p = (container a p.0, (segment b p.1, (keep_wo
 words_right (calls.Unlink a b) p = (container a p.0, (object b p.1, tt))
 words_right (calls.LabelOf a b) p = (container a p.0, (object b p.1, tt))
 
--- words behind one another, each after a space
+-- words one after another, each after a space
 one_spaced : (a : List ℕ) → 32 ∷ a ≡ spaced (a ∷ [])
 one_spaced a = simp append-nil
 

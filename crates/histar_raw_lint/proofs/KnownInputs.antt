@@ -1,4 +1,4 @@
--- What is said of the bytes that were taken is said of a known input.
+-- The finding in the bytes that were taken is that of a known input.
 use Rattle.std.proofs.Common.{◌≡◌, ℕ, ◌+◌, Bool, true, false, cond, eqb, List, [], ◌∷◌, length, Option, Some, None, Result, Ok, Err, refl}
 use Rattle.std.proofs.Common.{sym, ◌∙◌, ◌⊎◌, inl, inr}
 use Rattle.std.specs.Prelude.{IfSome}
@@ -29,7 +29,7 @@ lines_not_long s n (line ∷ lines) e = by (with_line s (n + 1) line) (λ t. lin
     by None go_on e = let same : BadScript (n + 1) ≡ TooLong = cc in absurd cc
     by (Some t) go_on e = go_on t e
 
--- a text that is too long for a script is so for a raw session
+-- a text that is too long for a script is also too long for a raw session
 long_is : (text : List ℕ) → script_of text ≡ Err TooLong → is_too_long text ≡ true
 unfolding reading
 long_is text e = by (is_too_long text) refl e
@@ -38,7 +38,7 @@ long_is text e = by (is_too_long text) refl e
     by true is e = is
     by false is e = absurd (lines_not_long nothing_read 0 (lines_of text) e)
 
--- what is said of a text that is too long is said of another one
+-- a text that is too long has the same finding as another one
 long_lints : (file : List ℕ) (old new : Option (List ℕ)) (result : Result Bool Fault) (taken input : List ℕ) → AreLong taken input
     → LintsRaw file taken old new result → LintsRaw file input old new result
 long_lints file old new (Ok true) taken input long h = let wrong = sym (long_is taken long.one) ∙ h.0.1.0 in absurd cc
@@ -49,7 +49,7 @@ long_lints file old new (Err ReadFailed) taken input long h = h
 long_lints file old new (Err WriteFailed) taken input long h = let wrong = sym (long_is taken long.one) ∙ h.short in absurd cc
 long_lints file old new (Err (BadScript n)) taken input long h = absurd h
 
--- where reading stopped nothing is said
+-- where reading stopped there is no finding
 stopped : (file : List ℕ) (old new : Option (List ℕ)) (fault : Fault) (input : List ℕ) → Keeps old new → (fault ≡ OutOfMemory) ⊎ (fault ≡ ReadFailed)
     → LintsRaw file input old new (Err fault)
 stopped file old new fault input keeps (inl is) = rw is keeps

@@ -34,7 +34,7 @@ use Rattle.histar_raw_lint.proofs.Rules.{AreKept, both_kept, first_kept}
 use Rattle.histar_raw_lint.proofs.NumbersKept.{is_there, number_by_rules}
 use Rattle.histar_raw_lint.proofs.Parts.{split_back}
 
--- a test that fails, of which this is not so
+-- a test whose negation fails holds
 pub not_so : (b : Bool) → not b ≡ false → b ≡ true
 not_so true e = refl
 not_so false e = absurd cc
@@ -58,7 +58,7 @@ level_of_byte b h =
     this_level b 42 Star refl (λ e0. this_level b 48 L0 refl (λ e1. this_level b 49 L1 refl (λ e2. this_level b 50 L2 refl (λ e3.
     this_level b 51 L3 refl (λ e4. absurd (grind (arith, nat_tests, h, e0, e1, e2, e3, e4)))))))
 
--- a text that is a level is that of one
+-- a text that is a level is the text of one
 level_of_text : (text : List ℕ) → is_level text ≡ true → (l : Level) × (level_text l ≡ text)
 level_of_text [] e = absurd cc
 level_of_text (b ∷ []) e = level_of_byte b e
@@ -70,13 +70,13 @@ level_of_text (b ∷ c ∷ text) e = absurd cc
 abbrev pub part : ℕ × Level → List ℕ
 part e = decimal e.0 ++ 58 ∷ level_text e.1
 
--- an exception that may stand behind this category, in a label with this default
+-- an exception that may come after this category, in a label with this default
 pub record IsNext (default : Level) (before : ℕ) (e : ℕ × Level) : Type 0 where
   pub number : IsNumber e.0
   pub above : before < e.0
   pub differs : e.1 ≢ default
 
--- exceptions that may stand behind this category
+-- exceptions that may come after this category
 abbrev pub AreNext : Level → ℕ → Exceptions → Type 0
 AreNext default before [] = ⊤
 AreNext default before (e ∷ es) = IsNext default before e × AreNext default e.0 es
@@ -87,7 +87,7 @@ late_by before c word is small late =
     let test : nat_le c before ≡ false = sym (ap (λ (o : Option ℕ). option_map_or (λ n. nat_le n before) o false) read) ∙ late in
     grind (arith, nat_tests)
 
--- a category that keeps its rules
+-- a word that keeps the rules for a category spells one
 category_by_rules : (before : ℕ) (word : List ℕ) → AreKept (category_rules before word) → (c : ℕ) × (word ≡ decimal c) × IsNumber c × (before < c)
 category_by_rules before word kept =
     let first = first_kept (bytes_eq word (codes "0")) _ _ kept in
@@ -100,7 +100,7 @@ differ_by l d text default is own other same =
     let wrong : bytes_eq text default ≡ true = (bytes_eq-Decides text default).1 (sym is ∙ ap level_text same ∙ own) in
     absurd cc
 
--- a part of a label that keeps its rules
+-- a part of a label that keeps its rules is the text of an exception
 exception_by_rules : (d : Level) (default part_text : List ℕ) (before : ℕ) → level_text d ≡ default
     → AreKept (exception_rules default before part_text)
     → (e : ℕ × Level) × (part_text ≡ part e) × IsNext d before e
@@ -199,13 +199,13 @@ parts_back : (parts : List (List ℕ)) → 1 ≤ length parts → parts ≡ befo
 parts_back [] some = absurd (omega arith)
 parts_back (text ∷ texts) some = last_back text texts
 
--- a text whose last byte is this one
+-- a text whose last byte is this one ends with it
 ended_at : (b c : ℕ) (text : List ℕ) → option_map_or (λ d. d == b) (slice_get (c ∷ text) (length text)) false ≡ true
     → c ∷ text ≡ take (length text) (c ∷ text) ++ b ∷ []
 ended_at b c [] e = let same : c ≡ b = grind (arith, nat_tests) in ap (λ (d : ℕ). d ∷ []) same
 ended_at b c (d ∷ text) e = ap (λ (rest : List ℕ). c ∷ rest) (ended_at b d text e)
 
--- a text in braces
+-- a text in braces consists of the braces and the text between
 braced_back : (word : List ℕ) → is_braced word ≡ true → word ≡ 123 ∷ (in_braces word ++ 125 ∷ [])
 braced_back [] e = absurd cc
 braced_back (b ∷ []) e = let both = and_parts (eqb b 123) (eqb b 125) e in absurd (grind (arith, nat_tests))
@@ -219,7 +219,7 @@ braced_back (b ∷ c ∷ text) e =
     let tail : c ∷ text ≡ in_braces (b ∷ c ∷ text) ++ 125 ∷ [] = ended_at 125 c text last ∙ ap (λ n. take n (c ∷ text) ++ 125 ∷ []) fewer in
     λ i. head i ∷ tail i
 
--- the parts of a label that keep their rules are those of one
+-- parts that keep the rules for a label are those of one
 label_of_parts : (parts : List (List ℕ)) → 1 ≤ length parts → AreKept (part_rules parts)
     → (L : Levels) × (join_with_byte 44 parts ≡ flat_map exception_text (exceptions_of L) ++ level_text (default_of L)) × IsReadableLabel L
 label_of_parts parts some kept =
@@ -239,7 +239,7 @@ label_of_parts parts some kept =
     λ i. flat_map exception_text (sym listed i) ++ sym own i in
     (label.0, joined ∙ text, label.1.readable)
 
--- a word that keeps the rules for labels
+-- a word that keeps the rules for labels is a label's text
 pub label_by_rules : (word : List ℕ) → AreKept (label_rules word) → (L : Levels) × (word ≡ label_text L) × IsReadableLabel L
 label_by_rules word kept =
     let first = first_kept (not (is_braced word)) _ _ kept in

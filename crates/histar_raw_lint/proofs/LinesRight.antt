@@ -36,7 +36,7 @@ ends_step b c d text =
     ap (λ n. option_map_or (λ e. e == b) (slice_get (c ∷ d ∷ text) n) false) less
     ∙ ap (λ n. option_map_or (λ e. e == b) (slice_get (d ∷ text) n) false) fewer
 
--- a text ends as what stands at its end
+-- a text ends like the text at its end
 ends_append : (b : ℕ) (text : List ℕ) (d : ℕ) (rest : List ℕ) → ends_with b (text ++ d ∷ rest) ≡ ends_with b (d ∷ rest)
 ends_append b [] d rest = refl
 ends_append b (c ∷ []) d rest = ends_step b c d rest
@@ -61,7 +61,7 @@ are_words [] (w ∷ ws) right = absurd right
 are_words (k ∷ ks) [] right = absurd right
 are_words (k ∷ ks) (w ∷ ws) right = (right.0.is_word, are_words ks ws right.1)
 
--- a text that begins with a word
+-- a text that begins with a word begins with the word's first byte
 begins_word : (b : ℕ) (word rest : List ℕ) (w : IsWord word) → begins_with b (word ++ rest) ≡ eqb w.first b
 begins_word b word rest w = ap (λ (text : List ℕ). begins_with b (text ++ rest)) w.parts
 
@@ -75,7 +75,7 @@ ends_spaced word (next ∷ words) w ws =
     ∙ ap (λ (text : List ℕ). ends_with 32 (32 ∷ text)) more ∙ ends_step 32 32 first.first (first.rest ++ spaced words)
     ∙ ap (ends_with 32) (sym more) ∙ ends_spaced next words first ws.1
 
--- a space and this byte are in the text, one behind the other
+-- a space followed by this byte is in the text
 abbrev has_pair : ℕ → List ℕ → Bool
 has_pair c [] = false
 has_pair c (b ∷ text) = (b == 32 && begins_with c text) || has_pair c text
@@ -87,7 +87,7 @@ pair_behind c (b ∷ word) rest all =
     let parts = and_parts (not (eqb b 32)) (lacks 32 word) all in
     ap (λ s. (s && begins_with c (word ++ rest)) || has_pair c (word ++ rest)) (not-true (eqb b 32) parts.0) ∙ pair_behind c word rest parts.1
 
--- nor behind words, where none begins with this byte
+-- nor after words, where none begins with this byte
 pair_spaced : (c : ℕ) (words : List (List ℕ)) → AreWords words → ((word : List ℕ) (w : IsWord word) → eqb w.first c ≡ false)
     → has_pair c (spaced words) ≡ false
 pair_spaced c [] ws other = refl
@@ -103,7 +103,7 @@ gap_is_pair : (text : List ℕ) → has_gap text ≡ has_pair 32 text
 gap_is_pair [] = refl
 gap_is_pair (b ∷ text) = ap (λ s. (b == 32 && begins_with 32 text) || s) (gap_is_pair text)
 
--- words with a space between two, of which there are two, keep the rules for words
+-- words with a space between two, at least two of them, keep the rules for words
 words_kept : (word next : List ℕ) (words : List (List ℕ)) → IsWord word → IsWord next → AreWords words
     → AreKept (word_rules (word ++ spaced (next ∷ words)))
 words_kept word next words w v ws =
@@ -144,7 +144,7 @@ bytes_of_line line plain =
 
 -- ---- a line
 
--- the rules for a thread and its call, by both
+-- the rules for a thread and its call
 abbrev thread_call_at : List ℕ × Option (List ℕ) → List Rule
 thread_call_at parts = thread_rules parts.0 ++ call_rules (unwrap_or parts.1 [])
 

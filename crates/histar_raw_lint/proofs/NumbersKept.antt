@@ -14,12 +14,12 @@ use Rattle.histar_rawtext.specs.Reading.{number_in}
 use Rattle.histar_raw_lint.specs.Values.{are_digits, digit_rules, has_zero, number_rules, positive_rules}
 use Rattle.histar_raw_lint.proofs.Rules.{AreKept, first_kept}
 
--- a value that is there
+-- a value is there that is not missing
 pub is_there : {A : Type 0} (o : Option A) → is_none o ≡ false → (x : A) × (o ≡ Some x)
 is_there None e = absurd cc
 is_there (Some x) e = (x, refl)
 
--- the digits of a number up to a greatest one
+-- a word that keeps the rules for digits spells a number up to a greatest one
 pub number_by_digits : (noun word : List ℕ) (most : ℕ) → AreKept (digit_rules noun most word) → (n : ℕ) × (word ≡ decimal n) × (n ≤ most)
 number_by_digits noun word most kept =
     let first = first_kept (has_zero word) _ _ kept in
@@ -28,7 +28,7 @@ number_by_digits noun word most kept =
     let takes = number_takes (λ n. nat_le n most) word there.0 there.1 in
     (there.0, takes.0, leb-true there.0 most takes.1)
 
--- a number up to a greatest one
+-- so does one that keeps the rules for numbers
 pub number_by_rules : (noun word : List ℕ) (most : ℕ) → AreKept (number_rules noun most word) → (n : ℕ) × (word ≡ decimal n) × (n ≤ most)
 number_by_rules noun word most kept = number_by_digits noun word most (first_kept (not (are_digits word)) _ _ kept).1
 
@@ -38,7 +38,7 @@ not_zero zero word is other = let wrong : bytes_eq word (codes "0") ≡ true =
     ap (λ w. bytes_eq w (codes "0")) (is ∙ decimal_digit 0 (omega arith)) in absurd cc
 not_zero (suc n) word is other = omega arith
 
--- a number from 1 on, up to a greatest one
+-- a word that keeps the rules for positive numbers spells a number from 1 on
 pub positive_by_rules : (noun word : List ℕ) (most : ℕ) → AreKept (positive_rules noun most word)
     → (n : ℕ) × (word ≡ decimal n) × (1 ≤ n) × (n ≤ most)
 positive_by_rules noun word most kept =
@@ -55,7 +55,7 @@ beyond_by n false true true up p at = rw at refl
 beyond_by n false true false up p at = refl
 beyond_by n false false same up p at = refl
 
--- a word that spells no number up to one that isn't too great
+-- whether a word spells no number up to this one is decided by the number of 64 bits that it spells, if any
 pub beyond_is : (most : ℕ) (word : List ℕ) → most ≤ greatest
     → is_none (number_of (λ n. nat_le n most) word) ≡ not (option_map_or (λ n. nat_le n most) (number_in word) false)
 unfolding number_of

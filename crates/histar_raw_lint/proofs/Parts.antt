@@ -13,7 +13,7 @@ split_by s b rest bs true later is go_on e =
     λ i. head i ∷ tail i
 split_by s b rest bs false later is go_on e = ap (λ (text : List ℕ). b ∷ text) (go_on e)
 
--- the part before the first separator, the separator, and what stands behind it
+-- a text consists of the part before the first separator, the separator, and the part after it
 pub split_back : (s : ℕ) (text rest : List ℕ) → (split_at_first s text).1 ≡ Some rest → text ≡ (split_at_first s text).0 ++ s ∷ rest
 unfolding split_at_first
 split_back s [] rest e = absurd cc

@@ -1,4 +1,4 @@
--- What the parts of a line say, one after another.
+-- The sentences of the parts of a line, one after another.
 use Rattle.std.proofs.Common.{◌≡◌, ℕ, List, ◌++◌, Option, Some, None, Result, sym, ap, ◌∙◌}
 use Rattle.std.specs.Prelude.{IfOk, false, is_some, option_map, true}
 use Rattle.std.proofs.lemmas.Result.{IfOk-weaker}
@@ -6,15 +6,15 @@ use Rattle.histar_lint.specs.Lines.{Rule, first_sentence}
 use Rattle.histar_raw_lint.proofs.Rules.{said_behind, said_in_front}
 
 module _ {V : Type 0} (items : V → List ℕ) (rules others : List Rule) (o : Option V) (said : option_map items o ≡ first_sentence rules) where
-  -- what the rules in front say
+  -- the sentence of the rules in front
   pub front_says : (v : V) → o ≡ Some v → Some (items v) ≡ first_sentence (rules ++ others)
   front_says v is = sym (said_in_front rules others (items v) (sym said ∙ ap (option_map items) is))
 
-  -- the rules in front say nothing
+  -- the rules in front have no sentence
   pub behind_is : o ≡ None → first_sentence (rules ++ others) ≡ first_sentence others
   behind_is none = said_behind rules others (sym said ∙ ap (option_map items) none)
 
-  -- or those behind
+  -- so the sentence is that of the rules after them
   pub behind_says : {E : Type 0} (r : Result (Option V) E) → o ≡ None → IfOk r (λ more. option_map items more ≡ first_sentence others)
       → IfOk r (λ more. option_map items more ≡ first_sentence (rules ++ others))
   behind_says r none more = IfOk-weaker r _ _ (λ given is. is ∙ sym (behind_is none)) more
@@ -24,6 +24,6 @@ pub unpacked : {V : Type 0} (items : V → List ℕ) (o : Option V) (v : V) (x :
     → x ≡ Some (items v)
 unpacked items o v x same is = same ∙ ap (option_map items) is
 
--- a sentence that isn't
+-- a sentence that is missing
 pub none_unpacked : {V : Type 0} (items : V → List ℕ) (o : Option V) (x : Option (List ℕ)) → x ≡ option_map items o → o ≡ None → is_some x ≡ true → ⊥
 none_unpacked items o x same is some = let wrong : is_some x ≡ false = ap is_some (same ∙ ap (option_map items) is) in absurd cc

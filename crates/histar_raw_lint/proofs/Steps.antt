@@ -13,7 +13,7 @@ use Rattle.histar_raw_lint.specs.Rules.{argument_rules, fits, value_rules}
 use Rattle.histar_raw_lint.specs.Values.{category_of_part, exception_rules, exceptions_rules, last_of, before_last, list_rules, part_rules}
 use Rattle.histar_raw_lint.proofs.Sayings.{behind_is, front_says}
 
--- the next of a list, and those behind it
+-- the rest of a list is the next item and those after it
 pub cut : {X : Type 0} (xs : List X) (i : ℕ) (d : X) → i < length xs → drop i xs ≡ get_or xs i d ∷ drop (i + 1) xs
 cut xs i d lt = drop-cons xs i d lt ∙ ap (λ n. get_or xs i d ∷ drop n xs) (let next : suc i ≡ i + 1 = omega arith in next)
 
@@ -70,7 +70,7 @@ rules_none kinds i d lt = ap (λ (l : List Kind). argument_rules l None) (cut ki
 
 module _ {V : Type 0} {i : ℕ} {word : List ℕ} {o : Option V} (items : V → List ℕ) (kinds : List Kind) (d : Kind) (text : List ℕ)
     (lt : i < length kinds) where
-  -- what is said of the next argument
+  -- the sentence about the next argument
   pub argument_front : {v : V} → word ≡ word_of text → option_map items o ≡ first_sentence (value_rules (get_or kinds i d) word) → o ≡ Some v
       → first_sentence (argument_rules (drop i kinds) (Some text)) ≡ Some (items v)
   argument_front {v} is said some =
@@ -78,7 +78,7 @@ module _ {V : Type 0} {i : ℕ} {word : List ℕ} {o : Option V} (items : V → 
       ∙ sym (front_says items (value_rules (get_or kinds i d) (word_of text)) (argument_rules (drop (i + 1) kinds) (after_word text)) o
       (said ∙ ap (λ w. first_sentence (value_rules (get_or kinds i d) w)) is) v some)
 
-  -- nothing is said of it
+  -- there is no sentence about it
   pub argument_behind : word ≡ word_of text → option_map items o ≡ first_sentence (value_rules (get_or kinds i d) word) → o ≡ None
       → first_sentence (argument_rules (drop i kinds) (Some text)) ≡ first_sentence (argument_rules (drop (i + 1) kinds) (after_word text))
   argument_behind is said none =
@@ -95,7 +95,7 @@ parts_step default before parts i d lt = ap (λ (l : List (Bor (List ℕ))). exc
 
 module _ {V : Type 0} {i : ℕ} {o : Option V} (items : V → List ℕ) (default : List ℕ) (before : ℕ) (parts : List (Bor (List ℕ)))
     (d : Bor (List ℕ)) (lt : i < length parts) where
-  -- what is said of the next part
+  -- the sentence about the next part
   pub part_front : {v : V} → option_map items o ≡ first_sentence (exception_rules default before (get_or parts i d).now) → o ≡ Some v
       → first_sentence (exceptions_rules default before (map (λ p. p.now) (drop i parts))) ≡ Some (items v)
   part_front {v} said some =
@@ -103,7 +103,7 @@ module _ {V : Type 0} {i : ℕ} {o : Option V} (items : V → List ℕ) (default
       ∙ sym (front_says items (exception_rules default before (get_or parts i d).now)
       (exceptions_rules default (category_of_part (get_or parts i d).now) (map (λ p. p.now) (drop (i + 1) parts))) o said v some)
 
-  -- nothing is said of it
+  -- there is no sentence about it
   pub part_behind : option_map items o ≡ first_sentence (exception_rules default before (get_or parts i d).now) → o ≡ None
       → first_sentence (exceptions_rules default before (map (λ p. p.now) (drop i parts)))
       ≡ first_sentence (exceptions_rules default (category_of_part (get_or parts i d).now) (map (λ p. p.now) (drop (i + 1) parts)))
@@ -123,7 +123,7 @@ last_is [] text = refl
 last_is (t ∷ []) text = refl
 last_is (t ∷ u ∷ texts) text = last_is (u ∷ texts) text
 
--- the last part of a label was taken away
+-- the last part of a label is taken away
 pub popped : (parts rest : List (Bor (List ℕ))) (o : Option (Bor (List ℕ))) (last : Bor (List ℕ)) → parts ≡ rest ++ option_to_list o
     → (o ≡ None → length parts ≡ 0)
     → last.now ≡ option_map_or (λ (p : Bor (List ℕ)). p.now) o [] → part_rules (map (λ p. p.now) parts) ≡ list_rules last.now (map (λ p. p.now) rest)

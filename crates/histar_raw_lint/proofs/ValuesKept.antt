@@ -76,7 +76,7 @@ bytes_by_rules (b ∷ digits) kept =
     let head : b ≡ 120 = grind (arith, nat_tests) in
     (back.0, (λ i. head i ∷ sym back.1 i), back.2)
 
--- ---- what a gate gives
+-- ---- a gate's entry
 
 named_entry : (word name number : List ℕ) → word ≡ name ++ 58 ∷ number
     → AreKept (cond (bytes_eq name (codes "login")) (positive_rules (codes "a user") 255 number)
@@ -131,7 +131,7 @@ IsValue kinds.Verify word = IsLabelWord word
 IsValue kinds.Bytes word = (bs : List ℕ) × (word ≡ bytes_text bs) × AreBytes bs
 IsValue kinds.Entry word = (e : Entry) × (word ≡ gate_entry_text e) × IsReadableEntry e
 
--- a word that keeps the rules of its kind does so
+-- a word that keeps the rules of its kind spells a value of it
 pub value_by_rules : (kind : Kind) (word : List ℕ) → AreKept (value_rules kind word) → IsValue kind word
 value_by_rules kinds.Container word kept = number_by_rules (codes "a container") word greatest kept
 value_by_rules kinds.Object word kept = number_by_rules (codes "an object") word greatest kept

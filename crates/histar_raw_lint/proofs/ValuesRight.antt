@@ -45,7 +45,7 @@ use Rattle.histar_raw_lint.proofs.Steps.{front_is, last_is}
 
 -- ---- numbers
 
--- a text whose first byte is greater begins with another one
+-- a text whose first byte is greater doesn't begin with this one
 apart : (b : ℕ) (text : List ℕ) → b < get_or text 0 0 → begins_with b text ≡ false
 apart b [] lt = refl
 apart b (c ∷ text) lt = grind (arith, nat_tests, lt)
@@ -103,9 +103,9 @@ bytes_kept bs p =
     let rest : length digits % 2 ≡ 0 = omega (arith, twice) in
     keep (not (list_all is_hex_digit digits)) _ _ (ap not (digits_right bs p)) (keep (length digits % 2 == 1) _ _ (ap (λ n. n == 1) rest) refl)
 
--- ---- what a gate gives
+-- ---- a gate's entry
 
--- the rules for what a gate gives, by its name and its number
+-- the rules for a gate's entry, by its name and its number
 abbrev entry_at : List ℕ × Option (List ℕ) → List Rule
 entry_at parts =
     cond (is_none parts.1) entry_form
@@ -152,7 +152,7 @@ category_kept before c small above =
     keep (bytes_eq (decimal c) (codes "0")) _ _ (not_zero c small (omega (arith, above)))
     (keep (is_late before (decimal c)) _ _ (not_late before c small above) (number_kept (codes "a category") greatest c small (omega (arith, small))))
 
--- the rules for a category with its level, by both
+-- the rules for a category with its level
 abbrev exception_at : List ℕ → ℕ → List ℕ × Option (List ℕ) → List Rule
 exception_at default before parts =
     (is_none parts.1, codes "a category has its level behind a colon, as in {4:3,1}")

@@ -1,4 +1,4 @@
--- What the rules come to.
+-- What the rules amount to.
 use Rattle.std.specs.Prelude.{◌≡◌, ℕ, true, List, None, is_some}
 use Rattle.histar_raw_session.specs.declared.read_session.RawLine.{RawLine}
 use Rattle.histar_raw_session.specs.Session.{IsBadLine, SaysCall}
@@ -8,7 +8,7 @@ use Rattle.histar_raw_lint.specs.Rules.{sentence}
 abbrev pub EachBadRawLineBreaksOne : Type 0
 EachBadRawLineBreaksOne = (line : List ℕ) → IsBadLine line → is_some (sentence line) ≡ true
 
--- no line that says a call breaks a rule
+-- no line that contains a call breaks a rule
 abbrev pub NoRightRawLineBreaksOne : Type 0
 NoRightRawLineBreaksOne =
     (n : ℕ) (line : List ℕ) (asked : RawLine) → SaysCall n line asked → sentence line ≡ None

@@ -1,4 +1,4 @@
--- The rules that a line of a raw session keeps to, each with the sentence that is written where a bad line breaks it.
+-- The rules of a line of a raw session, each with the sentence that is written where a bad line breaks it.
 use Rattle.std.specs.Prelude.{ℕ, Bool, true, false, not, ◌&&◌, ◌||◌, ◌==◌, List, [], ◌∷◌, ◌++◌, codes, Option, None, Some, is_none, map}
 use Rattle.std.specs.Prelude.{if◌then◌else◌}
 use Rattle.std.specs.List.{flat_map}
@@ -42,7 +42,7 @@ kinds_among [] name = None
 kinds_among (call ∷ calls) name =
     if bytes_eq name call.0 then Some call.1 else kinds_among calls name
 
--- how an argument is named where the form of a call is shown
+-- the name of an argument in the form of a call
 abbrev pub kind_name : Kind → List ℕ
 kind_name Container = codes "CONTAINER"
 kind_name Object = codes "OBJECT"
@@ -55,7 +55,7 @@ kind_name Verify = codes "VERIFY"
 kind_name Bytes = codes "BYTES"
 kind_name Entry = codes "ENTRY"
 
--- how a call is written
+-- the form of a call
 abbrev pub usage_text : List ℕ → List Kind → List ℕ
 usage_text name kinds =
     codes "the call is `THREAD " ++ name
@@ -65,12 +65,12 @@ usage_text name kinds =
 abbrev pub nearest : List ℕ → Option (List ℕ)
 nearest name = first_near name (map (λ (call : List ℕ × List Kind). call.0) raw_calls)
 
--- there is no such call, and which one may be meant
+-- the sentence that there is no such call, with the one that may be meant
 abbrev pub unknown_text : List ℕ → List ℕ
 unknown_text name =
     codes "there is no raw call " ++ name ++ option_map_or suggestion (nearest name) []
 
--- as many words follow as there are arguments
+-- there are as many further words as arguments
 unfoldable pub fits : List Kind → Option (List ℕ) → Bool
 fits [] None = true
 fits [] (Some words) = false
@@ -114,7 +114,7 @@ thread_rules word =
     (not (are_digits word), codes "a thread is a number, as in `2 make_category`")
     ∷ digit_rules (codes "a thread") greatest word
 
--- two spaces stand one behind the other
+-- there are two spaces, one after the other
 abbrev pub has_gap : List ℕ → Bool
 has_gap [] = false
 has_gap (b ∷ text) = (b == 32 && begins_with 32 text) || has_gap text

@@ -1,4 +1,4 @@
--- What is said of a raw session: nothing of a right one, and of a bad one its first bad line, with the sentence of the first rule that it breaks.
+-- The finding of a raw session: none of a right one, and of a bad one its first bad line, with the sentence of the first broken rule.
 use Rattle.std.specs.Prelude.{◌≡◌, ℕ, false, true, IsTrue, List, Option, Some, Result, Ok, Err, Bool}
 use Rattle.std.specs.Io.KnownBytes.{Appends, Keeps}
 use Rattle.histar_io.specs.Writing.{AppendsFront}
@@ -14,7 +14,7 @@ use Rattle.histar_raw_lint.specs.Rules.{sentence}
 abbrev pub IsFirstBad : List ℕ → ℕ → List ℕ → Type 0
 IsFirstBad text n line = (first : IsFirstBadLine text n) × (first.line ≡ line)
 
--- this is said of line n: the lines before it are comments or say calls, it is bad, and this is the first rule that it breaks
+-- this is the finding at line n: the lines before it are comments or contain calls, it is bad, and this is the first rule that it breaks
 pub record IsFinding (text : List ℕ) (n : ℕ) (said : List ℕ) : Type 0 where
   pub line : List ℕ
   pub first : IsFirstBad text n line
@@ -24,7 +24,7 @@ pub record IsFinding (text : List ℕ) (n : ℕ) (said : List ℕ) : Type 0 wher
 abbrev pub IsRightSession : List ℕ → Type 0
 IsRightSession text = (calls : List RawLine) × IsSession text calls
 
--- the text is not too long but bad, and what is found at its first bad line is written as far as this says
+-- the text is not too long but bad, and the finding at its first bad line was written as far as `written` says
 pub record Writes (written : List ℕ → Type 0) (file text : List ℕ) : Type 0 where
   pub short : is_too_long text ≡ false
   pub line : ℕ
@@ -32,7 +32,7 @@ pub record Writes (written : List ℕ → Type 0) (file text : List ℕ) : Type 
   pub found : IsFinding text line said
   pub appended : written (finding_text file line said)
 
--- A right session is answered true, with nothing written; a bad one false, with its finding; and one that is too long has that fault.
+-- For a right session the result is true, with no output; for a bad one it is false, with its finding; one that is too long has that fault.
 abbrev pub LintsRaw :
     List ℕ → List ℕ → Option (List ℕ) → Option (List ℕ) → Result Bool Fault → Type 0
 LintsRaw file text old new (Ok true) = IsRightSession text × Keeps old new

@@ -1,4 +1,4 @@
--- The rules for the values that the words of a raw call spell: numbers, labels, bytes, and what a gate gives.
+-- The rules for the values that the words of a raw call spell: numbers, labels, bytes, and a gate's entry.
 use Rattle.std.specs.Prelude.{ℕ, ◌-◌, ◌%◌, Bool, true, false, not, take, drop, ◌&&◌, ◌||◌, ◌==◌, nat_le, nat_lt, List, [], ◌∷◌, ◌++◌, length}
 use Rattle.std.specs.Prelude.{codes, decimal, Option, is_none, unwrap_or, if◌then◌else◌}
 use Rattle.std.specs.List.{list_all, slice_split}
@@ -13,15 +13,15 @@ use Rattle.histar_lint.specs.Lines.{Rule, begins_with, ends_with}
 abbrev pub is_digit : ℕ → Bool
 is_digit b = nat_le 48 b && nat_le b 57
 
--- digits, and at least one
+-- the word consists of digits, and of at least one
 abbrev pub are_digits : List ℕ → Bool
 are_digits word = not (length word == 0) && list_all is_digit word
 
--- a zero stands before other digits
+-- there is a zero before other digits
 abbrev pub has_zero : List ℕ → Bool
 has_zero word = begins_with 48 word && nat_lt 1 (length word)
 
--- The rules for how a number of a kind is written, the greatest of which is `most`.
+-- The rules for the spelling of a number of a kind, the greatest of which is `most`.
 abbrev pub digit_rules : List ℕ → ℕ → List ℕ → List Rule
 digit_rules noun most word =
     (has_zero word, noun ++ codes " has no zero before its digits")
@@ -44,7 +44,7 @@ is_level [] = false
 is_level (b ∷ []) = b == 42 || (nat_le 48 b && nat_le b 51)
 is_level (b ∷ c ∷ text) = false
 
--- what a level is
+-- the sentence that lists the levels
 abbrev pub level_sentence : List ℕ
 level_sentence = codes "a level is *, 0, 1, 2 or 3"
 
@@ -52,11 +52,11 @@ level_sentence = codes "a level is *, 0, 1, 2 or 3"
 abbrev pub before_colon : List ℕ → List ℕ
 before_colon text = (split_at_first 58 text).0
 
--- what stands behind the first colon, if there is one
+-- the text after the first colon, if there is one
 abbrev pub behind_colon : List ℕ → Option (List ℕ)
 behind_colon text = (split_at_first 58 text).1
 
--- the text behind the first colon
+-- the text after the first colon, or none
 abbrev pub text_behind : List ℕ → List ℕ
 text_behind part = unwrap_or (behind_colon part) []
 
@@ -68,14 +68,14 @@ category_of_part part = unwrap_or (number_in (before_colon part)) 0
 abbrev pub is_late : ℕ → List ℕ → Bool
 is_late before word = option_map_or (λ n. nat_le n before) (number_in word) false
 
--- The rules for a category behind this one.
+-- The rules for a category after this one.
 abbrev pub category_rules : ℕ → List ℕ → List Rule
 category_rules before word =
     (bytes_eq word (codes "0"), codes "a category is 1 or more")
     ∷ (is_late before word, codes "the categories of a label rise")
     ∷ number_rules (codes "a category") greatest word
 
--- The rules for a category with its level, behind this category, in a label that has this default.
+-- The rules for a category with its level, after this category, in a label that has this default.
 abbrev pub exception_rules : List ℕ → ℕ → List ℕ → List Rule
 exception_rules default before part =
     (is_none (behind_colon part), codes "a category has its level behind a colon, as in {4:3,1}")
@@ -83,7 +83,7 @@ exception_rules default before part =
     ∷ (bytes_eq (text_behind part) default, codes "a category with the default level is left out")
     ∷ category_rules before (before_colon part)
 
--- The rules for the categories of a label, one after another, behind this one.
+-- The rules for the categories of a label, one after another, after this one.
 abbrev pub exceptions_rules : List ℕ → ℕ → List (List ℕ) → List Rule
 exceptions_rules default before [] = []
 exceptions_rules default before (part ∷ parts) =
@@ -101,11 +101,11 @@ before_last [] = []
 before_last (text ∷ []) = []
 before_last (text ∷ more ∷ texts) = text ∷ before_last (more ∷ texts)
 
--- there is no default, but nothing or a category
+-- a text is no default: it is empty or a category
 abbrev pub lacks_default : List ℕ → Bool
 lacks_default text = length text == 0 || not (is_none (behind_colon text))
 
--- what a label is made of
+-- the sentence that shows the parts of a label
 abbrev pub list_sentence : List ℕ
 list_sentence = codes "a label is levels by category and a default at last, as in {4:3,1}"
 
@@ -120,11 +120,11 @@ list_rules default exceptions =
 abbrev pub part_rules : List (List ℕ) → List Rule
 part_rules parts = list_rules (last_of parts) (before_last parts)
 
--- a text stands in braces
+-- a text is in braces
 abbrev pub is_braced : List ℕ → Bool
 is_braced word = begins_with 123 word && ends_with 125 word
 
--- what stands in the braces of a text
+-- the text in the braces of a text
 abbrev pub in_braces : List ℕ → List ℕ
 in_braces word = take (length word - 2) (drop 1 word)
 
@@ -145,11 +145,11 @@ bytes_rules word =
     ∷ (not (list_all is_hex_digit (drop 1 word)), codes "a digit of a byte is 0 to 9 or a to f")
     ∷ (length (drop 1 word) % 2 == 1, codes "the last byte has one digit, and a byte has two") ∷ []
 
--- the rule that is broken by what no gate gives
+-- the rule that a word breaks that is no gate's entry
 abbrev pub entry_form : List Rule
 entry_form = (true, codes "an entry is login:USER or mark:NUMBER") ∷ []
 
--- The rules for what a gate gives: a name, a colon and a number.
+-- The rules for a gate's entry: a name, a colon and a number.
 abbrev pub entry_rules : List ℕ → List Rule
 entry_rules word =
     if is_none (behind_colon word) then entry_form

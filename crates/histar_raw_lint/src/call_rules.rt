@@ -60,7 +60,7 @@ fn nearest(alloc: Global, word: &[u8]) -> Result<Option<&'static str>, AllocErro
     first_near(alloc, word, calls.as_slice())
 }
 
-/// Adds a call that may be meant.
+/// Adds the name of a call that may be meant.
 fn push_call(said: &mut Vec<u8>, call: &str) -> Result<(), AllocError>
     ensures { OnOk result (said.new.items ≡ said.old.items ++ suggestion call.now) }
 {
@@ -70,7 +70,7 @@ fn push_call(said: &mut Vec<u8>, call: &str) -> Result<(), AllocError>
     Ok(())
 }
 
-/// Adds which call may be meant, if one is near.
+/// Adds the suggestion of a call that may be meant, if one is near.
 fn push_suggestion(said: &mut Vec<u8>, near: Option<&str>) -> Result<(), AllocError>
     ensures { OnOk result (said.new.items
         ≡ said.old.items ++ option_map_or suggestion (option_copied near.entry) []) }
@@ -81,7 +81,7 @@ fn push_suggestion(said: &mut Vec<u8>, near: Option<&str>) -> Result<(), AllocEr
     }
 }
 
-/// Says that there is no such raw call, and which one may be meant.
+/// Returns the sentence that there is no such raw call, with the call that may be meant.
 fn unknown_text(alloc: Global, word: &[u8]) -> Result<Vec<u8>, AllocError>
     ensures { IfOk result (λ said. said.items ≡ unknown_text word.now) }
 {
@@ -92,14 +92,14 @@ fn unknown_text(alloc: Global, word: &[u8]) -> Result<Vec<u8>, AllocError>
     Ok(said)
 }
 
-/// Returns what follows the first word of a text.
+/// Returns the text after the first word of a text.
 pub(crate) fn rest_of(text: &[u8]) -> &[u8]
     ensures { result.now ≡ rest_of text.now }
 {
     split_word(text).1.unwrap_or(&[])
 }
 
-/// Checks whether as many words follow as there are arguments.
+/// Checks whether there are as many further words as arguments.
 #[tactic(auto, unfolding(crate::specs::Rules::fits))]
 fn fits(kinds: &[Kind], words: Option<&[u8]>) -> bool
     ensures { result ≡ fits kinds.now (option_copied words.entry) }

@@ -1,4 +1,4 @@
-//! What is said of a bad line.
+//! The sentence about a bad line.
 ghost use Rattle.std.specs.Prelude.{◌≡◌, ◌++◌, IfOk, option_map};
 ghost use Rattle.std.specs.Option.{option_copied};
 ghost use Rattle.histar_lint.specs.Lines.{first_sentence, rest_of, word_of};
@@ -31,7 +31,7 @@ fn thread_call_sentence(alloc: Global, line: &[u8]) -> Result<Option<Vec<u8>>, A
     }
 }
 
-/// Returns the sentence of the first rule that a line breaks whose bytes are right.
+/// Returns the sentence of the first rule that a line of printable bytes breaks.
 fn printable_sentence(alloc: Global, line: &[u8]) -> Result<Option<Vec<u8>>, AllocError>
     ensures { IfOk result (λ said. option_map (λ text. text.items) said
         ≡ first_sentence (word_rules line.now

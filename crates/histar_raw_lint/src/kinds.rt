@@ -6,7 +6,7 @@ ghost use Rattle.histar_raw_lint.specs.Rules.{kind_name, kinds_among, object_cal
 
 use std::alloc::{AllocError, Global};
 
-/// What an argument of a raw call is.
+/// The kind of an argument of a raw call.
 #[derive(Clone, Copy)]
 pub enum Kind {
     Container,
@@ -71,7 +71,7 @@ fn object_kinds(name: &[u8]) -> Option<&'static [Kind]>
     }
 }
 
-/// Returns how an argument is named where the form of a call is shown.
+/// Returns the name of an argument in the form of a call.
 fn kind_name(kind: Kind) -> &'static str
     ensures { result.now ≡ kind_name kind }
 {
@@ -101,7 +101,7 @@ fn push_kinds(said: &mut Vec<u8>, kinds: &[Kind]) -> Result<(), AllocError>
     Ok(())
 }
 
-/// Says how the call of a name is written.
+/// Returns the sentence that shows the form of the call of a name.
 pub(crate) fn usage_text(alloc: Global, name: &[u8], kinds: &[Kind]) -> Result<Vec<u8>, AllocError>
     ensures { IfOk result (λ said. said.items ≡ usage_text name.now kinds.now) }
 {

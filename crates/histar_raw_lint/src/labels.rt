@@ -12,7 +12,7 @@ use crate::texts::said;
 use histar_flat::split_at_first;
 use std::alloc::{AllocError, Global};
 
-/// Says what a level is.
+/// The sentence that lists the levels.
 const LEVEL: &str = "a level is *, 0, 1, 2 or 3";
 
 /// Checks whether a text is a level.
@@ -32,7 +32,7 @@ fn is_late(before: u64, word: &[u8]) -> bool
     }
 }
 
-/// Returns the sentence of the first rule for a category behind another one that a word breaks.
+/// Returns the sentence of the first rule that a word breaks as a category after another one.
 fn category_sentence(alloc: Global, before: u64, word: &[u8]) -> Result<Option<Vec<u8>>, AllocError>
     ensures { IfOk result (λ said. option_map (λ text. text.items) said
         ≡ first_sentence (category_rules before word.now)) }
@@ -46,7 +46,7 @@ fn category_sentence(alloc: Global, before: u64, word: &[u8]) -> Result<Option<V
     number_sentence(alloc, "a category", u64::MAX, word)
 }
 
-/// Returns the sentence of the first rule for a category with its level that a part of a label breaks.
+/// Returns the sentence of the first rule that a part of a label breaks as a category with its level.
 fn exception_sentence(
     alloc: Global,
     default: &[u8],
@@ -79,7 +79,7 @@ fn category_of(part: &[u8]) -> u64
     number_in(split_at_first(part, b':').0).unwrap_or(0)
 }
 
-/// Returns the sentence of the first rule for the categories of a label that its parts break.
+/// Returns the sentence of the first rule that the parts of a label break as its exceptions.
 fn exceptions_sentence(
     alloc: Global,
     default: &[u8],
@@ -98,7 +98,7 @@ fn exceptions_sentence(
     Ok(None)
 }
 
-/// Returns the parts of a text between commas.
+/// Splits a text at its commas.
 fn split_at_commas(alloc: Global, text: &[u8]) -> Result<Vec<&[u8]>, AllocError>
     ensures { IfOk result (λ parts.
         map (λ part. part.now) parts.items ≡ slice_split (λ b. b == 44) text.now) }
@@ -106,14 +106,14 @@ fn split_at_commas(alloc: Global, text: &[u8]) -> Result<Vec<&[u8]>, AllocError>
     text.split(|b| *b == b',').collect(alloc)
 }
 
-/// Checks whether there is no default in a text, but nothing or a category.
+/// Checks whether a text is no default: it is empty or a category.
 fn lacks_default(text: &[u8]) -> bool
     ensures { result ≡ lacks_default text.now }
 {
     text.is_empty() || split_at_first(text, b':').1.is_some()
 }
 
-/// Returns the sentence of the first rule for the default of a label and for its exceptions that they break.
+/// Returns the sentence of the first rule that the default of a label or its exceptions break.
 fn list_sentence(
     alloc: Global,
     default: &[u8],
@@ -134,7 +134,7 @@ fn list_sentence(
     exceptions_sentence(alloc, default, exceptions)
 }
 
-/// Returns the sentence of the first rule for the parts of a label that what stands in its braces breaks.
+/// Returns the sentence of the first rule that the text in the braces of a label breaks.
 fn part_sentence(alloc: Global, text: &[u8]) -> Result<Option<Vec<u8>>, AllocError>
     ensures { IfOk result (λ said. option_map (λ text. text.items) said
         ≡ first_sentence (part_rules (slice_split (λ b. b == 44) text.now))) }
@@ -144,7 +144,7 @@ fn part_sentence(alloc: Global, text: &[u8]) -> Result<Option<Vec<u8>>, AllocErr
     list_sentence(alloc, default, parts.as_slice())
 }
 
-/// Returns what stands in the braces of a text, if it has them.
+/// Returns the text in the braces of a text, if it has them.
 fn in_braces(word: &[u8]) -> Option<&[u8]>
     ensures { option_copied result
         ≡ (if is_braced word.now then Some (in_braces word.now) else None) }
@@ -158,7 +158,7 @@ fn in_braces(word: &[u8]) -> Option<&[u8]>
     }
 }
 
-/// Returns the sentence of the first rule for a label that a word breaks.
+/// Returns the sentence of the first rule that a word breaks as a label.
 pub(crate) fn label_sentence(alloc: Global, word: &[u8]) -> Result<Option<Vec<u8>>, AllocError>
     ensures { IfOk result (λ said. option_map (λ text. text.items) said
         ≡ first_sentence (label_rules word.now)) }

@@ -1,6 +1,6 @@
-//! Why a raw session is bad: its first bad line, with the sentence of the first rule that the line breaks.
+//! Finds the first bad line of a raw session, and the sentence of the first rule that this line breaks.
 //!
-//! `specs/Rules.antt` has the rules in their order. [`raw_lint_laws`] says what they come to.
+//! `specs/Rules.antt` contains the rules in their order. [`raw_lint_laws`] states what they amount to.
 #![tactic(auto)]
 
 mod call_rules;

@@ -9,7 +9,7 @@ use crate::texts::{push_hex, push_number, said};
 use histar_script::split_word;
 use std::alloc::{AllocError, Global};
 
-/// The most bytes of a line.
+/// The greatest number of bytes of a line.
 const MOST_LINE_BYTES: usize = 1_024;
 
 /// Checks whether a text begins with a byte.
@@ -32,7 +32,7 @@ pub(crate) fn ends_with(text: &[u8], byte: u8) -> bool
     }
 }
 
-/// Checks whether a space and a number sign are in a text, one behind the other.
+/// Checks whether a text contains a space followed by a number sign.
 fn has_comment(text: &[u8]) -> bool
     ensures { result ≡ has_comment text.now }
 {
@@ -46,7 +46,7 @@ fn has_comment(text: &[u8]) -> bool
     false
 }
 
-/// Checks whether two spaces are in a text, one behind the other.
+/// Checks whether a text contains two spaces, one after the other.
 fn has_gap(text: &[u8]) -> bool
     ensures { result ≡ has_gap text.now }
 {
@@ -72,7 +72,7 @@ fn unprintable(line: &[u8]) -> Option<(usize, u8)>
     None
 }
 
-/// Says how many bytes a line has that has too many.
+/// Returns the sentence that a line has too many bytes, with their number.
 fn long_text(alloc: Global, line: &[u8]) -> Result<Vec<u8>, AllocError>
     ensures { IfOk result (λ said. said.items ≡ long_text line.now) }
 {
@@ -82,7 +82,7 @@ fn long_text(alloc: Global, line: &[u8]) -> Result<Vec<u8>, AllocError>
     Ok(said)
 }
 
-/// Says which byte is not printable, and in which column it is.
+/// Returns the sentence that a byte is not printable, with its column.
 fn unprintable_text(alloc: Global, column: usize, byte: u8) -> Result<Vec<u8>, AllocError>
     ensures { IfOk result (λ said. said.items ≡ unprintable_text (column, byte)) }
 {
@@ -94,7 +94,7 @@ fn unprintable_text(alloc: Global, column: usize, byte: u8) -> Result<Vec<u8>, A
     Ok(said)
 }
 
-/// Returns the sentence of the first rule for the bytes of a line that it breaks.
+/// Returns the sentence of the first rule that the bytes of a line break.
 pub(crate) fn byte_sentence(alloc: Global, line: &[u8]) -> Result<Option<Vec<u8>>, AllocError>
     ensures { IfOk result (λ said. option_map (λ text. text.items) said
         ≡ first_sentence (byte_rules line.now)) }
@@ -111,7 +111,7 @@ pub(crate) fn byte_sentence(alloc: Global, line: &[u8]) -> Result<Option<Vec<u8>
     }
 }
 
-/// Returns the sentence of the first rule for the words of a line that it breaks.
+/// Returns the sentence of the first rule that the words of a line break.
 pub(crate) fn word_sentence(line: &[u8]) -> Option<&'static str>
     ensures { option_copied result ≡ first_sentence (word_rules line.now) }
 {

@@ -25,14 +25,14 @@ fn has_digits_alone(word: &[u8]) -> bool
     word.iter().all(|b| is_digit(*b))
 }
 
-/// Checks whether a word is digits, and at least one.
+/// Checks whether a word consists of digits, and of at least one.
 pub(crate) fn are_digits(word: &[u8]) -> bool
     ensures { result ≡ are_digits word.now }
 {
     !word.is_empty() && has_digits_alone(word)
 }
 
-/// Checks whether a zero stands before other digits.
+/// Checks whether there is a zero before other digits.
 fn has_zero(word: &[u8]) -> bool
     ensures { result ≡ has_zero word.now }
 {
@@ -56,7 +56,7 @@ pub(crate) fn number_in(word: &[u8]) -> Option<u64>
     Some(number)
 }
 
-/// Checks whether a word spells no number that is at most this one.
+/// Checks whether a word spells no number up to this one.
 fn is_beyond(word: &[u8], most: u64) -> bool
     ensures { result ≡ is_none (number_of (λ n. nat_le n most) word.now) }
 {
@@ -66,7 +66,7 @@ fn is_beyond(word: &[u8], most: u64) -> bool
     }
 }
 
-/// Says which number is the greatest.
+/// Returns the sentence that states the greatest number.
 fn greatest_sentence(alloc: Global, noun: &str, most: u64) -> Result<Vec<u8>, AllocError>
     ensures { IfOk result (λ said. said.items ≡ noun.now ++ codes " is at most " ++ decimal most) }
 {
@@ -76,7 +76,7 @@ fn greatest_sentence(alloc: Global, noun: &str, most: u64) -> Result<Vec<u8>, Al
     Ok(text)
 }
 
-/// Returns the sentence of the first rule for the digits of a number that a word breaks.
+/// Returns the sentence of the first rule that a word breaks as the digits of a number.
 pub(crate) fn digit_sentence(
     alloc: Global,
     noun: &str,
@@ -95,7 +95,7 @@ pub(crate) fn digit_sentence(
     Ok(None)
 }
 
-/// Returns the sentence of the first rule for a number that a word breaks.
+/// Returns the sentence of the first rule that a word breaks as a number.
 pub(crate) fn number_sentence(
     alloc: Global,
     noun: &str,
@@ -111,7 +111,7 @@ pub(crate) fn number_sentence(
     digit_sentence(alloc, noun, most, word)
 }
 
-/// Returns the sentence of the first rule for a number from 1 on that a word breaks.
+/// Returns the sentence of the first rule that a word breaks as a number from 1 on.
 pub(crate) fn positive_sentence(
     alloc: Global,
     noun: &str,

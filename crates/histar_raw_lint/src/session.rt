@@ -13,8 +13,8 @@ use histar_raw_session::read_session::read_session;
 use histar_script::{Fault, split_line};
 use std::alloc::{AllocError, Global};
 
-/// Reads a raw session, and returns whether it is right. Of a bad one it writes a line: the name of the file, the number of
-/// the first bad line, and the sentence of the first rule that this line breaks.
+/// Reads a raw session, and returns whether it is right. For a bad one it writes a line: the name of the
+/// file, the number of the first bad line, and the sentence of the first rule that this line breaks.
 ///
 /// It doesn't flush the sink.
 pub fn lint_raw<R: Source, W: Sink>(
@@ -23,16 +23,17 @@ pub fn lint_raw<R: Source, W: Sink>(
     reader: &mut R,
     writer: &mut W,
 ) -> Result<bool, Fault>
-    // After a session that is too long and a failed read the sink is as it was.
+    // After a session that is too long or a failed read the sink is as it was.
     ensures nothing { IfErr result (LeavesSink writer.old writer.new) }
 
-    // A device has failed exactly where its fault is the answer.
+    // A device has failed exactly where its fault is returned.
     ensures reads { CountsFailure (R.failures reader.old) (R.failures reader.new)
         (is_read_failed result) }
     ensures writes { CountsFailure (W.failures writer.old) (W.failures writer.new)
         (is_write_failed result) }
 
-    // Whatever the source gives, bytes of it were taken, to its end but never more than 1,048,577, and linted.
+    // Whatever the source knows of its input, bytes of it were taken, to its end but never more than
+    // 1,048,577, and linted.
     ensures runs { RunsInput (LintsRaw file.now) (R.left reader.old) (R.left reader.new)
         (W.written writer.old) (W.written writer.new) result }
 
@@ -44,7 +45,7 @@ pub fn lint_raw<R: Source, W: Sink>(
     lint_text(alloc, file, input.as_slice(), writer)
 }
 
-/// Lints the raw session that a text is.
+/// Lints a text as a raw session.
 fn lint_text<W: Sink>(
     alloc: Global,
     file: &[u8],
@@ -69,7 +70,7 @@ fn lint_text<W: Sink>(
     }
 }
 
-/// Returns the line that is written of a bad session.
+/// Returns the line that is written for a bad session.
 fn finding(alloc: Global, file: &[u8], line: u32, said: &[u8]) -> Result<Vec<u8>, Fault>
     ensures ok { IfOk result (λ text. text.items ≡ finding_text file.now line said.now) }
     ensures err { IfErr result IsMemory }
@@ -83,7 +84,7 @@ fn finding(alloc: Global, file: &[u8], line: u32, said: &[u8]) -> Result<Vec<u8>
     Ok(text)
 }
 
-/// Returns the first bad line of a text, which has this number.
+/// Returns the first bad line of a text, from its number.
 fn bad_line(text: &[u8], bad: u32) -> &[u8]
     requires { IsFirstBadLine text.now bad }
     ensures { IsFirstBad text.now bad result.now }
@@ -97,7 +98,7 @@ fn bad_line(text: &[u8], bad: u32) -> &[u8]
     split_line(rest).0
 }
 
-/// Returns what is said of the first bad line of a text, which has this number.
+/// Returns the sentence about the first bad line of a text, from the line's number.
 fn said_at(alloc: Global, text: &[u8], bad: u32) -> Result<Vec<u8>, AllocError>
     requires { IsFirstBadLine text.now bad }
     ensures { IfOk result (λ said. IsFinding text.now bad said.items) }

@@ -1,4 +1,4 @@
-//! Sentences.
+//! Making sentences.
 ghost use Rattle.std.specs.Prelude.{◌≡◌, ◌++◌, ◌/◌, ◌%◌, ◌<◌, IfOk, OnOk, Some, decimal, option_map};
 ghost use Rattle.histar_lint.specs.Lines.{hex_digit, hex_text};
 
@@ -13,7 +13,7 @@ pub(crate) fn push_number(text: &mut Vec<u8>, number: u64) -> Result<(), AllocEr
     text.extend_from_slice(digits.format(number).as_bytes())
 }
 
-/// Returns a digit of a number to the base 16.
+/// Returns a digit of a hexadecimal number.
 fn hex_digit(number: u8) -> u8
     requires { number < 16 }
     ensures { result ≡ hex_digit number }
@@ -25,7 +25,7 @@ fn hex_digit(number: u8) -> u8
     }
 }
 
-/// Adds a byte to the base 16.
+/// Adds a byte as two hexadecimal digits.
 pub(crate) fn push_hex(text: &mut Vec<u8>, byte: u8) -> Result<(), AllocError>
     ensures { OnOk result (text.new.items ≡ text.old.items ++ hex_text byte) }
 {

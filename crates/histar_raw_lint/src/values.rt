@@ -1,4 +1,4 @@
-//! The rules for bytes, for what a gate gives, and for a value of any kind.
+//! The rules for bytes, for a gate's entry, and for a value of any kind.
 ghost use Rattle.std.specs.Prelude.{◌≡◌, ◌%◌, ◌==◌, IfOk, drop, length, option_map};
 ghost use Rattle.std.specs.List.{list_all};
 ghost use Rattle.histar_lint.specs.Lines.{first_sentence};
@@ -13,7 +13,7 @@ use crate::texts::said;
 use histar_flat::split_at_first;
 use std::alloc::{AllocError, Global};
 
-/// Says what a gate gives.
+/// The sentence that shows the forms of a gate's entry.
 const ENTRY: &str = "an entry is login:USER or mark:NUMBER";
 
 /// Checks whether a byte is a hexadecimal digit.
@@ -23,7 +23,7 @@ fn is_hex_digit(byte: u8) -> bool
     is_digit(byte) || matches!(byte, b'a'..=b'f')
 }
 
-/// Returns what follows the first byte of a text.
+/// Returns the text after the first byte of a text.
 fn behind_first(text: &[u8]) -> &[u8]
     ensures { result.now ≡ drop 1 text.now }
 {
@@ -47,7 +47,7 @@ fn is_odd(digits: &[u8]) -> bool
     digits.len() % 2 == 1
 }
 
-/// Returns the sentence of the first rule for bytes that a word breaks.
+/// Returns the sentence of the first rule that a word breaks as bytes.
 fn bytes_sentence(alloc: Global, word: &[u8]) -> Result<Option<Vec<u8>>, AllocError>
     ensures { IfOk result (λ said. option_map (λ text. text.items) said
         ≡ first_sentence (bytes_rules word.now)) }
@@ -65,7 +65,7 @@ fn bytes_sentence(alloc: Global, word: &[u8]) -> Result<Option<Vec<u8>>, AllocEr
     Ok(None)
 }
 
-/// Returns the sentence of the first rule for what a gate gives that a word breaks.
+/// Returns the sentence of the first rule that a word breaks as a gate's entry.
 fn entry_sentence(alloc: Global, word: &[u8]) -> Result<Option<Vec<u8>>, AllocError>
     ensures { IfOk result (λ said. option_map (λ text. text.items) said
         ≡ first_sentence (entry_rules word.now)) }
@@ -83,7 +83,7 @@ fn entry_sentence(alloc: Global, word: &[u8]) -> Result<Option<Vec<u8>>, AllocEr
     }
 }
 
-/// Returns the sentence of the first rule for a value of a kind that a word breaks.
+/// Returns the sentence of the first rule that a word breaks as a value of a kind.
 pub(crate) fn value_sentence(
     alloc: Global,
     kind: Kind,

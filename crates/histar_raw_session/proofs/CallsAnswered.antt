@@ -17,7 +17,7 @@ use Rattle.histar_raw_session.specs.Answers.{line_text, PrintsCall, PrintsCalls,
 
 -- ---- one call
 
--- what the kernel answers is the outcome, and its line tells it
+-- the kernel's answer is the outcome, and the call's line prints it
 pub granted : {X E : Type 0} (first : State) (old new : KernelModel) (asked : RawLine) (revealed : Answer)
     (items : X → List ℕ) (result : Result X E) → state old ≡ first → Called old new asked.thread asked.call None
     → raw_answer (state old) asked.thread asked.call ≡ Some revealed
@@ -28,7 +28,7 @@ granted first old new asked revealed items (Ok line) same called right text =
     (record { outcome = Ok revealed; has = (called.outcome, right, called.state); prints = text })
 granted first old new asked revealed items (Err e) same called right text = tt
 
--- and so with what it denies
+-- and so with a denial
 pub denied : {X E : Type 0} (first : State) (old new : KernelModel) (asked : RawLine) (d : Denied) (items : X → List ℕ)
     (result : Result X E) → state old ≡ first → Called old new asked.thread asked.call (Some d)
     → IfOk result (λ line. items line ≡ line_text asked.line (Err d))
@@ -47,7 +47,7 @@ made_on_line old begun new asked d (Err e) same called = tt
 
 -- ---- calls one after another
 
--- a whole text, and then a beginning of the next one
+-- a whole text followed by a beginning of the next one
 pub front_after : (a b c : Option (List ℕ)) (text next : List ℕ) → Appends a b text → AppendsFront b c next → AppendsFront a c (text ++ next)
 front_after a b c text next whole begun = (
   begun.0,
@@ -58,7 +58,7 @@ front_after a b c text next whole begun = (
   },
 )
 
--- one more call
+-- one more call is printed
 prints_more : (first mid last : State) (calls : List RawLine) (asked : RawLine) (text line : List ℕ)
     → PrintsCalls first calls text mid → PrintsCall mid last asked line
     → PrintsCalls first (calls ++ asked ∷ []) (text ++ line) last
@@ -94,7 +94,7 @@ answers_more first mid last a b c calls asked done one = record {
   written = Appends-trans a b c done.text one.line done.written one.written;
 }
 
--- a beginning of the next line makes a beginning of all
+-- a beginning of the next line makes a beginning of the output
 pub begins_more : (first mid last : State) (a b c : Option (List ℕ)) (calls front rest : List RawLine) (asked : RawLine)
     → calls ≡ front ++ asked ∷ rest → AnswersCalls first mid a b front → BeginsAnswer mid last b c asked
     → BeginsAnswers first a c calls
@@ -117,7 +117,7 @@ begins_more first mid last a b c calls front rest asked parts done (inr begun) =
   written = front_after a b c done.text begun.0 done.written begun.2;
 }
 
--- a list is what comes before a place, what stands there, and what comes after it
+-- a list is the part before a place, the item there, and the part after it
 pub parts_at : (calls front : List RawLine) (asked : RawLine) → front ≡ take (length front) calls
     → (length front < length calls) × (asked ≡ get_or calls (length front) asked)
     → calls ≡ front ++ asked ∷ drop (length front + 1) calls

@@ -1,4 +1,4 @@
--- How the lines of a session are read one by one.
+-- Reading the lines of a session one by one.
 use Rattle.std.proofs.Common.{◌≡◌, ℕ, ◌+◌, true, List, [], ◌∷◌, ◌++◌, length, refl, sym, ap, subst, ◌∙◌, inl, inr, arith, append_assoc, append-nil}
 use Rattle.histar_script.specs.declared.fault.Fault.{Fault}
 use Rattle.histar_script.specs.declared.fault.Fault.TheVariants.{BadScript, TooLong, OutOfMemory, ReadFailed, WriteFailed}
@@ -6,14 +6,14 @@ use Rattle.histar_script.specs.Lines.{lines_of}
 use Rattle.histar_raw_session.specs.declared.read_session.RawLine.{RawLine}
 use Rattle.histar_raw_session.specs.Session.{is_comment, SaysCall, IsBadLine, SayCalls, IsFirstBadLine, IsBadLineOf}
 
--- so many lines of the text were read, which say these calls, and the rest was not
+-- this many lines of the text were read, which contain these calls, and the rest was not
 pub record IsReadSoFar (text rest : List ℕ) (count : ℕ) (calls : List RawLine) : Type 0 where
   pub before : List (List ℕ)
   pub parts : lines_of text ≡ before ++ lines_of rest
   pub says : SayCalls 0 before calls
   pub counted : count ≡ length before
 
--- one comment more says no call
+-- one more comment contains no call
 comment_more : (n : ℕ) (before : List (List ℕ)) (line : List ℕ) (calls : List RawLine) → SayCalls n before calls
     → is_comment line ≡ true → SayCalls n (before ++ line ∷ []) calls
 comment_more n [] line calls says comment = inl (comment, says)
@@ -21,7 +21,7 @@ comment_more n (first ∷ before) line calls (inl says) comment = inl (says.0, c
 comment_more n (first ∷ before) line calls (inr says) comment =
     inr (says.0, says.1, says.2, says.3, comment_more (n + 1) before line says.1 says.4 comment)
 
--- one line more says one call more
+-- one more line contains one more call
 call_more : (n k : ℕ) (before : List (List ℕ)) (line : List ℕ) (calls : List RawLine) (asked : RawLine)
     → SayCalls n before calls → k ≡ n + length before + 1 → SaysCall k line asked
     → SayCalls n (before ++ line ∷ []) (calls ++ asked ∷ [])
@@ -42,7 +42,7 @@ call_more n k (first ∷ before) line calls asked (inr says) place one =
           asked says.4 (omega (arith, place)) one,
     )
 
--- the lines of the text, once one more was read
+-- the lines of the text, after one more was read
 line_more : (text : List ℕ) (before : List (List ℕ)) (line : List ℕ) (lines rest : List (List ℕ))
     → lines_of text ≡ before ++ lines → lines ≡ line ∷ rest → lines_of text ≡ (before ++ line ∷ []) ++ rest
 line_more text before line lines rest parts is = parts ∙ ap (λ (l : List (List ℕ)). before ++ l) is ∙ sym (append_assoc before (line ∷ []) rest)
@@ -77,7 +77,7 @@ read_one text rest after line count calls asked so is one = record {
     length-push [] line = refl
     length-push (l ∷ lines) line = let rest = length-push lines line in omega (arith, rest)
 
--- a bad line after those that were read is the first one
+-- a bad line after the lines that were read is the first one
 pub first_bad : (text rest after line : List ℕ) (count : ℕ) (calls : List RawLine) (f : Fault)
     → IsReadSoFar text rest count calls → lines_of rest ≡ line ∷ lines_of after
     → IsBadLineOf (λ n. (n ≡ count + 1) × IsBadLine line) f → IsBadLineOf (IsFirstBadLine text) f
@@ -96,7 +96,7 @@ first_bad text rest after line count calls OutOfMemory so is bad = tt
 first_bad text rest after line count calls ReadFailed so is bad = absurd bad
 first_bad text rest after line count calls WriteFailed so is bad = absurd bad
 
--- before the first line nothing was read
+-- before the first line no line was read
 pub nothing_read : (text : List ℕ) → IsReadSoFar text text 0 []
 nothing_read text = record { before = []; parts = refl; says = refl; counted = refl }
 

@@ -1,4 +1,4 @@
--- What a run of a session says, put together from what its parts say.
+-- The facts of a run of a session, from those of its parts.
 use Rattle.std.proofs.Common.{◌≡◌, ℕ, ◌<◌, true, false, ltb, List, ◌++◌, length, Option, Some, None, Result, Ok, Err, refl, sym, ap, subst, ◌∙◌}
 use Rattle.std.proofs.Common.{arith, rules, tests, append-nil, inl, inr}
 use Rattle.std.specs.Prelude.{IfSome, IfErr, OnOk, OnErr}
@@ -20,7 +20,7 @@ use Rattle.histar_raw_session.specs.Session.{IsSession, IsFaultOf}
 use Rattle.histar_raw_session.specs.Answers.{AnswersCalls, BeginsAnswers}
 use Rattle.histar_raw_session.specs.Run.{AnswersSession, BeginsSession, WritesOf, RunsText, RunsSession}
 
--- what a run answers
+-- the result of a run
 abbrev Done : Type 0
 Done = Result (Unit {0}) Fault
 
@@ -35,7 +35,7 @@ module _ (Whole Begun : WritesOf) where
   faulty_text text w ReadFailed is = absurd is.1
   faulty_text text w WriteFailed is = absurd is.1
 
-  -- a text of which a beginning of what is due was written
+  -- a text of which a beginning of the expected output was written
   pub begun_text : (text : List ℕ) (old new : Option (List ℕ)) (f : Fault) → IsOutputFault f → Begun text old new
       → RunsText Whole Begun text old new (Err f)
   begun_text text old new (BadScript n) out begun = absurd out
@@ -56,7 +56,7 @@ answered_text text old new calls first last (Err f) is starts answered begun fau
 
 -- ---- an input that is taken
 
--- of a text that is too long nothing is due
+-- a text that is too long has no expected output
 pub record NeedsShort (Writes : WritesOf) : Type 0 where
   pub short : (text : List ℕ) (old new : Option (List ℕ)) → Writes text old new → is_too_long text ≡ false
 
@@ -78,7 +78,7 @@ module _ (Whole Begun : WritesOf) where
   stops_reading input.OutOfMemory left rest w takes = inl (record { takes = takes; keeps = Keeps-refl w })
   stops_reading input.ReadFailed left rest w takes = record { takes = takes; keeps = Keeps-refl w }
 
-  -- what was taken is run
+  -- the bytes that were taken are run
   pub runs_taken : (left rest old new : Option (List ℕ)) (taken text : List ℕ) (result : Done)
       → TakesAll left rest taken → text ≡ taken → RunsText Whole Begun text old new result
       → is_read_failed result ≡ false → RunsInput (RunsText Whole Begun) left rest old new result
@@ -111,7 +111,7 @@ module _ (Whole Begun : WritesOf) where
     both_long input taken old new (Err ReadFailed) long too_long runs = runs
     both_long input taken old new (Err WriteFailed) long too_long runs = absurd (false≢true (sym (begun.short taken old new runs) ∙ too_long))
 
-    -- what was run is the session of the whole input
+    -- the session that was run is that of the whole input
     same_run : (input : List ℕ) (rest old new : Option (List ℕ)) (taken : List ℕ) (result : Done)
         → TakesAll (Some input) rest taken → RunsText Whole Begun taken old new result
         → RunsText Whole Begun input old new result
@@ -134,7 +134,7 @@ module _ (Whole Begun : WritesOf) where
     taken_known None rest old new result h = tt
     taken_known (Some input) rest old new result h = same_run input rest old new h.taken result h.takes h.runs
 
-    -- a known input of which some was taken was run as far as that
+    -- a known input of which some was taken was run as far as it was taken
     stopped_known : (left rest old new : Option (List ℕ)) (result : Done)
         → ((input : List ℕ) → Keeps old new → RunsText Whole Begun input old new result)
         → StopsReading left rest old new → IfSome left (λ input. RunsText Whole Begun input old new result)
@@ -155,7 +155,7 @@ module _ (Whole Begun : WritesOf) where
 
 -- ---- a sink that is left alone
 
--- answering calls has none of the faults at which it is
+-- answering calls ends with none of the faults that leave the sink
 pub sink_called : {W : Type 0} (old new : W) (result : Done) → IfErr result IsOutputFault → IfErr result (LeavesSink old new)
 sink_called old new (Ok done) h = tt
 sink_called old new (Err (BadScript n)) h = absurd h
@@ -164,7 +164,7 @@ sink_called old new (Err OutOfMemory) h = tt
 sink_called old new (Err ReadFailed) h = absurd h
 sink_called old new (Err WriteFailed) h = tt
 
--- nor a failed read
+-- nor with a failed read
 pub no_read : (result : Done) → IfErr result IsOutputFault → is_read_failed result ≡ false
 no_read (Ok done) h = refl
 no_read (Err (BadScript n)) h = refl

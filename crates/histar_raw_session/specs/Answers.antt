@@ -13,8 +13,8 @@ use Rattle.histar_syscall.specs.Runs.{IsMade}
 use Rattle.histar_rawtext.specs.RawText.{answer_text, denied_text}
 use Rattle.histar_raw_session.specs.declared.read_session.RawLine.{RawLine}
 
--- By the rules a call of a thread has this outcome and leaves this state: where no check fails, the answer that the state gives and
--- what the call changes; and else the first failing check and the state before.
+-- By the rules a call of a thread has this outcome and leaves this state: where no check fails, the answer that the state gives and the
+-- changed state, and otherwise the first failing check and the old state.
 abbrev pub HasOutcome : State → ℕ → RawCall → Result Answer Denied → State → Type 0
 HasOutcome s t call (Ok answered) new = (check s t call ≡ None) × (raw_answer s t call ≡ Some answered) × Changes s t call new
 HasOutcome s t call (Err denied) new = (check s t call ≡ Some denied) × (new ≡ s)
@@ -30,7 +30,7 @@ pub record PrintsCall (before after : State) (asked : RawLine) (line : List ℕ)
   pub has : HasOutcome before asked.thread asked.call outcome after
   pub prints : line ≡ line_text asked.line outcome
 
--- From the first state the rules lead to the last one by these calls, each at the state that the one before left, and the text is the
+-- By the rules these calls lead from the first state to the last one, each from the state that the one before left, and the text is the
 -- lines of their outcomes.
 abbrev pub PrintsCalls : State → List RawLine → List ℕ → State → Type 0
 PrintsCalls s [] text last = (text ≡ []) × (last ≡ s)

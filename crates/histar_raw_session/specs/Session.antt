@@ -1,4 +1,4 @@
--- Which raw session a text is, and which line of it is bad.
+-- The raw session that a text is, and its bad lines.
 use Rattle.std.specs.Prelude.{◌≡◌, ℕ, ◌+◌, ◌⊎◌, ◌&&◌, Bool, true, false, ◌==◌, IsTrue, List, [], ◌∷◌, ◌++◌, length}
 use Rattle.histar_rules.specs.declared.raw.RawCall.{RawCall}
 use Rattle.histar_script.specs.declared.fault.Fault.{Fault}
@@ -12,26 +12,26 @@ abbrev pub is_comment : List ℕ → Bool
 is_comment [] = true
 is_comment (b ∷ bs) = b == 35 && is_plain (b ∷ bs)
 
--- line n says this call: it is no comment, is short enough and printable, and is the raw call line of the call
+-- line n contains this call: it is no comment, is short enough and printable, and is the raw call line of the call
 pub record SaysCall (n : ℕ) (line : List ℕ) (asked : RawLine) : Type 0 where
   pub no_comment : is_comment line ≡ false
   pub plain : IsTrue (is_plain line)
   pub call : IsCallLine line asked.thread asked.call
   pub number : asked.line ≡ n
 
--- the line is bad: it is no comment, and says no call
+-- the line is bad: it is no comment, and contains no call
 pub record IsBadLine (line : List ℕ) : Type 0 where
   pub no_comment : is_comment line ≡ false
   pub no_call : (thread : ℕ) (call : RawCall) → IsTrue (is_plain line) → IsCallLine line thread call → ⊥
 
--- the lines after the first n, which are comments or say these calls one after another
+-- the lines after the first n are comments or contain these calls, one after another
 abbrev pub SayCalls : ℕ → List (List ℕ) → List RawLine → Type 0
 SayCalls n [] calls = calls ≡ []
 SayCalls n (line ∷ lines) calls =
     (IsTrue (is_comment line) × SayCalls (n + 1) lines calls)
     ⊎ ((asked : RawLine) × (more : List RawLine) × (calls ≡ asked ∷ more) × SaysCall (n + 1) line asked × SayCalls (n + 1) lines more)
 
--- line n is the first bad one: those before it are comments or say calls
+-- line n is the first bad one: those before it are comments or contain calls
 pub record IsFirstBadLine (text : List ℕ) (n : ℕ) : Type 0 where
   pub before : List (List ℕ)
   pub line : List ℕ
@@ -54,7 +54,7 @@ IsBadLineOf IsBad OutOfMemory = Unit {0}
 IsBadLineOf IsBad ReadFailed = ⊥
 IsBadLineOf IsBad WriteFailed = ⊥
 
--- the fault is the text's: too many bytes or lines, or else its first bad line; or memory ran out
+-- the fault is the text's: too many bytes or lines, or otherwise its first bad line; or memory ran out
 abbrev pub IsFaultOf : List ℕ → Fault → Type 0
 IsFaultOf text TooLong = IsTrue (is_too_long text)
 IsFaultOf text fault = (is_too_long text ≡ false) × IsBadLineOf (IsFirstBadLine text) fault

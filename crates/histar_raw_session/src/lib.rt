@@ -1,5 +1,5 @@
-//! Raw sessions: comments, and lines with a raw call of a thread each, which the kernel answers or denies
-//! one by one, from its empty state on.
+//! Raw sessions: comments, and lines with one raw call of a thread each. The kernel answers or denies the
+//! calls one by one, from its empty state on.
 #![tactic(auto)]
 
 mod lines;

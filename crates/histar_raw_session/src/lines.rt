@@ -1,4 +1,4 @@
-//! The lines that print what became of calls.
+//! The lines that print the outcomes of calls.
 ghost use Rattle.std.specs.Prelude.{◌≡◌, ◌++◌, IfOk, OnOk, Ok, Err};
 ghost use Rattle.std.specs.Fmt.{decimal};
 ghost use Rattle.histar_raw_session.specs.Answers.{line_text};
@@ -9,7 +9,7 @@ use histar_syscall::Answer;
 use itoa::Buffer;
 use std::alloc::{AllocError, Global};
 
-/// The number of a line, in decimal digits.
+/// Prints the number of a line, in decimal digits.
 fn write_number(alloc: Global, number: u32) -> Result<Vec<u8>, AllocError>
     ensures { IfOk result (λ line. line.items ≡ decimal number) }
 {
@@ -17,7 +17,7 @@ fn write_number(alloc: Global, number: u32) -> Result<Vec<u8>, AllocError>
     Vec::from_slice(alloc, digits.format(number).as_bytes())
 }
 
-/// The line of a granted call: its number, an equals sign, and its answer.
+/// Prints the line of a granted call: its number, an equals sign, and its answer.
 pub(crate) fn answer_line(
     alloc: Global,
     number: u32,
@@ -32,7 +32,7 @@ pub(crate) fn answer_line(
     Ok(line)
 }
 
-/// The line of a denied call: its number, and the name of the denial.
+/// Prints the line of a denied call: its number, and the name of the denial.
 pub(crate) fn denial_line(alloc: Global, number: u32, denied: Denied) -> Result<Vec<u8>, AllocError>
     ensures { IfOk result (λ line. line.items ≡ line_text number (Err denied)) }
 {

@@ -18,7 +18,7 @@ pub struct RawLine {
     pub call: RawCall,
 }
 
-/// Whether a line says nothing.
+/// Checks whether a line is a comment.
 fn is_comment(line: &[u8]) -> bool
     ensures { result ≡ comment line.now }
 {
@@ -28,7 +28,7 @@ fn is_comment(line: &[u8]) -> bool
     }
 }
 
-/// The raw call of line `number`, which is no comment.
+/// Reads the raw call of line `number`, which is no comment.
 fn read_call(alloc: Global, number: u32, line: &[u8]) -> Result<RawLine, Fault>
     requires { comment line.now ≡ false }
     ensures ok { IfOk result (SaysCall number line.now) }
@@ -45,7 +45,7 @@ fn read_call(alloc: Global, number: u32, line: &[u8]) -> Result<RawLine, Fault>
     })
 }
 
-/// The calls of a text that is not too long.
+/// Reads the calls of a text that is not too long.
 fn read_lines(alloc: Global, text: &[u8]) -> Result<Vec<RawLine>, Fault>
     requires { length text.now ≤ most_script_bytes }
     ensures ok { IfOk result (λ calls. SayCalls 0 (lines_of text.now) calls.items) }
@@ -65,7 +65,7 @@ fn read_lines(alloc: Global, text: &[u8]) -> Result<Vec<RawLine>, Fault>
     Ok(calls)
 }
 
-/// The calls of the raw session that the bytes are. The whole text is read before a call is made.
+/// Reads the calls of a raw session from its bytes. The whole text is read before a call is made.
 pub fn read_session(alloc: Global, text: &[u8]) -> Result<Vec<RawLine>, Fault>
     ensures ok { IfOk result (λ calls. IsSession text.now calls.items) }
     ensures err { IfErr result (IsFaultOf text.now) }

@@ -14,8 +14,8 @@ use histar_script::Fault;
 use histar_syscall::{Kernel, Refusal};
 use std::alloc::Global;
 
-/// Reads a raw session, has the kernel make its calls from the empty kernel on, and writes one line for
-/// each as soon as it is made: what it answers, or why it is denied.
+/// Reads a raw session, has the kernel make its calls from the empty kernel on, and writes one line for each
+/// as soon as it is made: its answer, or the reason of its denial.
 ///
 /// The whole session is read and checked before the first call. A session without a call is right, and
 /// writes nothing. It doesn't flush the sink.
@@ -24,15 +24,16 @@ pub fn run_raw_script<R: Source, W: Sink>(
     reader: &mut R,
     writer: &mut W,
 ) -> Result<(), Fault>
-    // After a bad session, one that is too long and a failed read the sink is as it was.
+    // After a bad session, one that is too long or a failed read the sink is as it was.
     ensures nothing { IfErr result (LeavesSink writer.old writer.new) }
 
-    // A device has failed exactly where its fault is the answer.
+    // A device has failed exactly where its fault is returned.
     ensures reads { CountsFailure (R.failures reader.old) (R.failures reader.new) (is_read_failed result) }
     ensures writes { CountsFailure (W.failures writer.old) (W.failures writer.new) (is_write_failed result) }
 
-    // Whatever the source tells, the run took bytes of it, to its end but never more than 1,048,577, and ran the session that
-    // these are: their fault is answered, or exactly the lines of the outcomes that the rules give are written.
+    // Whatever the source knows of its input, the run took bytes of it, to its end but never more than
+    // 1,048,577, and ran these as a session: it returned their fault, or wrote exactly the lines of the
+    // outcomes that the rules give.
     ensures runs { RunsInput RunsSession (R.left reader.old) (R.left reader.new)
         (W.written writer.old) (W.written writer.new) result }
 
@@ -44,7 +45,7 @@ pub fn run_raw_script<R: Source, W: Sink>(
     run_text(alloc, input.as_slice(), writer)
 }
 
-/// Runs the raw session that a text is.
+/// Runs a text as a raw session.
 fn run_text<W: Sink>(alloc: Global, text: &[u8], writer: &mut W) -> Result<(), Fault>
     ensures nothing { IfErr result (LeavesSink writer.old writer.new) }
     ensures reads { is_read_failed result ≡ false }
@@ -96,7 +97,7 @@ pub fn answer_call<S: LabelStore + Drop, W: Sink>(
     Ok(())
 }
 
-/// Has the kernel make one call, and prints in a line what became of it.
+/// Has the kernel make one call, and prints its outcome in a line.
 fn make_call<S: LabelStore + Drop>(
     alloc: Global,
     kernel: &mut Kernel<S>,

@@ -1,4 +1,4 @@
--- A thread's raw call is told by its text.
+-- The text of a thread's raw call determines it.
 use Rattle.std.proofs.Common.{◌≡◌, ℕ, ◌+◌, true, List, [], ◌∷◌, ◌++◌, refl, sym, ap, ◌∙◌, arith}
 use Rattle.std.specs.Fmt.{decimal}
 use Rattle.std.proofs.lemmas.Fmt.{decimal_injective}
@@ -47,7 +47,7 @@ five_words a b c d e = simp (append_assoc, append-nil)
 one_word : (a : List ℕ) → 32 ∷ a ≡ spaced (a ∷ [])
 one_word a = simp append-nil
 
--- what follows the name of a call are its words
+-- the text after the name of a call consists of its words
 words_spelled : (a : RawCall) → call_words a ≡ spaced (words_of a)
 words_spelled MakeCategory = refl
 words_spelled OwnLabel = refl
@@ -118,7 +118,7 @@ weight : List ℕ → ℕ
 weight [] = 0
 weight (b ∷ bs) = b + weight bs
 
--- a call is told by its name and its words
+-- the name and the words of a call determine it
 same_call : (a b : RawCall) → IsWritable a → IsWritable b → call_name a ≡ call_name b → words_of a ≡ words_of b → a ≡ b
 unfolding weight
 same_call MakeCategory MakeCategory p q names words = refl
@@ -221,7 +221,7 @@ same_call (LabelOf container object) b p q names words = absurd (omega (arith, a
 pub call_spelled : (t : ℕ) (a : RawCall) → thread_call_text t a ≡ decimal t ++ spaced (call_name a ∷ words_of a)
 call_spelled t a = append_assoc (decimal t) (32 ∷ []) (call_text a) ∙ ap (λ text. decimal t ++ 32 ∷ (call_name a ++ text)) (words_spelled a)
 
--- a thread's call is told by its text
+-- the text of a thread's call determines it
 pub texts_determine_calls : TextsDetermineCalls
 texts_determine_calls t u a b small_t small_u p q e =
     let whole = sym (call_spelled t a) ∙ e ∙ call_spelled u b in

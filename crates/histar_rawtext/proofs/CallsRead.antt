@@ -1,4 +1,4 @@
--- Raw calls are read from their texts, and what is read can be.
+-- Raw calls that can be read are read from their texts.
 use Rattle.std.proofs.Common.{◌≡◌, ℕ, [], ◌∷◌, Some, refl, ap, ◌∙◌, arith}
 use Rattle.std.specs.Fmt.{decimal}
 use Rattle.histar_flat.proofs.SplitLemmas.{lacks}
@@ -17,7 +17,7 @@ use Rattle.histar_rawtext.proofs.Numbers.{number_again}
 use Rattle.histar_rawtext.proofs.Splits.{joined, split_spaced}
 use Rattle.histar_rawtext.proofs.WordsRead.{label_again, bytes_again, entry_again, short_number_again, writable_label, writable_entry}
 
--- what can be read can be written
+-- a call that can be read can be written
 writable : (a : RawCall) → IsReadable a → IsWritable a
 writable MakeCategory p = tt
 writable OwnLabel p = tt

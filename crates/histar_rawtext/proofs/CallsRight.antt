@@ -1,4 +1,4 @@
--- What is read as a raw call can be read.
+-- A raw call that is read from a line can be read.
 use Rattle.std.proofs.Common.{◌≡◌, ℕ, suc, ◌≤◌, ◌^◌, Bool, true, false, leb, List, [], ◌∷◌, Option, Some, None, Result, Ok, Err, refl, subst, arith}
 use Rattle.std.specs.Prelude.{◌==◌, if◌then◌else◌}
 use Rattle.std.specs.List.{slice_split}
@@ -23,29 +23,29 @@ use Rattle.histar_rawtext.specs.Reading.{make_container_in, make_thread_in, make
 use Rattle.histar_rawtext.specs.Reading.{thread_call_in}
 use Rattle.histar_rawtext.proofs.Numbers.{number_is}
 
--- what is there has a property
+-- a value that is there has a property
 record Has {A : Type 0} (P : A → Type 0) (o : Option A) : Type 0 where
   all : (x : A) → o ≡ Some x → P x
 
--- nothing has any
+-- a missing value has every property
 nothing : {A : Type 0} {P : A → Type 0} → Has P None
 nothing = record { all = λ x e. absurd cc }
 
--- a value that has it
+-- a value has the property that it is shown to have
 value : {A : Type 0} {P : A → Type 0} (a : A) → P a → Has P (Some a)
 value {P = P} a p = record { all = λ x e. subst P (same_Some a x e) p }
 
--- what a value leads to
+-- a value after a value with a property has a property
 after : {A B : Type 0} {Q : A → Type 0} {P : B → Type 0} (o : Option A) (f : A → Option B) → Has Q o → ((a : A) → Q a → Has P (f a)) → Has P (o >>= f)
 after None f q next = nothing
 after (Some a) f q next = next a (q.all a refl)
 
--- what any value leads to
+-- a value after any value has a property
 after_any : {A B : Type 0} {P : B → Type 0} (o : Option A) (f : A → Option B) → ((a : A) → Has P (f a)) → Has P (o >>= f)
 after_any None f next = nothing
 after_any (Some a) f next = next a
 
--- what either choice has
+-- a chosen value has a property if both have it
 either : {A : Type 0} {P : A → Type 0} (b : Bool) (x y : Option A) → Has P x → Has P y → Has P (if b then x else y)
 either true x y p q = p
 either false x y p q = q
@@ -56,7 +56,7 @@ either false x y p q = q
 number_right : (word : List ℕ) → Has IsNumber (number_in word)
 number_right word = record { all = λ n e. (number_is word n e).1 }
 
--- a number between two is
+-- a number between two is between them
 between_right : (least most n : ℕ) → Has (λ m. (least ≤ m) × (m ≤ most)) (between least most n)
 between_right least most n = record { all = λ m. by m (leb least n) (leb n most) refl refl }
   where
@@ -122,7 +122,7 @@ bytes_right (b ∷ text) = record { all = λ bs. by bs (decode_of text) refl }
     by bs (Ok found) is same = subst AreBytes (same_Some found bs same) (each_byte found (decode_of-ok text found is).3)
     by bs (Err f) is same = absurd cc
 
--- what a gate gives can be read
+-- a gate's entry can be read
 entry_right : (word : List ℕ) → Has IsReadableEntry (entry_in word)
 entry_right word =
     let name = (split_at_first 58 word).0 in
@@ -195,7 +195,7 @@ own_label_right : (words : Option (List ℕ)) → Has IsReadableLabel (own_label
 unfolding own_label_in
 own_label_right words = after_any (next_word words) _ (λ a. label_right a.0)
 
--- a call that is read can be
+-- a call that is read can be read
 call_right : (name : List ℕ) (words : Option (List ℕ)) → Has IsReadable (call_named name words)
 call_right name words =
     let pair : (make : ℕ → ℕ → RawCall) → ((m n : ℕ) → IsNumber m × IsNumber n → IsReadable (make m n))
@@ -216,7 +216,7 @@ call_right name words =
     (either _ _ _ (pair Unlink (λ m n p. p))
     (either _ _ _ (pair LabelOf (λ m n p. p)) nothing))))))))))))
 
--- a thread and its call that are read can be
+-- so can a thread and its call
 call_of_thread_right : (line : List ℕ) → Has (λ (asked : ℕ × RawCall). IsNumber asked.0 × IsReadable asked.1) (thread_call_in line)
 unfolding thread_call_in
 call_of_thread_right line =
@@ -224,6 +224,6 @@ call_of_thread_right line =
     after (number_in a.0) _ (number_right a.0) (λ thread small. after (call_named b.0 b.1) _ (call_right b.0 b.1) (λ call right.
     value (thread, call) (small, right)))))
 
--- the same of what is read
+-- so each thread and call that are read
 pub thread_call_right : (line : List ℕ) (asked : ℕ × RawCall) → thread_call_in line ≡ Some asked → IsNumber asked.0 × IsReadable asked.1
 thread_call_right line = (call_of_thread_right line).all

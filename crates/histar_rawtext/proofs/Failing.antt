@@ -6,7 +6,7 @@ use Rattle.histar_rawtext.specs.declared.unread.Unread.{Unread}
 use Rattle.histar_rawtext.specs.declared.unread.Unread.TheVariants.{NoCall, OutOfMemory}
 use Rattle.histar_rawtext.specs.Outcome.{Gives}
 
--- the error of a part is handed on
+-- the error of a part is returned
 pub fails : {A B : Type 0} (e : Unread) (r : Result B Unread) (read : Option A) (whole : Option B) → Gives (Err e) read
     → (read ≡ None → whole ≡ None) → IsErr r × IsErrAnd r (λ f. f ≡ e) → Gives r whole
 fails e (Ok x) read whole part none is = absurd (false≢true is.0)

@@ -1,4 +1,4 @@
--- A label is told by its text, which has no space.
+-- The text of a label determines it, and has no space.
 use Rattle.std.proofs.Common.{◌≡◌, ℕ, true, eqb, cond, List, [], ◌∷◌, ◌++◌, refl, sym, ap, ◌∙◌}
 use Rattle.std.specs.List.{flat_map, AllByRecursion}
 use Rattle.std.specs.Fmt.{decimal}
@@ -28,7 +28,7 @@ level_again L1 rest = refl
 level_again L2 rest = refl
 level_again L3 rest = refl
 
--- a level is told by the text that begins with it
+-- the text that begins with a level determines it
 same_level : (l m : Level) (rest others : List ℕ) → level_text l ++ rest ≡ level_text m ++ others → l ≡ m
 same_level l m rest others e = sym (level_again l rest) ∙ ap level_at_front e ∙ level_again m others
 
@@ -54,15 +54,15 @@ lacks-level_space L1 = refl
 lacks-level_space L2 = refl
 lacks-level_space L3 = refl
 
--- what follows the exceptions of a label: its default, and the brace
+-- the text after the exceptions of a label: its default, and the brace
 abbrev pub ending : Level → List ℕ
 ending d = level_text d ++ 125 ∷ []
 
--- what follows the category of a label's first exception
+-- the text after the category of a label's first exception
 abbrev after_category : Level → List (ℕ × Level) → Level → List ℕ
 after_category l es d = 58 ∷ (level_text l ++ 44 ∷ (flat_map exception_text es ++ ending d))
 
--- the first exception's category, and what follows
+-- the first exception's category, and the text after it
 first_exception : (e : ℕ × Level) (es : List (ℕ × Level)) (d : Level)
     → flat_map exception_text (e ∷ es) ++ ending d ≡ decimal e.0 ++ after_category e.1 es d
 first_exception e es d = simp append_assoc
@@ -77,7 +77,7 @@ default_only f fs d c small e =
     let none : [] ≡ after_category f.1 fs c = parts.1 in
     cc
 
--- the exceptions and the default of a label are told by its text
+-- the text of a label determines its exceptions and its default
 same_exceptions : (es fs : List (ℕ × Level)) (d c : Level) → AllByRecursion (λ (e : ℕ × Level). IsNumber e.0) es
     → AllByRecursion (λ (e : ℕ × Level). IsNumber e.0) fs
     → flat_map exception_text es ++ ending d ≡ flat_map exception_text fs ++ ending c → (es ≡ fs) × (d ≡ c)
@@ -103,7 +103,7 @@ same_exceptions (e ∷ es) (f ∷ fs) d c p q e' =
     let others = same_exceptions es fs d c p.1 q.1 tails in
     (λ i. (category i, level i) ∷ others.0 i, others.1)
 
--- a label is told by its text
+-- the text of a label determines it
 pub same_label : (L M : Levels) → IsWritableLabel L → IsWritableLabel M → label_text L ≡ label_text M → L ≡ M
 same_label L M p q e =
     let left : label_text L ≡ 123 ∷ (flat_map exception_text (exceptions_of L) ++ ending (default_of L)) = simp append_assoc in

@@ -1,4 +1,4 @@
--- How a label is read from texts, the last one first.
+-- Reading a label from texts, the last one first.
 use Rattle.std.proofs.Common.{◌≡◌, ℕ, ◌≤◌, List, [], ◌∷◌, ◌++◌, ◌-◌, length, take, drop, map, Bor, arith, Option, Some, None, refl, sym, ap, ◌∙◌}
 use Rattle.std.specs.Prelude.{◌==◌}
 use Rattle.std.specs.List.{slice_split}
@@ -7,12 +7,12 @@ use Rattle.histar_label.specs.declared.levels.Level.{Level}
 use Rattle.histar_label.specs.Levels.{Levels, constant, with_level}
 use Rattle.histar_rawtext.specs.Reading.{level_in, exception_in, with_exception, label_of_texts, label_in, ◌>>=◌}
 
--- a label, once the exceptions of texts are added
+-- a label, after the exceptions of texts are added
 abbrev pub with_exceptions : List (List ℕ) → Option Levels → Option Levels
 with_exceptions [] label = label
 with_exceptions (text ∷ texts) label = with_exception text (with_exceptions texts label)
 
--- the last of the texts names the default
+-- the last of the texts is the default
 pub last_is_default : (texts : List (List ℕ)) (text : List ℕ)
     → label_of_texts (texts ++ text ∷ []) ≡ with_exceptions texts (level_in text >>= λ default. Some (constant default))
 unfolding label_of_texts
@@ -26,7 +26,7 @@ pub last_is_first : (texts : List (List ℕ)) (text : List ℕ) (label : Option 
 last_is_first [] text label = refl
 last_is_first (t ∷ texts) text label = ap (with_exception t) (last_is_first texts text label)
 
--- to no label nothing is added
+-- to a missing label no exception is added
 pub added_to_none : (texts : List (List ℕ)) → with_exceptions texts None ≡ None
 unfolding with_exception
 added_to_none [] = refl
@@ -43,13 +43,13 @@ pub one_added : (text : List ℕ) (label : Levels) (c : ℕ) (l : Level) → exc
 unfolding with_exception
 one_added text label c l some = rw some refl
 
--- the texts of a word stand after its first byte
+-- the texts of a word are after its first byte
 pub texts_of_word : (word : List ℕ) → 1 ≤ length word
     → label_in word ≡ label_of_texts (slice_split (λ c. c == 44) (take (length word - 1) (drop 1 word)))
 texts_of_word [] some = absurd (omega arith)
 texts_of_word (b ∷ bs) some = ap (λ text. label_of_texts (slice_split (λ c. c == 44) text)) (sym (take_rest (b ∷ bs) 1))
 
--- texts that are lent, once the last one was taken
+-- the lent texts, after the last one was taken
 pub taken : (parts rest : List (Bor (List ℕ))) (part : Bor (List ℕ)) → parts ≡ rest ++ part ∷ []
     → map (λ p. p.now) parts ≡ map (λ p. p.now) rest ++ part.now ∷ []
 taken parts rest part is = ap (map (λ (p : Bor (List ℕ)). p.now)) is ∙ mapped rest

@@ -20,14 +20,14 @@ number_again n small =
     ap (λ m. cond (leb m 18446744073709551615 && bytes_eq (decimal n) (decimal m)) (Some m) None) same
     ∙ rw (le-leb n 18446744073709551615 (omega arith), (bytes_eq-Decides (decimal n) (decimal n)).1 refl) refl
 
--- what is read as a number is its text, and has 64 bits
+-- a word that is read as a number is its text, and has 64 bits
 pub number_is : (word : List ℕ) (n : ℕ) → number_in word ≡ Some n → (word ≡ decimal n) × IsNumber n
 number_is word n e =
     let takes = number_takes (λ m. leb m 18446744073709551615) word n e in
     let most = leb-true n 18446744073709551615 takes.1 in
     (takes.0, omega (arith, most))
 
--- what is no text of a number is read as none
+-- a word that is no text of a number is read as none
 pub no_number : (word : List ℕ) → ((n : ℕ) → IsNumber n → word ≡ decimal n → ⊥) → number_in word ≡ None
 no_number word none = by (number_in word) refl
   where

@@ -1,4 +1,4 @@
--- How a text is parted at a byte that its words lack.
+-- Parting a text at a byte that its words lack.
 use Rattle.std.proofs.Common.{◌≡◌, ◌≢◌, ℕ, true, not, eqb, List, [], ◌∷◌, ◌++◌, refl, arith}
 use Rattle.std.specs.Prelude.{⊤}
 use Rattle.std.specs.List.{flat_map}
@@ -11,15 +11,15 @@ abbrev pub BeginsWith : ℕ → List ℕ → Type 0
 BeginsWith s [] = ⊤
 BeginsWith s (b ∷ text) = b ≡ s
 
--- a byte that passes the test is another one
+-- a byte that passes the test differs
 apart : (b s : ℕ) → not (eqb b s) ≡ true → b ≢ s
 apart b s h e = grind (arith, nat_tests)
 
--- the first byte of a text that lacks s is another one
+-- the first byte of a text that lacks s differs from s
 head_apart : (b s : ℕ) (text : List ℕ) → lacks s (b ∷ text) ≡ true → b ≢ s
 head_apart b s text h = apart b s (and_parts (not (eqb b s)) (lacks s text) h).0
 
--- what stands before the first s is told by the text, and so is what stands from there on
+-- a text determines its part before the first s, and the part from there on
 pub same_parts : (s : ℕ) (v w rest others : List ℕ) → lacks s v ≡ true → lacks s w ≡ true → BeginsWith s rest
     → BeginsWith s others → v ++ rest ≡ w ++ others → (v ≡ w) × (rest ≡ others)
 same_parts s [] [] rest others lv lw br bo e = (refl, e)
@@ -47,7 +47,7 @@ spaced_begins : (words : List (List ℕ)) → BeginsWith 32 (spaced words)
 spaced_begins [] = tt
 spaced_begins (w ∷ words) = refl
 
--- words are told by their text
+-- the text of words determines them
 pub same_words : (vs ws : List (List ℕ)) → AreWords vs → AreWords ws → spaced vs ≡ spaced ws → vs ≡ ws
 same_words [] [] av aw e = refl
 same_words [] (w ∷ ws) av aw e = absurd cc

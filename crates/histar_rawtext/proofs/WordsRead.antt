@@ -1,4 +1,4 @@
--- Labels, bytes and what a gate gives are read from their texts.
+-- Labels, bytes and entries are read from their texts.
 use Rattle.std.proofs.Common.{◌≡◌, ℕ, ◌+◌, ◌*◌, ◌/◌, ◌%◌, ◌<◌, ◌≤◌, ◌^◌, true, nat_lt, ◌&&◌, List, [], ◌∷◌, ◌++◌, map, length, codes, Some, Ok, refl}
 use Rattle.std.proofs.Common.{ap, ◌∙◌, arith}
 use Rattle.std.specs.Prelude.{◌==◌}
@@ -44,12 +44,12 @@ right_exceptions (e ∷ es) h =
     let parts = and_parts (nat_lt 0 e.0 && nat_lt e.0 (2 ^ 64)) (list_all (λ (f : ℕ × Level). nat_lt 0 f.0 && nat_lt f.0 (2 ^ 64)) es) h in
     (right_category e.0 parts.0, right_exceptions es parts.1)
 
--- those of a label that can be read are right
+-- the exceptions of a label that can be read are right
 pub right_label : (L : Levels) → IsReadableLabel L → AllByRecursion IsRight (exceptions_of L)
 unfolding is_made
 right_label L p = right_exceptions (exceptions_of L) ((is_made-law (2 ^ 64) L).1 p)
 
--- and have 64 bits
+-- and their categories have 64 bits
 pub writable_label : (L : Levels) → IsReadableLabel L → IsWritableLabel L
 writable_label L p = numbers (exceptions_of L) (right_label L p)
   where
@@ -88,7 +88,7 @@ exception_again e p =
 comma_is_no_digit : IsNoDigit 44
 comma_is_no_digit d h = grind (arith, nat_tests)
 
--- the text of an exception has no comma but its last byte
+-- the text of an exception without its comma has no comma
 part_lacks : (e : ℕ × Level) → IsRight e → lacks 44 (part e) ≡ true
 part_lacks e p = lacks-append 44 (decimal e.0) (58 ∷ level_text e.1) (lacks-decimal 44 e.0 comma_is_no_digit p.1) (lacks-level_comma e.1)
 
@@ -100,7 +100,7 @@ ending_lacks L1 = refl
 ending_lacks L2 = refl
 ending_lacks L3 = refl
 
--- the parts of a label between commas
+-- the parts of a label are between commas
 parts_again : (es : List (ℕ × Level)) (d : Level) → AllByRecursion IsRight es
     → slice_split (λ c. c == 44) (flat_map exception_text es ++ ending d) ≡ map part es ++ ending d ∷ []
 parts_again [] d p = part_alone (ending d) (ending_lacks d)
@@ -163,7 +163,7 @@ bytes_again bs p =
     let twice = even_digits bs in
     rw (decode_of-even (flat_map byte_text bs) (omega (arith, twice)) ∙ digits_again 0 bs p) refl
 
--- ---- what a gate gives
+-- ---- a gate's entry
 
 -- a number of 32 bits is read from its text
 pub short_number_again : (n : ℕ) → n < 2 ^ 32 → short_number_in (decimal n) ≡ Some n
@@ -173,12 +173,12 @@ short_number_again n small = rw (number_again n (omega arith), le-leb 0 n (omega
 user_again : (n : ℕ) → 1 ≤ n → n < 2 ^ 8 → user_in (decimal n) ≡ Some n
 user_again n low small = rw (number_again n (omega arith), le-leb 1 n low, le-leb n 255 (omega arith)) refl
 
--- what a gate gives has 64 bits
+-- the number of a gate's entry has 64 bits
 pub writable_entry : (e : Entry) → IsReadableEntry e → IsWritableEntry e
 writable_entry (Login n) p = omega (arith, p.1)
 writable_entry (Mark n) p = omega (arith, p)
 
--- what a gate gives is read from its text
+-- a gate's entry is read from its text
 pub entry_again : (e : Entry) → IsReadableEntry e → entry_in (gate_entry_text e) ≡ Some e
 entry_again (Login n) p = rw (split_before 58 (codes "login") (decimal n) refl, user_again n p.0 p.1) refl
 entry_again (Mark n) p = rw (split_before 58 (codes "mark") (decimal n) refl, short_number_again n p) refl

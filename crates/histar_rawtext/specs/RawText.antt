@@ -1,4 +1,4 @@
--- How raw calls, and the entries of the trace, are written.
+-- The texts of raw calls, and of the entries of the trace.
 use Rattle.std.specs.Prelude.{ℕ, ◌+◌, ◌/◌, ◌%◌, nat_lt, List, [], ◌∷◌, ◌++◌, Option, None, Some, codes, if◌then◌else◌}
 use Rattle.std.specs.List.{flat_map}
 use Rattle.std.specs.Fmt.{decimal}
@@ -16,7 +16,7 @@ use Rattle.histar_syscall.specs.declared.answers.Answer.{Answer}
 use Rattle.histar_syscall.specs.declared.answers.Answer.TheVariants as answers
 use Rattle.histar_syscall.specs.declared.trace.TraceEntry.{TraceEntry}
 
--- a level as it is written
+-- the text of a level
 abbrev pub level_text : Level → List ℕ
 level_text Star = codes "*"
 level_text L0 = codes "0"
@@ -44,7 +44,7 @@ byte_text byte = hex_digit (byte / 16) ∷ hex_digit (byte % 16) ∷ []
 abbrev pub bytes_text : List ℕ → List ℕ
 bytes_text bytes = codes "x" ++ flat_map byte_text bytes
 
--- what a gate gives: the login gate of a user, or a mark
+-- a gate's entry: the login gate of a user, or a mark
 abbrev pub gate_entry_text : Entry → List ℕ
 gate_entry_text (Login user) = codes "login:" ++ decimal user
 gate_entry_text (Mark mark) = codes "mark:" ++ decimal mark
@@ -61,7 +61,7 @@ label_word label = codes " " ++ label_text label
 abbrev pub bytes_word : List ℕ → List ℕ
 bytes_word bytes = codes " " ++ bytes_text bytes
 
--- a further word of a call that is what a gate gives
+-- a further word of a call that is a gate's entry
 abbrev pub entry_word : Entry → List ℕ
 entry_word entry = codes " " ++ gate_entry_text entry
 
@@ -117,12 +117,12 @@ denied_text NoThread = codes "NoThread"
 denied_text BadKind = codes "BadKind"
 denied_text TooBig = codes "TooBig"
 
--- what became of a call: ok, or the name of its denial
+-- the outcome of a call: ok, or the name of its denial
 abbrev pub outcome_text : Option Denied → List ℕ
 outcome_text None = codes "ok"
 outcome_text (Some denied) = denied_text denied
 
--- the line of an entry of the trace: where the call was made, the call of the thread, and what became of it
+-- the line of an entry of the trace: the line of the script, the call of the thread, and its outcome
 abbrev pub trace_line : TraceEntry → List ℕ
 trace_line entry =
     codes "@" ++ decimal entry.line ++ codes " " ++ thread_call_text entry.thread entry.call ++ codes " = "
@@ -132,8 +132,8 @@ trace_line entry =
 abbrev pub trace_text : List TraceEntry → List ℕ
 trace_text entries = flat_map trace_line entries
 
--- what a granted raw call answers: ok, the category or the object that was made, the thread's label and clearance, what the gate
--- gives, the bytes of the segment, or the label of the object
+-- the answer of a granted raw call: ok, the new category or object, the thread's label and clearance, the gate's entry, the bytes of the
+-- segment, or the label of the object
 abbrev pub answer_text : Answer → List ℕ
 answer_text answers.Done = codes "ok"
 answer_text (answers.Category category) = codes "cat " ++ decimal category

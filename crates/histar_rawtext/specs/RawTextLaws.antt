@@ -1,4 +1,4 @@
--- What the texts of raw calls determine.
+-- The raw calls that texts determine.
 use Rattle.std.specs.Prelude.{◌≡◌, ℕ, ◌<◌, ◌^◌, ⊤}
 use Rattle.std.specs.List.{AllByRecursion}
 use Rattle.histar_label.specs.Levels.{Levels, exceptions_of}
@@ -17,7 +17,7 @@ IsNumber n = n < 2 ^ 64
 abbrev pub IsWritableLabel : Levels → Type 0
 IsWritableLabel label = AllByRecursion (λ e. IsNumber e.0) (exceptions_of label)
 
--- what a gate gives has a number of 64 bits
+-- a gate's entry has a number of 64 bits
 abbrev pub IsWritableEntry : Entry → Type 0
 IsWritableEntry (Login user) = IsNumber user
 IsWritableEntry (Mark mark) = IsNumber mark
@@ -39,7 +39,7 @@ IsWritable (Write container segment keep bytes) = IsNumber container × IsNumber
 IsWritable (Unlink container object) = IsNumber container × IsNumber object
 IsWritable (LabelOf container object) = IsNumber container × IsNumber object
 
--- two raw calls of threads that have one text are the same call of the same thread
+-- two raw calls of threads with the same text are the same call of the same thread
 abbrev pub TextsDetermineCalls : Type 0
 TextsDetermineCalls =
     (t u : ℕ) (a b : RawCall) → IsNumber t → IsNumber u → IsWritable a → IsWritable b

@@ -1,4 +1,4 @@
--- Which raw calls are written so that they can be read.
+-- The raw calls whose texts can be read.
 use Rattle.std.specs.Prelude.{◌≡◌, ℕ, ◌<◌, ◌≤◌, ◌^◌, ⊤, List, Option, Some, None}
 use Rattle.std.specs.List.{AllByRecursion}
 use Rattle.histar_label.specs.Levels.{Levels, NamesOnlyMade}
@@ -23,7 +23,7 @@ IsReadableEntry (Mark mark) = mark < 2 ^ 32
 abbrev pub AreBytes : List ℕ → Type 0
 AreBytes bytes = AllByRecursion (λ b. b < 2 ^ 8) bytes
 
--- each number in the call has 64 bits, how many bytes are kept 32, and its labels, its bytes and what its gate gives can be read
+-- each number in the call has 64 bits, that of the kept bytes 32, and its labels, its bytes and its gate's entry can be read
 abbrev pub IsReadable : RawCall → Type 0
 IsReadable MakeCategory = ⊤
 IsReadable OwnLabel = ⊤
@@ -40,7 +40,7 @@ IsReadable (Write container segment keep bytes) = IsNumber container × IsNumber
 IsReadable (Unlink container object) = IsNumber container × IsNumber object
 IsReadable (LabelOf container object) = IsNumber container × IsNumber object
 
--- the line is a raw call line: the text of this call of this thread, which can be read
+-- the line is a raw call line: the text of this call of this thread, and the call can be read
 abbrev pub IsCallLine : List ℕ → ℕ → RawCall → Type 0
 IsCallLine line thread call = (thread_call_text thread call ≡ line) × IsNumber thread × IsReadable call
 

@@ -1,5 +1,5 @@
--- What a line is read as. Some lines are read that are no raw calls, as with a zero before a number: the reader compares each
--- line with the text of the call that it was read as.
+-- The raw call that a line is read as. Some lines are read that are no raw calls, for example with a zero before a number: the reader
+-- compares each line with the text of the call that it was read as.
 use Rattle.std.specs.Prelude.{ℕ, ◌==◌, nat_le, List, [], ◌∷◌, codes, Option, Some, None, option_and_then, Result, Ok, Err, if◌then◌else◌}
 use Rattle.std.specs.List.{slice_split}
 use Rattle.std.specs.Str.{bytes_eq}
@@ -16,7 +16,7 @@ use Rattle.histar_rules.specs.declared.raw.RawCall.TheVariants.{MakeCategory, Ow
 use Rattle.histar_rules.specs.declared.raw.RawCall.TheVariants.{MakeThread, MakeGate, Enter, Read, Write, Unlink, LabelOf}
 use Rattle.histar_rules.specs.Rules.{greatest}
 
--- with what is there, go on
+-- goes on with a value, if there is one
 infixl 10 ◌>>=◌
 abbrev pub ◌>>=◌ : {A B : Type 0} → Option A → (A → Option B) → Option B
 o >>= f = option_and_then f o
@@ -56,14 +56,14 @@ exception_in text = do
   level ← level_in rest
   Some (category, level)
 
--- a label, once the exception of a text is added
+-- a label, after the exception of a text is added
 unfoldable pub with_exception : List ℕ → Option Levels → Option Levels
 with_exception text label = do
   levels ← label
   exception ← exception_in text
   Some (with_level levels exception.0 exception.1)
 
--- the label of texts, of which the last names the default and the others the exceptions
+-- the label of texts: the last one is the default, and the others are the exceptions
 unfoldable pub label_of_texts : List (List ℕ) → Option Levels
 label_of_texts [] = None
 label_of_texts (text ∷ []) = level_in text >>= λ default. Some (constant default)
@@ -74,7 +74,7 @@ abbrev pub label_in : List ℕ → Option Levels
 label_in [] = None
 label_in (b ∷ bs) = label_of_texts (slice_split (λ c. c == 44) bs)
 
--- what was decoded, if all was
+-- the decoded bytes, if all were decoded
 abbrev pub decoded : Result (List ℕ) FromHexError → Option (List ℕ)
 decoded (Ok bytes) = Some bytes
 decoded (Err e) = None
@@ -84,14 +84,14 @@ abbrev pub bytes_in : List ℕ → Option (List ℕ)
 bytes_in [] = None
 bytes_in (b ∷ bs) = decoded (decode_of bs)
 
--- what a gate gives, by its name and its number
+-- a gate's entry, by its name and its number
 abbrev pub entry_named : List ℕ → List ℕ → Option Entry
 entry_named name number =
     if bytes_eq name (codes "login") then (user_in number >>= λ user. Some (Login user))
     else (if bytes_eq name (codes "mark") then (short_number_in number >>= λ mark. Some (Mark mark))
     else None)
 
--- what a gate gives, of a word with a colon between its name and its number
+-- a gate's entry, from a word with a colon between its name and its number
 abbrev pub entry_in : List ℕ → Option Entry
 entry_in word = (split_at_first 58 word).1 >>= entry_named (split_at_first 58 word).0
 
@@ -130,7 +130,7 @@ make_thread_in words = do
   clearance ← label_in c.0
   Some (MakeThread container label clearance)
 
--- a container, the label and the clearance of a gate in it, and what the gate gives
+-- a container, the label and the clearance of a gate in it, and the gate's entry
 unfoldable pub make_gate_in : Option (List ℕ) → Option RawCall
 make_gate_in words = do
   a ← next_word words
@@ -158,7 +158,7 @@ enter_in words = do
   shown ← label_in e.0
   Some (Enter container gate wanted clearance shown)
 
--- a container, a segment in it, how many of its bytes are kept, and bytes
+-- a container, a segment in it, the number of its bytes that are kept, and bytes
 unfoldable pub write_in : Option (List ℕ) → Option RawCall
 write_in words = do
   a ← next_word words

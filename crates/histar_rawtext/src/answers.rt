@@ -1,4 +1,4 @@
-//! Writing what raw calls answer.
+//! Writing the answers of raw calls.
 ghost use Rattle.std.specs.Prelude.{◌≡◌, ◌++◌, IfOk, OnOk};
 ghost use Rattle.histar_rawtext.specs.RawText.{answer_text};
 
@@ -7,7 +7,7 @@ use crate::words::{push_bytes, push_entry, push_number};
 use histar_syscall::Answer;
 use std::alloc::{AllocError, Global};
 
-/// Adds what a raw call answers.
+/// Adds the answer of a raw call.
 fn push_answer(text: &mut Vec<u8>, answer: &Answer) -> Result<(), AllocError>
     ensures { OnOk result (text.new.items ≡ text.old.items ++ answer_text answer.now) }
 {
@@ -32,8 +32,8 @@ fn push_answer(text: &mut Vec<u8>, answer: &Answer) -> Result<(), AllocError>
     }
 }
 
-/// The text of what a raw call answers: `ok`, `cat` and the category that was made, `obj` and the
-/// object that was made, the thread's label and clearance, what the gate gives, the bytes, or the label.
+/// Returns the text of the answer of a raw call: `ok`, `cat` and the new category, `obj` and the new object,
+/// the thread's label and clearance, the gate's entry, the bytes, or the label.
 pub fn write_answer(alloc: Global, answer: &Answer) -> Result<Vec<u8>, AllocError>
     ensures { IfOk result (λ text. text.items ≡ answer_text answer.now) }
 {

@@ -8,7 +8,7 @@ use histar_rules::Denied;
 use histar_syscall::TraceEntry;
 use std::alloc::{AllocError, Global};
 
-/// The name of a denial.
+/// Returns the name of a denial.
 pub fn denial_name(denied: Denied) -> &'static str
     ensures { result.now ≡ denied_text denied }
 {
@@ -24,7 +24,7 @@ pub fn denial_name(denied: Denied) -> &'static str
     }
 }
 
-/// Adds what became of a call: ok, or the name of its denial.
+/// Adds the outcome of a call: ok, or the name of its denial.
 fn push_outcome(line: &mut Vec<u8>, denied: Option<Denied>) -> Result<(), AllocError>
     ensures { OnOk result (line.new.items ≡ line.old.items ++ outcome_text denied) }
 {
@@ -34,8 +34,8 @@ fn push_outcome(line: &mut Vec<u8>, denied: Option<Denied>) -> Result<(), AllocE
     }
 }
 
-/// The line of an entry of the trace: an at sign, where the call was made, the call of the thread, an
-/// equals sign, what became of the call, and a line end.
+/// Returns the line of an entry of the trace: an at sign, the line of the script, the call of the thread, an
+/// equals sign, the outcome of the call, and a line end.
 pub fn trace_line(alloc: Global, entry: &TraceEntry) -> Result<Vec<u8>, AllocError>
     ensures { IfOk result (λ line. line.items ≡ trace_line entry.now) }
 {

@@ -1,6 +1,6 @@
-//! The texts of raw kernel calls, written and read, of what they answer, and of the entries of the trace.
+//! Writes and reads the texts of raw kernel calls, and writes those of answers and of the trace.
 //!
-//! [`rawtext_laws`] says that a text determines the call that it was written of.
+//! [`rawtext_laws`] states that a text determines the call that it is the text of.
 #![tactic(auto)]
 
 mod answers;

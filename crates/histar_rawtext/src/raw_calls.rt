@@ -18,7 +18,7 @@ fn push_pair(line: &mut Vec<u8>, container: ObjId, object: ObjId) -> Result<(), 
     push_number_word(line, object.number())
 }
 
-/// Adds the words for a container and for the label of what is made in it.
+/// Adds the words for a container and for the label of the new object in it.
 fn push_making(line: &mut Vec<u8>, container: ObjId, label: &Label) -> Result<(), AllocError>
     ensures { OnOk result (line.new.items
         ≡ line.old.items ++ number_word container ++ label_word label.now) }
@@ -27,7 +27,7 @@ fn push_making(line: &mut Vec<u8>, container: ObjId, label: &Label) -> Result<()
     push_label_word(line, label)
 }
 
-/// The name of a raw call.
+/// Returns the name of a raw call.
 fn call_name(call: &RawCall) -> &'static str
     ensures { result.now ≡ call_name call.now }
 {
@@ -108,7 +108,7 @@ pub(crate) fn push_thread_call(
     push_call(line, call)
 }
 
-/// The text of a thread's raw call: the number of the thread, a space, and the call.
+/// Returns the text of a thread's raw call: the number of the thread, a space, and the call.
 pub fn write_call(alloc: Global, thread: ObjId, call: &RawCall) -> Result<Vec<u8>, AllocError>
     ensures { IfOk result (λ text. text.items ≡ thread_call_text thread call.now) }
 {

@@ -1,8 +1,8 @@
-//! What the texts of raw calls amount to. The law is the contract of a function that does nothing.
+//! The law of the texts of raw calls. It is the contract of a function that does nothing.
 ghost use Rattle.histar_rawtext.specs.RawTextLaws.{TextsDetermineCalls};
 
-/// Two raw calls of threads that have one text are the same call of the same thread. The law is about
-/// numbers of 64 bits: an object's number and a category are a `u64`, and each other number of a call
+/// Proves that two raw calls of threads with the same text are the same call of the same thread. The law is
+/// about numbers of 64 bits: an object's number and a category are a `u64`, and each other number of a call
 /// is smaller.
 pub fn a_text_determines_its_call()
     ensures { TextsDetermineCalls }

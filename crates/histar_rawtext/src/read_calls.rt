@@ -15,7 +15,7 @@ use histar_object::ObjId;
 use histar_rules::{HandedLabel, RawCall};
 use std::alloc::{AllocError, Global};
 
-/// A container, the label of a segment in it, and bytes.
+/// Reads a container, the label of a segment in it, and bytes.
 #[tactic(auto, unfolding(crate::specs::Reading::make_segment_in))]
 fn read_make_segment(alloc: Global, words: Option<&[u8]>) -> Result<RawCall, Unread>
     ensures { Gives result (make_segment_in (option_copied words.entry)) }
@@ -30,7 +30,7 @@ fn read_make_segment(alloc: Global, words: Option<&[u8]>) -> Result<RawCall, Unr
     ))
 }
 
-/// A container, and the label of a container in it.
+/// Reads a container, and the label of a container in it.
 #[tactic(auto, unfolding(crate::specs::Reading::make_container_in))]
 fn read_make_container(alloc: Global, words: Option<&[u8]>) -> Result<RawCall, Unread>
     ensures { Gives result (make_container_in (option_copied words.entry)) }
@@ -40,7 +40,7 @@ fn read_make_container(alloc: Global, words: Option<&[u8]>) -> Result<RawCall, U
     Ok(RawCall::MakeContainer(read_object(container)?, read_handed(alloc, label)?))
 }
 
-/// A container, and the label and the clearance of a thread in it.
+/// Reads a container, and the label and the clearance of a thread in it.
 #[tactic(auto, unfolding(crate::specs::Reading::make_thread_in))]
 fn read_make_thread(alloc: Global, words: Option<&[u8]>) -> Result<RawCall, Unread>
     ensures { Gives result (make_thread_in (option_copied words.entry)) }
@@ -55,7 +55,7 @@ fn read_make_thread(alloc: Global, words: Option<&[u8]>) -> Result<RawCall, Unre
     ))
 }
 
-/// A container, the label and the clearance of a gate in it, and what the gate gives.
+/// Reads a container, the label and the clearance of a gate in it, and the gate's entry.
 #[tactic(auto, unfolding(crate::specs::Reading::make_gate_in))]
 fn read_make_gate(alloc: Global, words: Option<&[u8]>) -> Result<RawCall, Unread>
     ensures { Gives result (make_gate_in (option_copied words.entry)) }
@@ -72,7 +72,7 @@ fn read_make_gate(alloc: Global, words: Option<&[u8]>) -> Result<RawCall, Unread
     ))
 }
 
-/// A container, a gate in it, and three labels.
+/// Reads a container, a gate in it, and three labels.
 #[tactic(auto, unfolding(crate::specs::Reading::enter_in))]
 fn read_enter(alloc: Global, words: Option<&[u8]>) -> Result<RawCall, Unread>
     ensures { Gives result (enter_in (option_copied words.entry)) }
@@ -91,7 +91,7 @@ fn read_enter(alloc: Global, words: Option<&[u8]>) -> Result<RawCall, Unread>
     ))
 }
 
-/// A container, a segment in it, how many of its bytes are kept, and bytes.
+/// Reads a container, a segment in it, the number of its bytes that are kept, and bytes.
 #[tactic(auto, unfolding(crate::specs::Reading::write_in))]
 fn read_write(alloc: Global, words: Option<&[u8]>) -> Result<RawCall, Unread>
     ensures { Gives result (write_in (option_copied words.entry)) }
@@ -108,7 +108,7 @@ fn read_write(alloc: Global, words: Option<&[u8]>) -> Result<RawCall, Unread>
     ))
 }
 
-/// A container, and an object in it.
+/// Reads a container, and an object in it.
 #[tactic(auto, unfolding(crate::specs::Reading::pair_in))]
 fn read_pair(words: Option<&[u8]>) -> Result<(ObjId, ObjId), Unread>
     ensures { Gives result (pair_in (option_copied words.entry)) }
@@ -118,7 +118,7 @@ fn read_pair(words: Option<&[u8]>) -> Result<(ObjId, ObjId), Unread>
     Ok((read_object(container)?, read_object(object)?))
 }
 
-/// The call of this name on a container and an object in it.
+/// Reads the arguments of a call of this name on a container and an object in it.
 fn read_pair_named(name: &[u8], words: Option<&[u8]>) -> Result<RawCall, Unread>
     ensures { Gives result (pair_named name.now (option_copied words.entry)) }
 {
@@ -136,7 +136,7 @@ fn read_pair_named(name: &[u8], words: Option<&[u8]>) -> Result<RawCall, Unread>
     }
 }
 
-/// The call of this name on a container.
+/// Reads the arguments of a call of this name on a container.
 fn read_making_named(alloc: Global, name: &[u8], words: Option<&[u8]>) -> Result<RawCall, Unread>
     ensures { Gives result (making_named name.now (option_copied words.entry)) }
 {
@@ -157,7 +157,7 @@ fn read_making_named(alloc: Global, name: &[u8], words: Option<&[u8]>) -> Result
     }
 }
 
-/// A label.
+/// Reads a label.
 #[tactic(auto, unfolding(crate::specs::Reading::own_label_in))]
 fn read_own_label(alloc: Global, words: Option<&[u8]>) -> Result<HandedLabel, Unread>
     ensures { Gives result (own_label_in (option_copied words.entry)) }
@@ -166,7 +166,7 @@ fn read_own_label(alloc: Global, words: Option<&[u8]>) -> Result<HandedLabel, Un
     read_handed(alloc, label)
 }
 
-/// The call of this name.
+/// Reads the arguments of a call of this name.
 fn read_named(alloc: Global, name: &[u8], words: Option<&[u8]>) -> Result<RawCall, Unread>
     ensures { Gives result (call_named name.now (option_copied words.entry)) }
 {
@@ -183,7 +183,7 @@ fn read_named(alloc: Global, name: &[u8], words: Option<&[u8]>) -> Result<RawCal
     }
 }
 
-/// A thread and its call. Other spellings of it are read too.
+/// Reads a thread and its call. Other spellings of it are read too.
 #[tactic(auto, unfolding(crate::specs::Reading::thread_call_in))]
 fn read_thread_call(alloc: Global, line: &[u8]) -> Result<(ObjId, RawCall), Unread>
     ensures { Gives result (thread_call_in line.now) }
@@ -193,8 +193,8 @@ fn read_thread_call(alloc: Global, line: &[u8]) -> Result<(ObjId, RawCall), Unre
     Ok((read_object(thread)?, read_named(alloc, name, words)?))
 }
 
-/// The raw call that a line is, and its thread. What is no raw call is `None`, and so is each other
-/// spelling of one: a line is read only where it is the very text that would be written.
+/// Reads a line as the raw call that it is, with its thread. A line that is no raw call is `None`, and so is
+/// every other spelling of one: a line is read only where it is the very text that would be written.
 pub fn read_raw(alloc: Global, line: &[u8]) -> Result<Option<(ObjId, RawCall)>, AllocError>
     ensures { IfOk result (IsReadAs line.now) }
 {

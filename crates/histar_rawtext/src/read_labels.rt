@@ -11,7 +11,7 @@ use histar_label::{Category, Label, Level};
 use histar_rules::HandedLabel;
 use std::alloc::{AllocError, Global};
 
-/// The level that a text begins with.
+/// Reads the level at the front of a text.
 fn read_level(text: &[u8]) -> Result<Level, Unread>
     ensures { Gives result (level_in text.now) }
 {
@@ -25,7 +25,7 @@ fn read_level(text: &[u8]) -> Result<Level, Unread>
     }
 }
 
-/// A category: a number from 1 on.
+/// Reads a category: a number from 1 on.
 fn read_category(word: &[u8]) -> Result<Category, Unread>
     ensures { Gives result (category_in word.now) }
 {
@@ -36,7 +36,7 @@ fn read_category(word: &[u8]) -> Result<Category, Unread>
     Ok(Category::new(number))
 }
 
-/// An exception: its category and its level, with a colon between.
+/// Reads an exception: its category and its level, with a colon between.
 #[tactic(auto, unfolding(crate::specs::Reading::exception_in))]
 fn read_exception(text: &[u8]) -> Result<(Category, Level), Unread>
     ensures { Gives result (exception_in text.now) }
@@ -47,7 +47,7 @@ fn read_exception(text: &[u8]) -> Result<(Category, Level), Unread>
     Ok((category, level))
 }
 
-/// The parts of a text between commas.
+/// Splits a text at its commas.
 fn split_at_commas(alloc: Global, text: &[u8]) -> Result<Vec<&[u8]>, AllocError>
     ensures { IfOk result (λ parts.
         map (λ part. part.now) parts.items ≡ slice_split (λ b. b == 44) text.now) }
@@ -55,7 +55,7 @@ fn split_at_commas(alloc: Global, text: &[u8]) -> Result<Vec<&[u8]>, AllocError>
     text.split(|b| *b == b',').collect(alloc)
 }
 
-/// A label: after a brace its exceptions and its default, with a comma between two.
+/// Reads a label: after a brace its exceptions and its default, with a comma between two.
 fn read_label(alloc: Global, word: &[u8]) -> Result<Label, Unread>
     ensures { Gives result (label_in word.now) }
 {
@@ -74,7 +74,7 @@ fn read_label(alloc: Global, word: &[u8]) -> Result<Label, Unread>
     Ok(label)
 }
 
-/// A label that a raw call hands over.
+/// Reads a label that a raw call is given.
 pub(crate) fn read_handed(alloc: Global, word: &[u8]) -> Result<HandedLabel, Unread>
     ensures { Gives result (label_in word.now) }
 {

@@ -1,4 +1,4 @@
-//! Reading the words of a raw call that are numbers, bytes or what a gate gives.
+//! Reading the words of a raw call that are numbers, bytes or a gate's entry.
 ghost use Rattle.std.specs.Option.{option_copied};
 ghost use Rattle.histar_rawtext.specs.Outcome.{Gives, GivesWord};
 ghost use Rattle.histar_rawtext.specs.Reading.{number_in, short_number_in, bytes_in, user_in, entry_named, entry_in, next_word};
@@ -11,7 +11,7 @@ use histar_object::{Entry, ObjId};
 use itoa::Buffer;
 use std::alloc::Global;
 
-/// A number, in decimal digits and without a zero before it.
+/// Reads a number, in decimal digits and without a zero before it.
 pub(crate) fn read_number(word: &[u8]) -> Result<u64, Unread>
     ensures { Gives result (number_in word.now) }
 {
@@ -28,14 +28,14 @@ pub(crate) fn read_number(word: &[u8]) -> Result<u64, Unread>
     Ok(number)
 }
 
-/// The number of an object.
+/// Reads the number of an object.
 pub(crate) fn read_object(word: &[u8]) -> Result<ObjId, Unread>
     ensures { Gives result (number_in word.now) }
 {
     Ok(ObjId::new(read_number(word)?))
 }
 
-/// A number of 32 bits.
+/// Reads a number of 32 bits.
 pub(crate) fn read_short_number(word: &[u8]) -> Result<u32, Unread>
     ensures { Gives result (short_number_in word.now) }
 {
@@ -46,7 +46,7 @@ pub(crate) fn read_short_number(word: &[u8]) -> Result<u32, Unread>
     Ok(number as u32)
 }
 
-/// The number of a user, from 1 on.
+/// Reads the number of a user, from 1 on.
 fn read_user(word: &[u8]) -> Result<u8, Unread>
     ensures { Gives result (user_in word.now) }
 {
@@ -57,7 +57,7 @@ fn read_user(word: &[u8]) -> Result<u8, Unread>
     Ok(number as u8)
 }
 
-/// Bytes, as their digits after an x.
+/// Reads bytes, as their digits after an x.
 pub(crate) fn read_bytes(alloc: Global, word: &[u8]) -> Result<Bytes, Unread>
     ensures { Gives result (bytes_in word.now) }
 {
@@ -71,7 +71,7 @@ pub(crate) fn read_bytes(alloc: Global, word: &[u8]) -> Result<Bytes, Unread>
     }
 }
 
-/// What a gate gives, by its name and its number.
+/// Reads a gate's entry, by its name and its number.
 fn read_entry_named(name: &[u8], number: &[u8]) -> Result<Entry, Unread>
     ensures { Gives result (entry_named name.now number.now) }
 {
@@ -84,7 +84,7 @@ fn read_entry_named(name: &[u8], number: &[u8]) -> Result<Entry, Unread>
     }
 }
 
-/// What a gate gives: a name and a number, with a colon between.
+/// Reads a gate's entry: a name and a number, with a colon between.
 pub(crate) fn read_entry(word: &[u8]) -> Result<Entry, Unread>
     ensures { Gives result (entry_in word.now) }
 {
@@ -92,7 +92,7 @@ pub(crate) fn read_entry(word: &[u8]) -> Result<Entry, Unread>
     read_entry_named(name, number.ok_or(Unread::NoCall)?)
 }
 
-/// The first of the words, which have a space between two, and those after it, if there are any.
+/// Returns the first of the words, which have a space between two, and the words after it, if there are any.
 pub(crate) fn next_word(words: Option<&[u8]>) -> Result<(&[u8], Option<&[u8]>), Unread>
     ensures { GivesWord result (next_word (option_copied words.entry)) }
 {

@@ -1,10 +1,10 @@
-//! Why a text is not read.
+//! The reasons why a text is not read.
 ghost use Rattle.std.specs.Prelude.{◌≡◌};
 ghost use Rattle.histar_rawtext.specs.declared.unread.Unread.TheVariants.{OutOfMemory};
 
 use std::alloc::AllocError;
 
-/// Why a text is not read.
+/// The reason why a text is not read.
 #[derive(Clone, Copy, Debug, PartialEq, Eq)]
 pub enum Unread {
     /// It is no raw call, nor a part of one.

@@ -1,4 +1,4 @@
-//! The words of a raw call that are numbers, bytes or what a gate gives.
+//! Writing the words of a raw call that are numbers, bytes or a gate's entry.
 ghost use Rattle.std.specs.Prelude.{◌≡◌, ◌<◌, ◌++◌, OnOk};
 ghost use Rattle.std.specs.List.{flat_map};
 ghost use Rattle.std.specs.Fmt.{decimal};
@@ -25,7 +25,7 @@ pub(crate) fn push_number_word(line: &mut Vec<u8>, number: u64) -> Result<(), Al
     push_number(line, number)
 }
 
-/// The lower case digit of base sixteen.
+/// Returns a lower case digit of base sixteen.
 fn hex_digit(number: u8) -> u8
     requires { number < 16 }
     ensures { result ≡ hex_digit number }
@@ -72,7 +72,7 @@ pub(crate) fn push_bytes_word(line: &mut Vec<u8>, bytes: &Bytes) -> Result<(), A
     push_bytes(line, bytes)
 }
 
-/// Adds what a gate gives.
+/// Adds a gate's entry.
 pub(crate) fn push_entry(line: &mut Vec<u8>, entry: Entry) -> Result<(), AllocError>
     ensures { OnOk result (line.new.items ≡ line.old.items ++ gate_entry_text entry) }
 {
@@ -88,7 +88,7 @@ pub(crate) fn push_entry(line: &mut Vec<u8>, entry: Entry) -> Result<(), AllocEr
     }
 }
 
-/// Adds a space, and what a gate gives.
+/// Adds a space, and a gate's entry.
 pub(crate) fn push_entry_word(line: &mut Vec<u8>, entry: Entry) -> Result<(), AllocError>
     ensures { OnOk result (line.new.items ≡ line.old.items ++ entry_word entry) }
 {

@@ -19,7 +19,7 @@ use Rattle.histar_readout.specs.declared.tree.TreeError.TheVariants.{NotATree, O
 use Rattle.histar_calls.specs.declared.roots.Roots.{Roots}
 use Rattle.histar_readout.specs.Tree.{IsTreeOf, HasNoTree, Listed, AreListed, IsNodeAt, IsTreeAt, levels_at, AddsTree, AddsBelow, FindsNode}
 
--- of these entries of a directory some are left, and the trees of those before them were added
+-- some of the entries of a directory are left, and the trees of those before them were added
 pub record AddsFirst (is_tree : Listed) (d : Path) (entries left : List (Name × Target)) (old new : List TreeNode) : Type 0 where
   pub first : List (Name × Target)
   pub trees : List TreeNode
@@ -28,7 +28,7 @@ pub record AddsFirst (is_tree : Listed) (d : Path) (entries left : List (Name ×
   pub added : new ≡ old ++ trees
 
 module _ (is_tree : Listed) (d : Path) where
-  -- one entry more, behind the others
+  -- one more entry, after the others, is listed
   listed_more : (first : List (Name × Target)) (e : Name × Target) (trees tree : List TreeNode)
       → AreListed is_tree d first trees → is_tree (e.0 ∷ d) e.1 tree
       → AreListed is_tree d (first ++ e ∷ []) (trees ++ tree)
@@ -48,7 +48,7 @@ module _ (is_tree : Listed) (d : Path) where
   none_listed [] rest e none trees some = none some.0 some.2
   none_listed (x ∷ first) rest e none trees some = none_listed first rest e none some.1 some.3
 
-  -- before the first entry nothing was added
+  -- before the first entry no tree was added
   pub adds_none : (entries left : List (Name × Target)) (old : List TreeNode) → left ≡ entries → AddsFirst is_tree d entries left old old
   adds_none entries left old same = record { first = []; trees = []; parts = same; listed = refl; added = sym (append-nil old) }
 
@@ -95,7 +95,7 @@ module _ (accounts : Accounts) (s : State) where
   abbrev pub below_at : Path → Listed
   below_at d = IsTreeAt (most_names - length d) accounts s
 
-  -- an entry of a directory that may have entries stands at a path that can be named
+  -- an entry of a directory that may have entries has a path that can be named
   levels_below : (d : Path) (n : Name) → length d ≤ most_names → length d ≢ most_names → levels_at (n ∷ d) ≡ most_names - length d
   levels_below d n fits inner = omega (arith, fits, inner)
 
@@ -120,7 +120,7 @@ module _ (accounts : Accounts) (s : State) where
       let no_level : most_names - length d ≡ 0 = omega (arith, last) in
       subst (λ (levels : ℕ). IsTreeAt levels accounts s (n ∷ d) target tree) no_level is
 
-  -- where the entries of a directory have no trees, nothing can be added of what its segment lists
+  -- where the entries of a directory have no trees, nothing can be added below it
   pub not_below : (d : Path) (listing : ℕ) (dir : Entries) → IsDirectory (bytes_in (s.objects listing)) dir
       → ((trees : List TreeNode) → AreListed (below_at d) d (map.entries dir) trees → ⊥)
       → (trees : List TreeNode)
@@ -130,7 +130,7 @@ module _ (accounts : Accounts) (s : State) where
       none trees (subst (λ (x : Entries). AreListed (below_at d) d (map.entries x) trees)
       (same_directory (bytes_in (s.objects listing)) some.0 dir some.1 is) some.2)
 
-  -- of the directory that a segment lists some entries are left, and the trees of those before them were added
+  -- some entries of the directory in a segment are left, and the trees of those before them were added
   abbrev pub AddsEntries : Path → ℕ → List (Name × Target) → List TreeNode → List TreeNode → Type 0
   AddsEntries d listing left old new =
       (dir : Entries) × IsDirectory (bytes_in (s.objects listing)) dir
@@ -146,7 +146,7 @@ module _ (accounts : Accounts) (s : State) where
       (no_tree_below d e.0 e.1 fits inner none))
   no_entry_more d listing left rest e old mid new OutOfMemory turn so_far fits inner none = tt
 
-  -- and the addition fails so
+  -- and the addition fails with this error
   pub fails_below : (d : Path) (listing : ℕ) (old new : List TreeNode) (error : TreeError)
       (result : Result (Unit {0}) TreeError) → IsErrAnd result (λ e. e ≡ error)
       → AddsBelow accounts s d listing old new (Err error) → AddsBelow accounts s d listing old new result
@@ -154,7 +154,7 @@ module _ (accounts : Accounts) (s : State) where
       let given = err_from_is_err_and result gave in
       subst (AddsBelow accounts s d listing old new) (sym (given.1 ∙ ap Err given.2)) fails
 
-  -- at the last level neither
+  -- nor can anything be added at the last level
   pub no_level_more : (d : Path) (listing : ℕ) (left rest : List (Name × Target)) (e : Name × Target)
       (old new : List TreeNode) → left ≡ e ∷ rest → AddsEntries d listing left old new → length d ≡ most_names
       → AddsBelow accounts s d listing old new (Err NotATree)
@@ -174,14 +174,14 @@ module _ (accounts : Accounts) (s : State) where
         (tree_below d e.0 e.1 one.0 fits inner one.1) one.2,
   )
 
-  -- after the last entry all was added
+  -- after the last entry all trees were added
   pub entries_all : (d : Path) (listing : ℕ) (left : List (Name × Target)) (old new : List TreeNode) → left ≡ []
       → AddsEntries d listing left old new → AddsBelow accounts s d listing old new (Ok tt)
   entries_all d listing left old new none so_far =
       let all = adds_all (below_at d) d (map.entries so_far.0) left old new none so_far.2 in
       (all.0, (so_far.0, so_far.1, all.1), all.2)
 
-  -- where nothing stands at a path, no tree is added there
+  -- where no node is at a path, no tree is added there
   no_tree_at : (q : Path) (target : Target) (old new : List TreeNode) (error : TreeError)
       → FindsNode accounts s q target (Err error) → AddsTree accounts s q target old new (Err error)
   no_tree_at q target old new NotATree none = λ tree is. none is.0 is.2
@@ -194,7 +194,7 @@ module _ (accounts : Accounts) (s : State) where
       let given = err_from_is_err_and result gave in
       subst (AddsTree accounts s q target old new) (sym (given.1 ∙ ap Err given.2)) (no_tree_at q target old new error none)
 
-  -- a directory and what was added below it
+  -- the tree of a directory is its node and the trees that were added below it
   directory_added : (q : Path) (container listing : ℕ) (node : TreeNode) (old mid new : List TreeNode)
       (result : Result (Unit {0}) TreeError) → IsNodeAt accounts s q (Directory container listing) node
       → mid ≡ old ++ node ∷ [] → AddsBelow accounts s q listing mid new result
@@ -231,7 +231,7 @@ module _ (accounts : Accounts) (s : State) where
         subst (IsTreeAt (levels_at []) accounts s [] (Directory roots.slash.container roots.slash.listing))
         (sym (at.2 ∙ ap (λ (l : List TreeNode). l ++ at.0) none)) at.1
 
-    -- and where there is none, the state has none
+    -- where there is no tree at `/`, the state has none
     pub no_tree_added : (error : TreeError) → result ≡ Err error → error ≡ NotATree → HasNoTree accounts s roots
     unfolding IsTreeOf
     no_tree_added error is said = at_root (Err NotATree) (is ∙ ap Err said)

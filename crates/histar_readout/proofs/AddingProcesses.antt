@@ -20,7 +20,7 @@ use Rattle.histar_readout.specs.Process.{node_in}
 use Rattle.histar_readout.specs.Processes.{Found, child_of, children_of, all_of, processes_at, levels_at, AreProcessesOf, HasNoProcesses, Adds}
 use Rattle.histar_readout.specs.Processes.{AddsProcesses}
 
--- processes before others, if there are others
+-- these processes, and then the others, if there are any
 abbrev before : List ProcessNode → Option (List ProcessNode) → Option (List ProcessNode)
 before added rest = option_map (λ (l : List ProcessNode). added ++ l) rest
 
@@ -37,11 +37,11 @@ before_rest first None = refl
 before_rest first (Some l) = refl
 
 module _ (accounts : Accounts) (s : State) (me : ProcName) (segment born : ℕ) where
-  -- the processes of a child and below it
+  -- the processes at a child and below it
   abbrev below : Found
   below = processes_at (most_numbers - length me) accounts s
 
-  -- the processes of the children of a process were added, of which so many were born
+  -- the processes of the children of a process were added, where this many were born
   abbrev pub AddsChildren : List ProcessNode → List ProcessNode → Result (Unit {0}) ProcessError → Type 0
   AddsChildren = Adds (all_of (processes_at (most_numbers - length me) accounts s) me (children_of s segment born))
 
@@ -49,7 +49,7 @@ module _ (accounts : Accounts) (s : State) (me : ProcName) (segment born : ℕ) 
   abbrev later : ℕ → ℕ → List Child
   later first count = filter_map (child_of s segment) (range_with_len (first + 1) count)
 
-  -- the processes of those that were born after the first births
+  -- the processes of the children that were born after the first births
   abbrev left : ℕ → Option (List ProcessNode)
   left births = all_of below me (later births (born - births))
 
@@ -59,7 +59,7 @@ module _ (accounts : Accounts) (s : State) (me : ProcName) (segment born : ℕ) 
     pub parts : all_of below me (children_of s segment born) ≡ before added (left births)
     pub grown : new ≡ old ++ added
 
-  -- before the first birth nothing was added
+  -- before the first birth no process was added
   pub adds_none : (old : List ProcessNode) → AddsBirths 0 old old
   adds_none old = record {
     added = [];
@@ -76,7 +76,7 @@ module _ (accounts : Accounts) (s : State) (me : ProcName) (segment born : ℕ) 
       ap (later births) more
 
   module _ (births : ℕ) (old mid new : List ProcessNode) (fits : births < born) (so_far : AddsBirths births old mid) where
-    -- where no such child is listed, there is nothing to add
+    -- where no such child is listed, no process is added
     pub adds_nothing : child_of s segment (births + 1) ≡ None → AddsBirths (births + 1) old mid
     adds_nothing none = record {
       added = so_far.added;
@@ -94,7 +94,7 @@ module _ (accounts : Accounts) (s : State) (me : ProcName) (segment born : ℕ) 
           ap (all_of below me) (next_birth births fits
           ∙ ap (λ (c : Option Child). cons_option c (later (births + 1) (born - (births + 1)))) listed)
 
-      -- its processes are added
+      -- the processes of the next child are added
       adds_more : (first : List ProcessNode) → below (child.number ∷ me) (home_of child) ≡ Some first
           → new ≡ mid ++ first → AddsBirths (births + 1) old new
       adds_more first there more = record {
@@ -109,7 +109,7 @@ module _ (accounts : Accounts) (s : State) (me : ProcName) (segment born : ℕ) 
         grown = more ∙ ap (λ (l : List ProcessNode). l ++ first) so_far.grown ∙ append_assoc old so_far.added first;
       }
 
-      -- and where there are none, the children have none
+      -- where the next child has no processes, the children have none
       adds_no_more : below (child.number ∷ me) (home_of child) ≡ None → all_of below me (children_of s segment born) ≡ None
       adds_no_more none =
           so_far.parts
@@ -117,7 +117,7 @@ module _ (accounts : Accounts) (s : State) (me : ProcName) (segment born : ℕ) 
           ∙ ap (λ (o : Option (List ProcessNode)).
           o >>= λ first. left (births + 1) >>= λ rest. Some (first ++ rest)) none)
 
-  -- after the last birth all were added
+  -- after the last birth all processes were added
   pub adds_all : (births : ℕ) (old new : List ProcessNode) → births ≡ born → AddsBirths births old new → AddsChildren old new (Ok tt)
   adds_all births old new last so_far =
       let none_left : born - births ≡ 0 = omega (arith, last) in
@@ -128,7 +128,7 @@ module _ (accounts : Accounts) (s : State) (me : ProcName) (segment born : ℕ) 
 module _ (accounts : Accounts) (s : State) (me : ProcName) (home : Home) (node : ProcessNode)
     (read : node_in accounts s me home ≡ Some node) (old mid new : List ProcessNode) (pushed : mid ≡ old ++ node ∷ [])
   where
-    -- they are found so
+    -- the definition of the processes begins with these
     begins : processes_at (levels_at me) accounts s me home
         ≡ (all_of (processes_at (most_numbers - length me) accounts s) me (children_of s home.segment node.born) >>= λ
         rest. Some (node ∷ rest))
@@ -161,7 +161,7 @@ module _ (accounts : Accounts) (s : State) (me : ProcName) (segment born births 
 
   module _ (fewer : length me ≤ most_numbers) (inner : length me ≢ most_numbers) (name : ProcName) (home : Home)
       (named : name ≡ child.number ∷ me) (found : home ≡ home_of child) where
-    -- a child of a process that may have children stands a level below it
+    -- a child of a process that may have children is a level below it
     at_child : processes_at (levels_at name) accounts s name home
         ≡ processes_at (most_numbers - length me) accounts s (child.number ∷ me) (home_of child)
     at_child =
@@ -178,7 +178,7 @@ module _ (accounts : Accounts) (s : State) (me : ProcName) (segment born births 
     failed NoProcess none = adds_no_more accounts s me segment born births old mid new fits so_far child listed (sym at_child ∙ none)
     failed OutOfMemory none = tt
 
-    -- and where it has none, the addition fails so
+    -- and where it has none, the addition fails with this error
     pub fails_below : (error : ProcessError) (result : Result (Unit {0}) ProcessError)
         → IsErrAnd result (λ e. e ≡ error) → AddsProcesses accounts s name home mid new (Err error)
         → AddsChildren accounts s me segment born old new result
@@ -201,7 +201,7 @@ module _ (accounts : Accounts) (s : State) (roots : Roots) (name : ProcName) (ze
       let at = at_zero (Ok done) is in
       at.1 ∙ ap Some (sym (at.2 ∙ ap (λ (l : List ProcessNode). l ++ at.0) none))
 
-  -- and where there are none, the state has none
+  -- where there are none from process 0 on, the state has none
   pub no_processes_added : (error : ProcessError) → result ≡ Err error → error ≡ NoProcess → HasNoProcesses accounts s roots
   unfolding AreProcessesOf
   no_processes_added error is said processes are = none-some processes (sym (at_zero (Err NoProcess) (is ∙ ap Err said)) ∙ are)

@@ -1,4 +1,4 @@
--- A walk from `/` on through a tree meets what stands there, by rising paths.
+-- A walk from `/` on through a tree meets all its nodes, by rising paths.
 use Rattle.std.specs.Prelude.{◌≡◌, ◌≢◌, ℕ, zero, suc, ◌+◌, ◌<◌, Bool, true, false, ◌||◌, cond, T, List, [], ◌∷◌, ◌++◌, length, Option, Some, None}
 use Rattle.std.specs.Prelude.{is_some, refl}
 use Rattle.std.specs.List.{flat_map}
@@ -26,7 +26,7 @@ use Rattle.histar_readout.specs.FlatTree.{nodes_in, walked, AreShallow, WalksMee
 -- ---- entries whose keys rise
 
 module _ {K X : Type 0} (R : K → K → Ordering) where
-  -- what is not found in one list is found in it and another as in the other
+  -- a key that is not in one list is found in both lists as in the other
   find_second : (q : K) (xs ys : List (K × X)) → find R q xs ≡ None → find R q (xs ++ ys) ≡ find R q ys
   find_second q [] ys none = refl
   find_second q (e ∷ xs) ys none = by (eq_by_cmp R q e.0) none (find_second q xs ys)
@@ -37,18 +37,18 @@ module _ {K X : Type 0} (R : K → K → Ordering) where
       by true is rest = absurd (none-some e.1 (sym is))
       by false is rest = rest is
 
-  -- what is not found in the other is found in both as in the one
+  -- a key that is not in the second list is found in both as in the first
   find_front : (q : K) (xs ys : List (K × X)) → find R q ys ≡ None → find R q (xs ++ ys) ≡ find R q xs
   find_front q [] ys none = none
   find_front q (e ∷ xs) ys none = ap (λ o. cond (eq_by_cmp R q e.0) (Some e.1) o) (find_front q xs ys none)
 
-  -- what is below two lists is below both together
+  -- a key below two lists is below both together
   below_both : (k : K) (xs ys : List (K × X)) → T (below_all R k xs) → T (below_all R k ys) → T (below_all R k (xs ++ ys))
   below_both k [] ys g h = h
   below_both k (e ∷ xs) ys g h = both (is_lt (R k e.0)) _ (first (is_lt (R k e.0)) _ g) (below_both k xs ys (second (is_lt (R k e.0)) _ g) h)
 
 module _ {K X : Type 0} {R : K → K → Ordering} (total : IsTotalOrder R) (exact : IsAntisymmetric R) where
-  -- what is found in a list is above what is below all of it
+  -- a key that is found in a list is above a key below all of it
   found_above : (k q : K) (x : X) (es : List (K × X)) → T (below_all R k es) → find R q es ≡ Some x → R k q ≡ Less
   found_above k q x [] h is = absurd (none-some x is)
   found_above k q x (e ∷ es) h is = by (eq_by_cmp R q e.0) refl is (found_above k q x es (second (is_lt (R k e.0)) _ h))
@@ -57,7 +57,7 @@ module _ {K X : Type 0} {R : K → K → Ordering} (total : IsTotalOrder R) (exa
       by true t is rest = ap (R k) (exact q e.0 (equal (R q e.0) t)) ∙ less (R k e.0) (first (is_lt (R k e.0)) _ h)
       by false t is rest = rest is
 
-  -- what is below each key that is found in a list is below all of it
+  -- a key below each key that is found in a list is below all of it
   below_found : (k : K) (es : List (K × X)) → T (is_sorted R es) → ((q : K) (x : X) → find R q es ≡ Some x → R k q ≡ Less) → T (below_all R k es)
   below_found k [] s h = tt
   below_found k (e ∷ es) s h =
@@ -65,7 +65,7 @@ module _ {K X : Type 0} {R : K → K → Ordering} (total : IsTotalOrder R) (exa
       (below_found k es (second (below_all R e.0 es) _ s)
       (λ q x is. h q x (find_later total exact e.0 e.1 es q x (first (below_all R e.0 es) _ s) is)))
 
-  -- two lists rise together where each rises, and each key that is found in the one is below all of the other
+  -- two lists rise together where each rises, and each key of the first is below all of the second
   sorted_both : (xs ys : List (K × X)) → T (is_sorted R xs) → T (is_sorted R ys)
       → ((q : K) (x : X) → find R q xs ≡ Some x → T (below_all R q ys)) → T (is_sorted R (xs ++ ys))
   sorted_both [] ys g h low = h
@@ -84,7 +84,7 @@ by_bytes = slice_cmp nat_cmp
 antisymmetric : IsAntisymmetric by_bytes
 antisymmetric = slice_cmp-IsAntisymmetric nat_cmp-IsAntisymmetric
 
--- what lies under a path ends as it does
+-- a path under another ends with it
 ending : (p r : Path) → under_path p r ≡ true → (s : Path) × (r ≡ s ++ p)
 ending p [] h = elim (same_path_found p []) [
   | inl e ↦ ([], sym e.1)
@@ -95,36 +95,36 @@ ending p (n ∷ d) h = elim (same_path_found p (n ∷ d)) [
   | inr e ↦ let rest = ending p d (under_inner same same_path_found p d n e.0 h) in (n ∷ rest.0, ap (λ (l : Path). n ∷ l) rest.1)
 ]
 
--- more names of what lies under a path lie under it
+-- more names on a path under another are under it
 under_more : (p q s : Path) → under_path p q ≡ true → under_path p (s ++ q) ≡ true
 under_more p q [] h = h
 under_more p q (n ∷ s) h = under_child same same_path_found p (s ++ q) n (under_more p q s h)
 
--- what lies under an entry of a directory lies under the directory
+-- a path under an entry of a directory is under the directory
 under_outer : (n : Name) (q r : Path) → under_path (n ∷ q) r ≡ true → under_path q r ≡ true
 under_outer n q r h =
     let end = ending (n ∷ q) r h in
     ap (under_path q) end.1 ∙ under_more q (n ∷ q) end.0 (under_child same same_path_found q q n (under_itself same same_path_found q))
 
--- so what does not lie under the directory lies under none of its entries
+-- so a path that is not under the directory is under none of its entries
 not_inner : (n : Name) (q r : Path) → under_path q r ≡ false → under_path (n ∷ q) r ≡ false
 not_inner n q r h = elim (cases_Bool (under_path (n ∷ q) r)) [
   | inl e ↦ absurd (true≢false (sym (under_outer n q r e) ∙ h))
   | inr e ↦ e
 ]
 
--- each path lies under `/`
+-- each path is under `/`
 under_root : (r : Path) → under_path [] r ≡ true
 under_root [] = refl
 under_root (n ∷ d) = under_root d
 
--- where a path lies, seen from another: there, under an entry of that, or not under it
+-- the place of a path seen from another: it is the other, or under an entry of it, or not under it
 data Place (q r : Path) : Type 0 where
   Here : q ≡ r → Place q r
   Inner : (n : Name) → under_path (n ∷ q) r ≡ true → Place q r
   Elsewhere : under_path q r ≡ false → Place q r
 
--- each path lies in one of the three places
+-- each path has one of the three places
 place : (q r : Path) → Place q r
 place q [] = elim (same_path_found q []) [ inl e ↦ Here e.1 | inr e ↦ Elsewhere e.0 ]
 place q (n ∷ d) = elim (same_path_found q (n ∷ d)) [
@@ -136,12 +136,12 @@ place q (n ∷ d) = elim (same_path_found q (n ∷ d)) [
   ]
 ]
 
--- a list after another is turned round after it
+-- a list after another is reversed onto it
 turned : {A : Type 0} (ys s p : List A) → reverse_onto ys (s ++ p) ≡ reverse_onto (reverse_onto ys s) p
 turned ys [] p = refl
 turned ys (x ∷ s) p = turned (x ∷ ys) s p
 
--- what lies under two entries of a directory is ordered first as the entries' names
+-- paths under two entries of a directory are ordered first by the entries' names
 entries_decide : (q s t : Path) (n m : Name)
     → path_cmp (s ++ (n ∷ q)) (t ++ (m ∷ q))
     ≡ ordering_then (by_bytes n m) (slice_cmp by_bytes (from_root s) (from_root t))
@@ -149,7 +149,7 @@ entries_decide q s t n m =
     (λ i. slice_cmp by_bytes (turned [] s (n ∷ q) i) (turned [] t (m ∷ q) i))
     ∙ ends_decide by_bytes nat_list_cmp_total q (n ∷ from_root s) (m ∷ from_root t)
 
--- what lies under an entry is below what lies under a later one
+-- a path under an entry comes before a path under a later one
 entries_apart : (q r u : Path) (n m : Name) → by_bytes n m ≡ Less → under_path (n ∷ q) r ≡ true → under_path (m ∷ q) u ≡ true → path_cmp r u ≡ Less
 entries_apart q r u n m low g h =
     let a = ending (n ∷ q) r g in
@@ -157,13 +157,13 @@ entries_apart q r u n m low g h =
     (λ i. path_cmp (a.1 i) (b.1 i)) ∙ entries_decide q a.0 b.0 n m
     ∙ ap (λ o. ordering_then o (slice_cmp by_bytes (from_root a.0) (from_root b.0))) low
 
--- where two comparisons tie, the first does
+-- where two comparisons together tie, the first ties
 first_ties : (o p : Ordering) → ordering_then o p ≡ Equal → o ≡ Equal
 first_ties Less p e = e
 first_ties Equal p e = refl
 first_ties Greater p e = e
 
--- a path lies under one entry of a directory at most
+-- a path is under one entry of a directory at most
 one_entry : (q r : Path) (n m : Name) → under_path (n ∷ q) r ≡ true → under_path (m ∷ q) r ≡ true → n ≡ m
 one_entry q r n m g h =
     let a = ending (n ∷ q) r g in
@@ -171,14 +171,14 @@ one_entry q r n m g h =
     let tie = sym (entries_decide q a.0 b.0 n m) ∙ (λ i. path_cmp (sym a.1 i) (sym b.1 i)) ∙ tied_itself path_cmp_total r in
     antisymmetric n m (first_ties (by_bytes n m) _ tie)
 
--- so it lies under no other one
+-- so it is under no other one
 not_other : (q r : Path) (n m : Name) → under_path (n ∷ q) r ≡ true → n ≢ m → under_path (m ∷ q) r ≡ false
 not_other q r n m g other = elim (cases_Bool (under_path (m ∷ q) r)) [
   | inl h ↦ absurd (other (one_entry q r n m g h))
   | inr h ↦ h
 ]
 
--- a directory is below what lies under its entries
+-- a directory comes before a path under its entries
 directory_first : (q r : Path) (n : Name) → under_path (n ∷ q) r ≡ true → path_cmp q r ≡ Less
 directory_first q r n h =
     let end = ending (n ∷ q) r h in
@@ -188,7 +188,7 @@ directory_first q r n h =
 -- ---- the entries of a directory
 
 module _ (d : Path) where
-  -- an entry before others: it is one of the directory, or not
+  -- the entries of a directory where one more path is tested
   one_node : (q : Path) (there : Node) (es : List (Path × Node))
       → ((n : Name) × (q ≡ n ∷ d) × (nodes_in d ((q, there) ∷ es) ≡ (n, there) ∷ nodes_in d es))
       ⊎ (((n : Name) → n ∷ d ≢ q) × (nodes_in d ((q, there) ∷ es) ≡ nodes_in d es))
@@ -198,7 +198,7 @@ module _ (d : Path) where
     | inr t ↦ inr ((λ n e. let tails : d ≡ above = cc in t.1 tails), simp t.0)
   ]
 
-  -- a name is found among the entries as its path is
+  -- a name is found among the entries like its path among the paths
   find_nodes : (n : Name) (es : List (Path × Node)) → find by_bytes n (nodes_in d es) ≡ find path_cmp (n ∷ d) es
   find_nodes n [] = refl
   find_nodes n (e ∷ es) = elim (one_node e.0 e.1 es) [
@@ -226,19 +226,19 @@ module _ (d : Path) where
 
 -- ---- the walk
 
--- the list has what stands under a path, by rising paths
+-- the list has the nodes under a path, by rising paths
 record Meets (f : Flat) (q : Path) (l : List (Path × Node)) : Type 0 where
   sorted : T (is_sorted path_cmp l)
   found : (r : Path) → find path_cmp r l ≡ cond (under_path q r) (get f.files r) None
 
--- the list has what stands under the entries of a path, by rising paths
+-- the list has the nodes under the entries of a path, by rising paths
 record MeetsInner (f : Flat) (q : Path) (l : List (Path × Node)) : Type 0 where
   sorted : T (is_sorted path_cmp l)
   found : (n : Name) (r : Path) → under_path (n ∷ q) r ≡ true → find path_cmp r l ≡ get f.files r
   no_more : (r : Path) → ((n : Name) → under_path (n ∷ q) r ≡ false) → find path_cmp r l ≡ None
 
 module _ (f : Flat) where
-  -- what such a list has lies under the path
+  -- a path that such a list has is under the path
   found_under : (q : Path) (l : List (Path × Node)) → Meets f q l → (r : Path) (x : Node) → find path_cmp r l ≡ Some x → under_path q r ≡ true
   found_under q l m r x is = by (under_path q r) (sym (m.found r) ∙ is)
     where
@@ -246,7 +246,7 @@ module _ (f : Flat) where
       by true e = refl
       by false e = absurd (none-some x e)
 
-  -- what stands at a path, before what stands under its entries
+  -- the node at a path, and then those under its entries, are those under the path
   with_first : (q : Path) (node : Node) (l : List (Path × Node)) → get f.files q ≡ Some node → MeetsInner f q l → Meets f q ((q, node) ∷ l)
   with_first q node l is inner = record {
     sorted = both (below_all path_cmp q l) _ (below_found path_cmp_total path_cmp_exact q l inner.sorted (λ r x here. elim (place q r) [
@@ -271,19 +271,19 @@ module _ (f : Flat) where
   }
 
 module _ (f : Flat) (q : Path) (walk : Name × Node → List (Path × Node)) where
-  -- the walk of each entry among these meets what stands under it
+  -- the walk of each of these entries meets the nodes under it
   abbrev Each : List (Name × Node) → Type 0
   Each cs = (n : Name) (x : Node) → find by_bytes n cs ≡ Some x → Meets f (n ∷ q) (walk (n, x))
 
-  -- that of the first does
+  -- so does that of the first
   each_first : (c : Name × Node) (cs : List (Name × Node)) → Each (c ∷ cs) → Meets f (c.0 ∷ q) (walk c)
   each_first c cs each = each c.0 c.1 (find_first nat_list_cmp_total antisymmetric c.0 c.1 cs)
 
-  -- and so do those of the others
+  -- and those of the others
   each_later : (c : Name × Node) (cs : List (Name × Node)) → T (below_all by_bytes c.0 cs) → Each (c ∷ cs) → Each cs
   each_later c cs low each n x is = each n x (find_later nat_list_cmp_total antisymmetric c.0 c.1 cs n x low is)
 
-  -- what lies under an entry is below the walks of later entries
+  -- a path under an entry is below the walks of later entries
   below_walks : (n : Name) (r : Path) → under_path (n ∷ q) r ≡ true → (cs : List (Name × Node))
       → T (is_sorted by_bytes cs) → T (below_all by_bytes n cs) → Each cs → T (below_all path_cmp r (flat_map walk cs))
   below_walks n r h [] s low each = tt
@@ -307,11 +307,11 @@ module _ (f : Flat) (q : Path) (walk : Name × Node → List (Path × Node)) whe
       sorted_both path_cmp_total path_cmp_exact (walk c) (flat_map walk cs) m.sorted (sorted_walks cs rise later)
       (λ r x is. below_walks c.0 r (found_under f (c.0 ∷ q) (walk c) m r x is) cs rise low later)
 
-  -- what the walk of an entry has no place for is not found in it
+  -- a path that is not under an entry is not found in its walk
   missed : (n : Name) (r : Path) (l : List (Path × Node)) → Meets f (n ∷ q) l → under_path (n ∷ q) r ≡ false → find path_cmp r l ≡ None
   missed n r l m h = m.found r ∙ ap (λ b. cond b (get f.files r) None) h
 
-  -- the walks meet what stands under the entries
+  -- the walks find the nodes under the entries
   walks_found : (n : Name) (r : Path) → under_path (n ∷ q) r ≡ true → (cs : List (Name × Node)) → T (is_sorted by_bytes cs) → Each cs
       → find path_cmp r (flat_map walk cs) ≡ cond (is_some (find by_bytes n cs)) (get f.files r) None
   walks_found n r h [] s each = refl
@@ -334,7 +334,7 @@ module _ (f : Flat) (q : Path) (walk : Name × Node → List (Path × Node)) whe
             (find_behind nat_list_cmp_total antisymmetric n c.0 c.1 cs e.1))
       ]
 
-  -- and no more
+  -- and they find no others
   walks_miss : (r : Path) → ((n : Name) → under_path (n ∷ q) r ≡ false) → (cs : List (Name × Node))
       → T (is_sorted by_bytes cs) → Each cs → find path_cmp r (flat_map walk cs) ≡ None
   walks_miss r out [] s each = refl
@@ -343,7 +343,7 @@ module _ (f : Flat) (q : Path) (walk : Name × Node → List (Path × Node)) whe
       ∙ walks_miss r out cs (second (below_all by_bytes c.0 cs) _ s) (each_later c cs (first (below_all by_bytes c.0 cs) _ s) each)
 
 module _ (f : Flat) (tree : IsTree f) where
-  -- where nothing stands at an entry, nothing stands under it
+  -- where nothing is at an entry, nothing is under it
   agrees_or_not : (n : Name) (q r : Path) → under_path (n ∷ q) r ≡ true → cond (is_some (get f.files (n ∷ q))) (get f.files r) None ≡ get f.files r
   agrees_or_not n q r h = by (get f.files (n ∷ q)) refl
     where
@@ -351,7 +351,7 @@ module _ (f : Flat) (tree : IsTree f) where
       by None e = sym (nothing_below f tree (n ∷ q) e r h)
       by (Some x) e = refl
 
-  -- nothing stands under an entry of a file
+  -- nothing is under an entry of a file
   nothing_in : (q : Path) → is_dir_at f q ≡ false → (n : Name) (r : Path) → under_path (n ∷ q) r ≡ true → get f.files r ≡ None
   nothing_in q file n r h = nothing_below f tree (n ∷ q) (by (get f.files (n ∷ q)) refl) r h
     where
@@ -359,7 +359,7 @@ module _ (f : Flat) (tree : IsTree f) where
       by None e = refl
       by (Some x) e = absurd (true≢false (sym (tree.below n q (ap (λ (o : Option Node). is_some_and o (λ n. true)) e)) ∙ file))
 
-  -- the walks of the entries meet what stands under them; a file has none
+  -- the walks of the entries meet the nodes under them; a file has none
   entries_walked : (q : Path) (node : Node) (walk : Name × Node → List (Path × Node)) → get f.files q ≡ Some node
       → Each f q walk (nodes_in q f.files.entries)
       → (b : Bool) → is_dir node ≡ b → MeetsInner f q (cond b (flat_map walk (nodes_in q f.files.entries)) [])
@@ -375,7 +375,7 @@ module _ (f : Flat) (tree : IsTree f) where
       let at : is_dir_at f q ≡ false = ap (λ (o : Option Node). is_some_and o is_dir) is ∙ file in
       record { sorted = tt; found = λ n r h. sym (nothing_in q at n r h); no_more = λ r out. refl }
 
-  -- a walk through enough levels meets what stands under a path
+  -- a walk through enough levels meets the nodes under a path
   walk_meets : (most : ℕ) → AreShallow most f → (levels : ℕ) (q : Path) (node : Node) → get f.files q ≡ Some node
       → most < length q + levels → Meets f q (walked levels f.files.entries q node)
   walk_meets most shallow zero q node is deep =
@@ -387,7 +387,7 @@ module _ (f : Flat) (tree : IsTree f) where
       (λ n x there. walk_meets most shallow levels (n ∷ q) x (sym (find_nodes q n f.files.entries) ∙ there) (omega arith))
       (is_dir node) refl)
 
--- A walk from `/` on through a tree meets what stands there.
+-- A walk from `/` on through a tree meets all its nodes.
 pub walks_meet_all : WalksMeetAll
 walks_meet_all f tree most shallow slash is =
     let m = walk_meets f tree most shallow (suc most) [] slash is (omega arith) in

@@ -1,4 +1,4 @@
--- The label of the thread of a process that runs tells the jobs that it holds.
+-- The label of the thread of a process that runs determines the jobs that it holds.
 use Rattle.std.proofs.Common.{◌≡◌, ℕ, ◌==◌, ◌||◌, ◌&&◌, Bool, true, false, List, [], ◌∷◌, ◌++◌, None, Some, arith, refl, sym, ap, ◌∙◌}
 use Rattle.std.specs.Prelude.{map, nat_eq, not}
 use Rattle.std.specs.Set.{is_member}
@@ -36,7 +36,7 @@ use Rattle.histar_refinement.proofs.Uses.{job_among}
 use Rattle.histar_readout.specs.declared.process.Life.TheVariants.{Running}
 use Rattle.histar_readout.specs.Process.{owned_beside, held_by, running_by}
 
--- a number is among some exactly where one of them is equal to it
+-- a number is a member of a list exactly where it equals one of its numbers
 equal_to_one : (known : List ℕ) (c : ℕ) → is_member nat_eq known c ≡ is_in known c
 equal_to_one [] c = refl
 equal_to_one (k ∷ known) c = let equal : nat_eq c k ≡ (c == k) = grind (arith, nat_tests) in (λ i. equal i || equal_to_one known c i)
@@ -46,7 +46,7 @@ no_star : is_star (owning_level false false) ≡ false
 unfolding is_star
 no_star = refl
 
--- what is owned beside what is known is what is held, where that is neither known nor at 3
+-- a category is owned and not known exactly where it is held, if no held one is known or at 3
 held_alone : (k h t : Bool) → (h ≡ true → k ≡ false) → (h ≡ true → t ≡ false) → (is_star (owning_level (k || h) t) && not k) ≡ h
 unfolding is_star
 held_alone true true t apart low = absurd (true≢false (apart refl))
@@ -61,7 +61,7 @@ module _ (category : Categories) (different : AreDifferent category) (known : Li
   abbrev own : Levels
   own = owner_label (map category (known ++ map OfJob held)) (map category (map OfJob chain))
 
-  -- whether an exception is owned and not known
+  -- an exception is owned and not known
   abbrev test : ℕ × Level → Bool
   test e = is_star e.1 && not (is_member nat_eq (map category known) e.0)
 
@@ -104,7 +104,7 @@ module _ (category : Categories) (different : AreDifferent category) (known : Li
         ∙ (λ i. is_star (level c i) && not (equal_to_one (map category known) c i))
         ∙ held_alone (is_in (map category known) c) (is_in (numbers held) c) (is_in (numbers chain) c) (not_known c) (not_tainted c)
 
-    -- what such a label owns beside what is known are the held jobs, where these stand in order
+    -- the owned categories of such a label without the known ones are those of the held jobs, if these are in order
     pub beside_is : AreInOrder category held
         → owned_beside (map category known)
         (owner_label (map category (known ++ map OfJob held)) (map category (map OfJob chain)))
@@ -130,7 +130,7 @@ module _ (accounts : Accounts) (s : State) (f : Flat) (l : ObjectsMatch accounts
       ∙ beside_is l.category l.different (ReadsProcess me ∷ WritesProcess me ∷ as_user) p.held p.chain
       (λ job. none_as_user accounts me p job (user_number accounts p.user)) ((l.processes me p here).apart runs) ((l.processes me p here).held runs)
 
-  -- It is shown as it is in the flat state.
+  -- The process shows the same as in the flat state.
   pub running_is : running_by accounts (caller_is accounts s f l me)
       (rights_label l.category (thread_rights accounts me p)) ≡ Running p.user (job_numbers l.category p.held)
   running_is = λ i. Running ((ap (user_name accounts.users) (own_user_is accounts s f l me p) ∙ named) i) (held_is i)

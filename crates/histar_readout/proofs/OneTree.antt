@@ -21,7 +21,7 @@ use Rattle.histar_readout.specs.Laws.{StatesHaveOneTree}
 abbrev IsOne : Listed → Type 0
 IsOne is_tree = (q : Path) (target : Target) (a b : List TreeNode) → is_tree q target a → is_tree q target b → a ≡ b
 
--- then entries are one list of trees at most
+-- then the entries have one list of trees at most
 one_list : (is_tree : Listed) → IsOne is_tree → (d : Path) (entries : List (Name × Target)) (a b : List TreeNode)
     → AreListed is_tree d entries a → AreListed is_tree d entries b → a ≡ b
 one_list is_tree one d [] a b g h = g ∙ sym h
@@ -30,7 +30,7 @@ one_list is_tree one d (e ∷ entries) a b g h =
     let rest = one_list is_tree one d entries g.1 h.1 g.3 h.3 in
     g.4 ∙ (λ i. first i ++ rest i) ∙ sym h.4
 
--- and one list of trees at most is below a path
+-- and there is one list of trees at most below a path
 one_below : (is_tree : Listed) → IsOne is_tree → (s : State) (q : Path) (target : Target) (a b : List TreeNode)
     → IsBelow is_tree s q target a → IsBelow is_tree s q target b → a ≡ b
 one_below is_tree one s q (File file) a b g h = g ∙ sym h
@@ -38,11 +38,11 @@ one_below is_tree one s q (Directory container listing) a b g h =
     let same = same_directory (bytes_in (s.objects listing)) h.0 g.0 h.1 g.1 in
     one_list is_tree one q (map.entries g.0) a b g.2 (subst (λ (dir : Entries). AreListed is_tree q (map.entries dir) b) same h.2)
 
--- nodes that have the same of everything are one
+-- nodes with the same path, class and target are equal
 same_node : (a b : TreeNode) → a.path ≡ b.path → a.class ≡ b.class → a.target ≡ b.target → a ≡ b
 same_node a b path class target = λ i. record { path = path i; class = class i; target = target i }
 
--- one node at most stands at a path
+-- a path with a target has one node at most
 one_node : (accounts : Accounts) (s : State) (q : Path) (target : Target) (a b : TreeNode)
     → IsNodeAt accounts s q target a → IsNodeAt accounts s q target b → a ≡ b
 one_node accounts s q target a b g h =
@@ -50,7 +50,7 @@ one_node accounts s q target a b g h =
     same_node a b (g.path_is ∙ sym h.path_is)
     (one_class accounts h.label a.class b.class (subst (IsClassLabel accounts a.class) label g.of_class) h.of_class) (g.target_is ∙ sym h.target_is)
 
--- at each path there is one tree at most, down to so many levels
+-- at each path there is one tree at most, down to this many levels
 one_tree : (accounts : Accounts) (s : State) (levels : ℕ) → IsOne (IsTreeAt levels accounts s)
 one_tree accounts s zero q target a b g h = absurd g
 one_tree accounts s (suc levels) q target a b g h =

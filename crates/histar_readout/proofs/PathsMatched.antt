@@ -1,4 +1,4 @@
--- In a state that represents a flat state a path leads to what that has there, and else nowhere.
+-- In a state that represents a flat state a path leads to the node that the flat state has there, and otherwise nowhere.
 use Rattle.std.specs.Prelude.{◌≡◌, ℕ, [], ◌∷◌, length, Option, Some, None, MatchOption, option_and_then, refl}
 use Rattle.std.proofs.Common.{ap, sym, ◌∙◌}
 use Rattle.std.proofs.lemmas.Option.{none-some, same_Some}
@@ -34,7 +34,7 @@ use Rattle.histar_readout.specs.Laws.{LeadsToNode, FlatStatesAreResolved}
 use Rattle.histar_readout.proofs.TreeMatched.{led_to_directory, led_to_file, slash_leads, bytes_held}
 
 module _ (accounts : Accounts) (s : State) where
-  -- where `/` and process 0 are
+  -- the places of `/` and of process 0
   abbrev roots : Roots
   roots = roots_of (length accounts.users)
 
@@ -43,17 +43,17 @@ module _ (accounts : Accounts) (s : State) where
   directory_led [] c g at = λ i. targets.Directory (at.0 i) (at.1 i)
   directory_led (n ∷ d) c g at = (at.0, at.1, at.2, directory_led d at.0 at.1 at.3, at.4, at.5)
 
-  -- and to no other
+  -- a path that leads to a directory is that directory's
   led_directory : (d : Path) (c g : ℕ) → LeadsTo s roots d (targets.Directory c g) → IsDirectoryAt accounts s d c g
   led_directory [] c g led = (ap container_in led, ap listing_in led)
   led_directory (n ∷ d) c g led = (led.0, led.1, led.2, led_directory d led.0 led.1 led.3, led.4, led.5)
 
   module _ (f : Flat) (l : ObjectsMatch accounts s f) where
-    -- where an entry of the flat state leads, if it is there
+    -- the target of a node of the flat state, if it is there
     abbrev target_at : Path → Option Node → Option Target
     target_at q o = option_and_then (λ (there : Node). target_for l.naming.number (q, there)) o
 
-    -- where nothing stands, a path leads nowhere
+    -- where the flat state has no node, a path leads nowhere
     nothing_led : (q : Path) → get f.files q ≡ None → LeadsNowhere s roots q
     nothing_led [] at target led = none-some _ (sym at ∙ (root_is_dir accounts s f l).1)
     nothing_led (n ∷ d) at target led =
@@ -64,7 +64,7 @@ module _ (accounts : Accounts) (s : State) where
         none-some target (sym (ap (target_at (n ∷ d)) at) ∙ sym (get_directory f.files l.naming.number d n)
         ∙ ap (λ (dir : Entries). map.get dir n) same ∙ led.5)
 
-    -- and what stands there is where a path leads
+    -- where it has a node, the path leads to the node's target
     node_led : (q : Path) (node : Node) → get f.files q ≡ Some node → (target : Target)
         → target_for l.naming.number (q, node) ≡ Some target → LeadsTo s roots q target
     node_led [] node at target leads =
@@ -86,7 +86,7 @@ module _ (accounts : Accounts) (s : State) where
         )
 
     module _ (q : Path) (class : Class) where
-      -- it is of the same kind, and has the same bytes
+      -- the target is of the same kind, and has the same bytes
       same_kind : (content : Content) (target : Target)
           → target_for l.naming.number (q, record { class = class; content = content }) ≡ Some target
           → is_directory target ≡ is_dir (record { class = class; content = content })
@@ -106,7 +106,7 @@ module _ (accounts : Accounts) (s : State) where
           let to = led_to_file (l.naming.number (address_of q)) target leads in
           ap (file_bytes_at s) (sym to.1) ∙ bytes_held accounts s f l q class bytes at to.0 to.2
 
-    -- so what stands at a path is what it leads to
+    -- so a path leads to a file or a directory like the node
     leads_to_node : (q : Path) (node : Node) → get f.files q ≡ Some node → LeadsToNode s roots q node
     leads_to_node q node at =
         let to = some_unless_none (target_for l.naming.number (q, node)) (entry_leads accounts s f l q node at) in
@@ -121,6 +121,6 @@ module _ (accounts : Accounts) (s : State) where
     resolved_as q None at = nothing_led q at
     resolved_as q (Some node) at = leads_to_node q node at
 
--- in a state that represents a flat state a path leads to what that has there, and else nowhere
+-- in a state that represents a flat state a path leads to the node that the flat state has there, and otherwise nowhere
 pub flat_states_are_resolved : FlatStatesAreResolved
 flat_states_are_resolved accounts s f represents q = resolved_as accounts s f represents.matched q (get f.files q) refl

@@ -1,4 +1,4 @@
--- A state that represents a flat state has the processes of that.
+-- A state that represents a flat state has its processes.
 use Rattle.std.specs.Prelude.{◌≡◌, ℕ, zero, suc, ◌+◌, ◌<◌, List, [], ◌∷◌, ◌++◌, length, map, Option, None, Some, is_some, option_map, refl}
 use Rattle.std.specs.List.{cons_option, filter_map, flat_map, range_with_len}
 use Rattle.std.proofs.Common.{arith, ap, sym, ◌∙◌, subst}
@@ -36,31 +36,31 @@ use Rattle.histar_readout.specs.Laws.{AreNamed, FlatStatesHaveTheirProcesses}
 use Rattle.histar_readout.proofs.HeldJobs.{running_is}
 
 module _ (accounts : Accounts) (s : State) (f : Flat) (l : ObjectsMatch accounts s f) where
-  -- where a process is found
+  -- the container and the segment of a process
   abbrev found : ProcName → Where
   found me = where_is accounts s f l me
 
-  -- what is shown of processes at a name and below it, down to so many levels
+  -- what processes at a name and below it show, down to this many levels
   abbrev shown : ℕ → ProcName → List ProcessLine
   shown levels me = flat_processes l.category levels f me
 
-  -- of a process that is not there nothing is shown
+  -- a process that is not there shows nothing
   nothing_shown : (levels : ℕ) (me : ProcName) → f.processes me ≡ None → shown levels me ≡ []
   nothing_shown zero me none = refl
   nothing_shown (suc levels) me none = ap (with_children l.category (λ n. shown levels (n ∷ me)) me) none
 
-  -- processes at a name and below it, which show what the flat state has there, down to so many levels
+  -- processes at a name and below it, which show the same as the flat state has there, down to this many levels
   record HasProcessesAt (levels : ℕ) (me : ProcName) : Type 0 where
     processes : List ProcessNode
     are : processes_at levels accounts s me (found me) ≡ Some processes
     lines : map process_line processes ≡ shown levels me
 
   module _ (me : ProcName) (p : Process) (here : f.processes me ≡ Some p) where
-    -- a process of these jobs and that life, to which so many children were born
+    -- a process with these jobs and this life, to which this many children were born
     abbrev shown_as : List ℕ → Life → ℕ → ProcessNode
     shown_as chain life born = record { name = me; home = found me; chain = chain; life = life; born = born }
 
-    -- the process, as it is shown
+    -- the process as the flat state has it
     abbrev node : ProcessNode
     node = shown_as (job_numbers l.category p.chain) (flat_life l.category p p.exited) p.born
 
@@ -97,7 +97,7 @@ module _ (accounts : Accounts) (s : State) (f : Flat) (l : ObjectsMatch accounts
         by None runs = runs_as runs
         by (Some number) exited = refl
 
-    -- It is shown so.
+    -- the state has the process like this
     node_is : node_in accounts s me (found me) ≡ Some node
     node_is =
         ap (λ (x : Option ProcessStatus).
@@ -111,21 +111,21 @@ module _ (accounts : Accounts) (s : State) (f : Flat) (l : ObjectsMatch accounts
         (chain_is l.category l.different me p (l.processes me p here).chain)
 
     module _ (levels : ℕ) where
-      -- what is shown of a child and below it
+      -- what a child and those below it show
       abbrev below : ℕ → List ProcessLine
       below n = shown levels (n ∷ me)
 
-      -- the children of these numbers that are listed
+      -- the children among these numbers that are listed
       abbrev listed : List ℕ → List Listed
       listed ns = filter_map (child_of s (found me).segment) ns
 
-      -- processes which show what the flat state has at the children of these numbers and below them
+      -- processes which show the same as the flat state has at the children of these numbers and below them
       record HaveProcesses (ns : List ℕ) : Type 0 where
         processes : List ProcessNode
         are : all_of (processes_at levels accounts s) me (listed ns) ≡ Some processes
         lines : map process_line processes ≡ flat_map below ns
 
-      -- a child is listed where it is there
+      -- a child is listed if it is there
       child_listed : (n : ℕ) (o : Option Process) → f.processes (n ∷ me) ≡ o
           → child_of s (found me).segment n ≡ option_map (λ (q : Process). listed_by l.naming.number me n) o
       child_listed n o is =
@@ -154,12 +154,12 @@ module _ (accounts : Accounts) (s : State) (f : Flat) (l : ObjectsMatch accounts
             lines = map-append process_line one.processes rest.processes ∙ (λ i. one.lines i ++ rest.lines i);
           }
 
-      -- the processes of the children, one after another
+      -- the children have processes, one after another
       of_children : ((n : ℕ) (q : Process) → f.processes (n ∷ me) ≡ Some q → HasProcessesAt levels (n ∷ me)) → (ns : List ℕ) → HaveProcesses ns
       of_children each [] = record { processes = []; are = refl; lines = refl }
       of_children each (n ∷ ns) = one_more each n ns (f.processes (n ∷ me)) refl (of_children each ns)
 
-      -- a process before those of its children
+      -- a process and those of its children are the processes at its name
       with_its_children : HaveProcesses (range_with_len 1 p.born) → HasProcessesAt (suc levels) me
       with_its_children rest = record {
         processes = node ∷ rest.processes;
@@ -180,11 +180,11 @@ module _ (accounts : Accounts) (s : State) (f : Flat) (l : ObjectsMatch accounts
       with_its_children me p here levels (of_children me p here levels (λ n q is. processes_there named levels (n ∷ me) q is (omega arith))
       (range_with_len 1 p.born))
 
-  -- process 0 is found where boot left it
+  -- process 0 is at the place where boot left it
   first_found : found [] ≡ (roots_of (length accounts.users)).home
   first_found i = record { container = or_zero (l.as_booted (Home ∷ []) _ refl i); segment = or_zero (l.as_booted (Status ∷ Home ∷ []) _ refl i) }
 
--- a state that represents a flat state has the processes of that
+-- a state that represents a flat state has its processes
 pub flat_states_have_their_processes : FlatStatesHaveTheirProcesses
 unfolding AreProcessesOf
 flat_states_have_their_processes accounts s f represents named =

@@ -1,4 +1,4 @@
--- Where a path leads, one name after another.
+-- The target of a path, one name after another.
 use Rattle.std.specs.Prelude.{◌≡◌, ℕ, ◌-◌, ◌≤◌, ◌<◌, List, [], ◌∷◌, length, get_or, take, drop, Option, Some, None, Ok, Err, refl}
 use Rattle.std.proofs.Common.{arith, sym, ap, ◌∙◌, subst}
 use Rattle.std.proofs.lemmas.List.{take_all}
@@ -22,7 +22,7 @@ use Rattle.histar_readout.proofs.OneTarget.{paths_lead_to_one_target}
 abbrev names_above : Path → Path
 names_above q = take (length q - 1) (drop 1 q)
 
--- a path has its last name before the names above
+-- a path is its last name before the names above
 parts : (q : Path) (name : Name) → 1 ≤ length q → name ≡ get_or q 0 name → name ∷ names_above q ≡ q
 parts [] name some first = absurd (omega arith)
 parts (n ∷ d) name some first =
@@ -37,7 +37,7 @@ module _ (s : State) (roots : Roots) where
   slash_resolved (n ∷ d) none = absurd (omega arith)
 
   module _ (name : Name) (d : Path) (container listing : ℕ) (above : LeadsTo s roots d (Directory container listing)) where
-    -- what leads on from a directory is listed in its own segment
+    -- a target of a directory's entry is listed in the directory's own segment
     listed_there : (target : Target) → LeadsTo s roots (name ∷ d) target
         → (dir : Entries) × IsDirectory (bytes_in (s.objects listing)) dir × (map.get dir name ≡ Some target)
     listed_there target leads =
@@ -48,7 +48,7 @@ module _ (s : State) (roots : Roots) where
     none_unlisted : ((dir : Entries) → IsDirectory (bytes_in (s.objects listing)) dir → ⊥) → LeadsNowhere s roots (name ∷ d)
     none_unlisted none target leads = let there = listed_there target leads in none there.0 there.1
 
-    -- nor does one whose last name the directory doesn't list
+    -- nor does a path lead anywhere whose last name the directory doesn't list
     none_listed : (dir : Entries) → IsDirectory (bytes_in (s.objects listing)) dir → map.get dir name ≡ None → LeadsNowhere s roots (name ∷ d)
     none_listed dir is none target leads =
         let there = listed_there target leads in
@@ -81,7 +81,7 @@ module _ (s : State) (roots : Roots) where
         unfolding Resolves
         led_here = subst (LeadsTo s roots above) is led
 
-        -- nor does one below a segment that holds no directory lead anywhere
+        -- nor does a path below a segment that holds no directory
         pub nowhere_unlisted : (fault : NotADirectory) → IsLookedUp bytes name (Err fault) → Resolves s roots q None
         unfolding Resolves
         nowhere_unlisted fault none =
@@ -94,6 +94,6 @@ module _ (s : State) (roots : Roots) where
         found_below None dir listed none = none_listed name above container listing led_here dir listed none
         found_below (Some there) dir listed entry = (container, listing, dir, led_here, listed, entry)
 
-        -- below a directory a path leads to where that lists its last name
+        -- below a directory a path leads to the target that the directory lists for its last name
         pub leads_on : (found : Option Target) → IsLookedUp bytes name (Ok found) → Resolves s roots q found
         leads_on found looked = whole found (found_below found looked.0 (subst (λ (b : List ℕ). IsDirectory b looked.0) read looked.1) (sym looked.2))

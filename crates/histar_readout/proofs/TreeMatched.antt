@@ -1,4 +1,4 @@
--- A state that represents a flat state has the tree of that.
+-- A state that represents a flat state has its tree.
 use Rattle.std.specs.Prelude.{◌≡◌, ℕ, zero, suc, ◌+◌, ◌<◌, Bool, true, false, cond, T, List, [], ◌∷◌, ◌++◌, length, map, Option, Some, None}
 use Rattle.std.specs.Prelude.{option_map, option_and_then, refl}
 use Rattle.std.specs.List.{filter_map, cons_option, flat_map}
@@ -48,19 +48,19 @@ use Rattle.histar_readout.specs.FlatTree.{nodes_in, walked}
 use Rattle.histar_readout.specs.Laws.{AreShallow, FlatStatesHaveTheirTrees}
 use Rattle.histar_readout.proofs.FlatTree.{walks_meet_all}
 
--- what leads to a directory has its two numbers
+-- the target of a directory consists of its two numbers
 pub led_to_directory : (x y : Option ℕ) (target : Target) → both_numbers x y ≡ Some target
     → (c : ℕ) × (g : ℕ) × (targets.Directory c g ≡ target) × (x ≡ Some c) × (y ≡ Some g)
 led_to_directory None y target e = absurd (none-some target e)
 led_to_directory (Some c) None target e = absurd (none-some target e)
 led_to_directory (Some c) (Some g) target e = (c, g, same_Some (targets.Directory c g) target e, refl, refl)
 
--- what leads to a file has its number
+-- the target of a file is its number
 pub led_to_file : (x : Option ℕ) (target : Target) → option_map targets.File x ≡ Some target → (o : ℕ) × (targets.File o ≡ target) × (x ≡ Some o)
 led_to_file None target e = absurd (none-some target e)
 led_to_file (Some o) target e = (o, same_Some (targets.File o) target e, refl)
 
--- what is there, where a test says so
+-- where a test says so, a node is there
 there_is : (o : Option Node) → is_some_and o (λ n. true) ≡ true → (there : Node) × (o ≡ Some there)
 there_is None e = absurd (true≢false (sym e))
 there_is (Some there) e = (there, refl)
@@ -83,23 +83,23 @@ module _ (accounts : Accounts) (s : State) (f : Flat) (l : ObjectsMatch accounts
       let g = guard_at accounts s f l q (record { class = class; content = File bytes }) at in
       ap bytes_in (file_found accounts s f l q class bytes at g.0 g.1 o numbered)
 
-  -- a tree at a path, which is what the flat state has there and below it, down to so many levels
+  -- a tree at a path, which is what the flat state has there and below it, down to this many levels
   record HasTreeAt (levels : ℕ) (q : Path) (node : Node) (target : Target) : Type 0 where
     tree : List TreeNode
     is_tree : IsTreeAt levels accounts s q target tree
     same : map (tree_entry s) tree ≡ map (flat_entry l.category) (walked levels f.files.entries q node)
 
-  -- where an entry leads, and the tree there
+  -- the target of a node, and the tree there
   record LeadsToTree (levels : ℕ) (q : Path) (node : Node) : Type 0 where
     target : Target
     leads : target_for l.naming.number (q, node) ≡ Some target
     there : HasTreeAt levels q node target
 
-  -- what a state has at a path where the flat state has something of this class
+  -- the node of a state where the flat state has one of this class
   abbrev node_of : Path → Class → Target → TreeNode
   node_of q class target = record { path = q; class = numbered_class l.category class; target = target }
 
-  -- it stands there, by the label of its object
+  -- the state has this node, by the label of its object
   agrees_at : (q : Path) (there : Node) → get f.files q ≡ Some there → (target : Target)
       → l.naming.number (address_of q) ≡ Some (object_of target)
       → IsNodeAt accounts s q target (node_of q there.class target)
@@ -114,7 +114,7 @@ module _ (accounts : Accounts) (s : State) (f : Flat) (l : ObjectsMatch accounts
       }
 
   module _ (levels : ℕ) (q : Path) where
-    -- the entries of the directory among some, with where each leads
+    -- the entries of the directory among these paths, with their targets
     abbrev listed : List (Path × Node) → List (Name × Target)
     listed = filter_map (target_in l.naming.number q)
 
@@ -122,24 +122,24 @@ module _ (accounts : Accounts) (s : State) (f : Flat) (l : ObjectsMatch accounts
     abbrev walk : Name × Node → List (Path × Node)
     walk c = walked levels f.files.entries (c.0 ∷ q) c.1
 
-    -- trees which are what the flat state has at these entries and below them
+    -- trees that are what the flat state has at these entries and below them
     record HasTrees (entries : List (Name × Target)) (nodes : List (Name × Node)) : Type 0 where
       trees : List TreeNode
       are_listed : AreListed (IsTreeAt levels accounts s) q entries trees
       same : map (tree_entry s) trees ≡ map (flat_entry l.category) (flat_map walk nodes)
 
-    -- each entry among some leads to a tree
+    -- each entry of the directory among these paths leads to a tree
     abbrev AllLead : List (Path × Node) → Type 0
     AllLead es = (n : Name) (there : Node) → find path_cmp (n ∷ q) es ≡ Some there → LeadsToTree levels (n ∷ q) there
 
-    -- an entry before others
+    -- trees of the entries where one more path is tested
     abbrev HasTreesBy : Name → Path → Node → List (Path × Node) → Bool → Type 0
     HasTreesBy n above there es b =
         HasTrees (cons_option
         (cond b (option_map (λ target. (n, target)) (target_for l.naming.number (n ∷ above, there))) None)
         (listed es)) (cons_option (cond b (Some (n, there)) None) (nodes_in q es))
 
-    -- one entry of the directory
+    -- trees with one more entry
     one_more : (n : Name) (there : Node) (es : List (Path × Node)) → LeadsToTree levels (n ∷ q) there
         → HasTrees (listed es) (nodes_in q es) → HasTreesBy n q there es true
     one_more n there es to rest =
@@ -154,7 +154,7 @@ module _ (accounts : Accounts) (s : State) (f : Flat) (l : ObjectsMatch accounts
               ∙ sym (map-append (flat_entry l.category) (walk (n, there)) (flat_map walk (nodes_in q es)));
         })
 
-    -- the trees of the entries, one after another
+    -- the entries have trees, one after another
     trees_listed : (es : List (Path × Node)) → T (is_sorted path_cmp es) → AllLead es → HasTrees (listed es) (nodes_in q es)
     trees_listed [] h lead = record { trees = []; are_listed = refl; same = refl }
     trees_listed (e ∷ es) h lead = step e.0 e.1 lead (trees_listed es (second (below_all path_cmp e.0 es) _ h)
@@ -174,7 +174,7 @@ module _ (accounts : Accounts) (s : State) (f : Flat) (l : ObjectsMatch accounts
         ]
 
     module _ (class : Class) where
-      -- the tree of a file
+      -- a file has a tree
       tree_of_file : (bytes : List ℕ) → get f.files q ≡ Some (record { class = class; content = File bytes }) → (o : ℕ)
           → l.naming.number (address_of q) ≡ Some o
           → HasTreeAt (suc levels) q (record { class = class; content = File bytes }) (targets.File o)
@@ -187,7 +187,7 @@ module _ (accounts : Accounts) (s : State) (f : Flat) (l : ObjectsMatch accounts
             same = λ i. record { path = q; class = numbered_class l.category class; is_directory = false; bytes = held i } ∷ [];
           }
 
-      -- the tree of a directory, where each entry leads to one
+      -- a directory has a tree, if each entry leads to one
       tree_of_directory : get f.files q ≡ Some (record { class = class; content = Dir }) → (c g : ℕ)
           → l.naming.number (address_of q) ≡ Some c → l.naming.number (Listing ∷ address_of q) ≡ Some g
           → AllLead f.files.entries → HasTreeAt (suc levels) q (record { class = class; content = Dir }) (targets.Directory c g)
@@ -211,7 +211,7 @@ module _ (accounts : Accounts) (s : State) (f : Flat) (l : ObjectsMatch accounts
             same = λ i. record { path = q; class = numbered_class l.category class; is_directory = true; bytes = [] } ∷ below.same i;
           }
 
-      -- the tree of what stands at a path
+      -- a node of the flat state has a tree
       tree_of : (content : Content) → get f.files q ≡ Some (record { class = class; content = content })
           → (target : Target)
           → target_for l.naming.number (q, record { class = class; content = content }) ≡ Some target
@@ -223,7 +223,7 @@ module _ (accounts : Accounts) (s : State) (f : Flat) (l : ObjectsMatch accounts
           let to = led_to_file (l.naming.number (address_of q)) target leads in
           subst (HasTreeAt (suc levels) q (record { class = class; content = File bytes })) to.1 (tree_of_file bytes at to.0 to.2)
 
-  -- what stands at a path leads to a tree, down to enough levels
+  -- a node of the flat state leads to a tree, down to enough levels
   leads_to_tree : AreShallow f → (levels : ℕ) (q : Path) (node : Node) → get f.files q ≡ Some node
       → most_names < length q + levels → LeadsToTree levels q node
   leads_to_tree shallow zero q node at deep =
@@ -237,14 +237,14 @@ module _ (accounts : Accounts) (s : State) (f : Flat) (l : ObjectsMatch accounts
         there = tree_of levels q node.class node.content at to.0 to.1 (λ n there is. leads_to_tree shallow levels (n ∷ q) there is (omega arith));
       }
 
-  -- the paths are a tree
+  -- the paths of the flat state are a tree
   are_tree : IsTree f
   are_tree = record {
     root = ap (λ (o : Option Node). is_some_and o is_dir) (root_is_dir accounts s f l).1;
     below = λ n d is. let there = there_is (get f.files (n ∷ d)) is in parent_is_dir accounts s f l n d there.0 there.1;
   }
 
--- what is shown of what stands at a path
+-- what an entry shows
 abbrev shown_line : TreeEntry → TreeLine
 shown_line e = record { path = e.path; stat = stat_of (without_jobs e.class) e.is_directory; bytes = e.bytes }
 
@@ -261,12 +261,12 @@ tree_shown : (s : State) (tree : List TreeNode) → lines_at s tree ≡ map show
 tree_shown s [] = refl
 tree_shown s (node ∷ tree) = ap (λ (lines : List TreeLine). line_at s node ∷ lines) (tree_shown s tree)
 
--- so where the same stands the same is shown
+-- so where the entries are the same they show the same
 same_lines : (s : State) (category : Categories) (tree : List TreeNode) (es : List (Path × Node))
     → map (tree_entry s) tree ≡ map (flat_entry category) es → lines_at s tree ≡ map flat_line es
 same_lines s category tree es same = tree_shown s tree ∙ ap (map shown_line) same ∙ flat_shown category es
 
--- a state that represents a flat state has the tree of that
+-- a state that represents a flat state has its tree
 pub flat_states_have_their_trees : FlatStatesHaveTheirTrees
 unfolding IsTreeOf
 flat_states_have_their_trees accounts s f represents shallow =

@@ -21,20 +21,20 @@ use Rattle.histar_readout.specs.declared.process.ProcessNode.{ProcessNode}
 use Rattle.histar_readout.specs.declared.process.ProcessError.{ProcessError}
 use Rattle.histar_readout.specs.declared.process.ProcessError.TheVariants.{NoProcess, OutOfMemory}
 
--- the label of a container that is there, and none of anything else
+-- the label of a container; an object of another kind has none here
 abbrev pub container_label : Found → Option Levels
 container_label found = if is_container found then label_there found else None
 
--- the label of a thread that is there, and none of anything else
+-- the label of a thread; an object of another kind has none here
 abbrev pub thread_label : Found → Option Levels
 thread_label found = if is_thread found then label_there found else None
 
--- the categories that a label owns but for these, by rising numbers
+-- the categories that a label owns, without these, by rising numbers
 abbrev pub owned_beside : List ℕ → Levels → List ℕ
 owned_beside known own = map (λ e. e.0) (filter (λ e. is_star e.1 && not (is_member nat_eq known e.0)) (exceptions_of own))
 
--- The jobs that a process holds, by the label of its thread: what that owns but for the process's own two categories and what the
--- process owns as its user.
+-- The jobs that a process holds, by the label of its thread: the categories that it owns, without the process's own two and those that it
+-- owns as its user.
 abbrev pub held_by : Accounts → Caller → Levels → List ℕ
 held_by accounts caller own = owned_beside (caller.read ∷ caller.write ∷ (kin_of accounts own).owned) own
 
@@ -49,12 +49,12 @@ running_at accounts s home = do
   own ← thread_label (s.objects caller.thread)
   Some (running_by accounts caller own)
 
--- whether the process that is found there runs, and as what, where its segment has this number if it has exited
+-- the life of the process at this place, where its segment contains this number if it has exited
 abbrev pub life_in : Accounts → State → Home → Option ℕ → Option Life
 life_in accounts s home None = running_at accounts s home
 life_in accounts s home (Some number) = Some (Exited number)
 
--- the process of this name that is found there, where its container is there and, if it runs, its thread
+-- the process of this name at this place, where its container is there and, if it runs, its thread
 abbrev pub node_in : Accounts → State → ProcName → Home → Option ProcessNode
 node_in accounts s me home = do
   status ← status_at s home.segment
@@ -62,7 +62,7 @@ node_in accounts s me home = do
   life ← life_in accounts s home status.exited
   Some (record { name = me; home = home; chain = jobs_in outer; life = life; born = status.born })
 
--- this was read, or there is nothing to read
+-- the result is this value, or an error where there is none
 abbrev pub ReadsFrom : {A : Type 0} → Option A → Result A ProcessError → Type 0
 ReadsFrom some (Ok x) = some ≡ Some x
 ReadsFrom some (Err NoProcess) = some ≡ None

@@ -23,11 +23,11 @@ child_of s segment number = do
   status ← status_at s segment
   child_at status.children number
 
--- its children, by rising numbers, where so many were born
+-- its children, by rising numbers, where this many were born
 abbrev pub children_of : State → ℕ → ℕ → List Child
 children_of s segment born = filter_map (child_of s segment) (range_with_len 1 born)
 
--- the processes at a name and below it, where that process is found, or that there are none
+-- the processes at a name and below it, for the place of that process, or none
 abbrev pub Found : Type 0
 Found = ProcName → Home → Option (List ProcessNode)
 
@@ -39,7 +39,7 @@ all_of found me (child ∷ children) = do
   rest ← all_of found me children
   Some (first ++ rest)
 
--- The processes at a name and below it, down to so many levels: the process itself, and then its children, each with its own.
+-- The processes at a name and below it, down to this many levels: the process itself, and then its children, each with its own children.
 abbrev pub processes_at : ℕ → Accounts → State → Found
 processes_at zero accounts s me home = None
 processes_at (suc levels) accounts s me home = do
@@ -47,11 +47,11 @@ processes_at (suc levels) accounts s me home = do
   below ← all_of (processes_at levels accounts s) me (children_of s home.segment node.born)
   Some (node ∷ below)
 
--- how many levels of processes stand at a name and below it, where no name has more numbers than can be shown
+-- the number of levels of processes at a name and below it, where no name has more numbers than can be shown
 abbrev pub levels_at : ProcName → ℕ
 levels_at me = suc (most_numbers - length me)
 
--- these are the processes of a state, which are those from process 0 on
+-- these are the processes of a state: those from process 0 on
 unfoldable pub AreProcessesOf : Accounts → State → Roots → List ProcessNode → Type 0
 AreProcessesOf accounts s roots processes = processes_at (levels_at []) accounts s [] roots.home ≡ Some processes
 
@@ -59,12 +59,12 @@ AreProcessesOf accounts s roots processes = processes_at (levels_at []) accounts
 abbrev pub HasNoProcesses : Accounts → State → Roots → Type 0
 HasNoProcesses accounts s roots = (processes : List ProcessNode) → AreProcessesOf accounts s roots processes → ⊥
 
--- what was found are the processes of a state, and nothing was found exactly where it has none
+-- the found ones are the processes of a state, and none were found exactly where it has none
 abbrev pub FindsProcesses : Accounts → State → Roots → Option (Vec ProcessNode) → Type 0
 FindsProcesses accounts s roots found =
     MatchOption found (HasNoProcesses accounts s roots) (λ processes. AreProcessesOf accounts s roots processes.items)
 
--- these processes were added, or there are none such
+-- these processes were added, or there are none of this kind
 abbrev pub Adds : Option (List ProcessNode) → List ProcessNode → List ProcessNode → Result (Unit {0}) ProcessError → Type 0
 Adds some old new (Ok done) = (processes : List ProcessNode) × (some ≡ Some processes) × (new ≡ old ++ processes)
 Adds some old new (Err NoProcess) = some ≡ None

@@ -1,4 +1,4 @@
--- Where a path leads in a state, as its directory segments list it from that of `/` on.
+-- The targets of paths in a state, as its directory segments list them from that of `/` on.
 use Rattle.std.specs.Prelude.{◌≡◌, ℕ, [], ◌∷◌, Option, Some, MatchOption}
 use Rattle.std.specs.FinMap as map
 use Rattle.histar_flat.specs.Words.{Path}
@@ -9,8 +9,8 @@ use Rattle.histar_layout.specs.declared.entry.Target.{Target}
 use Rattle.histar_layout.specs.declared.entry.Target.TheVariants.{Directory}
 use Rattle.histar_calls.specs.declared.roots.Roots.{Roots}
 
--- A path leads to a target: `/` to the directory that boot made, and another path to where the directory above it lists its last
--- name.
+-- A path leads to a target: `/` to the directory that boot made, and another path to the target that the directory above it lists for its
+-- last name.
 abbrev pub LeadsTo : State → Roots → Path → Target → Type 0
 LeadsTo s roots [] target = target ≡ Directory roots.slash.container roots.slash.listing
 LeadsTo s roots (name ∷ d) target =
@@ -21,6 +21,6 @@ LeadsTo s roots (name ∷ d) target =
 abbrev pub LeadsNowhere : State → Roots → Path → Type 0
 LeadsNowhere s roots q = (target : Target) → LeadsTo s roots q target → ⊥
 
--- what was found is where the path leads, and nothing was found exactly where it leads nowhere
+-- the path leads to the target that was found, and none was found exactly where it leads nowhere
 unfoldable pub Resolves : State → Roots → Path → Option Target → Type 0
 Resolves s roots q found = MatchOption found (LeadsNowhere s roots q) (LeadsTo s roots q)

@@ -1,4 +1,4 @@
--- What is shown of a tree, line by line.
+-- What a tree shows, line by line.
 use Rattle.std.specs.Prelude.{ℕ, List, map, Some}
 use Rattle.histar_flat.specs.Words.{Path}
 use Rattle.histar_flat.specs.declared.replies.Stat.{Stat}
@@ -11,13 +11,13 @@ use Rattle.histar_layout.specs.ClassLabels.{without_jobs}
 use Rattle.histar_readout.specs.declared.tree.TreeNode.{TreeNode}
 use Rattle.histar_readout.specs.TreeEntries.{file_bytes_at}
 
--- what is shown of what stands at a path: its kind, its owner and its mode, and the bytes of a file
+-- what a path of a tree shows: its kind, its owner and its mode, and the bytes of a file
 pub record TreeLine : Type 0 where
   pub path : Path
   pub stat : Stat
   pub bytes : List ℕ
 
--- what is shown of what a flat state has at a path
+-- what a path of a flat state shows
 abbrev pub flat_line : Path × Node → TreeLine
 flat_line e = record {
   path = e.0;
@@ -25,7 +25,7 @@ flat_line e = record {
   bytes = bytes_of (Some e.1);
 }
 
--- what is shown of all that a flat state has, by rising paths
+-- what all paths of a flat state show, by rising paths
 abbrev pub flat_lines : Flat → List TreeLine
 flat_lines f = map flat_line f.files.entries
 
@@ -33,10 +33,10 @@ flat_lines f = map flat_line f.files.entries
 abbrev pub node_stat : TreeNode → Stat
 node_stat node = stat_of (without_jobs node.class) (is_directory node.target)
 
--- what is shown of it
+-- what a node of a state shows
 abbrev pub line_at : State → TreeNode → TreeLine
 line_at s node = record { path = node.path; stat = node_stat node; bytes = file_bytes_at s node.target }
 
--- what is shown of these, one after another
+-- what these nodes show, one after another
 abbrev pub lines_at : State → List TreeNode → List TreeLine
 lines_at s tree = map (line_at s) tree

@@ -1,5 +1,5 @@
-//! Where paths lead, the tree of files and directories, and the processes, read out of a kernel's
-//! own objects.
+//! Reads three things from a kernel's own objects: where paths lead, the tree of files and directories, and
+//! the processes.
 #![tactic(auto)]
 
 mod process;

@@ -20,12 +20,12 @@ use std::alloc::{AllocError, AllocFailed, Global};
 #[derive(Drop)]
 pub struct ProcessNode {
     pub name: ProcName,
-    /// Where it is found.
+    /// Its container and its process segment.
     pub home: Home,
     /// The jobs that it is in.
     pub chain: Chain,
     pub life: Life,
-    /// How many children were born to it.
+    /// The number of children that were born to it.
     pub born: u8,
 }
 
@@ -43,10 +43,10 @@ pub enum Life {
     Exited(u8),
 }
 
-/// Why a process is not read.
+/// The reason why a process can't be read.
 pub enum ProcessError {
-    /// The objects are no process: bytes are no process segment's, a container or a thread is not
-    /// there, or a name is too long.
+    /// The objects are no process: bytes are no process segment's, a container or a thread is missing, or a
+    /// name is too long.
     NoProcess,
     OutOfMemory,
 }
@@ -73,7 +73,7 @@ impl<T: Drop> From<AllocFailed<T>> for ProcessError {
     }
 }
 
-/// Reads the process of this name, which is found there.
+/// Reads the process of this name at this place.
 pub fn read_process<S: LabelStore + Drop>(
     alloc: Global,
     kernel: &Kernel<S>,
@@ -98,7 +98,8 @@ pub fn read_process<S: LabelStore + Drop>(
     })
 }
 
-/// Reads whether a process runs, and as what, whose segment has this number if it has exited.
+/// Reads whether the process at this place runs, and as whom; if it has exited, its segment contains this
+/// number.
 fn read_life<S: LabelStore + Drop>(
     alloc: Global,
     kernel: &Kernel<S>,
@@ -120,7 +121,7 @@ fn read_life<S: LabelStore + Drop>(
     Ok(running_by(alloc, users, &caller, own)?)
 }
 
-/// Returns as what a process runs, by the label of its thread.
+/// Returns the user of a process that runs and the jobs that it holds, by the label of its thread.
 fn running_by(
     alloc: Global,
     users: &UserTable,
@@ -139,7 +140,7 @@ fn running_by(
     })
 }
 
-/// Returns the categories that a label owns but for these.
+/// Returns the categories that a label owns, without these.
 fn owned_beside(alloc: Global, own: &Label, known: &[Category]) -> Result<Vec<Category>, AllocError>
     ensures { IfOk result (λ owned. owned.items ≡ owned_beside known.now own.now) }
 {
@@ -153,7 +154,7 @@ fn owned_beside(alloc: Global, own: &Label, known: &[Category]) -> Result<Vec<Ca
     Ok(owned)
 }
 
-/// Checks whether a category is owned at this level, and is none of these.
+/// Checks whether a category at this level is owned, and is none of these.
 fn is_owned_beside(known: &[Category], category: Category, level: Level) -> bool
     ensures { result ≡ (is_star level && not (is_member nat_eq known.now category)) }
 {

@@ -1,4 +1,4 @@
-//! Reading the processes.
+//! Reading all processes.
 ghost use Rattle.std.specs.Prelude.{◌≡◌, ◌≤◌, IfOk, length};
 ghost use Rattle.histar_flat.specs.Words.{most_numbers};
 ghost use Rattle.histar_syscall.specs.KernelModel.{state};
@@ -14,17 +14,17 @@ use histar_object::ObjId;
 use histar_syscall::Kernel;
 use std::alloc::{AllocError, Global};
 
-/// A process by its name, and where it is found.
+/// A process by its name, with its container and its segment.
 #[derive(Clone, Copy)]
 struct NamedHome {
     name: ProcName,
     home: Home,
 }
 
-/// The processes of a kernel: those that the process segments list from that of process 0 on, each
-/// before its children, which stand by rising numbers. They are read out of the kernel's table, with
-/// no raw call. None where a segment on the way tells of no process, a container or a thread is not
-/// there, or a name is too long.
+/// Reads the processes of a kernel: those that the process segments list from that of process 0 on, each
+/// before its children, and these by rising numbers. It reads the kernel's table, and makes no raw call. None
+/// where a segment on the way is no process segment, a container or a thread is missing, or a name is too
+/// long.
 pub fn procs_of<S: LabelStore + Drop>(
     alloc: Global,
     kernel: &Kernel<S>,
@@ -45,7 +45,7 @@ pub fn procs_of<S: LabelStore + Drop>(
     }
 }
 
-/// Adds a process, and then its children, each with its own.
+/// Adds a process, and then its children, each with its own children.
 fn push_process<S: LabelStore + Drop>(
     alloc: Global,
     kernel: &Kernel<S>,
@@ -77,7 +77,7 @@ fn push_process<S: LabelStore + Drop>(
     Ok(())
 }
 
-/// The child of this number that a process segment lists.
+/// Looks up the child of this number in a process segment.
 fn child_of<S: LabelStore + Drop>(kernel: &Kernel<S>, segment: ObjId, number: u8) -> Option<Child>
     ensures { result ≡ child_of (state kernel.now) segment number }
 {
@@ -87,7 +87,7 @@ fn child_of<S: LabelStore + Drop>(kernel: &Kernel<S>, segment: ObjId, number: u8
     found
 }
 
-/// Where a child is found.
+/// Returns the container and the process segment of a child.
 fn home_of(child: Child) -> Home
     ensures { result ≡ home_of child }
 {

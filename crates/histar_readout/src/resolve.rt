@@ -1,4 +1,4 @@
-//! Where a path leads, found in the kernel's own table.
+//! Resolving a path in the kernel's own table.
 ghost use Rattle.histar_syscall.specs.KernelModel.{state};
 ghost use Rattle.histar_readout.specs.Resolve.{Resolves};
 
@@ -8,10 +8,9 @@ use histar_label::LabelStore;
 use histar_layout::{Target, look_up_checked};
 use histar_syscall::Kernel;
 
-/// Where a path leads in a kernel's own objects: the container and directory segment of a directory,
-/// or the segment of a file. Each directory above is read in place from that of `/` on, with no raw
-/// call and no memory of its own. None where nothing stands there, and where a segment on the way
-/// holds no directory.
+/// Resolves a path in a kernel's own objects: to the container and directory segment of a directory, or to
+/// the segment of a file. Each directory above is read in place from that of `/` on, with no raw call and no
+/// memory of its own. None where nothing is at the path, and where a segment on the way holds no directory.
 pub fn resolve<S: LabelStore + Drop>(
     kernel: &Kernel<S>,
     roots: &Roots,
@@ -22,7 +21,7 @@ pub fn resolve<S: LabelStore + Drop>(
     resolve_names(kernel, roots, path.names())
 }
 
-// Where the path of these names leads, of which the last stands first.
+// Resolves the path of these names, of which the last comes first.
 fn resolve_names<S: LabelStore + Drop>(
     kernel: &Kernel<S>,
     roots: &Roots,

@@ -15,28 +15,28 @@ use histar_object::ObjId;
 use histar_syscall::Kernel;
 use std::alloc::{AllocError, AllocFailed, Global};
 
-/// The most names of a path.
+/// The greatest number of names of a path.
 const MOST_NAMES: usize = 8;
 
 /// A file or a directory of a tree.
 #[derive(Drop)]
 pub struct TreeNode {
     pub path: Path,
-    /// Whose it is and for whom, as its label has it.
+    /// Its owner, and who else may read or write it, by its label.
     pub class: Class,
-    /// Where its entry leads. A tree alone makes nodes, so that who has one has read it off a tree.
+    /// The target of its entry. Only a tree makes nodes, so a caller that has one has read it from a tree.
     pub(crate) target: Target,
 }
 
 impl TreeNode {
-    /// Returns what is shown of it: its kind, its owner and its mode.
+    /// Returns what `stat` answers: its kind, its owner and its mode.
     pub fn stat(&self) -> Stat
         ensures { result ≡ node_stat self.now }
     {
         self.class.stat(self.target.is_directory())
     }
 
-    /// Returns the object that stands there: a file's segment, or a directory's container.
+    /// Returns its object: a file's segment, or a directory's container.
     pub fn object(&self) -> ObjId
         ensures { result ≡ object_of self.now.target }
     {
@@ -44,7 +44,7 @@ impl TreeNode {
     }
 }
 
-/// Why no tree is read.
+/// The reason why no tree can be read.
 enum TreeError {
     /// The objects are no tree: bytes are no directory, a label is of no class, or a path is too long.
     NotATree,
@@ -73,9 +73,9 @@ impl<T: Drop> From<AllocFailed<T>> for TreeError {
     }
 }
 
-/// The files and directories of a kernel, by rising paths: those that the directory segments list from
-/// that of `/` on. It is read out of the kernel's table, with no raw call. None where the segments don't
-/// list a tree of files and directories whose labels are of classes, at paths that can be named.
+/// Reads the files and directories of a kernel, by rising paths: those that the directory segments list from
+/// that of `/` on. It reads the kernel's table, and makes no raw call. None where the segments don't list a
+/// tree of files and directories, with labels of classes and paths that can be named.
 pub fn tree_of<S: LabelStore + Drop>(
     alloc: Global,
     kernel: &Kernel<S>,
@@ -93,7 +93,7 @@ pub fn tree_of<S: LabelStore + Drop>(
     }
 }
 
-/// Returns the bytes of a file of the tree, lent by the kernel's table. Of a directory there are none.
+/// Returns the bytes of a file of the tree, lent by the kernel's table. A directory has none.
 pub fn bytes_of<'a, S: LabelStore + Drop>(kernel: &'a Kernel<S>, node: &TreeNode) -> &'a [u8]
     ensures { result.now ≡ node_bytes (state kernel.now) node.now }
 {
@@ -103,7 +103,7 @@ pub fn bytes_of<'a, S: LabelStore + Drop>(kernel: &'a Kernel<S>, node: &TreeNode
     }
 }
 
-/// Adds what stands at a path, and then what stands below it.
+/// Adds the file or directory at a path, and then those below it.
 #[cycle(tree)]
 fn push_tree<S: LabelStore + Drop>(
     alloc: Global,
@@ -124,7 +124,7 @@ fn push_tree<S: LabelStore + Drop>(
     }
 }
 
-/// Adds what stands below a directory, of which this is the directory segment.
+/// Adds the files and directories below a directory with this directory segment.
 #[cycle(tree)]
 fn push_below<S: LabelStore + Drop>(
     alloc: Global,
@@ -152,7 +152,7 @@ fn push_below<S: LabelStore + Drop>(
     Ok(())
 }
 
-/// What stands at a path where its entry leads: its object has a label, which is of a class.
+/// Returns the file or directory at a path with this target: its object has a label, which is of a class.
 fn node_at<S: LabelStore + Drop>(
     alloc: Global,
     kernel: &Kernel<S>,

@@ -1,4 +1,4 @@
--- The objects that stand at the numbers of a state that is represented: threads, directories with their segments, and files.
+-- The objects at the numbers of a state that is represented: threads, directories with their segments, and files.
 use Rattle.std.proofs.Common.{◌≡◌, ◌≢◌, ℕ, true, List, [], ◌∷◌, Option, None, Some, refl, sym, ap, ◌∙◌}
 use Rattle.std.specs.Prelude.{is_some}
 use Rattle.std.specs.FinSet as set
@@ -50,7 +50,7 @@ pub bare_container_is : (found : Found) (m : Levels) → bare found ≡ bare_con
 bare_container_is None m e = absurd (none-some (record { label = m; kind = Container set.empty }) e)
 bare_container_is (Some x) m e = container_kind x.label x.kind m e
 
--- what is there
+-- a value that is there
 pub some_of : {A : Type 0} (o : Option A) → is_some o ≡ true → (x : A) × (o ≡ Some x)
 some_of None e = absurd (true≢false (sym e))
 some_of (Some x) e = (x, refl)
@@ -87,11 +87,11 @@ module _ (accounts : Accounts) (s : State) (f : Flat) (l : ObjectsMatch accounts
       (at_number same_step step_tests_equality s l.naming asked l.agrees (home_address me) C at_home
       ∙ asked_home accounts l.category f l.naming.number me ∙ ap (home_object accounts l.category me) here)
 
-  -- how what stands at a path is guarded
+  -- the guard of the object at a path
   pub guard_at : (q : Path) (there : Node) → get f.files q ≡ Some there → (g : Guard) × (class_guard accounts there.class ≡ Some g)
   guard_at q there at = some_unless_none (class_guard accounts there.class) (l.guarded q there at)
 
-  -- what stands at a path, but for its links
+  -- the object at a path, but for its links
   pub path_agrees : (q : Path) (there : Node) → get f.files q ≡ Some there → (g : Guard)
       → class_guard accounts there.class ≡ Some g → (o : ℕ) → l.naming.number (address_of q) ≡ Some o
       → bare (s.objects o) ≡ Some (record { label = guard_label l.category g; kind = content_kind there.content })
@@ -118,7 +118,7 @@ module _ (accounts : Accounts) (s : State) (f : Flat) (l : ObjectsMatch accounts
         bare_container_is (s.objects D) (guard_label l.category g)
         (path_agrees d (record { class = class; content = Dir }) at g is D at_directory)
 
-    -- its directory segment
+    -- the directory segment of the directory
     pub listing_found : (N : ℕ) → l.naming.number (Listing ∷ address_of d) ≡ Some N
         → s.objects N ≡ segment (guard_label l.category g) (spelling (directory_of f.files l.naming.number d))
     listing_found N at_listing =
@@ -131,7 +131,7 @@ module _ (accounts : Accounts) (s : State) (f : Flat) (l : ObjectsMatch accounts
         ∙ ap (listing_object accounts l.category (spelling (directory_of f.files l.naming.number d))) at
         ∙ ap (guarded_object accounts l.category (Segment (spelling (directory_of f.files l.naming.number d)))) is)
 
-  -- what stands one step below an address is linked there
+  -- an object one step below an address is linked there
   pub step_linked : (x : Step) (a : Address Step) (above below : ℕ) → l.naming.number a ≡ Some above
       → l.naming.number (x ∷ a) ≡ Some below → set.contains (links_in (s.objects above)) below ≡ true
   step_linked x a above below at_above at_below =
@@ -162,7 +162,7 @@ module _ (accounts : Accounts) (s : State) (f : Flat) (l : ObjectsMatch accounts
   pub root_is_dir : (class : Class) × (get f.files [] ≡ Some (record { class = class; content = Dir }))
   root_is_dir = listed_is_dir [] (ap is_some (l.as_booted (Listing ∷ Slash ∷ []) _ refl))
 
-  -- what stands in a path stands in a directory, since a file links nothing
+  -- an entry of a path is an entry of a directory, since a file links nothing
   pub parent_is_dir : (n : Name) (d : Path) (there : Node) → get f.files (n ∷ d) ≡ Some there → is_dir_at f d ≡ true
   parent_is_dir n d there at = by (get f.files d) refl
     where

@@ -130,7 +130,7 @@ module _ (accounts : Accounts) (s : State) (f : Flat) (l : ObjectsMatch accounts
       alike_bytes f.processes after.processes l.naming.number l.naming.number q x refl refl (λ k. refl) (λ k. refl)
       (λ k. there_alike (k ∷ q))
 
-  -- what stands for a process but its thread
+  -- the object of a process is the same after the change, unless it is its thread
   object_alike : (object : ProcName → Option Process → Found) → object me (Some p) ≡ object me (Some changed)
       → (q : ProcName) → object q (f.processes q) ≡ object q (after.processes q)
   object_alike object same_me q = elim (which q) [
@@ -187,7 +187,7 @@ module _ (accounts : Accounts) (s : State) (f : Flat) (l : ObjectsMatch accounts
     | inr e ↦ put_other s.objects T (thread_of label clearance) q e.1 ∙ sym (changed_other s.objects T (becoming label clearance) q e.1)
   ]
 
-  -- what is known and used then was
+  -- a job that is known and used after the change was used before
   known_then : (job x : ProcName) (px : Process) → after.processes x ≡ Some px → knows px job ≡ true → IsUsed accounts f (OfJob job)
   known_then job x px at known = elim (which x) [
     | inl e ↦
@@ -246,7 +246,7 @@ module _ (accounts : Accounts) (s : State) (f : Flat) (l : ObjectsMatch accounts
       put_other s.objects T (thread_of label clearance) boot_thread_number
       (λ e. none-some old_thread (sym l.boot_thread_gone ∙ ap s.objects e ∙ thread_agrees)) ∙ l.boot_thread_gone
 
-  -- The kernel represents the flat state with the process so.
+  -- The kernel represents the flat state with the changed process.
   pub becomes : (new : State) → ((q : ℕ) → new.objects q ≡ (with_own s T label clearance).objects q)
       → new.next_object ≡ s.next_object → s.next_category ≤ new.next_category
       → (later : ObjectsMatch accounts new after) × (later.naming ≡ l.naming) × (later.category ≡ l.category)

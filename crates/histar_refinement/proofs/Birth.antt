@@ -34,11 +34,11 @@ module _ (s : State) (naming : Naming Step) (asked : Address Step → Found) (ag
     (no_runner : is_present (asked (Runner ∷ Inside ∷ home_address (n ∷ me))) ≡ false)
     (no_status : is_present (asked (Status ∷ home_address (n ∷ me))) ≡ false)
     (outer inner label clearance : Levels) (child_bytes own_bytes : List ℕ) where
-  -- where the child stands
+  -- the address of the child's container
   abbrev pub home : Address Step
   home = home_address (n ∷ me)
 
-  -- what is made for it
+  -- the objects that are made for the child
   abbrev container : Object Levels
   container = record { label = outer; kind = Container set.empty }
 
@@ -48,7 +48,7 @@ module _ (s : State) (naming : Naming Step) (asked : Address Step → Found) (ag
   abbrev segment : Object Levels
   segment = record { label = outer; kind = Segment child_bytes }
 
-  -- the states on the way, and the namings
+  -- the states after each raw call, and the namings
   abbrev first : State
   first = with_object s C container
 
@@ -76,7 +76,7 @@ module _ (s : State) (naming : Naming Step) (asked : Address Step → Found) (ag
   abbrev pub born_naming : Naming Step
   born_naming = with_number same_step naming_third (s.next_object + 1 + 1 + 1) (Status ∷ home)
 
-  -- what stands at addresses then
+  -- the objects at addresses after the birth
   abbrev asked_first : Address Step → Found
   asked_first = set_at same_step asked home (Some container)
 
@@ -150,7 +150,7 @@ module _ (s : State) (naming : Naming Step) (asked : Address Step → Found) (ag
   pub at_new_status : born_naming.number (Status ∷ home) ≡ Some (s.next_object + 1 + 1 + 1)
   at_new_status = given naming_third (s.next_object + 1 + 1 + 1) (Status ∷ home)
 
-  -- and each other address the number that it had
+  -- each other address keeps its number
   pub number_kept : (b : Address Step) → home ≢ b → Inside ∷ home ≢ b → Runner ∷ Inside ∷ home ≢ b → Status ∷ home ≢ b
       → born_naming.number b ≡ naming.number b
   number_kept b not_home not_inside not_runner not_status =
@@ -159,7 +159,7 @@ module _ (s : State) (naming : Naming Step) (asked : Address Step → Found) (ag
       ∙ given_other naming_first (s.next_object + 1) (Inside ∷ home) b not_inside
       ∙ given_other naming s.next_object home b not_home
 
-  -- where nothing stood, nothing stands, but at the new numbers
+  -- where there was no object, there is none, except at the new numbers
   pub gone_born : (q : ℕ) → s.objects q ≡ None → q < s.next_object → born_state.objects q ≡ None
   gone_born q e below =
       none_changed fourth.objects S (holding own_bytes) q
@@ -168,7 +168,7 @@ module _ (s : State) (naming : Naming Step) (asked : Address Step → Found) (ag
       (new_none first.objects first.next_object s.next_object internal q
       (new_none s.objects s.next_object C container q e (λ k. absurd (omega (arith, below, k)))) (λ k. absurd (omega (arith, below, k)))) (λ k. absurd (omega (arith, below, k)))) (λ k. absurd (omega (arith, below, k))))
 
-  -- what is asked for after birth is told by five addresses, and by all others
+  -- the birth is right if the objects asked for at five addresses are the new ones, and those at all others the old ones
   module _ (wish : Address Step → Found) (wish_home : Some container ≡ wish home)
       (wish_inside : Some internal ≡ wish (Inside ∷ home))
       (wish_runner : Some (thread_of label clearance) ≡ wish (Runner ∷ Inside ∷ home))

@@ -1,4 +1,4 @@
--- The labels that calls hand in by the numbers of users are those of names: what is private or readable, and a thread as a user's.
+-- The labels that calls give by the numbers of users are those of names: what is private or readable, and a thread as a user's.
 use Rattle.std.proofs.Common.{◌≡◌, ℕ, ◌+◌, ◌<◌, ◌≤◌, Bool, true, false, List, [], ◌∷◌, ◌++◌, length, Option, None, Some, arith, refl, sym, ap, ◌∙◌}
 use Rattle.std.specs.Prelude.{map, position, nat_eq, option_map}
 use Rattle.std.specs.Str.{bytes_eq}
@@ -32,7 +32,7 @@ use Rattle.histar_refinement.proofs.GateLabels.{user_reads, user_writes, group_r
 use Rattle.histar_refinement.proofs.SessionLemmas.{is_number}
 use Rattle.histar_layout.proofs.Declared.{group_range, user_range, equal_tested, equal_names}
 
--- a user's place is looked for by equal bytes, and a password is tested so
+-- looking up a user and testing a password by equal bytes is the test of equality
 pub equal_bytes : (a b : Name) → bytes_eq a b ≡ same a b
 equal_bytes a b =
     same_truth (bytes_eq a b) (same a b) (λ e. equal_tested a b ((bytes_eq-Decides a b).0 e))
@@ -43,7 +43,7 @@ pub number_by_place : (accounts : Accounts) (name : Name) → user_number accoun
 number_by_place accounts name = λ i. option_map (λ place. place + 1) (position (λ (u : User). sym (equal_bytes u.name name) i) accounts.users)
 
 module _ (accounts : Accounts) (s : State) (f : Flat) (l : ObjectsMatch accounts s f) where
-  -- a user's categories have the numbers that the calls reckon with
+  -- a user's categories have the numbers that the calls compute
   pub reads_numbered : (i : ℕ) → i ≤ length accounts.users → l.category (ReadsUser i) ≡ read_category i
   reads_numbered = user_reads accounts l.category l.as_made
 
@@ -69,7 +69,7 @@ module _ (accounts : Accounts) (s : State) (f : Flat) (l : ObjectsMatch accounts
       (group_writes accounts l.category l.as_made k range.0 range.1 i ∷ []))
       ∙ ap (λ (o : ℕ). secret_of (read_category o) (write_category o)) (sym owner)
 
--- star tells what is owned
+-- a category is owned exactly where its level is star
 star_revealed : (b : Bool) → is_star (owning_level b false) ≡ b
 unfolding is_star
 star_revealed true = refl
@@ -87,7 +87,7 @@ module _ (accounts : Accounts) (s : State) (f : Flat) (l : ObjectsMatch accounts
       ∙ among_none OfJob (ReadsUser j) (λ job. refl) p.chain) k)))
       ∙ star_revealed (among (thread_rights accounts me p).owned (ReadsUser j)) ∙ owns_read_of accounts me p j
 
-  -- so its label tells the user
+  -- the label of a process's thread shows the process's user
   pub user_of_thread : IsUserOf (rights_label l.category (thread_rights accounts me p)) (length accounts.users)
       (or_zero (user_number accounts p.user))
   user_of_thread = by (user_number accounts p.user) refl
@@ -127,7 +127,7 @@ module _ (accounts : Accounts) (s : State) (f : Flat) (l : ObjectsMatch accounts
   abbrev owned : List ℕ
   owned = owned_as_user caller (owners_of accounts i name)
 
-  -- what it owns then are its own two categories and those that the user owns
+  -- then the process owns its own two categories and those that the user owns
   owned_so : map l.category (thread_rights accounts me as_user).owned ≡ owned
   owned_so =
       ap (λ (x : Option ℕ). map l.category (ReadsProcess me ∷ WritesProcess me ∷ owned_as accounts as_user x ++ [])) numbered

@@ -53,7 +53,7 @@ module _ (accounts : Accounts) (s : State) (f : Flat) (l : ObjectsMatch accounts
   abbrev pub where_is : ProcName → Where
   where_is me = record { container = or_zero (l.naming.number (home_address me)); segment = or_zero (l.naming.number (Status ∷ home_address me)) }
 
-  -- its process segment tells what it is
+  -- the process segment of a process spells its status
   pub status_is : (me : ProcName) (p : Process) → f.processes me ≡ Some p
       → status_at s (or_zero (l.naming.number (Status ∷ home_address me)))
       ≡ Some (status_by f.processes l.naming.number me p)
@@ -141,7 +141,7 @@ module _ (accounts : Accounts) (s : State) (f : Flat) (l : ObjectsMatch accounts
       ∙ sym (ap (option_map (λ (p : Process). where_is [])) there.1)
   home_is (n ∷ me) = home_below n me (f.processes me) refl (home_is me)
 
-  -- the caller that a process is that runs
+  -- the caller of a process that runs
   abbrev pub caller_is : ProcName → Caller
   caller_is me = record {
     home = where_is me;
@@ -187,7 +187,7 @@ module _ (accounts : Accounts) (s : State) (f : Flat) (l : ObjectsMatch accounts
           ∙ ap label_there (asked_inside accounts l.category f l.naming.number me ∙ ap (inside_object accounts l.category me) here)
           ∙ ap (λ (e : Option ℕ). label_there (inside_object accounts l.category me (Some (record p { exited = e })))) runs
 
-      -- it is found where it is
+      -- a process that runs is found where it is
       pub runs_here : caller_by s (where_is me) status ≡ Some (caller_is me)
       runs_here =
           ap (λ (e : Option ℕ). if_runs e (option_and_then
@@ -207,11 +207,11 @@ module _ (accounts : Accounts) (s : State) (f : Flat) (l : ObjectsMatch accounts
             write = l.category (WritesProcess me);
           }))) (read_found l.category l.different me p)
 
-      -- and by its name
+      -- a process that runs is found by its name
       pub runs_found : caller_at s first me ≡ Some (caller_is me)
       runs_found = found_here ∙ runs_here
 
-    -- one that has exited is not
+    -- a process that has exited is not found
     exited_lost : (n : ℕ) → p.exited ≡ Some n → caller_at s first me ≡ None
     exited_lost n is =
         found_here
@@ -219,13 +219,13 @@ module _ (accounts : Accounts) (s : State) (f : Flat) (l : ObjectsMatch accounts
         (λ outer. option_and_then (of_inner status outer) (label_there (s.objects status.internal)))
         (label_there (s.objects (where_is me).container)))) is
 
-  -- and no process that isn't there
+  -- a process that isn't there is not found
   no_process_lost : (me : ProcName) → f.processes me ≡ None → caller_at s first me ≡ None
   no_process_lost me none =
       ap (option_and_then (λ (home : Where). option_and_then (caller_by s home) (status_at s home.segment)))
       (home_is me ∙ ap (option_map (λ (q : Process). where_is me)) none)
 
-  -- so who is found runs
+  -- what is found is a process that runs
   module _ (me : ProcName) (caller : Caller) (found : caller_at s first me ≡ Some caller) where
     found_process : (o : Option Process) → f.processes me ≡ o → (p : Process) × (f.processes me ≡ Some p) × (p.exited ≡ None)
     found_process None is = absurd (none-some caller (sym (no_process_lost me is) ∙ found))
@@ -255,7 +255,7 @@ module _ (accounts : Accounts) (s : State) (f : Flat) (l : ObjectsMatch accounts
           },
         )
 
-  -- and who is so is found
+  -- each caller of a process that runs is found
   pub caller_revealed : (me : ProcName) (caller : Caller) (p : Process) → IsCallerOf accounts s f l me p caller → caller_at s first me ≡ Some caller
   caller_revealed me caller p c =
       runs_found me p c.runs.0 c.runs.1

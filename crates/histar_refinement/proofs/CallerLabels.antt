@@ -1,4 +1,4 @@
--- A process's own two categories are told by the labels of its container and its internal container.
+-- The labels of a process's container and its internal container determine its own two categories.
 use Rattle.std.proofs.Common.{◌≡◌, ◌≢◌, ℕ, ◌==◌, Bool, true, false, ◌&&◌, ◌||◌, List, [], ◌∷◌, ◌++◌, Some, arith, refl, sym, ap, ◌∙◌}
 use Rattle.std.specs.Prelude.{map, not}
 use Rattle.std.proofs.lemmas.Bool.Decides.{nat_tests}
@@ -34,7 +34,7 @@ zero_apart e = true≢false (ap is_zero e)
 three_apart : L3 ≢ L1
 three_apart e = true≢false (ap is_three e)
 
--- who has level 0 is written, and who has level 3 is secret and not written
+-- a category at level 0 is written, and one at level 3 is secret and not written
 zero_written : (s w : Bool) → is_zero (guarded_level s w) ≡ true → w ≡ true
 zero_written s true e = refl
 zero_written true false e = absurd (true≢false (sym e))
@@ -49,7 +49,7 @@ not_three : (s : Bool) → not (is_three (guarded_level s false)) ≡ true → s
 not_three true e = absurd (true≢false (sym e))
 not_three false e = refl
 
--- the one number in a list
+-- a number in a list of one is that one
 only_one : (w d : ℕ) → is_in (w ∷ []) d ≡ true → d ≡ w
 only_one w d e = grind (arith, nat_tests, or-false (d == w), e)
 
@@ -82,7 +82,7 @@ module _ (category : Categories) (different : AreDifferent category) (me : ProcN
   read_not_written : is_in (w ∷ []) r ≡ false
   read_not_written = is_in_names category different (WritesProcess me ∷ []) (ReadsProcess me)
 
-  -- the category by which it writes
+  -- the category by which the process writes is found
   pub write_found : write_category_in outer ≡ Some w
   write_found =
       found_in_label (λ (e : ℕ × Level). is_zero e.1) w outer L0
@@ -90,11 +90,11 @@ module _ (category : Categories) (different : AreDifferent category) (me : ProcN
       (apart_from_default jobs (w ∷ []) L0 zero_apart) refl
       (λ d m at passes. only_one w d (zero_written (is_in jobs d) (is_in (w ∷ []) d) (ap is_zero (sym (at_guarded jobs (w ∷ []) d) ∙ at) ∙ passes)))
 
-  -- what the container has at a number that is not the process's
+  -- the level of the container at a number that is not the process's
   outer_at : (d : ℕ) → is_in (w ∷ []) d ≡ false → level_of outer d ≡ guarded_level (is_in jobs d) false
   outer_at d other = at_guarded jobs (w ∷ []) d ∙ ap (guarded_level (is_in jobs d)) other
 
-  -- and the one by which it keeps its secrets
+  -- the category by which the process keeps its secrets is found
   pub read_found : read_category_in outer inner ≡ Some r
   read_found =
       found_in_label (λ (e : ℕ × Level). is_three e.1 && not (is_three (level_of outer e.0))) r inner L3

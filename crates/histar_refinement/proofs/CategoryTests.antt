@@ -47,7 +47,7 @@ join_split (OfJob job) = refl
 pub same_split : (c d : CategoryName) → (split_category c).0 ≡ (split_category d).0 → (split_category c).1 ≡ (split_category d).1 → c ≡ d
 same_split c d kind rest = sym (join_split c) ∙ (λ i. join_category (kind i) (rest i)) ∙ join_split d
 
--- whether two names are the same tells whether they are equal
+-- the test of names of categories decides equality
 pub category_tests_equality : TestsEquality same_category
 category_tests_equality x y = elim (eqb_tells (split_category x).0 (split_category y).0) [
   | inl kind ↦ elim (same_name_found (split_category x).1 (split_category y).1) [

@@ -1,4 +1,4 @@
--- What stands at a path has the label of its class, by which the class is known to who knows the users and the groups.
+-- The object at a path has the label of its class, which determines the class for those who know the users and the groups.
 use Rattle.std.proofs.Common.{◌≡◌, ℕ, zero, suc, ◌+◌, ◌-◌, ◌*◌, ◌<◌, ◌≤◌, ◌⊎◌, inl, inr, true, List, [], ◌∷◌, length, Option, Some, arith, refl, sym}
 use Rattle.std.proofs.Common.{ap, ◌∙◌, subst}
 use Rattle.std.specs.Prelude.{map, option_map}
@@ -35,7 +35,7 @@ use Rattle.histar_refinement.proofs.Uses.{job_among}
 
 module _ (accounts : Accounts) (category : Categories)
     (as_made : (c : CategoryName) (q : ℕ) → boot_category accounts c ≡ Some q → category c ≡ q) where
-  -- how what is of a class is guarded is the label of this class
+  -- the label of a class's guard is the label of the class
   labels_match : (class : Class) (g : Guard) → class_guard accounts class ≡ Some g
       → class_label accounts (numbered_class category class) ≡ Some (guard_label category g)
   labels_match (Private owner) g e =
@@ -83,7 +83,7 @@ module _ (accounts : Accounts) (s : State) (f : Flat) (l : ObjectsMatch accounts
       ≡ 7 = ap (λ (d : CategoryName). (split_category d).0) (l.different c (OfJob job) e) in omega
       (arith, same, kind)
 
-  -- what stands before the categories of jobs is boot's, nobody's, a user's or a group's
+  -- the category before those of jobs is boot's, nobody's, a user's or a group's
   named_before : (job : ProcName) (i : ℕ) → (l.category (OfJob job) ≡ 2 * i) ⊎ (l.category (OfJob job) ≡ 2 * i + 1)
       → 0 < l.category (OfJob job) → l.category (OfJob job) < first_after_groups accounts → ⊥
   named_before job zero (inl e) made low = omega (arith, e, made)
@@ -107,7 +107,7 @@ module _ (accounts : Accounts) (s : State) (f : Flat) (l : ObjectsMatch accounts
         ]
   ]
 
-  -- so a job's category, once it was made, stands behind these
+  -- a job's category, once it was made, comes after these
   job_behind : (job : ProcName) → 0 < l.category (OfJob job) → first_after_groups accounts ≤ l.category (OfJob job)
   job_behind job made = elim (cases_lt (l.category (OfJob job)) (first_after_groups accounts)) [
     | inl low ↦ let h = halves (l.category (OfJob job)) in absurd (named_before job h.0 h.1 made low)
@@ -115,7 +115,7 @@ module _ (accounts : Accounts) (s : State) (f : Flat) (l : ObjectsMatch accounts
   ]
 
   module _ (q : Path) (there : Node) (at : get f.files q ≡ Some there) where
-    -- those of the jobs that a file or a directory is for rise behind these
+    -- the categories of the jobs that a file or a directory is for rise after these
     jobs_behind : (class : Class) → there.class ≡ class → HasJobs accounts (numbered_class l.category class)
     jobs_behind (Private owner) is = tt
     jobs_behind (Readable owner) is = tt
@@ -131,7 +131,7 @@ module _ (accounts : Accounts) (s : State) (f : Flat) (l : ObjectsMatch accounts
         omega (arith, number, behind))
     jobs_behind (Grouped group) is = tt
 
-    -- What stands at a path has the label of its class.
+    -- The object at a path has the label of its class.
     pub label_of_class : (g : Guard) → class_guard accounts there.class ≡ Some g
         → IsClassLabel accounts (numbered_class l.category there.class) (guard_label l.category g)
     label_of_class g e = record { jobs = jobs_behind there.class refl; is = labels_match accounts l.category l.as_made there.class g e }
@@ -160,7 +160,7 @@ same_mode category Open = refl
 same_mode category (Scratch owner jobs) = refl
 same_mode category (Grouped group) = refl
 
--- The label of what stands at a path shows the owner and the mode of its class.
+-- The label of the object at a path shows the owner and the mode of its class.
 pub class_revealed : (accounts : Accounts) (s : State) (f : Flat) (l : ObjectsMatch accounts s f) (q : Path)
     (there : Node) → get f.files q ≡ Some there → (g : Guard) → class_guard accounts there.class ≡ Some g
     → HasOwnerAndMode there.class (class_shown accounts (guard_label l.category g))

@@ -47,7 +47,7 @@ module _ (accounts : Accounts) (s : State) (f : Flat) (l : ObjectsMatch accounts
   is_thread : s.objects t ≡ thread
   is_thread = thread_found accounts s f l me p here running t at_thread
 
-  -- of an object that is guarded as what is of the class
+  -- the two tests on an object that is guarded as what is of the class
   module _ (class : Class) (g : Guard) (is : class_guard accounts class ≡ Some g) (o : ℕ) (kind : Kind Levels)
       (found : bare (s.objects o) ≡ Some (record { label = guard_label l.category g; kind = kind })) where
     pub observes_guarded : observes (s.objects t) (s.objects o) ≡ may_read accounts p class
@@ -61,7 +61,7 @@ module _ (accounts : Accounts) (s : State) (f : Flat) (l : ObjectsMatch accounts
         ∙ modifies_class accounts me p l.category l.different ok class g is
 
   module _ (q : Path) (there : Node) (at : get f.files q ≡ Some there) (o : ℕ) where
-    -- what stands for a path is guarded as its class says
+    -- the object of a path is guarded as its class says
     guarded_so : StandsFor accounts s f l q o
         → (g : Guard) × (kind : Kind Levels) × (class_guard accounts there.class ≡ Some g)
         × (bare (s.objects o) ≡ Some (record { label = guard_label l.category g; kind = kind }))

@@ -1,4 +1,4 @@
--- What the labels of a process's thread let it observe and modify is what its process may read and write.
+-- A thread's labels let it observe and modify exactly what its process may read and write.
 use Rattle.std.proofs.Common.{◌≡◌, ℕ, Bool, true, false, ◌&&◌, ◌||◌, List, [], ◌∷◌, Option, None, Some, if◌then◌else◌, refl, sym, ap, ◌∙◌}
 use Rattle.std.specs.Prelude.{map, nat_eq, is_some}
 use Rattle.std.specs.List.{list_all}
@@ -56,14 +56,14 @@ group_apart g (WritesProcess j) e = refl
 group_apart g (OfJob j) e = refl
 
 module _ (accounts : Accounts) (me : ProcName) (p : Process) where
-  -- what the thread owns
+  -- the categories that the thread owns
   abbrev owned : List CategoryName
   owned = (thread_rights accounts me p).owned
 
   abbrev as_user : Option ℕ → List CategoryName
   as_user number = owned_as accounts p number
 
-  -- by the three parts of what is owned
+  -- the categories that the thread owns have three parts
   owned_parts : (c : CategoryName)
       → among owned c
       ≡ (same_category c (ReadsProcess me)
@@ -167,7 +167,7 @@ module _ (accounts : Accounts) (me : ProcName) (p : Process) where
   pub owns_job : (job : ProcName) → among owned (OfJob job) ≡ has p.held job
   owns_job job = owned_parts (OfJob job) ∙ (λ i. none_as_user job (user_number accounts p.user) i || among_jobs p.held job i)
 
-  -- its own two
+  -- no user and no group owns the two categories of a process
   own_as_user : (q : ProcName) (number : Option ℕ)
       → (among (as_user number) (ReadsProcess q) ≡ false) × (among (as_user number) (WritesProcess q) ≡ false)
   own_as_user q None = (refl, refl)
@@ -200,11 +200,11 @@ module _ (accounts : Accounts) (me : ProcName) (p : Process) where
   passes_jobs [] = refl
   passes_jobs (j ∷ jobs) = (λ i. passes_job j i && passes_jobs jobs i)
 
-  -- and any other category where it is owned
+  -- any other category passes where it is owned
   pub passes_other : (c : CategoryName) → ((job : ProcName) → same_category c (OfJob job) ≡ false) → passes c ≡ among owned c
   passes_other c no_job = ap (λ b. among owned c || b) (among_none OfJob c no_job p.chain) ∙ or-false (among owned c)
 
-  -- the jobs of the process are all secret where nothing but jobs are
+  -- the jobs of the process are among some names exactly where these have each of its jobs
   tainted_by : (names : List CategoryName) (jobs : List ProcName)
       → ((job : ProcName) → among names (OfJob job) ≡ has jobs job) → (chain : List ProcName)
       → list_all (among names) (map OfJob chain) ≡ list_all (has jobs) chain
@@ -282,7 +282,7 @@ module _ (accounts : Accounts) (me : ProcName) (p : Process) where
         below_by_names category different (process_guard other q) own (jobs_apart p.chain (WritesProcess other ∷ []) (λ job. refl))
         ∙ (λ i. tainted_in q.chain p.chain i && (ap (λ b. b && true) (owns_write_own other) ∙ and-true (same other me)) i)
 
-    -- below what is guarded by a written category alone, and the others
+    -- the thread's label is below that of what is private to user i exactly for this user's processes in no job; and for the other guards
     pub below_private : (i : ℕ)
         → is_below (rights_label category own) (guard_label category (private_guard i))
         ≡ (is_free p && (is_number (user_number accounts p.user) i && is_free p))
@@ -355,7 +355,7 @@ module _ (accounts : Accounts) (me : ProcName) (p : Process) where
           ap (λ (x : Guard). is_below_raised (guard_label category x) (rights_label category own)) (sym at.2)
           ∙ sees_group at.0 ∙ member group at.0 at.1
 
-      -- what it modifies is what its process may write
+      -- what a thread modifies is what its process may write
       alike : (free mine : Bool) → ((free && (mine && free)) && mine) ≡ (mine && free)
       alike true true = refl
       alike true false = refl

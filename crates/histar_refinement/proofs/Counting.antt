@@ -1,4 +1,4 @@
--- A category is counted, and has a name from then on: what is represented stays so.
+-- A category is counted, and has a name from then on: the state still represents the same flat state.
 use Rattle.std.proofs.Common.{◌≡◌, ℕ, ◌≤◌, inl, inr, Bool, true, false, ◌&&◌, cond, [], ◌∷◌, length, Option, None, Some, arith, refl, sym, ap, ◌∙◌}
 use Rattle.std.proofs.Common.{subst}
 use Rattle.std.specs.Prelude.{is_some, nat_le}

@@ -1,4 +1,4 @@
--- What a directory has at a name, how many entries it has, and how many bytes its segment.
+-- What a directory has at a name, how many entries it has, and how many bytes its segment has.
 use Rattle.std.specs.Prelude.{◌≡◌, ◌≢◌, ◌*◌, ◌≤◌, Bool, cond, T, List, [], ◌∷◌, length, Option, Some, None, option_map, option_and_then, refl}
 use Rattle.std.specs.List.{filter_map, cons_option, flat_map, AllByRecursion}
 use Rattle.std.proofs.Common.{ap, sym, ◌∙◌, subst, inl, inr, arith}
@@ -37,7 +37,7 @@ module _ (number : AddressNumbers) (d : Path) where
   not_above : (n m : Name) (above : Path) → d ≢ above → n ∷ d ≢ m ∷ above
   not_above n m above other e = let same : d ≡ above = cc in other same
 
-  -- and it is not `/`
+  -- an entry's path is not `/`
   not_root : (n : Name) → n ∷ d ≢ []
   not_root n e = cc
 
@@ -79,7 +79,7 @@ module _ (number : AddressNumbers) (d : Path) where
         (find_behind path_cmp_total path_cmp_exact (n ∷ d) (m ∷ d) there es (not_named n m e.1)))
   ]
 
-  -- an entry above which stands this directory, before others
+  -- an entry whose directory is this one, before others
   abbrev Agrees : Name → Name → Node → List (Path × Node) → Path → Type 0
   Agrees n m there es above = T (below_all path_cmp (m ∷ above) es)
       → find by_bytes n
@@ -114,7 +114,7 @@ module _ (number : AddressNumbers) (d : Path) where
             (not_above n m above t.1)))
       ]
 
-  -- a name below one entry and those behind it is below both
+  -- a name below one entry and those after it is below both
   below_named : (n m : Name) (target : Option Target) (es : List (Path × Node)) → T (is_lt (path_cmp (n ∷ d) (m ∷ d)))
       → T (below_all by_bytes n (listed es))
       → T (below_all by_bytes n (cons_option (option_map (λ goal. (m, goal)) target) (listed es)))
@@ -225,7 +225,7 @@ len_directory f number d lead =
 
 -- ---- the bytes of a directory
 
--- an entry takes at most 50
+-- an entry takes at most 50 bytes
 length_entries : (es : List (Name × Target)) → AllByRecursion IsEntry es → length (flat_map entry_bytes es) ≤ 50 * length es
 length_entries [] h = omega arith
 length_entries (e ∷ es) h =

@@ -1,4 +1,4 @@
--- After a process exits the kernel represents the flat state in which it has: its process segment is written, and its internal container is
+-- After a process exits the kernel represents the flat state with its exit: its process segment is written, and its internal container is
 -- unlinked, with its thread.
 use Rattle.std.proofs.Common.{◌≡◌, ◌≢◌, ℕ, ◌+◌, ◌*◌, ◌≤◌, ◌⊎◌, inl, inr, Bool, true, false, ◌&&◌, ◌||◌, cond, if◌then◌else◌, List, [], ◌∷◌, length}
 use Rattle.std.proofs.Common.{Option, None, Some, refl, sym, ap, ◌∙◌, subst, map}
@@ -66,7 +66,7 @@ module _ (accounts : Accounts) (s : State) (f : Flat) (l : ObjectsMatch accounts
   abbrev wish : Address Step → Found
   wish = expected accounts l.category after naming.number
 
-  -- what is written: the process has no number for an internal container and a thread any more
+  -- the bytes that are written: the process has no number for an internal container and a thread any more
   abbrev pub written : List ℕ
   written = process_bytes after.processes naming.number me changed
 
@@ -99,7 +99,7 @@ module _ (accounts : Accounts) (s : State) (f : Flat) (l : ObjectsMatch accounts
   under_path [] = refl
   under_path (m ∷ d) = under_path d
 
-  -- an internal container does where it is this one
+  -- the internal container of another process doesn't lie below it
   inside_other : (q : ProcName) → q ≢ me → under same_step top (Inside ∷ home_address q) ≡ false
   inside_other q other = λ i. same_other same_step step_tests_equality top (Inside ∷ home_address q) apart i || under_home q i
     where
@@ -117,7 +117,7 @@ module _ (accounts : Accounts) (s : State) (f : Flat) (l : ObjectsMatch accounts
       agrees_changed same_step step_tests_equality s l.naming old_asked l.agrees S (Status ∷ home_address me)
       (holding written) at_own (λ x. kind_held_links written x.kind) (bare_held written)
 
-  -- no path leads below it
+  -- no path leads below the internal container
   no_path : (a : Address Step) → under same_step top a ≡ true → path_at a ≡ None
   no_path a e = by (path_at a) refl
     where
@@ -132,7 +132,7 @@ module _ (accounts : Accounts) (s : State) (f : Flat) (l : ObjectsMatch accounts
       by None is = refl
       by (Some q) is = absurd (true≢false (sym e ∙ ap (under same_step top) (address_process a q is) ∙ under_home q))
 
-  -- an internal container there is that of this process, which has none any more
+  -- the process, whose internal container this is, has none any more
   none_inside : (q : ProcName) → under same_step top (Inside ∷ home_address q) ≡ true → inside_object accounts l.category q (after.processes q) ≡ None
   none_inside q e = elim (which q) [
     | inl is ↦ ap (λ (x : ProcName). inside_object accounts l.category x (after.processes x)) is ∙ ap (inside_object accounts l.category me) at_me
@@ -145,7 +145,7 @@ module _ (accounts : Accounts) (s : State) (f : Flat) (l : ObjectsMatch accounts
     | inr other ↦ absurd (true≢false (sym e ∙ inside_other q other))
   ]
 
-  -- below it nothing is asked for
+  -- nothing is asked for below the internal container
   nothing_below : (a : Address Step) → under same_step top a ≡ true → wish a ≡ None
   nothing_below [] e = absurd (true≢false (sym e))
   nothing_below (Left k ∷ []) e = absurd (true≢false (sym e))
@@ -263,14 +263,14 @@ module _ (accounts : Accounts) (s : State) (f : Flat) (l : ObjectsMatch accounts
       by true e = sym (nothing_below a e)
       by false e = outside e
 
-  -- What is written: the children's part stays, and the two numbers are none.
+  -- The bytes that are written: the children's part stays, and the two numbers are none.
   number_gone : (b : Address Step) → under same_step top b ≡ true → naming.number b ≡ None
   number_gone b e = ap (λ (t : Bool). if t then None else l.naming.number b) e
 
   top_under : under same_step top top ≡ true
   top_under = ap (λ (t : Bool). t || under same_step top (home_address me)) (same_itself same_step step_tests_equality top)
 
-  -- what is written: the old status, with the number that the process has exited with, and no internal container and no thread
+  -- the bytes that are written: the old status, with the number that the process has exited with, and no internal container and no thread
   pub written_is : written
       ≡ status_bytes (record {
         exited = Some n;
@@ -293,7 +293,7 @@ module _ (accounts : Accounts) (s : State) (f : Flat) (l : ObjectsMatch accounts
         (filter (λ k. sym (there_alike (k ∷ me)) i) (range_with_len 1 p.born));
   })
 
-  -- what is known and used then was
+  -- a job that is known and used after the exit was used before
   known_then : (job x : ProcName) (px : Process) → after.processes x ≡ Some px → knows px job ≡ true → IsKnown f job
   known_then job x px at known = elim (which x) [
     | inl e ↦
@@ -415,6 +415,6 @@ module _ (accounts : Accounts) (s : State) (f : Flat) (l : ObjectsMatch accounts
       refl,
     )
 
-    -- and so the kernel represents the flat state in which the process has exited
+    -- the kernel represents the flat state in which the process has exited
     pub represents_exited : AreJobsGiven f → Represents accounts new after
     represents_exited given = record { matched = matched_exited.0; jobs_given = jobs_exited given }

@@ -1,5 +1,5 @@
--- What the kernel says to the raw calls on a directory that is represented, and on a file in it, by the thread of a process: a read is
--- refused Observe exactly where the process may not read, and a write, an unlink and a making Modify exactly where it may not write.
+-- The kernel's checks of raw calls on a directory that is represented, and on a file in it, by the thread of a process: a read is
+-- refused Observe exactly where the process may not read; a write, an unlink and a make call are refused Modify where it may not write.
 use Rattle.std.proofs.Common.{◌≡◌, ℕ, ◌+◌, ◌≤◌, ◌&&◌, Bool, true, false, List, [], ◌∷◌, length, None, Some, arith, refl, sym, ap, ◌∙◌}
 use Rattle.std.specs.Prelude.{min, not}
 use Rattle.std.specs.FinSet as set
@@ -109,11 +109,11 @@ module _ (accounts : Accounts) (s : State) (f : Flat) (l : ObjectsMatch accounts
         TooBig)
         ∙ or_none (may_write accounts p class) Modify
 
-    -- the first tests of a making in the directory
+    -- the first tests of a make call in the directory
     pub making_said : no_making s t D ≡ unless (may_write accounts p class) Modify
     making_said = making_check s t label clearance thread D above links holder observed ∙ ap (λ b. unless b Modify) may_change
 
-    -- a label that the thread may not hand in is refused for that, where the directory may be written
+    -- a label that the thread may not give is refused for that, where the directory may be written
     refused_range : (g : Guard) → is_made_within accounts l.category l.different me p g ≡ false
         → in_range (s.objects t) (guard_label l.category g) ≡ false
     refused_range g outside = ap (λ (o : Found). in_range o (guard_label l.category g)) thread ∙ outside
@@ -139,7 +139,7 @@ module _ (accounts : Accounts) (s : State) (f : Flat) (l : ObjectsMatch accounts
         orelse unless (has_number s) TooBig
 
     -- a segment or a container is made in the directory for what is of a class, unless the directory may not be written, the thread may
-    -- not hand in the label, or there is no number for it
+    -- not give the label, or there is no number for it
     module _ (of : Class) (known_jobs : AreKnown accounts s f l of) (g : Guard) (is : class_guard accounts of ≡ Some g) where
       names : GuardHas (IsUsed accounts f) g
       names = names_used accounts f of known_jobs g is
@@ -170,18 +170,18 @@ module _ (accounts : Accounts) (s : State) (f : Flat) (l : ObjectsMatch accounts
           orelse unless (not (guard_owns_nothing l.category g i)) Range
           orelse unless (has_number s) TooBig
 
-    -- what stands in the directory
+    -- what is in the directory
     module _ (n : Name) (O : ℕ) (at_object : l.naming.number (address_of (n ∷ d)) ≡ Some O) where
       inside : set.contains links O ≡ true
       inside =
           sym (ap (λ (o : Found). set.contains (links_in o) O) holder)
           ∙ step_linked accounts s f l (Named n) (address_of d) D O at_directory at_object
 
-      -- it is unlinked, file or directory, unless the directory may not be written
+      -- the entry is unlinked, file or directory, unless the directory may not be written
       pub unlink_said : check s t (Unlink D O) ≡ unless (may_write accounts p class) Modify
       unlink_said = unlink_check s t label clearance thread D above links holder observed O inside ∙ ap (λ b. unless b Modify) may_change
 
-      -- its label is told, if it is no thread
+      -- the label of the object is returned, if it is no thread
       pub label_said : is_thread (s.objects O) ≡ false → check s t (LabelOf D O) ≡ None
       label_said = label_check s t label clearance thread D above links holder observed O inside
 
@@ -197,7 +197,7 @@ module _ (accounts : Accounts) (s : State) (f : Flat) (l : ObjectsMatch accounts
         read_file_said = read_check s t label clearance thread D above links holder observed O inside (guard_label l.category file_guard.0) old file
             ∙ ap (λ b. unless b Observe) (observes_class accounts me p l.category l.different ok kind file_guard.0 file_guard.1)
 
-        -- and written unless the process may not write it, or the bytes are too many
+        -- a file is written unless the process may not write it, or the bytes are too many
         pub write_file_said : (keep : ℕ) (bytes : List ℕ)
             → check s t (Write D O keep bytes)
             ≡ (unless (may_write accounts p kind) Modify

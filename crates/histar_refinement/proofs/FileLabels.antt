@@ -1,4 +1,4 @@
--- The labels of files and directories that are represented, and that the kernel tells the one of `/`.
+-- The labels of files and directories that are represented, and that the kernel shows the label of `/`.
 use Rattle.std.proofs.Common.{◌≡◌, ℕ, true, false, [], ◌∷◌, length, None, Some, refl, sym, ap, ◌∙◌}
 use Rattle.std.specs.FinSet as set
 use Rattle.histar_flat.specs.Words.{Path, ProcName}
@@ -29,12 +29,12 @@ use Rattle.histar_refinement.proofs.Agreeing.{thread_found, guard_at, path_agree
 use Rattle.histar_refinement.proofs.LeftObjects.{root_found, root_label}
 use Rattle.histar_refinement.proofs.ClassTests.{sees_unguarded}
 
--- an object has the label that it has but for its links
+-- an object has the same label without its links
 pub label_bare : (o : Found) → label_there (bare o) ≡ label_there o
 label_bare None = refl
 label_bare (Some o) = refl
 
--- and is a thread but for its links where it is one
+-- an object is a thread exactly if it is one without its links
 thread_bare : (o : Found) → is_thread (bare o) ≡ is_thread o
 thread_bare None = refl
 thread_bare (Some o) = by o.kind
@@ -52,18 +52,18 @@ content_is_none label (File bytes) = refl
 
 module _ (accounts : Accounts) (s : State) (f : Flat) (l : ObjectsMatch accounts s f) where
   module _ (q : Path) (there : Node) (at : get f.files q ≡ Some there) (o : ℕ) (numbered : l.naming.number (address_of q) ≡ Some o) where
-    -- what stands at a path has the label of its guard
+    -- the object at a path has the label of its guard
     pub label_at : (g : Guard) → class_guard accounts there.class ≡ Some g → label_there (s.objects o) ≡ Some (guard_label l.category g)
     label_at g is = sym (label_bare (s.objects o)) ∙ ap label_there (path_agrees accounts s f l q there at g is o numbered)
 
-    -- and is no thread
+    -- the object at a path is no thread
     pub no_thread_at : is_thread (s.objects o) ≡ false
     no_thread_at =
         let g = guard_at accounts s f l q there at in
         sym (thread_bare (s.objects o)) ∙ ap is_thread (path_agrees accounts s f l q there at g.0 g.1 o numbered)
         ∙ content_is_none (guard_label l.category g.0) there.content
 
-  -- the label of `/` is told to the thread of every process
+  -- the label of `/` is shown to the thread of every process
   pub slash_label_said : (me : ProcName) (p : Process) (t : ℕ) → RunsAs accounts s f l me p t
       → check s t (LabelOf root_number (slash_number (length accounts.users))) ≡ None
   slash_label_said me p t runs =

@@ -23,7 +23,7 @@ module _ (test : ℕ × Level → Bool) (c : ℕ) where
   only_found (e ∷ es) only any =
       found_first e es (test e) refl (only e (zero, omega arith, refl)) any (only_found es (λ x at. only x (suc at.0, omega (arith, at.1), at.2)))
 
-  -- so it is among the exceptions of a label that has it at another level than the default
+  -- the only category that passes a test is found in a label whose default is another level than the category's
   pub found_in_label : (L : Levels) (l : Level) → level_of L c ≡ l → l ≢ default_of L → test (c, l) ≡ true
       → ((d : ℕ) (m : Level) → level_of L d ≡ m → test (d, m) ≡ true → d ≡ c)
       → option_map (λ (e : ℕ × Level). e.0) (find test (exceptions_of L)) ≡ Some c

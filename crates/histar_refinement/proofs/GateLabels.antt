@@ -24,7 +24,7 @@ abbrev both_of : List ℕ → List ℕ
 both_of [] = []
 both_of (i ∷ owners) = read_category i ∷ write_category i ∷ both_of owners
 
--- one level at these
+-- the same level at both categories of each
 at_both_is : (level : Level) (owners : List ℕ) → at_both level owners ≡ each_at level (both_of owners)
 at_both_is level [] = refl
 at_both_is level (i ∷ owners) = ap (λ (l : List (ℕ × Level)). (read_category i, level) ∷ (write_category i, level) ∷ l) (at_both_is level owners)
@@ -37,7 +37,7 @@ turned false true false d = refl
 turned false false true d = refl
 turned false false false d = refl
 
--- they are the categories for reading and those for writing
+-- both categories of each are the categories for reading and those for writing
 both_are : (owners : List ℕ) (q : ℕ) → is_in (both_of owners) q ≡ is_in (map read_category owners ++ map write_category owners) q
 both_are owners q = by owners ∙ sym (is_in-append (map read_category owners) (map write_category owners) q)
   where
@@ -64,7 +64,7 @@ module _ (accounts : Accounts) (category : Categories)
   pub user_writes : (i : ℕ) → i ≤ length accounts.users → category (WritesUser i) ≡ write_category i
   user_writes i h = as_made (WritesUser i) (3 + 2 * i) (ap (λ b. cond b (Some (3 + 2 * i)) None) (low_test accounts i h))
 
-  -- and so have a group's
+  -- a group's categories have the numbers that boot gave
   pub group_reads : (k : ℕ) → 1 ≤ k → k ≤ length accounts.groups → category (ReadsGroup k) ≡ read_category (group_owner (length accounts.users) k)
   group_reads k low high =
       let number : 2 + 2 * length accounts.users + 2 * k ≡ 2 + 2 * (length accounts.users + k) = omega arith in
@@ -113,7 +113,7 @@ module _ (accounts : Accounts) (category : Categories)
         λ j. user_writes i declared j
         ∷ groups_same WritesGroup write_category group_writes 1 accounts.groups name (omega arith) (omega arith) j
 
-    -- and so have those that a process owns as the user, in a job or in none
+    -- the categories that a process owns as the user, in a job or in none, have the numbers that boot gave
     pub owned_is : (free : Bool)
         → map category (reading accounts name i ++ (if free then writing accounts name i else []))
         ≡ categories_of (owners_of accounts i name) free

@@ -1,4 +1,4 @@
--- A category is made: the naming grows, and labels that are told by used names stay.
+-- A category is made: the naming grows, and labels of used names stay.
 use Rattle.std.proofs.Common.{◌≡◌, ◌≢◌, ℕ, ◌<◌, ◌==◌, ◌⊎◌, inl, inr, Bool, true, false, ◌||◌, List, [], ◌∷◌, ◌++◌, if◌then◌else◌, arith, refl, sym}
 use Rattle.std.proofs.Common.{ap, ◌∙◌}
 use Rattle.std.specs.Prelude.{map}
@@ -86,14 +86,14 @@ module _ (category : Categories) (different : AreDifferent category) (next : ℕ
   pub still_different : AreDifferent grown
   still_different d e same = different d e (one_number (category c) next (category d) (category e) same)
 
-  -- a label that is told by used names stays
+  -- a label of used names stays
   abbrev pub IsOld : CategoryName → Type 0
   IsOld d = (d ≢ c) × IsMade next (category d)
 
   pub old_keeps : (d : CategoryName) → IsOld d → KeepsNumber category grown d
   old_keeps d old = old_number d old.0 old.1.1
 
-  -- who makes a category owns it: the label has star there, and the clearance level 3
+  -- a thread that makes a category owns it: the label has star there, and the clearance level 3
   abbrev pub with_owned : Rights → Rights
   with_owned r = record { owned = c ∷ r.owned; tainted = r.tainted }
 

@@ -162,7 +162,7 @@ module _ (accounts : Accounts) (s : State) (f : Flat) (l : ObjectsMatch accounts
         (category accounts s f l me p here runs room jobs jobs_used jobs_ordered jobs_free C S at_home at_status)
         (thread_rights accounts me holder)
 
-    -- who is given a number stays so, and so does the child
+    -- the same names are given once the parent holds the job as when the child was born
     given_held : (job : ProcName) → is_given born.processes job ≡ is_given after.processes job
     given_held =
         given_later accounts state_born_two born b me parent parent_there runs p.user (inr declared) held held_used

@@ -1,4 +1,4 @@
--- What its thread's own label and the label of its container tell of the jobs of a process.
+-- The jobs of a process, from its thread's own label and from the label of its container.
 use Rattle.std.proofs.Common.{◌≡◌, ◌≢◌, ℕ, ◌==◌, ◌||◌, ◌⊎◌, inl, inr, Bool, true, false, List, [], ◌∷◌, ◌++◌, refl, sym, ap, ◌∙◌}
 use Rattle.std.specs.Prelude.{map}
 use Rattle.std.proofs.lemmas.Bool.Decides.{eqb_tells}
@@ -35,26 +35,26 @@ tainted_at false false = refl
 pub default_owning : (owned tainted : List ℕ) → default_of (owner_label owned tainted) ≡ L1
 default_owning owned tainted = default_kept (constant L1) (each_at Star owned ++ each_at L3 tainted) ∙ default_of-constant L1
 
--- The jobs that a label of rights tells are the categories that it has at 3.
+-- The jobs that a label of rights contains are the categories that it has at 3.
 pub in_jobs : (owned tainted : List ℕ) (c : ℕ) → is_in (jobs_in (owner_label owned tainted)) c ≡ is_in tainted c
 in_jobs owned tainted c =
     in_passed (λ e. is_three e.1) (owner_label owned tainted) (λ c. ap is_three (default_owning owned tainted)) c
     ∙ ap is_three (at_owning owned tainted c) ∙ tainted_at (is_in owned c) (is_in tainted c)
 
--- a list with the same numbers as an empty one is empty, and so the other way round
+-- a list with the same numbers as an empty one is empty, and the other way round
 empty_alike : (cs ds : List ℕ) → ((c : ℕ) → is_in cs c ≡ is_in ds c) → is_empty cs ≡ is_empty ds
 empty_alike [] [] same = refl
 empty_alike [] (d ∷ ds) same = absurd (true≢false (sym (same d ∙ or_left (d == d) (is_in ds d) (equal_itself d))))
 empty_alike (c ∷ cs) [] same = absurd (true≢false (sym (or_left (c == c) (is_in cs c) (equal_itself c)) ∙ same c))
 empty_alike (c ∷ cs) (d ∷ ds) same = refl
 
--- The own label of the thread of a process tells the jobs that the process is in.
+-- The own label of the thread of a process contains the jobs that the process is in.
 pub jobs_are : (category : Categories) (accounts : Accounts) (me : ProcName) (p : Process) (c : ℕ)
     → is_in (jobs_in (rights_label category (thread_rights accounts me p))) c
     ≡ is_in (map category (map OfJob p.chain)) c
 jobs_are category accounts me p c = in_jobs (map category (thread_rights accounts me p).owned) (map category (map OfJob p.chain)) c
 
--- So it tells whether the process is in any.
+-- The own label of the thread shows whether the process is in a job.
 pub none_if_free : (category : Categories) (accounts : Accounts) (me : ProcName) (p : Process)
     → is_empty (jobs_in (rights_label category (thread_rights accounts me p))) ≡ is_free p
 none_if_free category accounts me p = empty_alike _ (map category (map OfJob p.chain)) (jobs_are category accounts me p) ∙ by p.chain
@@ -88,7 +88,7 @@ module _ (category : Categories) (different : AreDifferent category) (me : ProcN
   not_written c (inl is) e = absurd (true≢false (sym e ∙ ap (is_in jobs) is.1 ∙ not_own category different me p.chain))
   not_written c (inr is) e = ap (λ b. b || false) is.0
 
-  -- The label of the container of a process tells the jobs that the process is in.
+  -- The label of the container of a process contains the jobs that the process is in.
   pub chain_is : AreInOrder category p.chain → jobs_in (guard_label category (process_guard me p)) ≡ job_numbers category p.chain
   chain_is in_order = one_rising 0 0 (jobs_in outer) (job_numbers category p.chain) (passed_rise (λ e. is_three e.1) outer) in_order (λ c.
       in_passed (λ e. is_three e.1) outer (λ d. ap is_three (default_guarded jobs own)) c

@@ -26,7 +26,7 @@ not_added jobs child job e other = by (has (jobs ++ child ∷ []) job) refl
     by true k = elim (longer_has jobs child job k) [ inl old ↦ absurd (true≢false (sym old ∙ e)) | inr is ↦ absurd (other is) ]
     by false k = refl
 
--- jobs in order stay so where the new one's number is above all others
+-- jobs in order stay in order if the new one's number is above all others
 rising_last : (category : Categories) (child : ProcName) (n : ℕ) (jobs : List ProcName) → n ≤ category (OfJob child)
     → ((job : ProcName) → has jobs job ≡ true → category (OfJob job) < category (OfJob child))
     → IsRisingFrom n (map (λ job. category (OfJob job)) jobs) → IsRisingFrom n (map (λ job. category (OfJob job)) (jobs ++ child ∷ []))

@@ -46,7 +46,7 @@ module _ (accounts : Accounts) (s : State) (f : Flat) (l : Represents accounts s
       never true u = absurd (unused (u refl))
       never false u = refl
 
-  -- once the job's category is made
+  -- the state once the job's category is made
   pub named : (later : ObjectsMatch accounts (with_next_category s) f) × (later.naming ≡ l.matched.naming)
       × (later.category ≡ naming_next l.matched.category s.next_category (OfJob ((p.born + 1) ∷ me)))
   named = matched_named accounts s f l.matched (OfJob child) unused (with_next_category s) (λ q. refl) refl (omega arith)

@@ -61,7 +61,7 @@ module _ (accounts : Accounts) (s : State) (f : Flat) (l : ObjectsMatch accounts
   abbrev old_asked : Address Step → Found
   old_asked = expected accounts l.category f l.naming.number
 
-  -- what is below the victim's address is what is below its name
+  -- an address of a process is the victim's, or below it, exactly where its name is
   same_homes : (x y : ProcName) → same_steps same_step (home_address x) (home_address y) ≡ same_name x y
   same_homes x y = elim (same_name_found x y) [
     | inl e ↦
@@ -127,7 +127,7 @@ module _ (accounts : Accounts) (s : State) (f : Flat) (l : ObjectsMatch accounts
   below : (a : Address Step) (q : ProcName) → under same_step (home_address top) a ≡ true → a ≡ home_address q → after.processes q ≡ None
   below a q e is = gone q (sym (under_home q) ∙ ap (under same_step (home_address top)) (sym is) ∙ e)
 
-  -- below the victim's address nothing is asked for
+  -- nothing is asked for below the victim's address
   nothing_below : (a : Address Step) → under same_step (home_address top) a ≡ true → wish a ≡ None
   nothing_below [] e = absurd (true≢false (sym e))
   nothing_below (Left k ∷ []) e = absurd (true≢false (sym e))
@@ -258,7 +258,7 @@ module _ (accounts : Accounts) (s : State) (f : Flat) (l : ObjectsMatch accounts
       by true e other = sym (nothing_below a e)
       by false e other = wish_other a e other
 
-  -- what is there then was there, and what is used then was used
+  -- what is there and used after the kill was there and used before
   was_there : (x : ProcName) (px : Process) → after.processes x ≡ Some px → f.processes x ≡ Some px
   was_there x px at = by (under_process top x) refl
     where
@@ -368,6 +368,6 @@ module _ (accounts : Accounts) (s : State) (f : Flat) (l : ObjectsMatch accounts
         | false ↦ e
       ]
 
-  -- and so the kernel represents the flat state without the victim
+  -- the kernel represents the flat state without the victim
   pub represents_left : AreJobsGiven f → Represents accounts state_left after
   represents_left given = record { matched = matched_left.0; jobs_given = jobs_left given }

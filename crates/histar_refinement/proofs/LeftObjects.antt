@@ -1,4 +1,4 @@
--- What boot left stands for good: each user's password and gate, with the numbers of categories that the state has.
+-- What boot left stays for good: each user's password and gate, with the numbers of categories that the state has.
 use Rattle.std.proofs.Common.{◌≡◌, ℕ, zero, suc, ◌+◌, ◌*◌, ◌≤◌, Bool, true, false, cond, List, [], ◌∷◌, ◌++◌, length, get_or, Option, None, Some}
 use Rattle.std.proofs.Common.{arith, refl, sym, ap, ◌∙◌, subst}
 use Rattle.std.specs.Prelude.{map, position, slice_get, nat_le, nat_lt, unwrap_or, option_map}
@@ -46,7 +46,7 @@ no_truth e = true≢false (sym e)
 
 -- ---- users by their names
 
--- the user of a name stands at the name's place
+-- the user of a name is at the name's place
 named_is_found : (users : List User) (name : Name) → user_named users name ≡ find (λ (u : User). same u.name name) users
 named_is_found [] name = refl
 named_is_found (u ∷ users) name = ap (cond (same u.name name) (Some u)) (named_is_found users name)
@@ -58,7 +58,7 @@ place_revealed : (b : Bool) (k m : ℕ) → cond b (Some k) None ≡ Some m → 
 place_revealed true k m e = same_Some k m e
 place_revealed false k m e = absurd (none-some m e)
 
--- a user who has a number is the one of this name, and stands at its place
+-- a user who has a number is the one of this name, and is at its place
 pub numbered_user : (accounts : Accounts) (name : Name) (i : ℕ) → user_number accounts name ≡ Some i
     → (k : ℕ) × (u : User) × (k + 1 ≡ i) × (slice_get accounts.users k ≡ Some u)
     × (user_named accounts.users name ≡ Some u) × (u.name ≡ name)
@@ -76,19 +76,19 @@ numbered_user accounts name i e =
       equal_names at.0.name name at.2,
     )
 
--- at no place from the length on stands a user
+-- there is no user at a place from the length on
 no_user_at : (users : List User) (k : ℕ) → length users ≤ k → slice_get users k ≡ None
 no_user_at [] k le = refl
 no_user_at (u ∷ users) zero le = absurd (omega (arith, le))
 no_user_at (u ∷ users) (suc k) le = no_user_at users k (omega (arith, le))
 
--- so a list of users has nobody at a place that is none
+-- a list of users has nobody at a place that is none
 unplaced : (b : Bool) (users : List User) (k : ℕ) → nat_lt k (length users) ≡ b
     → option_map (λ place. place + 1) (cond b (Some k) None) ≡ None → slice_get users k ≡ None
 unplaced true users k is e = absurd (none-some (k + 1) (sym e))
 unplaced false users k is e = no_user_at users k (grind (arith, nat_tests, is))
 
--- and a name that has no number is no user's
+-- a name that has no number is no user's
 pub unnumbered_user : (accounts : Accounts) (name : Name) → user_number accounts name ≡ None → user_named accounts.users name ≡ None
 unnumbered_user accounts name e =
     let k = position_or_len (λ (u : User). same u.name name) accounts.users in
@@ -293,7 +293,7 @@ module _ (accounts : Accounts) (s : State) (f : Flat) (l : ObjectsMatch accounts
               gate_tied) j) (Login i);
         })))
 
-    -- and the root container links both
+    -- the root container links the password and the gate
     pub password_linked : set.contains (links_in (s.objects root_number)) (password_of i) ≡ true
     password_linked = left_linked (password_of i) password_low password_high
 

@@ -18,7 +18,7 @@ use Rattle.histar_layout.proofs.LabelLevels.{guarded_level, owning_level, cleare
 use Rattle.histar_refinement.specs.Categories.{IsMade}
 use Rattle.histar_layout.proofs.Members.{is_in, same_truth, first_of, second_of, all_from, each_of, AreApart}
 
--- one number, by the tests of the four lists
+-- the test of observing at one number, by whether it is in each of the four lists
 seen_at : (s w o t : Bool) → (s ≡ true → (o || t) ≡ true) → rank (guarded_level s w) ≤ raised (owning_level o t)
 seen_at s true true true h = omega arith
 seen_at s true true false h = omega arith
@@ -133,7 +133,7 @@ pub guarded_cleared : (S W C : List ℕ) → list_all (is_in C) S ≡ true → i
 guarded_cleared S W C all = (is_below-law (guarded_by S W) (cleared_at C)).1 (λ q.
     rw (at_guarded S W q, at_cleared C q) (top_at (is_in S q) (is_in W q) (is_in C q) (each_of (is_in C) S all q)))
 
--- and of what is secret and not written it must have each
+-- a clearance that is above what is secret and not written must have each secret category
 top_only : (s w c : Bool) → s ≡ true → w ≡ false → rank (guarded_level s w) ≤ rank (cleared_level c) → c ≡ true
 top_only true false true s w h = refl
 top_only true false false s w h = absurd (omega (arith, h))
@@ -154,7 +154,7 @@ below_owning O T P U tainted owned = (is_below-law (owner_label O T) (owner_labe
     rw (at_owning O T q, at_owning P U q) (passed_at (is_in O q) (is_in T q) (is_in P q) (is_in U q) (each_of (is_in U) T tainted q)
     (each_of (is_in O) P owned q)))
 
--- it is below a clearance exactly where the clearance has all that it has at 3
+-- a label of rights is below a clearance exactly where the clearance has all that it has at 3
 pub owning_cleared : (O T C : List ℕ) → is_below (owner_label O T) (cleared_at C) ≡ list_all (is_in C) T
 owning_cleared O T C = same_truth (is_below (owner_label O T) (cleared_at C)) (list_all (is_in C) T)
     (λ below. all_from (is_in C) T (λ q e. capped_only (is_in O q) (is_in T q) (is_in C q) e
@@ -162,7 +162,7 @@ owning_cleared O T C = same_truth (is_below (owner_label O T) (cleared_at C)) (l
     (λ all. (is_below-law (owner_label O T) (cleared_at C)).1 (λ q. rw (at_owning O T q, at_cleared C q)
     (capped_at (is_in O q) (is_in T q) (is_in C q) (each_of (is_in C) T all q))))
 
--- and a clearance is below one that has no less
+-- a clearance is below one that has no less
 pub cleared_below : (C D : List ℕ) → list_all (is_in D) C ≡ true → is_below (cleared_at C) (cleared_at D) ≡ true
 cleared_below C D all =
     (is_below-law (cleared_at C) (cleared_at D)).1

@@ -35,7 +35,7 @@ use Rattle.histar_refinement.proofs.ListedFiles.{leads_at}
 use Rattle.histar_layout.proofs.DirectoryLemmas.{same_directory}
 use Rattle.histar_refinement.proofs.SameLines.{container_in, listing_in}
 
--- an object has the bytes that it has but for its links
+-- an object has the same bytes without its links
 pub bytes_bare : (o : Found) → bytes_in (bare o) ≡ bytes_in o
 bytes_bare None = refl
 bytes_bare (Some o) = by o.kind
@@ -51,7 +51,7 @@ module _ (accounts : Accounts) (category : Categories) (bytes : List ℕ) where
   guarded_there None h = absurd (h refl)
   guarded_there (Some g) h = (guard_label category g, refl)
 
-  -- what stands for the listing of a directory
+  -- the object of the directory segment of a directory
   listing_there : (o : Option Node) → is_some_and o is_dir ≡ true → ((there : Node) → o ≡ Some there → class_guard accounts there.class ≢ None)
       → (label : Levels) × (listing_object accounts category bytes o ≡ segment label bytes)
   listing_there None e h = absurd (true≢false (sym e))
@@ -98,7 +98,7 @@ led_to_dir number q (Some there) c g e = by there.content e
     by Dir k = refl
     by (File old) k = absurd (leads_to_file (number (address_of q)) k)
 
--- these are the numbers
+-- the numbers in an entry are those of its addresses
 revealed_numbers : (x y : Option ℕ) (c g : ℕ) → both_numbers x y ≡ Some (targets.Directory c g) → (x ≡ Some c) × (y ≡ Some g)
 revealed_numbers None y c g e = absurd (none-some (targets.Directory c g) e)
 revealed_numbers (Some x) None c g e = absurd (none-some (targets.Directory c g) e)
@@ -153,7 +153,7 @@ module _ (accounts : Accounts) (s : State) (f : Flat) (l : ObjectsMatch accounts
             ∙ (λ i. both_numbers (here i) (listing i)),
       )
 
-  -- And they lead to no others.
+  -- The directory segments lead to no other numbers.
   pub directory_back : (d : Path) (c g : ℕ) → IsDirectoryAt accounts s d c g
       → (is_dir_at f d ≡ true) × (l.naming.number (address_of d) ≡ Some c)
       × (l.naming.number (Listing ∷ address_of d) ≡ Some g)

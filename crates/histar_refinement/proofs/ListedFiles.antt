@@ -1,4 +1,4 @@
--- What every row of files shares: the processes are the same, and what is asked for differs at paths and directory segments alone.
+-- Lemmas for each call that changes files: the processes stay the same, and only what is asked for at paths and directory segments differs.
 use Rattle.std.proofs.Common.{◌≡◌, ◌≢◌, ℕ, ◌≤◌, ◌⊎◌, inl, inr, Bool, true, false, List, [], ◌∷◌, length, Option, None, Some, refl, sym, ap, ◌∙◌}
 use Rattle.std.proofs.Common.{subst, if◌then◌else◌}
 use Rattle.std.specs.Prelude.{is_some, option_map, option_and_then, nat_eq}
@@ -61,7 +61,7 @@ pub record SameNumbers (number numbers : AddressNumbers) : Type 0 where
   pub inside : (q : ProcName) → number (Inside ∷ home_address q) ≡ numbers (Inside ∷ home_address q)
   pub runner : (q : ProcName) → number (Runner ∷ Inside ∷ home_address q) ≡ numbers (Runner ∷ Inside ∷ home_address q)
 
--- they tell the same of each process
+-- two namings with the same numbers give each process the same status
 pub same_process_status : (number numbers : AddressNumbers) → SameNumbers number numbers
     → (processes : ProcName → Option Process) (q : ProcName) (x : Process)
     → status_by processes number q x ≡ status_by processes numbers q x
@@ -69,7 +69,7 @@ same_process_status number numbers same_steps processes q x =
     alike_status processes processes number numbers q x (same_steps.inside q) (same_steps.runner q)
     (λ k. same_steps.home (k ∷ q)) (λ k. same_steps.status (k ∷ q)) (λ k. refl)
 
--- and so the bytes of its segment
+-- two namings with the same numbers give each process segment the same bytes
 pub same_process_bytes : (number numbers : AddressNumbers) → SameNumbers number numbers
     → (processes : ProcName → Option Process) (q : ProcName) (x : Process)
     → process_bytes processes number q x ≡ process_bytes processes numbers q x
@@ -133,7 +133,7 @@ pub directories_alike : (files other : Files Node) (number numbers : AddressNumb
 directories_alike files other number numbers d e alike =
     finmap.same_map nat_list_cmp_total antisymmetric _ _ (λ n. get_directory files number d n ∙ alike n ∙ sym (get_directory other numbers e n))
 
--- where an entry leads is told by two numbers
+-- where an entry leads is determined by two numbers
 pub same_leads : (files other : Files Node) (number numbers : AddressNumbers) (p q : Path) → get files p ≡ get other q
     → number (address_of p) ≡ numbers (address_of q)
     → number (Listing ∷ address_of p) ≡ numbers (Listing ∷ address_of q)
@@ -184,13 +184,13 @@ module _ (accounts : Accounts) (s : State) (f : Flat) (l : ObjectsMatch accounts
   guard_there kind None some = absurd (some refl)
   guard_there kind (Some g) some = refl
 
-  -- what stands at a path has a number
+  -- the object at a path has a number
   pub numbered_path : (q : Path) (there : Node) → get f.files q ≡ Some there → is_some (l.naming.number (address_of q)) ≡ true
   numbered_path q there at =
       l.agrees.named (address_of q) ∙ ap is_present (asked_path accounts l.category f l.naming.number q ∙ ap (node_object accounts l.category) at)
       ∙ guard_there (content_kind there.content) (class_guard accounts there.class) (l.guarded q there at)
 
-  -- and where there is a number something stands
+  -- where there is a number there is an object
   pub nothing_unnumbered : (q : Path) → get f.files q ≡ None → is_some (l.naming.number (address_of q)) ≡ false
   nothing_unnumbered q at =
       l.agrees.named (address_of q)
@@ -206,7 +206,7 @@ module _ (accounts : Accounts) (s : State) (f : Flat) (l : ObjectsMatch accounts
       ∙ guard_there (Segment (spelling (directory_of f.files l.naming.number q))) (class_guard accounts class)
       (l.guarded q (record { class = class; content = Dir }) at)
 
-  -- where nothing stands, nothing stands below
+  -- where nothing is at a path, nothing is below it
   pub nothing_in : (n : Name) (d : Path) → get f.files d ≡ None → get f.files (n ∷ d) ≡ None
   nothing_in n d nothing = by (get f.files (n ∷ d)) refl
     where
@@ -216,7 +216,7 @@ module _ (accounts : Accounts) (s : State) (f : Flat) (l : ObjectsMatch accounts
           absurd (true≢false (sym (l.agrees.tree.held (Named n) (address_of d) (numbered_path (n ∷ d) there at))
           ∙ nothing_unnumbered d nothing))
 
-  -- a class that can be represented: it has a guard, its jobs stand in order, and the category of each was made
+  -- a class that can be represented: it has a guard, its jobs are in order, and the category of each was made
   pub record ClassFits (class : Class) : Type 0 where
     pub guard : class_guard accounts class ≢ None
     pub order : IsInOrder l.category class
@@ -237,7 +237,7 @@ module _ (accounts : Accounts) (s : State) (f : Flat) (l : ObjectsMatch accounts
     made = λ job is. l.made (OfJob job) (old_known q there at job is);
   }
 
-  -- and so is what a process makes, where its class has a guard: a Scratch class has the jobs of the process
+  -- what a process makes has a known class, if the class has a guard: a Scratch class has the jobs of the process
   pub made_known : (me : ProcName) (p : Process) → f.processes me ≡ Some p → (class : Class)
       → ((owner : Name) (jobs : List ProcName) → class ≡ Scratch owner jobs → jobs ≡ p.chain) → AreKnown class
   made_known me p here (Private owner) own job is = absurd (true≢false (sym is))
@@ -293,7 +293,7 @@ module _ (accounts : Accounts) (s : State) (f : Flat) (l : ObjectsMatch accounts
       made_then (OfJob job) (inl k) = l.made (OfJob job) (inl k)
       made_then (OfJob job) (inr served) = (fits served.0 served.1 served.2).made job served.3
 
-      -- A state in which what is asked for stands, and whose directories can be listed, has the objects of the flat state with these
+      -- A state with the objects that are asked for, whose directories can be listed, has the objects of the flat state with these
       -- files.
       pub matched_files : (new : State) (naming : Naming Step)
           → Agrees same_step new naming (expected accounts l.category refiled naming.number)
@@ -324,7 +324,7 @@ module _ (accounts : Accounts) (s : State) (f : Flat) (l : ObjectsMatch accounts
         refl,
       )
 
-      -- The same after the write of one directory segment, where all else stands as asked.
+      -- The same after the write of one directory segment, where all other objects are those asked for.
       pub matched_listed : (mid : State) (naming : Naming Step) (asked : Address Step → Found)
           → Agrees same_step mid naming asked → mid.next_object ≤ greatest
           → (d : Path) (N : ℕ) → naming.number (Listing ∷ address_of d) ≡ Some N

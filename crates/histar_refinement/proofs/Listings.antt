@@ -20,7 +20,7 @@ use Rattle.histar_refinement.specs.Addresses.{AddressNumbers}
 use Rattle.histar_refinement.specs.Directories.{both_numbers, target_for, target_in, directory_of}
 use Rattle.histar_refinement.proofs.DirectoryLaws.{sorted_listed}
 
--- an entry leads to a directory exactly where one stands there
+-- an entry leads to a directory exactly where its path is one
 kind_kept : (number : AddressNumbers) (q : Path) (there : Node) (target : Target)
     → target_for number (q, there) ≡ Some target → is_directory target ≡ is_dir there
 kind_kept number q there target is = by there.content refl
@@ -52,7 +52,7 @@ module _ (number : AddressNumbers) (d : Path) where
   abbrev AllLead : List (Path × Node) → Type 0
   AllLead es = (n : Name) (there : Node) → find path_cmp (n ∷ d) es ≡ Some there → target_for number (n ∷ d, there) ≢ None
 
-  -- an entry before others is shown as the flat state shows it
+  -- an entry before others has the kind that it has in the flat state
   abbrev ShownAlike : Name → Path → Node → List (Path × Node) → Bool → Type 0
   ShownAlike n above there es b =
       map shown_entry (cons_option (cond b (option_map (λ target. (n, target)) (target_for number (n ∷ above, there))) None)

@@ -1,4 +1,4 @@
--- After a login that is answered `ok` the kernel represents the flat state in which the process is the new user's, and holds nothing.
+-- After a login with the reply `ok` the kernel represents the flat state in which the process is the new user's, and holds no job.
 use Rattle.std.proofs.Common.{◌≡◌, ℕ, inr, true, false, [], ◌∷◌, None, Some, arith, refl, sym, ◌∙◌}
 use Rattle.std.specs.Prelude.{is_some}
 use mathlib.Core.Bool.{true≢false}

@@ -1,5 +1,5 @@
--- What the kernel says to the raw calls of a login: the user's gate lets in exactly who is in no job; and behind it the password is
--- read, and the labels are taken of any rights that are no more than the thread has there.
+-- The kernel's checks of the raw calls of a login: the user's gate lets in exactly the processes in no job; after it the password is read,
+-- and the thread may take the labels of any rights that are no more than it has there.
 use Rattle.std.proofs.Common.{◌≡◌, ◌≢◌, ℕ, ◌≤◌, Bool, true, false, ◌&&◌, List, [], ◌∷◌, ◌++◌, length, Option, None, Some, arith, refl, sym, ap, ◌∙◌}
 use Rattle.std.proofs.Common.{subst, if◌then◌else◌}
 use Rattle.std.specs.Prelude.{map, option_map}
@@ -54,7 +54,7 @@ module _ (accounts : Accounts) (s : State) (f : Flat) (l : ObjectsMatch accounts
     abbrev gate : Rights
     gate = gate_rights accounts name i
 
-    -- what the thread may have behind the gate
+    -- what the thread may have after entering the gate
     abbrev pub more : Rights
     more =
         record {
@@ -71,7 +71,7 @@ module _ (accounts : Accounts) (s : State) (f : Flat) (l : ObjectsMatch accounts
     abbrev own_clearance : Levels
     own_clearance = rights_clearance l.category mine
 
-    -- the label and the clearance that the thread asks for behind the gate
+    -- the label and the clearance that the thread asks for at the gate
     abbrev pub wanted : Levels
     wanted = floor_of (rights_label l.category (thread_rights accounts me p)) (rights_label l.category (gate_rights accounts name i))
 
@@ -171,7 +171,7 @@ module _ (accounts : Accounts) (s : State) (f : Flat) (l : ObjectsMatch accounts
     ranges : in_gate (s.objects t) (s.objects (gate_of i)) wanted limit ≡ true
     ranges = (λ j. in_gate (thread j) (gate_is j) wanted limit) ∙ (λ j. is_below-refl wanted j && below_limit j && join_within j)
 
-    -- The gate lets in exactly who is in no job.
+    -- The gate lets in exactly the processes that are in no job.
     pub enter_said : check s t
         (Enter root_number (gate_of i) wanted limit (rights_label l.category (thread_rights accounts me p)))
         ≡ unless (is_free p) denials.Gate
@@ -184,7 +184,7 @@ module _ (accounts : Accounts) (s : State) (f : Flat) (l : ObjectsMatch accounts
         orelse unless (own_known j) denials.Range)
         ∙ or_none (is_free p) denials.Gate
 
-    -- ---- behind it
+    -- ---- after the gate was entered
 
     abbrev pub entered : State
     entered = with_own s t wanted limit
@@ -229,11 +229,11 @@ module _ (accounts : Accounts) (s : State) (f : Flat) (l : ObjectsMatch accounts
         (password_found accounts s f l name i numbered).0.password entered_password
         ∙ ap (λ b. unless b denials.Observe) password_seen
 
-    -- the process as the user's, holding nothing
+    -- the process as the user's, in no job and holding none
     abbrev pub as_user : Process
     as_user = record { user = name; chain = p.chain; held = []; exited = p.exited; born = p.born }
 
-    -- as the user's it has no more rights than the thread has there, and neither has it as it was
+    -- as the user's process it has no more rights than the thread has there, and neither has it as it was
     pub user_owns_less : (c : CategoryName) → among (thread_rights accounts me as_user).owned c ≡ true → among more.owned c ≡ true
     user_owns_less =
         each_head (λ c. among more.owned c ≡ true) (ReadsProcess me)
@@ -267,7 +267,7 @@ module _ (accounts : Accounts) (s : State) (f : Flat) (l : ObjectsMatch accounts
     pub own_owns_less : (c : CategoryName) → among (thread_rights accounts me p).owned c ≡ true → among more.owned c ≡ true
     own_owns_less = in_first mine.owned gate.owned
 
-    -- Rights that are no more than the thread has behind the gate, with the jobs that it is in: these are its own, and as the user's.
+    -- Rights that are no more than the thread has after the gate, with the jobs that it is in: its own rights, and those as the user.
     module _ (r : Rights) (owned : (c : CategoryName) → among r.owned c ≡ true → among more.owned c ≡ true)
         (fewer : (c : CategoryName) → among r.tainted c ≡ true → among mine.tainted c ≡ true)
         (as_many : (c : CategoryName) → among mine.tainted c ≡ true → among r.tainted c ≡ true) where
@@ -300,7 +300,7 @@ module _ (accounts : Accounts) (s : State) (f : Flat) (l : ObjectsMatch accounts
           (made (r.owned ++ r.tainted)
           (each_append (IsUsed accounts f) r.owned r.tainted used_r (λ c e. used_tainted c (fewer c e))))
 
-      -- their label is taken
+      -- the thread takes the label of these rights
       pub set_label_said : check entered t (SetLabel (rights_label l.category r)) ≡ None
       set_label_said = λ j. unless (is_thread (entered_thread j)) denials.NoThread
           orelse unless ((ap (λ (x : Found). in_range x label) entered_thread ∙ and_from _ _ below_label label_below) j) denials.Range
@@ -331,7 +331,7 @@ module _ (accounts : Accounts) (s : State) (f : Flat) (l : ObjectsMatch accounts
           ((is_below_join_raised-law clearance limit label).1
           (λ q. let under = (is_below-law clearance limit).0 clearance_below q in omega (arith, under)))
 
-      -- and then their clearance
+      -- after that the thread may set the clearance of these rights
       pub set_clearance_said : check relabelled_state t (SetClearance (rights_clearance l.category r)) ≡ None
       set_clearance_said = λ j. unless (is_thread (relabelled_thread j)) denials.NoThread
           orelse unless (clears j) denials.Range

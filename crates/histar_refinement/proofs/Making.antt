@@ -44,11 +44,11 @@ use Rattle.histar_refinement.proofs.ListedFiles.{jobs_kept, matched_listed}
 pub listing_not_home : (a : Address Step) (q : ProcName) → Listing ∷ a ≢ home_address q
 listing_not_home a q e = none-some q (ap process_at e ∙ process_address q)
 
--- nothing is spelled by nothing
+-- the empty directory is spelled by no bytes
 pub spelled_empty : spelling map.empty ≡ []
 spelled_empty = ap (flat_map entry_bytes) entries-empty
 
--- a file with a number is led to, and so is a directory with two
+-- the entry of a file with a number leads to it, and that of a directory with two numbers too
 leads_to_file : (number : Option ℕ) → is_some number ≡ true → option_map targets.File number ≢ None
 leads_to_file None some e = true≢false (sym some)
 leads_to_file (Some number) some e = true≢false (ap is_some e)
@@ -101,7 +101,7 @@ module _ (accounts : Accounts) (s : State) (f : Flat) (l : ObjectsMatch accounts
     not_in_itself : m ∷ d ≢ d
     not_in_itself e = let long = ap length e in absurd (omega (arith, long))
 
-    -- the new node stands at its path, and elsewhere what stood there
+    -- the new node is at its path, and all others are where they were
     got_new : get after.files (m ∷ d) ≡ Some made
     got_new = get_new f.files (m ∷ d) made
 
@@ -128,7 +128,7 @@ module _ (accounts : Accounts) (s : State) (f : Flat) (l : ObjectsMatch accounts
           | inr e ↦ old_known accounts s f l q there (sym (got_else q e.1) ∙ at)
         ]
 
-    -- What stands once the objects are there: as before but for the new one and, for a directory, its segment.
+    -- The objects after the new ones were made: as before but for the new one and, for a directory, its segment.
     pub record Agreeing (mid : State) (naming : Naming Step) (asked : Address Step → Found) : Type 0 where
       pub agrees : Agrees same_step mid naming asked
       pub elsewhere : (a : Address Step) → new_address ≢ a → Listing ∷ new_address ≢ a → naming.number a ≡ l.naming.number a

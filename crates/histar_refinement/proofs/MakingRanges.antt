@@ -1,4 +1,4 @@
--- Which labels a thread may hand in for what it makes: those of the classes that its process makes, and no others of these kinds.
+-- Which labels a thread may give to what it makes: those of the classes that its process makes, and no others of these kinds.
 use Rattle.std.proofs.Common.{◌≡◌, ℕ, Bool, true, false, ◌&&◌, ◌||◌, List, [], ◌∷◌, ◌++◌, Option, None, Some, arith, refl, sym, ap, ◌∙◌}
 use Rattle.std.proofs.Common.{if◌then◌else◌}
 use Rattle.std.specs.Prelude.{map, is_some, nat_eq}
@@ -29,7 +29,7 @@ use Rattle.histar_layout.proofs.Declared.{equal_tested}
 use Rattle.histar_refinement.proofs.ClassTests.{user_apart, group_apart, owns_read_of, owns_read_of_group, passes_other, passes_jobs, below_private}
 use Rattle.histar_refinement.proofs.ClassTests.{below_readable, below_open, below_scratch, below_group, member}
 
--- a job is among some where it is one of them, so each of some is
+-- all of some jobs are among them
 pub all_had : (jobs : List ProcName) → list_all (has jobs) jobs ≡ true
 all_had jobs = each jobs jobs (λ job e. e)
   where
@@ -107,7 +107,7 @@ module _ (accounts : Accounts) (category : Categories) (different : AreDifferent
       (λ k. below_open accounts me p category different k
       && cleared_exactly_by_names category different open_guard both (λ c e. refl) k) ∙ and-true (is_free p)
 
-  -- what is a group's is made by its members, in no job
+  -- the members of a group make what is the group's, in no job
   pub group_range : (k : ℕ)
       → is_made_within (group_guard k)
       ≡ (is_free p && (is_some (user_number accounts p.user) && has_number (groups_of accounts p.user) k))
@@ -117,7 +117,7 @@ module _ (accounts : Accounts) (category : Categories) (different : AreDifferent
       ∙ and-true (among both (ReadsGroup k)) ∙ reads_group k) i)
       ∙ alike (is_free p) (is_some (user_number accounts p.user) && has_number (groups_of accounts p.user) k)
 
-  -- and what is scratch by a user who knows its jobs, and is in no other
+  -- a scratch label is in the range of exactly the processes of the user that know its jobs, and are in no other
   pub scratch_range : (jobs : List ProcName) (i : ℕ)
       → is_made_within (scratch_guard jobs i)
       ≡ (list_all (has jobs) p.chain && (is_number (user_number accounts p.user) i && list_all (knows p) jobs))

@@ -1,4 +1,4 @@
--- The moves of a kernel over objects that stand at addresses: one is added, one is changed, a tree is cut off.
+-- The changes of a kernel over objects at addresses: one is added, one is changed, a tree is cut off.
 use Rattle.std.proofs.Common.{◌≡◌, ◌≢◌, ℕ, ◌+◌, ◌<◌, Bool, true, false, List, ◌∷◌, Option, None, Some, inl, inr, arith, refl, sym, ap, ◌∙◌, subst}
 use Rattle.std.proofs.Common.{if◌then◌else◌}
 use Rattle.std.specs.Prelude.{is_some, option_map, option_and_then}
@@ -67,7 +67,7 @@ bare_container_there (Some o) = by o.kind
     by (Thread clearance) = refl
     by (Gate clearance entry) = refl
 
--- an object that is no container is what it is but for its links
+-- an object that is no container is the same without its links
 bare_kind : (label : Levels) (k : Kind Levels) (o : Object Levels) → kind_is_container o.kind ≡ false
     → Some (record { label = label; kind = kind_bare k }) ≡ Some o → Some (record { label = label; kind = k }) ≡ Some o
 bare_kind label (Segment bytes) o other e = e
@@ -87,7 +87,7 @@ there_mapped : (f : Object Levels → Object Levels) (o : Found) → is_present 
 there_mapped f None = refl
 there_mapped f (Some o) = refl
 
--- a number that is not there is none
+-- a number that is not there is None
 pub not_some : (x : Option ℕ) → is_some x ≡ false → x ≡ None
 not_some None e = refl
 not_some (Some x) e = absurd (true≢false e)
@@ -105,15 +105,15 @@ module _ {X : Type 0} (same_step : X → X → Bool) (decides : TestsEquality sa
   pub one_address : (a b : Address X) (q : ℕ) → naming.number a ≡ Some q → naming.number b ≡ Some q → a ≡ b
   one_address a b q at_a at_b = same_Some a b (sym (agrees.tree.addressed a q at_a) ∙ agrees.tree.addressed b q at_b)
 
-  -- what has the number of an address is what is asked for there
+  -- the object at the number of an address is the one that is asked for there
   pub at_number : (a : Address X) (q : ℕ) → naming.number a ≡ Some q → bare (s.objects q) ≡ asked a
   at_number a q e = ap (λ (o : Option ℕ). bare (option_and_then s.objects o)) (sym e) ∙ agrees.objects a
 
-  -- where nothing is asked for no number is
+  -- where nothing is asked for there is no number
   pub no_number : (a : Address X) → is_present (asked a) ≡ false → naming.number a ≡ None
   no_number a e = not_some (naming.number a) (agrees.named a ∙ e)
 
-  -- what stands at an address is as before, where the object of its number is
+  -- the object at an address is as before, where the object of its number is
   same_found : (new : Objects Levels) (b : Address X)
       → ((k : ℕ) → naming.number b ≡ Some k → bare (new k) ≡ bare (s.objects k))
       → bare (option_and_then new (naming.number b)) ≡ asked b
@@ -215,7 +215,7 @@ module _ {X : Type 0} (same_step : X → X → Bool) (decides : TestsEquality sa
       named = changed_named;
     }
 
-  -- What the container d links one step below it is taken away with all below it.
+  -- What the container d links one step below it is unlinked with all below it.
   module _ (new : State) (d o : ℕ) (a : Address X) (x : X) (cuts : CutsOff s d o new)
       (at_o : naming.number (x ∷ a) ≡ Some o) (at_d : naming.number a ≡ Some d) where
     abbrev pub left_naming : Naming X
@@ -274,7 +274,7 @@ agrees_same same_step s new naming asked other agrees alike same_objects same_ne
       named = λ a. agrees.named a ∙ ap is_present (alike a);
     }
 
--- where nothing stands under a number, the number has no address
+-- where a number has no object, it has no address
 pub no_address : {X : Type 0} (same_step : X → X → Bool) (s : State) (naming : Naming X) (asked : Address X → Found)
     → Agrees same_step s naming asked → (q : ℕ) → s.objects q ≡ None → naming.address q ≡ None
 no_address {X} same_step s naming asked agrees q e = by (naming.address q) refl

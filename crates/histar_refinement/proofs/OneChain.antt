@@ -1,4 +1,4 @@
--- A part of 'one flat state at most': the label of a process's container tells the jobs that the process is in, since they stand in order.
+-- A part of 'at most one flat state': the label of a process's container determines the jobs that it is in, since they are in order.
 use Rattle.std.proofs.Common.{◌≡◌, ◌≢◌, ℕ, ◌+◌, ◌<◌, ◌≤◌, ◌==◌, ◌⊎◌, inl, inr, Bool, true, false, ◌||◌, List, [], ◌∷◌, arith, refl, sym, ap, ◌∙◌}
 use Rattle.std.proofs.Common.{subst}
 use Rattle.std.specs.Prelude.{map}
@@ -79,7 +79,7 @@ module _ (category : Categories) (different : AreDifferent category) where
   revealed_secret false true e = let k : rank L1 ≡ rank L3 = ap rank e in absurd (omega (arith, k))
   revealed_secret false false e = refl
 
-  -- The label of the container of a process tells the jobs that it is in.
+  -- The label of the container of a process determines the jobs that it is in.
   pub one_chain : (me : ProcName) (p q : Process) → AreInOrder category p.chain → AreInOrder category q.chain
       → guard_label category (process_guard me p) ≡ guard_label category (process_guard me q) → p.chain ≡ q.chain
   one_chain me p q a b e = one_order p.chain q.chain a b (λ k. by k (eqb_tells k (category (WritesProcess me))))

@@ -1,4 +1,4 @@
--- A part of 'one flat state at most': the label of what is of a class tells the class.
+-- A part of 'at most one flat state': the label of what is of a class determines the class.
 use Rattle.std.proofs.Common.{◌≡◌, ℕ, inl, inr, Bool, true, false, List, [], ◌∷◌, Some, arith, refl, sym, ap, subst, ◌∙◌}
 use Rattle.std.specs.Prelude.{map}
 use Rattle.std.proofs.lemmas.Option.{same_Some}
@@ -30,7 +30,7 @@ use Rattle.histar_refinement.proofs.OneChain.{one_jobs}
 abbrev IsApart : Guard → Type 0
 IsApart g = (c : CategoryName) → among g.secret c ≡ true → among g.written c ≡ false
 
--- a level tells whether the category is written, and then whether it is secret
+-- a level determines whether the category is written, and then whether it is secret
 revealed_written : (s t w x : Bool) → guarded_level s w ≡ guarded_level t x → w ≡ x
 revealed_written s t true true e = refl
 revealed_written s t false false e = refl
@@ -71,7 +71,7 @@ module _ (category : Categories) (different : AreDifferent category) where
 
 -- ---- the guards of classes
 
--- how a class is guarded, with the number of its user or group
+-- the guard of a class, with the number of its user or group
 data View (accounts : Accounts) (c : Class) (g : Guard) : Type 0 where
   ViewPrivate : (name : Name) (i : ℕ) → user_number accounts name ≡ Some i → c ≡ Private name → g ≡ private_guard i → View accounts c g
   ViewReadable : (name : Name) (i : ℕ) → user_number accounts name ≡ Some i → c ≡ Readable name → g ≡ readable_guard i → View accounts c g
@@ -99,7 +99,7 @@ class_apart accounts c g (ViewScratch name jobs i numbered is like) = subst IsAp
 class_apart accounts c g (ViewGroup name k numbered is like) =
     subst IsApart (sym like) (λ d e. ap (among (WritesGroup k ∷ [])) (revealed_one (ReadsGroup k) d e))
 
--- the numbers that names tell
+-- the number in a name
 number_of : CategoryName → ℕ
 number_of OfBoot = 0
 number_of (ReadsUser i) = i
@@ -113,14 +113,14 @@ number_of (OfJob job) = 0
 clash : {x y : Bool} → x ≡ y → x ≡ true → y ≡ false → ⊥
 clash same is not = true≢false (sym is ∙ same ∙ not)
 
--- guards that are given by equations
+-- guards that equal others
 sets : {a b A B : Guard} → a ≡ A → b ≡ B → AreAlike a b → AreAlike A B
 sets like at alike = record {
   secret = λ c. ap (λ (g : Guard). among g.secret c) (sym like) ∙ alike.secret c ∙ ap (λ (g : Guard). among g.secret c) at;
   written = λ c. ap (λ (g : Guard). among g.written c) (sym like) ∙ alike.written c ∙ ap (λ (g : Guard). among g.written c) at;
 }
 
--- what a user reads by is told among jobs too
+-- the category by which a user reads is determined among jobs too
 user_read : (jobs : List ProcName) (i j : ℕ) → among (ReadsUser j ∷ map OfJob jobs) (ReadsUser i) ≡ true → i ≡ j
 unfolding number_of
 user_read jobs i j e = elim (or_cases (same_category (ReadsUser i) (ReadsUser j)) (among (map OfJob jobs) (ReadsUser i)) e) [
@@ -198,7 +198,7 @@ module _ (accounts : Accounts) (category : Categories) (different : AreDifferent
       (sym ((sets like at alike).secret (ReadsGroup i)) ∙ at_head (ReadsGroup i) [])) in
       is ∙ ap Grouped (one_group accounts n m j (x ∙ ap Some number) y) ∙ sym it
 
-  -- The label of what is of a class tells the class.
+  -- The label of what is of a class determines the class.
   pub one_class : (c e : Class) (a b : Guard) → class_guard accounts c ≡ Some a → class_guard accounts e ≡ Some b
       → guard_label category a ≡ guard_label category b → IsInOrder category c → IsInOrder category e → c ≡ e
   one_class c e a b of_c of_e labels order_c order_e =

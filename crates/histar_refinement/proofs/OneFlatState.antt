@@ -1,4 +1,4 @@
--- A state represents one flat state at most, for one naming of its categories.
+-- A state represents at most one flat state, for one naming of its categories.
 use Rattle.std.proofs.Common.{◌≡◌, ℕ, ◌+◌, ◌*◌, true, [], ◌∷◌, length, Option, None, Some, refl, sym, ap, ◌∙◌, subst}
 use Rattle.std.specs.Prelude.{is_some, option_map, option_and_then}
 use Rattle.std.specs.FinMap as map
@@ -45,9 +45,9 @@ use Rattle.histar_refinement.proofs.OneChain.{one_chain}
 use Rattle.histar_refinement.proofs.OneProcess.{one_user, one_held}
 use Rattle.histar_refinement.proofs.OneClass.{one_class}
 
--- ---- what an object tells of what stands at its path
+-- ---- from an object to what is at its path
 
--- the content that a kind stands for
+-- the content that a kind represents
 abbrev content_of : Kind Levels → Content
 content_of (Segment bytes) = File bytes
 content_of (Container links) = Dir
@@ -62,7 +62,7 @@ abbrev kind_there : Found → Kind Levels
 kind_there None = Segment []
 kind_there (Some o) = o.kind
 
--- ---- what an entry of a directory tells of the numbers
+-- ---- from an entry of a directory to the numbers
 
 -- the number of a file's segment, or of a directory's container
 abbrev first_number : Target → ℕ
@@ -122,7 +122,7 @@ module _ (accounts : Accounts) (s : State) (f g : Flat) (l : ObjectsMatch accoun
   abbrev LeadsAlike : Path → Type 0
   LeadsAlike q = leads_at f.files l.naming.number q ≡ leads_at g.files m.naming.number q
 
-  -- where a path leads to the same, the same stands there
+  -- where a path leads to the same numbers, the same file or directory is there
   same_at : (q : Path) → LeadsAlike q → get f.files q ≡ get g.files q
   same_at q alike = by (get f.files q) (get g.files q) refl refl alike
     where
@@ -153,7 +153,7 @@ module _ (accounts : Accounts) (s : State) (f g : Flat) (l : ObjectsMatch accoun
       (holds_directory accounts s g m d (listing_in t.0) dir_too (second_of_both m.naming.number d (m.naming.number (address_of d))
       (m.naming.number (Listing ∷ address_of d)) t.0 right))
 
-  -- so its entries lead to the same
+  -- the entries of a directory lead to the same numbers
   below : (d : Path) → LeadsAlike d → is_dir_at f d ≡ true → (n : Name) → LeadsAlike (n ∷ d)
   below d alike dir n =
       sym (get_directory f.files l.naming.number d n)
@@ -184,7 +184,7 @@ module _ (accounts : Accounts) (s : State) (f g : Flat) (l : ObjectsMatch accoun
           (ap (λ (o : Option Node). is_some_and o is_dir) (same_at d alike) ∙ parent_is_dir accounts s g m n d y j)
           n
 
-  -- the same stands at each path
+  -- the same file or directory is at each path
   pub same_files : (q : Path) → get f.files q ≡ get g.files q
   same_files q = same_at q (all_alike q)
 

@@ -1,4 +1,4 @@
--- A part of 'one flat state at most': the labels of a running process tell its user, the jobs that it is in and those that it holds.
+-- A part of 'at most one flat state': the labels of a running process determine its user, the jobs that it is in and those that it holds.
 use Rattle.std.proofs.Common.{◌≡◌, ℕ, inl, inr, Bool, true, false, List, Option, None, Some, arith, refl, sym, ap, ◌∙◌}
 use Rattle.std.specs.Prelude.{map, is_some, nat_eq}
 use Rattle.std.proofs.lemmas.Bool.Decides.{nat_tests}

@@ -1,4 +1,4 @@
--- What its thread's own label tells of a process: whose it is, and what it owns as its user.
+-- What its thread's own label shows of a process: whose it is, and what it owns as its user.
 use Rattle.std.proofs.Common.{◌≡◌, ℕ, zero, suc, ◌⊎◌, inl, inr, true, List, [], ◌∷◌, length, Option, None, Some, arith, refl, sym, ap, ◌∙◌}
 use Rattle.std.specs.Prelude.{is_some, map, slice_get}
 use Rattle.std.proofs.lemmas.Option.{none-some, same_Some}
@@ -30,7 +30,7 @@ name_at [] k u e = absurd (none-some u e)
 name_at (v ∷ users) zero u e = ap (λ (x : User). x.name) (same_Some v u e)
 name_at (v ∷ users) (suc k) u e = name_at users k u e
 
--- A declared user, or nobody, has the name that its number tells.
+-- A declared user, or nobody, has the name that its number determines.
 pub name_of_number : (accounts : Accounts) (name : Name)
     → (name ≡ nobody) ⊎ (is_some (user_number accounts name) ≡ true)
     → user_name accounts.users (or_zero (user_number accounts name)) ≡ name
@@ -61,13 +61,13 @@ module _ (accounts : Accounts) (category : Categories) (as_made : (c : CategoryN
   owned_numbers = owned_by_number (user_number accounts p.user) refl
 
 module _ (accounts : Accounts) (s : State) (f : Flat) (l : ObjectsMatch accounts s f) (me : ProcName) (p : Process) where
-  -- The own label of the thread of a process tells the number of its user.
+  -- The own label of the thread of a process shows the number of its user.
   pub own_user_is : user_of (rights_label l.category (thread_rights accounts me p)) (length accounts.users) ≡ or_zero (user_number accounts p.user)
   own_user_is =
       user_is (rights_label l.category (thread_rights accounts me p)) (length accounts.users)
       (or_zero (user_number accounts p.user)) (user_of_thread accounts s f l me p)
 
-  -- And it tells what the process owns as that user.
+  -- The own label of the thread shows what the process owns as that user.
   pub own_kin_is : user_name accounts.users (or_zero (user_number accounts p.user)) ≡ p.user
       → (kin_of accounts (rights_label l.category (thread_rights accounts me p))).owned
       ≡ map l.category (owned_as accounts p (user_number accounts p.user))

@@ -1,4 +1,4 @@
--- Two namings and two trees of processes tell the same of a process, and give its segment the same bytes, where they agree on what it tells.
+-- Two namings and two trees of processes give a process the same status, and its segment the same bytes, if they agree on what is in it.
 use Rattle.std.proofs.Common.{◌≡◌, ℕ, ◌∷◌, Option, map, ap}
 use Rattle.std.specs.Prelude.{is_some}
 use Rattle.std.specs.List.{filter, range_with_len}
@@ -27,7 +27,7 @@ alike_status processes others number numbers q x inside runner home status there
       (filter (λ k. there k i) (range_with_len 1 x.born));
 }
 
--- and so the same bytes
+-- they give the process segment the same bytes
 pub alike_bytes : (processes others : ProcName → Option Process) (number numbers : AddressNumbers) (q : ProcName) (x : Process)
     → number (Inside ∷ home_address q) ≡ numbers (Inside ∷ home_address q)
     → number (Runner ∷ Inside ∷ home_address q) ≡ numbers (Runner ∷ Inside ∷ home_address q)

@@ -1,4 +1,4 @@
--- The ranges of labels in a birth and in a login: what a process owns covers what it hands in.
+-- The ranges of labels in a birth and in a login: what a process owns covers the labels that it asks for.
 use Rattle.std.proofs.Common.{◌≡◌, ℕ, Bool, true, false, ◌||◌, max, List, [], ◌∷◌, ◌++◌, None, arith, refl, sym, ap, ◌∙◌}
 use Rattle.std.specs.Prelude.{map}
 use Rattle.std.specs.List.{list_all}
@@ -55,7 +55,7 @@ module _ (accounts : Accounts) (category : Categories) (different : AreDifferent
       passed_by_all (λ c. among grown.owned c || among grown.tainted c) (map OfJob p.chain)
       (λ c e. or_right (among grown.owned c) (among grown.tainted c) e)
 
-  -- its own container and process segment it modifies
+  -- the thread modifies its own container and process segment
   pub own_modified : (is_below (rights_label category grown) (guard_label category (process_guard me p)) ≡ true)
       × (is_below_raised (guard_label category (process_guard me p)) (rights_label category grown) ≡ true)
   own_modified = (
@@ -144,7 +144,7 @@ module _ (accounts : Accounts) (category : Categories) (different : AreDifferent
       (λ c e. in_first grown.owned grown.tainted c (owned_by_parent c e))
       (in_second grown.owned grown.tainted)))
 
-  -- its own label and clearance it may have again
+  -- the thread may have its own label and clearance again
   pub label_again : (is_below (rights_label category grown) (rights_label category own) ≡ true)
       × (is_below (rights_label category own) (rights_clearance category grown) ≡ true)
   label_again = (
@@ -225,11 +225,11 @@ module _ (accounts : Accounts) (category : Categories) (different : AreDifferent
   no_job_both : (job : ProcName) → among (gate.owned ++ []) (OfJob job) ≡ false
   no_job_both job = among-append gate.owned [] (OfJob job) ∙ ap (λ b. b || false) (no_job_given job)
 
-  -- a gate lets in who is in no job, and no one else
+  -- a gate lets in the processes that are in no job, and no others
   pub let_in : is_below (rights_label category mine) (rights_clearance category gate) ≡ is_free p
   let_in = capped_by_names category different mine (gate.owned ++ []) ∙ tainted_in_none accounts me p (gate.owned ++ []) no_job_both p.chain
 
-  -- behind it the thread may have what it owns and what the gate gives
+  -- after the gate the thread may have what it owns and what the gate gives
   abbrev pub behind : Rights
   behind = record { owned = mine.owned ++ gate.owned; tainted = mine.tainted }
 

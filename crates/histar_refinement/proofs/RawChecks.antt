@@ -1,4 +1,4 @@
--- What the kernel checks of a raw call on a container and what it links, where the caller and the objects are known.
+-- The kernel's checks of a raw call on a container and what it links, where the caller and the objects are known.
 use Rattle.std.proofs.Common.{◌≡◌, ℕ, ◌+◌, ◌&&◌, Bool, true, false, List, length, Option, None, Some, refl, ap, ◌∙◌}
 use Rattle.std.specs.Prelude.{min, not}
 use Rattle.std.specs.FinSet as set
@@ -35,7 +35,7 @@ module _ (s : State) (t : ℕ) (label clearance : Levels) (thread : s.objects t 
         orelse unless (is_container (holder i)) BadKind
         orelse unless (observes (thread i) (holder i)) Observe
 
-    -- a read in a container that may not be observed is refused so
+    -- a read in a container that may not be observed is refused Observe
     pub read_blocked : is_below_raised above label ≡ false → (o : ℕ) → check s t (Read d o) ≡ Some Observe
     read_blocked unseen o =
         ap (λ (c : Option Denied). ((c orelse unless (set.contains (links_in (s.objects d)) o) NoEntry)
@@ -66,7 +66,7 @@ module _ (s : State) (t : ℕ) (label clearance : Levels) (thread : s.objects t 
               ap (λ (c : Option Denied). c orelse unless (observes (s.objects t) (s.objects o)) Observe) segment_passes
               ∙ (λ i. unless (observes (thread i) (segment i)) Observe)
 
-          -- and written unless it may not be modified, or would hold too many bytes
+          -- what is linked is written unless it may not be modified, or would hold too many bytes
           pub write_check : (keep : ℕ) (bytes : List ℕ)
               → check s t (Write d o keep bytes)
               ≡ (unless (is_below label below && is_below_raised below label) Modify
@@ -78,19 +78,19 @@ module _ (s : State) (t : ℕ) (label clearance : Levels) (thread : s.objects t 
               ∙ (λ i. unless (modifies (thread i) (segment i)) Modify
               orelse unless (fits_segment (min keep (length (bytes_in (segment i))) + length bytes)) TooBig)
 
-        -- the label of what is linked is told, if it is no thread
+        -- the label of what is linked is returned, if it is no thread
         pub label_check : is_thread (s.objects o) ≡ false → check s t (LabelOf d o) ≡ None
         label_check other =
             ap (λ (c : Option Denied). c orelse unless (not (is_thread (s.objects o))) BadKind) link_passes
             ∙ ap (λ (b : Bool). unless (not b) BadKind) other
 
-        -- what is linked is taken away unless the container may not be modified
+        -- what is linked is unlinked unless the container may not be modified
         pub unlink_check : check s t (Unlink d o) ≡ unless (is_below label above && is_below_raised above label) Modify
         unlink_check =
             ap (λ (c : Option Denied). c orelse unless (modifies (s.objects t) (s.objects d)) Modify) link_passes
             ∙ (λ i. unless (modifies (thread i) (holder i)) Modify)
 
-      -- an object is made unless the container may not be modified, or a later test says no
+      -- an object is made unless the container may not be modified, or a later test refuses it
       pub making_check : no_making s t d ≡ unless (is_below label above && is_below_raised above label) Modify
       making_check =
           ap (λ (c : Option Denied). c orelse unless (modifies (s.objects t) (s.objects d)) Modify) container_passes

@@ -144,7 +144,7 @@ module _ (accounts : Accounts) (s : State) (f : Flat) (l : ObjectsMatch accounts
       directories_alike f.files after.files l.naming.number naming.number e e
       (λ n. leads_kept (n ∷ e) (out_child n e out (λ k. let tails : d ≡ e = cc in other tails)))
 
-  -- below the removed path nothing is asked for
+  -- nothing is asked for below the removed path
   no_process : (x : Step) (p : ProcName) → path_at (x ∷ home_address p) ≡ None → under same_step top (x ∷ home_address p) ≡ false
   no_process x p nothing = under_step (m ∷ d) x (home_address p) nothing ∙ under_home (m ∷ d) p
 
@@ -332,6 +332,6 @@ module _ (accounts : Accounts) (s : State) (f : Flat) (l : ObjectsMatch accounts
         | inr t ↦ dir_kept e t.1 (under_path (m ∷ d) e) refl is
       ]
 
-  -- and so the kernel represents the flat state without the entry
+  -- the kernel represents the flat state without the entry
   pub represents_removed : AreJobsGiven f → is_dir_at f d ≡ true → Represents accounts (with_segment_bytes mid N (spelling smaller)) after
   represents_removed given dir = record { matched = (matched_removed dir).0; jobs_given = jobs_removed given }

@@ -38,7 +38,7 @@ use Rattle.histar_refinement.proofs.Turning.{directory_stays, address_stays, sam
 use Rattle.histar_refinement.proofs.Turning.{inside_turned, path_turned, get_renamed}
 
 module _ (accounts : Accounts) (s : State) (f : Flat) (l : ObjectsMatch accounts s f) where
-  -- where nothing stands, nothing stands below
+  -- where nothing is at a path, nothing is below it
   pub nothing_under : (top : Path) → get f.files top ≡ None → (q : Path) → under_path top q ≡ true → get f.files q ≡ None
   nothing_under top absent [] u = elim (same_path_found top []) [
     | inl e ↦ ap (get f.files) (sym e.1) ∙ absent
@@ -49,7 +49,7 @@ module _ (accounts : Accounts) (s : State) (f : Flat) (l : ObjectsMatch accounts
     | inr t ↦ nothing_in accounts s f l m e (nothing_under top absent e (sym (ap (λ b. b || under_path top e) t.0) ∙ u))
   ]
 
-  -- so what stands is not below
+  -- a path that has a node is not below one that has none
   pub not_under : (top : Path) → get f.files top ≡ None → (q : Path) (there : Node) → get f.files q ≡ Some there → under_path top q ≡ false
   not_under top absent q there at = by (under_path top q) refl
     where
@@ -279,7 +279,7 @@ module _ (accounts : Accounts) (s : State) (f : Flat) (l : ObjectsMatch accounts
                 (l.listable (turned n k d e) (ap (λ (o : Option Node). is_some_and o is_dir) (sym (got e)) ∙ is))
           ]
 
-      -- and so the kernel represents the flat state with the entry renamed
+      -- the kernel represents the flat state with the entry renamed
       pub represents_renamed : AreJobsGiven f → IsTrue (is_name k) → is_dir_at f d ≡ true
           → Represents accounts (with_segment_bytes s N (spelling renamed_directory)) after
       represents_renamed given name dir = record { matched = (matched_renamed name dir).0; jobs_given = jobs_renamed given }

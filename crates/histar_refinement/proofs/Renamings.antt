@@ -1,4 +1,4 @@
--- A tree is called by other addresses: objects stand where a bijection of addresses leads.
+-- The objects of a tree get other addresses: those to which a bijection of addresses leads.
 use Rattle.std.proofs.Common.{◌≡◌, ◌≢◌, ◌⊎◌, ℕ, Bool, true, false, [], ◌∷◌, Option, None, Some, inl, inr, refl, sym, ap, ◌∙◌}
 use Rattle.std.specs.Prelude.{is_some, option_map}
 use Rattle.std.proofs.lemmas.Option.{none-some, same_Some}
@@ -33,7 +33,7 @@ module _ {X : Type 0} (same_step : X → X → Bool) (decides : TestsEquality sa
   root_stays : to [] ≡ []
   root_stays = ap to (sym root) ∙ there []
 
-  -- what is one step below an address is so after it is called anew
+  -- what is one step below an address is one step below its new address
   step_after : (y : X) (b : Address X) → (z : X) × (to (y ∷ b) ≡ z ∷ to b)
   step_after y b = by (to (y ∷ b)) refl
     where
@@ -72,7 +72,7 @@ module _ {X : Type 0} (same_step : X → X → Bool) (decides : TestsEquality sa
     held_then : (x : X) (a : Address X) → is_some (naming.number (from (x ∷ a))) ≡ true → is_some (naming.number (from a)) ≡ true
     held_then x a e = let one = below x a in agrees.tree.held one.0 (from a) (ap (λ (w : Address X). is_some (naming.number w)) (sym one.1) ∙ e)
 
-    -- The same objects stand at their new addresses.
+    -- The same objects are at their new addresses.
     pub agrees_renamed : Agrees same_step s (renamed_naming naming) (λ a. asked (from a))
     agrees_renamed = record {
       tree = record {

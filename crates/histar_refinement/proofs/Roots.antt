@@ -25,7 +25,7 @@ pub path_address : (q : Path) → path_at (address_of q) ≡ Some q
 path_address [] = refl
 path_address (n ∷ d) = ap (option_map (λ above. n ∷ above)) (path_address d)
 
--- by what stands above
+-- the path of an entry, by that of the address above
 named_by : (n : Name) (a : Address Step) (q : Path) (p : Option Path) → option_map (λ d. n ∷ d) p ≡ Some q
     → ((d : Path) → p ≡ Some d → a ≡ address_of d) → Named n ∷ a ≡ address_of q
 named_by n a q None e above = absurd (none-some q e)
@@ -73,7 +73,7 @@ address_process (Child n ∷ a) q e = child_by n a q (process_at a) e (address_p
 pub same_home : (p q : ProcName) → home_address p ≡ home_address q → p ≡ q
 same_home p q e = same_Some p q (sym (process_address p) ∙ ap process_at e ∙ process_address q)
 
--- an address where an internal container can stand
+-- the address of an internal container
 pub address_inside : (a : Address Step) (q : ProcName) → inside_at a ≡ Some q → a ≡ Inside ∷ home_address q
 address_inside [] q e = absurd (none-some q e)
 address_inside (Left k ∷ a) q e = absurd (none-some q e)
@@ -86,11 +86,11 @@ address_inside (Inside ∷ a) q e = ap (λ (b : Address Step). Inside ∷ b) (ad
 address_inside (Runner ∷ a) q e = absurd (none-some q e)
 address_inside (Child n ∷ a) q e = absurd (none-some q e)
 
--- lists of what a function gives
+-- equal functions give equal lists
 same_filter_map : {A B : Type 0} (f g : A → Option B) → ((x : A) → f x ≡ g x) → f ≡ g
 same_filter_map f g same = λ i x. same x i
 
--- a directory is told by the numbers at the addresses of paths
+-- a directory is determined by the numbers at the addresses of paths
 pub same_directory : (f : Flat) (number numbers : AddressNumbers)
     → ((p : Path) → number (address_of p) ≡ numbers (address_of p))
     → ((p : Path) → number (Listing ∷ address_of p) ≡ numbers (Listing ∷ address_of p))
@@ -126,12 +126,12 @@ same_directory f number numbers here listing d =
         (target_same p there)
 
 module _ (accounts : Accounts) (category other : Categories) (f g : Flat) (number numbers : AddressNumbers) where
-  -- what is asked for at the five kinds of places is the same
+  -- the flat states ask for the same at the five kinds of places
   pub record AsksAlike : Type 0 where
     pub at_path : (q : Path) → node_object accounts category (get f.files q) ≡ node_object accounts other (get g.files q)
     pub in_directory : (d : Path) → listing_at accounts category f number (Some d) ≡ listing_at accounts other g numbers (Some d)
 
-  -- and for a process
+  -- two flat states ask for the same at the addresses of a process
   pub record AsksAlikeOf (a : Address Step) : Type 0 where
     pub home : (q : ProcName) → a ≡ home_address q → home_object accounts category q (f.processes q) ≡ home_object accounts other q (g.processes q)
     pub status : (q : ProcName) → a ≡ Status ∷ home_address q
@@ -141,13 +141,13 @@ module _ (accounts : Accounts) (category other : Categories) (f g : Flat) (numbe
     pub runner : (q : ProcName) → a ≡ Runner ∷ Inside ∷ home_address q
         → thread_object accounts category q (f.processes q) ≡ thread_object accounts other q (g.processes q)
 
-  -- at one address alone
+  -- the flat states ask for the same at one address
   pub record AsksAlikeAt (a : Address Step) : Type 0 where
     pub at_path : (q : Path) → a ≡ address_of q → node_object accounts category (get f.files q) ≡ node_object accounts other (get g.files q)
     pub in_directory : (d : Path) → a ≡ Listing ∷ address_of d
         → listing_at accounts category f number (Some d) ≡ listing_at accounts other g numbers (Some d)
 
-  -- so it is at the address
+  -- two flat states ask for the same at the address
   pub asked_alike_at : (a : Address Step) → AsksAlikeAt a → AsksAlikeOf a
       → expected accounts category f number a ≡ expected accounts other g numbers a
   asked_alike_at [] files of = refl

@@ -1,4 +1,4 @@
--- Bytes are one process segment at most. And the numbers in what an entry leads to.
+-- Bytes spell at most one process segment. And the numbers in what an entry leads to.
 use Rattle.std.proofs.Common.{◌≡◌, ℕ, ◌^◌, ◌<◌, List, [], ◌∷◌, ◌++◌, get_or, take, drop, Option, Some, None, refl, sym, ap, ◌∙◌, append_assoc, arith}
 use Rattle.std.specs.Int.{w64, to_be_bytes, from_be_bytes}
 use Rattle.std.specs.List.{flat_map, AllByRecursion}
@@ -52,7 +52,7 @@ same_children (x ∷ a) (y ∷ b) l m e =
 abbrev tail_of : ProcessStatus → List ℕ
 tail_of t = t.born ∷ (to_be_bytes w64 t.internal ++ to_be_bytes w64 t.thread) ++ flat_map child_bytes t.children
 
--- the first two bytes tell whether the process runs
+-- the first two bytes show whether the process runs
 same_life : (a b : Option ℕ) (x y : List ℕ) → life_bytes a ++ x ≡ life_bytes b ++ y → (a ≡ b) × (x ≡ y)
 same_life None None x y e = (refl, ap (λ (l : List ℕ). drop 2 l) e)
 same_life None (Some n) x y e =
@@ -73,7 +73,7 @@ life_first t = by t.exited
     by None = refl
     by (Some n) = refl
 
--- bytes are one status at most
+-- bytes spell at most one status
 pub same_status : (bytes : List ℕ) (a b : ProcessStatus) → IsStatus bytes a → IsStatus bytes b → a ≡ b
 same_status bytes a b l m =
     let e = same_life a.exited b.exited (tail_of a) (tail_of b) (sym (life_first a) ∙ sym l.spelled ∙ m.spelled ∙ life_first b) in

@@ -17,7 +17,7 @@ use Rattle.histar_layout.proofs.Declared.{equal_names, equal_tested, placed, pla
 use Rattle.histar_layout.proofs.Members.{same_truth, first_of, second_of, mapped_from}
 use Rattle.histar_refinement.specs.Accounts.{AreAccounts}
 
--- who is declared is not nobody
+-- a declared user is not nobody
 pub not_nobody : (accounts : Accounts) → AreAccounts accounts → (name : Name) (i : ℕ) → user_number accounts name ≡ Some i → same name nobody ≡ false
 not_nobody accounts ok name i is = by (same name nobody) refl
   where

@@ -48,7 +48,7 @@ use Rattle.histar_refinement.proofs.Steps.{step_tests_equality}
 use Rattle.histar_refinement.proofs.Uses.{keep_node, keep_listing, keep_process_label, keep_home, keep_inside, keep_runner, keep_order}
 use Rattle.histar_refinement.proofs.Birth.{born_state, born_naming, agrees_born, number_kept, asks_born, gone_born}
 
--- an address with no path is no path's
+-- an address with no path is the address of no path
 not_path : (p : Path) (a : Address Step) → path_at a ≡ None → a ≢ address_of p
 not_path p a none e = none-some p (sym none ∙ ap path_at e ∙ path_address p)
 
@@ -65,7 +65,7 @@ kind_of (Inside ∷ a) = 6
 kind_of (Runner ∷ a) = 7
 kind_of (Child n ∷ a) = 8
 
--- what stands above an address
+-- the address above an address
 above : Address Step → Address Step
 above [] = []
 above (x ∷ a) = a
@@ -76,7 +76,7 @@ module _ (accounts : Accounts) (s : State) (f : Flat) (l : ObjectsMatch accounts
     (chain_ordered : AreInOrder l.category chain)
     (chain_free : is_some (user_number accounts p.user) ≡ false → chain ≡ [])
     (C S : ℕ) (at_home : l.naming.number (home_address me) ≡ Some C) (at_status : l.naming.number (Status ∷ home_address me) ≡ Some S) where
-  -- the child, and its parent then
+  -- the child, and its parent after the birth
   abbrev pub child : ProcName
   child = (p.born + 1) ∷ me
 
@@ -89,7 +89,7 @@ module _ (accounts : Accounts) (s : State) (f : Flat) (l : ObjectsMatch accounts
   abbrev pub after : Flat
   after = with_child f me p chain
 
-  -- the processes then
+  -- the processes after the birth
   pub child_not_me : child ≢ me
   child_not_me e = let k : length child ≡ length me = ap length e in absurd (omega (arith, k))
 
@@ -196,7 +196,7 @@ module _ (accounts : Accounts) (s : State) (f : Flat) (l : ObjectsMatch accounts
   abbrev old_asked : Address Step → Found
   old_asked = expected accounts l.category f l.naming.number
 
-  -- nothing stands where the child is to stand, and its parent's container stands
+  -- the address of the child has no object yet, and its parent's container is there
   pub holder : is_container (old_asked (home_address me)) ≡ true
   holder =
       ap is_container (asked_home accounts l.category f l.naming.number me)
@@ -223,7 +223,7 @@ module _ (accounts : Accounts) (s : State) (f : Flat) (l : ObjectsMatch accounts
       (status_object accounts l.category (bytes_for accounts l.category f l.naming.number child o) child o))
       no_child
 
-  -- the numbers after the birth don't hang on what is written
+  -- the numbers after the birth don't depend on what is written
   abbrev pub naming : Naming Step
   naming =
       born_naming s l.naming old_asked l.agrees me (p.born + 1) C S at_home at_status holder no_home no_inside no_runner
@@ -330,7 +330,7 @@ module _ (accounts : Accounts) (s : State) (f : Flat) (l : ObjectsMatch accounts
       no_child_of : (k : ℕ) → k ∷ q ≢ child
       no_child_of k e = not_me (cc)
 
-  -- what is asked for then
+  -- what is asked for after the birth
   abbrev wish : Address Step → Found
   wish = expected accounts category after naming.number
 
@@ -343,7 +343,7 @@ module _ (accounts : Accounts) (s : State) (f : Flat) (l : ObjectsMatch accounts
         ∙ keep_listing accounts f l.category category keeps d (spelling (directory_of f.files naming.number d)) (get f.files d) refl;
   }
 
-  -- what stands for a process but its process segment, where the child's is left out
+  -- the object of a process is as before, except its process segment and what is the child's
   object_alike : (object : Categories → ProcName → Option Process → Found)
       → ((q : ProcName) → object l.category q (f.processes q) ≡ object category q (f.processes q))
       → object category me (Some p) ≡ object category me (Some parent) → (q : ProcName) → q ≢ child
@@ -421,7 +421,7 @@ module _ (accounts : Accounts) (s : State) (f : Flat) (l : ObjectsMatch accounts
       wish_own wish_other)
       (λ q. refl) refl
 
-  -- a job that someone knows then was used, and which names are used then
+  -- the jobs that some process knows after the birth were used before, and the names that are used then
   known_then : (job x : ProcName) (px : Process) → after.processes x ≡ Some px → knows px job ≡ true → IsUsed accounts f (OfJob job)
   known_then job x px at known = elim (which x) [
     | inl e ↦
@@ -471,7 +471,7 @@ module _ (accounts : Accounts) (s : State) (f : Flat) (l : ObjectsMatch accounts
       (λ k. none-some q (ap (boot_number (length accounts.users)) k ∙ e))
       (λ k. none-some q (ap (boot_number (length accounts.users)) k ∙ e)) ∙ l.as_booted a q e
 
-  -- names that were given stay so
+  -- numbers that were given stay given
   higher : (k : ℕ) → was_given (Some p) k ≡ true → was_given (Some parent) k ≡ true
   higher k e =
       let low : nat_le 1 k ≡ true = first_of (nat_le 1 k) (nat_le k p.born) e in

@@ -296,7 +296,7 @@ module _ (accounts : Accounts) (some_user : 0 < length accounts.users) where
       rights o = record { owned = ReadsProcess [] ∷ WritesProcess [] ∷ owned_as accounts first_process o ++ map OfJob []; tainted = map OfJob [] }
 
   module _ (no_one : user_number accounts nobody ≡ None) (room : (start_state accounts).next_object ≤ greatest) where
-    -- what stands at each address is what the flat state asks for there
+    -- the object at each address is what the flat state asks for there
     start_expected : (a : Address Step) → bare (objects_at objects (start_naming n) a) ≡ wish a
     start_expected [] = refl
     start_expected (Left q ∷ a) = found_if [] a (cond (is_left n q) (Some q) None) (left_by_boot accounts q) (left_agrees q (is_left n q) refl)

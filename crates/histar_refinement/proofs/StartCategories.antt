@@ -1,4 +1,4 @@
--- A naming of categories with the numbers that boot gave: each other name has a number of its own behind these.
+-- A naming of categories with the numbers that boot gave: each other name has a number of its own above these.
 use Rattle.std.proofs.Common.{◌≡◌, ℕ, zero, suc, ◌+◌, ◌*◌, ◌<◌, ◌≤◌, inl, inr, Bool, true, false, ◌&&◌, cond, List, [], ◌∷◌, length, Option, None}
 use Rattle.std.proofs.Common.{Some, arith, refl, sym, ap, ◌∙◌, subst}
 use Rattle.std.specs.Prelude.{nat_le, unwrap_or}
@@ -77,7 +77,7 @@ module _ (n m : ℕ) where
     on_reads_own : (q : ℕ) → q ≡ 4 + 2 * n + 2 * m → Booted (ReadsProcess []) q
     on_writes_own : (q : ℕ) → q ≡ 5 + 2 * n + 2 * m → Booted (WritesProcess []) q
 
-  -- it is none of those behind
+  -- a number that boot gave is below those of the other names
   booted_below : (c : CategoryName) (q : ℕ) → Booted c q → IsMade (6 + 2 * n + 2 * m) q
   booted_below c p (on_boot q e) = (omega (arith, e), omega (arith, e))
   booted_below c p (on_reads_user i q r e) = (omega (arith, e, r), omega (arith, e, r))
@@ -87,7 +87,7 @@ module _ (n m : ℕ) where
   booted_below c p (on_reads_own q e) = (omega (arith, e), omega (arith, e))
   booted_below c p (on_writes_own q e) = (omega (arith, e), omega (arith, e))
 
-  -- and each number was given to one name
+  -- each number that boot gave was given to one name
   one_booted : (c d : CategoryName) (q : ℕ) → Booted c q → Booted d q → c ≡ d
   one_booted c d p (on_boot q e) (on_boot o u) = refl
   one_booted c d p (on_boot q e) (on_reads_user j o t u) = absurd (omega (arith, e, u, t))
@@ -172,7 +172,7 @@ module _ (accounts : Accounts) where
   booted_is (WritesProcess (x ∷ p)) q e = absurd (none-some q e)
   booted_is (OfJob job) q e = absurd (none-some q e)
 
-  -- the naming at the start: boot's numbers, and behind them one for each other name
+  -- the naming at the start: boot's numbers, and above them one for each other name
   abbrev pub start_category : Categories
   start_category c = unwrap_or (boot_category accounts c) (6 + 2 * n + 2 * m + code c)
 

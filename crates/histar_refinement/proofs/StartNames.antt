@@ -1,4 +1,4 @@
--- The addresses of what stands at the start, where there are n users.
+-- The addresses of the objects at the start, where there are n users.
 use Rattle.std.proofs.Common.{◌≡◌, ℕ, zero, suc, ◌+◌, ◌*◌, ◌-◌, ◌≤◌, ◌⊎◌, inl, inr, Bool, true, false, [], ◌∷◌, Option, None, Some, if◌then◌else◌}
 use Rattle.std.proofs.Common.{refl, sym, ap, ◌∙◌, subst, arith}
 use Rattle.std.specs.Prelude.{nat_le}
@@ -49,7 +49,7 @@ module _ (n : ℕ) where
     placed : (a : Address Step) → Place a q → start_address q ≡ Some a → Seen q
     unplaced : IsFree q → start_address q ≡ None → Seen q
 
-  -- what the numbers behind those that boot left have
+  -- the addresses of the numbers after those that boot left
   later_at : (j q : ℕ) → q ≡ 4 + 2 * n + j → start_address q ≡ later_address j
   later_at j zero e = absurd (omega arith)
   later_at j (suc zero) e = absurd (omega arith)
@@ -58,7 +58,7 @@ module _ (n : ℕ) where
       let more : nat_le k (2 * n) ≡ false = grind (arith, nat_tests) in
       ap (λ b. if b then Some (Left (suc (suc (suc k))) ∷ []) else later_address (k - (1 + 2 * n))) more ∙ ap later_address (omega arith)
 
-  -- they are seen to have an address or none
+  -- those numbers have an address or none
   seen_later : (j q : ℕ) → q ≡ 4 + 2 * n + j → start_address q ≡ later_address j → Seen q
   seen_later zero q e h = placed (Slash ∷ []) (on_slash q (omega arith)) h
   seen_later (suc zero) q e h = placed (Listing ∷ Slash ∷ []) (on_listing q (omega arith)) h
@@ -72,7 +72,7 @@ module _ (n : ℕ) where
   left_from : (k : ℕ) → k ≤ 2 * n → is_left n (suc (suc (suc k))) ≡ true
   left_from k h = grind (arith, nat_tests)
 
-  -- each number is seen to have an address or none
+  -- each number has an address or none
   pub seen : (q : ℕ) → Seen q
   seen zero = unplaced (inl refl) refl
   seen (suc zero) = placed [] (on_root 1 refl) refl

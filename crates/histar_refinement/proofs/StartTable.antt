@@ -1,4 +1,4 @@
--- What stands at each number at the start, where there are these users and groups.
+-- The object at each number at the start, where there are these users and groups.
 use Rattle.std.proofs.Common.{◌≡◌, ℕ, zero, suc, ◌+◌, ◌*◌, ◌-◌, ◌≤◌, true, List, [], ◌∷◌, ◌++◌, length, get_or, drop, None, Some, refl, sym, ap, ◌∙◌}
 use Rattle.std.proofs.Common.{subst, arith, append_assoc}
 use Rattle.std.proofs.lemmas.List.{length-append}
@@ -18,20 +18,20 @@ use Rattle.histar_login.proofs.Stages.{length-numbered}
 use Rattle.histar_refinement.proofs.StartNumbers.{is_left}
 use Rattle.histar_refinement.specs.Agrees.{bare}
 
--- something stands there that is no container
+-- an object that is no container
 pub record IsPlain (found : Found) : Type 0 where
   pub there : is_present found ≡ true
   pub bared : bare found ≡ found
   pub linkless : links_in found ≡ set.empty
 
--- what stands behind the front of a table
+-- the objects after the front of a table
 behind : (front back : List Found) (k : ℕ) → get_or (front ++ back) (length front + k) None ≡ get_or back k None
 behind [] back k = let same : 0 + k ≡ k = omega arith in ap (λ j. get_or back j None) same
 behind (x ∷ front) back k =
     let next : length (x ∷ front) + k
     ≡ suc (length front + k) = omega arith in ap (λ j. get_or (x ∷ front ++ back) j None) next ∙ behind front back k
 
--- the users' passwords and gates are no containers, and a segment behind them is none
+-- the users' passwords and gates are no containers, and a segment after them is none
 users_plain : (accounts : Accounts) (i : ℕ) (users : List User) (label : Levels) (bytes : List ℕ) (back : List Found) (k : ℕ) → k ≤ 2 * length users
     → IsPlain (get_or (numbered (of_user accounts) i users ++ segment label bytes ∷ back) k None)
 users_plain accounts i [] label bytes back zero h = record { there = refl; bared = refl; linkless = refl }
@@ -45,11 +45,11 @@ module _ (accounts : Accounts) where
   abbrev pub n : ℕ
   n = length accounts.users
 
-  -- and how many users and groups together
+  -- the number of users and groups together
   abbrev pub owners : ℕ
   owners = declared accounts
 
-  -- what stands behind the root container
+  -- the objects after the root container
   from_users : (k : ℕ)
       → object_at (start_objects accounts) (suc (suc (suc k)))
       ≡ get_or (of_users accounts accounts.users ++ (of_directory n accounts ++ of_process n owners)) k None
@@ -57,7 +57,7 @@ module _ (accounts : Accounts) where
       ap (λ (l : List Found). get_or l k None)
       (append_assoc (of_users accounts accounts.users) (of_directory n accounts) (of_process n owners))
 
-  -- what stands behind the users' passwords and gates
+  -- the objects after the users' passwords and gates
   last_at : (k q : ℕ) → q ≡ 3 + 2 * n + k → object_at (start_objects accounts) q ≡ get_or (of_directory n accounts ++ of_process n owners) k None
   last_at k q e =
       let is : q ≡ suc (suc (suc (length (of_users accounts accounts.users) + k))) = omega (arith, length-numbered accounts 1 accounts.users) in
@@ -105,11 +105,11 @@ module _ (accounts : Accounts) where
       ≡ segment (written_by (own_write_category owners)) (first_process_bytes (7 + 2 * n) (8 + 2 * n))
   status_agrees = last_at 6 _ (omega arith)
 
-  -- nothing stands behind the process segment
+  -- there is no object after the process segment
   pub none_behind : (q : ℕ) → 10 + 2 * n ≤ q → object_at (start_objects accounts) q ≡ None
   none_behind q h = last_at (suc (suc (suc (suc (suc (suc (suc (q - (10 + 2 * n))))))))) q (omega arith)
 
-  -- so many objects stand at the start
+  -- the number of objects at the start
   pub length_start : length (start_objects accounts) ≡ 9 + 2 * n
   length_start =
       omega (

@@ -1,4 +1,4 @@
--- The objects at the start are a tree, where each stands at its address.
+-- The objects at the start are a tree, where each is at its address.
 use Rattle.std.proofs.Common.{◌≡◌, ◌≢◌, ℕ, zero, suc, ◌+◌, ◌*◌, ◌<◌, ◌≤◌, ◌||◌, ◌&&◌, ◌⊎◌, inl, inr, Bool, true, false, List, [], ◌∷◌, ◌++◌, length}
 use Rattle.std.proofs.Common.{Option, None, Some, refl, sym, ap, ◌∙◌, arith}
 use Rattle.std.specs.Prelude.{nat_eq, nat_le, nat_lt, is_some, option_and_then}
@@ -29,7 +29,7 @@ use Rattle.histar_refinement.proofs.StartTable.{none_behind, length_start}
 abbrev pub start_naming : ℕ → Naming Step
 start_naming n = record { address = start_address n; number = start_number n }
 
--- a number is one of those in a row, or one of those behind it
+-- a number is in a range with some numbers after it exactly where it is in the range or among these
 in_row : (a n c : ℕ) (ks : List ℕ)
     → list_any (λ y. nat_eq y c) (range_with_len a n ++ ks)
     ≡ ((nat_le a c && nat_lt c (a + n)) || list_any (λ y. nat_eq y c) ks)
@@ -44,7 +44,7 @@ in_row a (suc n) c ks =
     ap (λ b. nat_eq a c || b) (in_row (a + 1) n c ks) ∙ one (list_any (λ y. nat_eq y c) ks)
 
 module _ (n : ℕ) where
-  -- what has an address has this one
+  -- the address is this one
   abbrev is_this : Address Step → Option (Address Step) → Bool
   is_this here None = false
   is_this here (Some b) = same_steps same_step here b
@@ -67,7 +67,7 @@ module _ (n : ℕ) where
           ∙ number_of_place n c b (place_of_address n c b e) in
           other (same_Some m c numbers))
 
-  -- a test of addresses tells what is one step below an address, where it does for those that have a number
+  -- a test of addresses decides what is one step below an address, if it does for those that have a number
   child_is : (a : Address Step) (t : Option (Address Step) → Bool) → t None ≡ false
       → ((b : Address Step) (q : ℕ) → Place n b q → t (Some b) ≡ is_one_below same_step a (Some b))
       → (c : ℕ) → t (start_address n c) ≡ is_one_below same_step a (start_address n c)
@@ -76,7 +76,7 @@ module _ (n : ℕ) where
     | unplaced f e ↦ ap t e ∙ nowhere ∙ sym (ap (is_one_below same_step a) e)
   ]
 
-  -- nothing stands below what is none of the four containers
+  -- nothing is below an address that is none of the four containers
   no_child : (a : Address Step) → same_steps same_step a [] ≡ false → same_steps same_step a (Slash ∷ []) ≡ false
       → same_steps same_step a process_address ≡ false → same_steps same_step a inside_address ≡ false
       → (c : ℕ) → false ≡ is_one_below same_step a (start_address n c)
@@ -92,7 +92,7 @@ module _ (n : ℕ) where
       at b p (on_runner q e) = sym not_inside
       at b p (on_status q e) = sym not_home
 
-  -- a container that links one number links what stands below it, where this is the number of its one child
+  -- a container that links one number links what is below it, where this is the number of its one child
   one_link : (m : ℕ) (a here : Address Step) → Place n here m
       → ((b : Address Step) (q : ℕ) → Place n b q → same_steps same_step here b ≡ is_one_below same_step a (Some b))
       → (c : ℕ) → set.contains (set.from_list {R = nat_cmp} (m ∷ [])) c ≡ is_one_below same_step a (start_address n c)
@@ -187,7 +187,7 @@ module _ (n : ℕ) where
     | unplaced f e ↦ e
   ]
 
-  -- an address that has a number lies below one that has a number
+  -- an address that has a number is below one that has a number
   held_place : (q : ℕ) (x : Step) (a : Address Step) → Place n (x ∷ a) q → is_some (start_number n a) ≡ true
   held_place p x a (on_left q e) = refl
   held_place p x a (on_slash q e) = refl
@@ -197,7 +197,7 @@ module _ (n : ℕ) where
   held_place p x a (on_runner q e) = refl
   held_place p x a (on_status q e) = refl
 
-  -- what has a number lies below what has one
+  -- an address with a number at the start is below another with one
   start_held : (x : Step) (a : Address Step) → is_some (start_number n (x ∷ a)) ≡ true → is_some (start_number n a) ≡ true
   start_held x a h = elim (start_number n (x ∷ a)) as (λ o. start_number n (x ∷ a) ≡ o → is_some o ≡ true → is_some (start_number n a) ≡ true) [
     | None ↦ λ e k. absurd cc
@@ -213,7 +213,7 @@ module _ (accounts : Accounts) where
   abbrev objects : Objects Levels
   objects = object_at (start_objects accounts)
 
-  -- nothing stands where there is no address
+  -- there is no object where there is no address
   free_none : (q : ℕ) → IsFree n q → objects q ≡ None
   free_none q (inl e) = ap objects e
   free_none q (inr (inl e)) = ap objects e
@@ -226,16 +226,16 @@ module _ (accounts : Accounts) where
     | unplaced f e ↦ free_none q f ∙ sym (ap (wanted (objects_at objects (start_naming n))) e)
   ]
 
-  -- what is equal to an object has its links
+  -- equal objects have equal links
   same_links : (q c : ℕ) (found : Found) (t : Bool) → objects q ≡ found → set.contains (links_in found) c ≡ t
       → set.contains (links_in (objects q)) c ≡ t
   same_links q c found t is h = ap (λ (x : Found). set.contains (links_in x) c) is ∙ h
 
-  -- no links
+  -- an object without links links nothing
   no_links : (q c : ℕ) → links_in (objects q) ≡ set.empty → set.contains (links_in (objects q)) c ≡ false
   no_links q c h = ap (λ s. set.contains s c) h ∙ set.contains-empty nat_cmp c
 
-  -- an object links exactly what stands one step below it
+  -- an object links exactly what is one step below it
   place_links : (q c : ℕ) (a : Address Step) → Place n a q → set.contains (links_in (objects q)) c ≡ is_one_below same_step a (start_address n c)
   place_links p c b (on_root q e) = same_links q c _ _ (ap objects e) (root_links n c)
   place_links p c b (on_left q e) = no_links q c (left_plain accounts q e).linkless ∙ no_child n (Left q ∷ []) refl refl refl refl c
@@ -252,7 +252,7 @@ module _ (accounts : Accounts) where
       no_links q c (ap links_in (ap objects e ∙ status_agrees accounts))
       ∙ no_child n (Status ∷ process_address) refl refl refl refl c
 
-  -- something stands where there is an address
+  -- there is an object where there is an address
   pub place_there : (q : ℕ) (a : Address Step) → Place n a q → is_present (objects q) ≡ true
   place_there p b (on_root q e) = ap is_present (ap objects e)
   place_there p b (on_left q e) = (left_plain accounts q e).there
@@ -263,7 +263,7 @@ module _ (accounts : Accounts) where
   place_there p b (on_runner q e) = ap is_present (ap objects e ∙ runner_agrees accounts)
   place_there p b (on_status q e) = ap is_present (ap objects e ∙ status_agrees accounts)
 
-  -- the objects at the start are laid
+  -- the objects at the start match their naming
   pub start_matched : MatchesNaming same_step objects (start_state accounts).next_object (objects_at objects (start_naming n)) (start_naming n)
   start_matched = record {
     as_expected = start_as_expected;

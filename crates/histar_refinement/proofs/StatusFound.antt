@@ -62,7 +62,7 @@ module _ (number : AddressNumbers) (me : ProcName) (test : ℕ → Bool) (n : �
       listed_step passes a k low (test a) refl (eqb_tells a n)
       (λ more. listed_there passes (a + 1) k more (omega (arith, high)))
 
-  -- and what is listed passes it
+  -- what is listed passes the test
   back_step : (x : Listed) (a k : ℕ) (b : Bool) → test a ≡ b → IsTested a
       → (listed_from (a + 1) k ≡ Some x → (test n ≡ true) × (listed_by number me n ≡ x)) → one_more a k b ≡ Some x
       → (test n ≡ true) × (listed_by number me n ≡ x)
@@ -101,7 +101,7 @@ module _ (accounts : Accounts) (s : State) (f : Flat) (l : ObjectsMatch accounts
       by None = refl
       by (Some p) = refl
 
-  -- and its thread has one where it runs
+  -- the thread of a process that runs has a number
   pub numbered_runner : (me : ProcName) (p : Process) → f.processes me ≡ Some p → p.exited ≡ None
       → is_some (l.naming.number (Runner ∷ Inside ∷ home_address me)) ≡ true
   numbered_runner me p here running =
@@ -145,7 +145,7 @@ module _ (accounts : Accounts) (s : State) (f : Flat) (l : ObjectsMatch accounts
             ∙ (λ i. Some (record { number = n; container = or_zero (home i); segment = or_zero (status i) })),
       )
 
-  -- And they lead to no others.
+  -- The process segments lead to no other numbers.
   pub status_back : (me : ProcName) (c g : ℕ) → IsStatusSegment accounts s me c g
       → (p : Process) × (f.processes me ≡ Some p) × (l.naming.number (home_address me) ≡ Some c)
       × (l.naming.number (Status ∷ home_address me) ≡ Some g)
@@ -185,7 +185,7 @@ module _ (accounts : Accounts) (s : State) (f : Flat) (l : ObjectsMatch accounts
         ap or_zero runner,
       )
 
-  -- And what is found is the thread of a process that runs.
+  -- The thread that is found is that of a process that runs.
   pub thread_back : (me : ProcName) (t : ℕ) → IsThreadOf accounts s me t
       → (p : Process) × (f.processes me ≡ Some p) × (p.exited ≡ None)
       × (l.naming.number (Runner ∷ Inside ∷ home_address me) ≡ Some t)

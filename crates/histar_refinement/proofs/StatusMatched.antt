@@ -1,4 +1,4 @@
--- In a state that is represented, the segment of a process is the status that the naming tells.
+-- In a state that is represented, the segment of a process holds the status that the naming determines.
 use Rattle.std.proofs.Common.{◌≡◌, ℕ, ◌^◌, ◌<◌, List, [], ◌∷◌, map, Option, None, Some, inl, inr, refl, sym, ap, ◌∙◌, arith}
 use Rattle.std.specs.Prelude.{option_and_then}
 use Rattle.std.specs.List.{AllByRecursion}
@@ -36,7 +36,7 @@ module _ (accounts : Accounts) (s : State) (f : Flat) (l : ObjectsMatch accounts
   each_small me [] = tt
   each_small me (n ∷ ns) = ((number_small (home_address (n ∷ me)), number_small (Status ∷ home_address (n ∷ me))), each_small me ns)
 
-  -- the process segment is the status that the naming tells
+  -- the process segment holds the status that the naming determines
   pub holds_status : (me : ProcName) (p : Process) (g : ℕ) → f.processes me ≡ Some p → l.naming.number (Status ∷ home_address me) ≡ Some g
       → IsStatus (bytes_in (s.objects g)) (status_by f.processes l.naming.number me p)
   holds_status me p g is at = record {

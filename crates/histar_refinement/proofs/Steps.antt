@@ -1,4 +1,4 @@
--- The test of steps tells equal steps from different ones.
+-- The test of steps distinguishes equal steps from different ones.
 use Rattle.std.specs.Prelude.{◌≡◌, ℕ, zero, suc, List, [], ◌∷◌, refl}
 use Rattle.std.proofs.Common.{ap, sym, ◌∙◌, inl, inr}
 use Rattle.std.proofs.lemmas.Bool.{and_from, and_left, and_right}
@@ -35,7 +35,7 @@ join_split Inside = refl
 join_split Runner = refl
 join_split (Child n) = refl
 
--- whether two steps are the same tells whether they are equal
+-- the test of steps decides equality
 pub step_tests_equality : TestsEquality same_step
 step_tests_equality x y = elim (eqb_tells (split_step x).0 (split_step y).0) [
   | inl kind ↦ elim (same_name_found (split_step x).1 (split_step y).1) [

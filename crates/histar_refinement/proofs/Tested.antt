@@ -1,4 +1,4 @@
--- The tests of the kernel on labels that are told by the names of their categories.
+-- The tests of the kernel on labels that are given by the names of their categories.
 use Rattle.std.proofs.Common.{◌≡◌, ℕ, true, false, ◌&&◌, ◌||◌, List, ◌++◌, sym, ap, ◌∙◌, subst}
 use Rattle.std.specs.Prelude.{map}
 use Rattle.std.specs.List.{list_all}
@@ -16,7 +16,7 @@ abbrev pub NamesApart : List CategoryName → List CategoryName → Type 0
 NamesApart names others = (c : CategoryName) → among names c ≡ true → among others c ≡ false
 
 module _ (category : Categories) (different : AreDifferent category) where
-  -- so no number is
+  -- then no number is in both lists
   numbers_apart : (names others : List CategoryName) → NamesApart names others → AreApart (map category names) (map category others)
   numbers_apart names others apart q e =
       let there = named_in category names q e in
@@ -47,7 +47,7 @@ module _ (category : Categories) (different : AreDifferent category) where
       (all_names category different (is_in (map category (r.owned ++ r.tainted))) (among (r.owned ++ r.tainted))
       (is_in_names category different (r.owned ++ r.tainted)) g.secret ∙ all)
 
-  -- and no other, where no secret category is a written one
+  -- what is guarded is below no other clearance, where no secret category is a written one
   pub cleared_exactly_by_names : (g : Guard) (names : List CategoryName) → NamesApart g.secret g.written
       → is_below (guard_label category g) (cleared_at (map category names)) ≡ list_all (among names) g.secret
   cleared_exactly_by_names g names apart =
@@ -65,7 +65,7 @@ module _ (category : Categories) (different : AreDifferent category) where
       (is_in_names category different other.tainted) r.tainted ∙ tainted)
       (all_names category different (is_in (map category r.owned)) (among r.owned) (is_in_names category different r.owned) other.owned ∙ owned)
 
-  -- they are below a clearance exactly where it has all that they have at 3
+  -- rights are below a clearance exactly where it has all that they have at 3
   pub capped_by_names : (r : Rights) (names : List CategoryName)
       → is_below (rights_label category r) (cleared_at (map category names)) ≡ list_all (among names) r.tainted
   capped_by_names r names = owning_cleared (map category r.owned) (map category r.tainted) (map category names)
@@ -104,6 +104,6 @@ pub clearance_made : (next : ℕ) (category : Categories) (names : List Category
     → is_made next (cleared_at (map category names)) ≡ true
 clearance_made next category names made = cleared_made next (map category names) (numbers_made next category names made)
 
--- and what is guarded owns nothing
+-- what is guarded owns nothing
 pub guard_owns_nothing : (category : Categories) (g : Guard) → has_star (guard_label category g) ≡ false
 guard_owns_nothing category g = guarded_owns_nothing (map category g.secret) (map category g.written)

@@ -39,7 +39,7 @@ module _ {X : Type 0} (eq : List X → List X → Bool)
   as_long [] = refl
   as_long (x ∷ a) = omega (arith, as_long a)
 
-  -- what is not longer than `top` stays
+  -- a list that is not longer than `top` stays
   pub short_stays : (a : List X) → length a ≤ length top → there a ≡ a
   short_stays [] h = refl
   short_stays (x ∷ a) h = elim (decides top a) [
@@ -65,7 +65,7 @@ module _ {X : Type 0} (eq : List X → List X → Bool)
       by e (inl t) = let long = ap length t.1 ∙ as_long a in absurd (e.1 (t.1 ∙ short_stays a (omega (arith, long))))
       by e (inr t) = t.0 ∙ sym e.0
 
-  -- twice is not at all
+  -- turning twice changes nothing
   pub turned_back : (a : List X) → there (there a) ≡ a
   turned_back [] = refl
   turned_back (x ∷ a) = (λ i. f (same_top a i) (f (eq top a) x) ∷ turned_back a i) ∙ ap (λ (y : X). y ∷ a) (back (eq top a) x)
@@ -87,11 +87,11 @@ module _ {X : Type 0} (eq : List X → List X → Bool)
 -- ---- two names that change places
 
 module _ (n k : Name) where
-  -- n and k change places, here
+  -- n and k change places at this address
   abbrev pub turned_name : Bool → Name → Name
   turned_name here m = cond here (cond (same_name n m) k (cond (same_name k m) n m)) m
 
-  -- and in a step
+  -- the names in a step change places
   abbrev pub turned_step : Bool → Step → Step
   turned_step here (Left q) = Left q
   turned_step here Slash = Slash

@@ -1,4 +1,4 @@
--- Labels in a state that represents a flat state are told by names that are used; a naming that keeps the used ones keeps the labels.
+-- Labels in a state that represents a flat state are given by used names; a naming that keeps the used ones keeps the labels.
 use Rattle.std.proofs.Common.{◌≡◌, ℕ, zero, suc, ◌<◌, ◌≤◌, inl, inr, Bool, true, false, List, [], ◌∷◌, ◌++◌, length, Option, None, Some, arith, refl}
 use Rattle.std.proofs.Common.{sym, ap, ◌∙◌, subst, if◌then◌else◌}
 use Rattle.std.specs.Prelude.{map, is_some, nat_eq, slice_get}
@@ -44,7 +44,7 @@ job_among (j ∷ jobs) c e = elim (or_cases (same_category c (OfJob j)) (among (
   | inr k ↦ let later = job_among jobs c k in (later.0, later.1, or_right (same later.0 j) (has jobs later.0) later.2)
 ]
 
--- and among those of groups a group's
+-- what is among the categories of groups is a group's
 pub group_among : (f : ℕ → CategoryName) (ks : List ℕ) (c : CategoryName) → among (map f ks) c ≡ true → (k : ℕ) × (c ≡ f k) × (has_number ks k ≡ true)
 group_among f [] c e = absurd (true≢false (sym e))
 group_among f (m ∷ ks) c e = elim (or_cases (same_category c (f m)) (among (map f ks) c) e) [
@@ -69,7 +69,7 @@ module _ (accounts : Accounts) (f : Flat) where
   abbrev pub Used : CategoryName → Type 0
   Used = IsUsed accounts f
 
-  -- what guards what is of a class, where its jobs are known or served
+  -- the names in the guard of a class, if its jobs are known or served
   pub names_used : (class : Class) → ((job : ProcName) → is_for class job ≡ true → Used (OfJob job)) → (g : Guard)
       → class_guard accounts class ≡ Some g → GuardHas Used g
   names_used (Private owner) known g e =
@@ -93,7 +93,7 @@ module _ (accounts : Accounts) (f : Flat) where
       let within = group_range accounts group n.0 n.1 in
       subst (GuardHas Used) n.2 (each_one Used (ReadsGroup n.0) within, each_one Used (WritesGroup n.0) within)
 
-  -- and so what guards a file or a directory
+  -- the names in the guard of a file or a directory are used
   pub class_used : (q : Path) (there : Node) → get f.files q ≡ Some there → (class : Class) → there.class ≡ class
       → (g : Guard) → class_guard accounts class ≡ Some g → GuardHas Used g
   class_used q there at class is = names_used class (λ job e. inr (q, there, at, ap (λ (c : Class). is_for c job) is ∙ e))
@@ -112,7 +112,7 @@ module _ (accounts : Accounts) (f : Flat) where
         let found = job_among p.held c e in subst Used (sym found.1)
         (inl (me, p, here, or_right (has p.chain found.0) (has p.held found.0) found.2))
 
-    -- what guards a process
+    -- the names in the guard of a process
     pub process_used : GuardHas Used (process_guard me p)
     process_used = (chain_used, each_one Used (WritesProcess me) there)
 

@@ -35,7 +35,7 @@ use Rattle.histar_refinement.proofs.AmongNames.{covers, in_first, in_second, at_
 use Rattle.histar_refinement.proofs.Uses.{job_among}
 use Rattle.histar_refinement.proofs.Ranges.{passed_by_all}
 
--- One category more that is owned changes no test on what isn't guarded by it.
+-- Owning one category more changes no test on what isn't guarded by it.
 free_below : (o t s w : Bool) → t ≡ false → s ≡ false → w ≡ false → rank (owning_level o t) ≤ rank (guarded_level s w)
 free_below true false false false a b c = omega arith
 free_below false false false false a b c = omega arith
@@ -96,7 +96,7 @@ module _ (O T S W : List ℕ) (c : ℕ) (not_tainted : is_in T c ≡ false) (not
             ((is_below_raised-law (guarded_by S W) (owner_label O T)).0 below q))
       ])))
 
--- in some job no one is free
+-- a process in some job is not free
 pub not_free : (chain : List ProcName) (child : ProcName) → elim (chain ++ child ∷ []) as (λ _. Bool) [ [] ↦ true | job ∷ jobs ↦ false ] ≡ false
 not_free [] child = refl
 not_free (j ∷ chain) child = refl
@@ -181,7 +181,7 @@ module _ (accounts : Accounts) (category : Categories) (different : AreDifferent
         ]) k)
         ∙ and-true (is_number (user_number accounts p.user) i)
 
-  -- The new job is in no label that stands, so the parent directory and its directory segment are observed and modified exactly where the
+  -- The new job is in no label yet, so the parent directory and its directory segment are observed and modified exactly where the
   -- flat rule lets them be read and written.
   module _ (ok : AreAccounts accounts) (class : Class) (g : Guard) (is : class_guard accounts class ≡ Some g)
       (stranger : has p.chain child ≡ false) (secret : among g.secret (OfJob child) ≡ false)
@@ -212,7 +212,7 @@ module _ (accounts : Accounts) (category : Categories) (different : AreDifferent
         && seen_as_before k)
         ∙ modifies_class accounts me p category different ok class g is
 
-  -- It takes its own label and clearance again.
+  -- The thread takes its own label and clearance again.
   job_clears : (c : CategoryName) → among (own.owned ++ own.tainted) c ≡ true → among both c ≡ true
   job_clears c e = later (OfJob child) (own.owned ++ own.tainted) c e
 
@@ -277,7 +277,7 @@ module _ (accounts : Accounts) (category : Categories) (different : AreDifferent
   job_passes : (c : CategoryName) → among (map OfJob jobs) c ≡ true → (among grown.owned c || among grown.tainted c) ≡ true
   job_passes c e = sym (among-append grown.owned grown.tainted c) ∙ jobs_within c e
 
-  -- its own container and process segment it modifies
+  -- the thread modifies its own container and process segment
   pub own_modified : (is_below (rights_label category grown) (guard_label category (process_guard me p))
       && is_below_raised (guard_label category (process_guard me p)) (rights_label category grown)) ≡ true
   own_modified = and_from _ _
@@ -308,7 +308,7 @@ module _ (accounts : Accounts) (category : Categories) (different : AreDifferent
       (jobs_apart accounts me p jobs (WritesProcess child ∷ []) (λ job. refl))
       ∙ passed_by_all (λ c. among grown.owned c || among grown.tainted c) (map OfJob jobs) job_passes
 
-  -- and so with the internal container
+  -- the label of the internal container is above the label of the thread that makes it
   pub inner_above : is_below (rights_label category grown) (guard_label category (inside_guard child newborn)) ≡ true
   inner_above =
       below_by_names category different (inside_guard child newborn) grown (jobs_apart accounts me p p.chain (WritesProcess child ∷ []) (λ job. refl))
@@ -376,7 +376,7 @@ module _ (accounts : Accounts) (category : Categories) (different : AreDifferent
       (covers all (childs.owned ++ childs.tainted) (each_append (λ c. among all c ≡ true) childs.owned childs.tainted
       (λ c e. in_first grown.owned grown.tainted c (childs_owned c e)) jobs_within))
 
-  -- its own label and clearance with the job it may have
+  -- the thread may have its own label and clearance with the job
   abbrev pub holding : Rights
   holding = thread_rights accounts me holder
 

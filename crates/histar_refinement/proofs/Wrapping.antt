@@ -44,8 +44,8 @@ use Rattle.histar_refinement.proofs.Creating.{directory_naming, matched_director
 use Rattle.histar_refinement.proofs.JobNamed as jobs
 use Rattle.histar_refinement.proofs.JobBorn.{after, state_held, given_after, given_child, used_before, matched_held}
 
--- The process that wraps and its user, the name of the directory that it makes and the directory above, and the numbers at which the objects of
--- the process and of the directory above stand.
+-- The process that wraps and its user, the name of the directory that it makes and the directory above, and the numbers of the objects of
+-- the process and of the directory above.
 pub record Wrapper (accounts : Accounts) (s : State) (f : Flat) (l : Represents accounts s f) (me : ProcName) (p : Process) : Type 0 where
   pub here : f.processes me ≡ Some p
   pub runs : p.exited ≡ None
@@ -71,7 +71,7 @@ pub record Wrapper (accounts : Accounts) (s : State) (f : Flat) (l : Represents 
 
 module _ (accounts : Accounts) (s : State) (f : Flat) (l : Represents accounts s f) (me : ProcName) (p : Process)
     (it : Wrapper accounts s f l me p) where
-  -- its fields by name
+  -- the fields of the wrapper by name
   abbrev here : f.processes me ≡ Some p
   here = it.here
 
@@ -162,7 +162,7 @@ module _ (accounts : Accounts) (s : State) (f : Flat) (l : Represents accounts s
       → (among x.secret (OfJob child) ≡ false) × (among x.written (OfJob child) ≡ false)
   not_named = jobs.not_named accounts s f l me p here
 
-  -- once the job's category is made
+  -- the state once the job's category is made
   abbrev pub named : (later : ObjectsMatch accounts (with_next_category s) f) × (later.naming ≡ l.matched.naming)
       × (later.category ≡ naming_next l.matched.category s.next_category (OfJob child))
   named = jobs.named accounts s f l me p here
@@ -170,11 +170,11 @@ module _ (accounts : Accounts) (s : State) (f : Flat) (l : Represents accounts s
   abbrev pub m : ObjectsMatch accounts (with_next_category s) f
   m = named.0
 
-  -- which has the next number
+  -- the category of the job has the next number
   pub job_number : m.category (OfJob child) ≡ s.next_category
   job_number = jobs.job_number accounts s f l me p here
 
-  -- and used names keep theirs
+  -- used names keep their categories
   pub keeps : (c : CategoryName) → IsUsed accounts f c → m.category c ≡ l.matched.category c
   keeps = jobs.keeps accounts s f l me p here
 
@@ -233,7 +233,7 @@ module _ (accounts : Accounts) (s : State) (f : Flat) (l : Represents accounts s
   abbrev pub made_state : State
   made_state = with_segment_bytes (with_object (with_object (with_next_category s) D new_container) s.next_object new_segment) N written
 
-  -- Once the parent's directory has room for it.
+  -- The directory above has room for the new one.
   module _ (is_named : IsTrue (is_name n)) (room_above : length (entries_in f d) < most_entries) where
     pub made : (later : ObjectsMatch accounts made_state with_directory)
         × (later.naming
@@ -307,14 +307,14 @@ module _ (accounts : Accounts) (s : State) (f : Flat) (l : Represents accounts s
     pub counted : made_state.next_category ≤ state_directory.next_category
     counted = omega arith
 
-    -- And once there are numbers for what the birth makes.
+    -- There are numbers for what the birth makes.
     module _ (few_born : made_state.next_object + 3 < greatest) where
       abbrev pub state_wrapped : State
       state_wrapped =
           state_held accounts made_state with_directory k me p here runs room is_declared served stranger k_chain k_held
           C S T k_home k_status k_thread few_born own clearance state_directory beside counted
 
-      -- the flat state after it
+      -- the flat state after the wrap
       abbrev pub wrapped : Flat
       wrapped = with_child with_directory me (record { user = p.user; chain = p.chain; held = held; exited = p.exited; born = p.born }) chain
 

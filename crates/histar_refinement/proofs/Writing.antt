@@ -142,6 +142,6 @@ module _ (accounts : Accounts) (s : State) (f : Flat) (l : ObjectsMatch accounts
       subst (λ (c : Class). AreJobsGiven f → AreJobsGiven (with_node f q c (File bytes))) (sym (ap class_of at))
       (jobs_kept accounts s f l after.files all_known)
 
-  -- and so the kernel represents the flat state with the new bytes
+  -- the kernel represents the flat state with the new bytes
   pub represents_overwritten : AreJobsGiven f → Represents accounts (with_segment_bytes s O bytes) (with_file_bytes f q bytes)
   represents_overwritten given = record { matched = matched_overwritten.0; jobs_given = jobs_overwritten given }

@@ -1,4 +1,4 @@
--- The sessions that scripts declare.
+-- The accounts that scripts declare.
 use Rattle.std.specs.Prelude.{◌≡◌, ℕ, true, None, Some, is_some, slice_get}
 use Rattle.histar_flat.specs.Words.{Name}
 use Rattle.histar_flat.specs.Accounts.{Group, Accounts, is_member, user_number}

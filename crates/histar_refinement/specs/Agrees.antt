@@ -1,4 +1,4 @@
--- Objects that stand at addresses: what a state shows under a naming, but for links.
+-- The objects of a state are, under a naming by addresses, those that are asked for.
 use Rattle.std.specs.Prelude.{◌≡◌, Bool, is_some, option_map}
 use Rattle.std.specs.FinSet as set
 use Rattle.histar_label.specs.Levels.{Levels}
@@ -18,8 +18,8 @@ kind_bare kind = kind
 abbrev pub bare : Found → Found
 bare found = option_map (λ (o : Object Levels). record { label = o.label; kind = kind_bare o.kind }) found
 
--- Under this naming each object of the state stands at an address and links exactly what stands one step below it; and at each
--- address stands, but for links, what is asked for there, and nothing where nothing is asked for.
+-- Under this naming each object of the state has an address and links exactly what is one step below it; and at each
+-- address is, but for links, the object that is asked for there, and nothing where nothing is asked for.
 pub record Agrees {X : Type 0} (same_step : X → X → Bool) (s : State) (naming : Naming X) (asked : Address X → Found) : Type 0 where
   pub tree : MatchesNaming same_step s.objects s.next_object (objects_at s.objects naming) naming
   pub objects : (a : Address X) → bare (objects_at s.objects naming a) ≡ asked a

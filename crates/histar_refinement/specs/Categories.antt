@@ -1,4 +1,4 @@
--- Categories by name: what each one that was made is for, and the numbers that they have.
+-- Categories by name: what each category that was made is for, and the numbers of the names.
 use Rattle.std.specs.Prelude.{◌≡◌, ℕ, ◌+◌, ◌*◌, ◌<◌, ◌≤◌, Bool, true, false, cond, ◌&&◌, ◌⊎◌, ◌==◌, nat_le, List, [], ◌∷◌, length, Option, None, Some}
 use Rattle.std.specs.Prelude.{is_some, unwrap_or, if◌then◌else◌}
 use Rattle.std.specs.List.{list_any}
@@ -10,13 +10,13 @@ use Rattle.histar_flat.specs.Classes.{Class, Process, knows}
 use Rattle.histar_flat.specs.Classes.Class.{Private, Readable, Open, Scratch, Grouped}
 use Rattle.histar_flat.specs.FlatState.{Node, Flat}
 
--- what a category is for
+-- the purpose of a category
 pub data CategoryName : Type 0 where
-  -- the one of the empty kernel, which nobody owns once the boot thread is gone
+  -- the category of the empty kernel, which nobody owns once the boot thread is gone
   OfBoot : CategoryName
-  -- to read what is a user's, and to write it: users by their numbers, of which 0 is nobody's; and so of a group
+  -- to read what is a user's, and to write it, with users by their numbers, of which 0 is nobody's; and the same for a group
   ReadsUser WritesUser ReadsGroup WritesGroup : ℕ → CategoryName
-  -- a process's own two; and the one of a job, which is named by its first process
+  -- a process's own two categories; and the category of a job, which is named by its first process
   ReadsProcess WritesProcess OfJob : ProcName → CategoryName
 
 -- a name as the number of its kind, and the number or the name that it has
@@ -30,7 +30,7 @@ split_category (ReadsProcess p) = (5, p)
 split_category (WritesProcess p) = (6, p)
 split_category (OfJob job) = (7, job)
 
--- the same name
+-- both are the same name
 abbrev pub same_category : CategoryName → CategoryName → Bool
 same_category x y = (split_category x).0 == (split_category y).0 && same (split_category x).1 (split_category y).1
 
@@ -61,7 +61,7 @@ boot_category accounts (ReadsProcess []) = Some (4 + 2 * length accounts.users +
 boot_category accounts (WritesProcess []) = Some (5 + 2 * length accounts.users + 2 * length accounts.groups)
 boot_category accounts c = None
 
--- the number that boot gave, and 0 where it gave none
+-- the number that boot gave, or 0
 abbrev pub booted : Accounts → Categories
 booted accounts c = unwrap_or (boot_category accounts c) 0
 
@@ -74,7 +74,7 @@ is_for class job = false
 abbrev pub IsKnown : Flat → ProcName → Type 0
 IsKnown f job = (me : ProcName) × (p : Process) × (f.processes me ≡ Some p) × (knows p job ≡ true)
 
--- some file or directory is for it
+-- some file or directory is for the job
 abbrev pub IsServed : Flat → ProcName → Type 0
 IsServed f job = (q : Path) × (there : Node) × (get f.files q ≡ Some there) × (is_for there.class job ≡ true)
 

@@ -1,4 +1,4 @@
--- What the directory segment of each directory holds.
+-- The entries in the directory segment of each directory.
 use Rattle.std.specs.Prelude.{ℕ, cond, [], ◌∷◌, Option, None, Some, option_map}
 use Rattle.std.specs.List.{filter_map}
 use Rattle.std.specs.FinMap as map

@@ -1,4 +1,4 @@
--- What a flat state asks for at each address: the object that stands there, but for its links.
+-- The objects that a flat state asks for at each address, but for their links.
 use Rattle.std.specs.Prelude.{ℕ, List, [], ◌∷◌, Option, None, Some, option_and_then, option_map}
 use Rattle.std.specs.FinSet as set
 use Rattle.histar_flat.specs.Words.{Path, ProcName}
@@ -34,11 +34,11 @@ content_kind Dir = Container set.empty
 content_kind (File bytes) = Segment bytes
 
 module _ (accounts : Accounts) (category : Categories) where
-  -- an object of this kind that is guarded so
+  -- an object of this kind that is guarded in this way
   abbrev pub guarded_object : Kind Levels → Option Guard → Found
   guarded_object kind guard = option_map (λ (g : Guard). record { label = guard_label category g; kind = kind }) guard
 
-  -- what stands at a path, with the label of its class
+  -- the object at a path, with the label of its class
   abbrev pub node_object : Option Node → Found
   node_object = option_and_then (λ there. guarded_object (content_kind there.content) (class_guard accounts there.class))
 
@@ -52,15 +52,15 @@ module _ (accounts : Accounts) (category : Categories) where
   abbrev pub home_object : ProcName → Option Process → Found
   home_object me = option_and_then (λ p. bare_container (guard_label category (process_guard me p)))
 
-  -- its process segment, with the container's label
+  -- the process segment of a process, with the container's label
   abbrev pub status_object : List ℕ → ProcName → Option Process → Found
   status_object bytes me = option_and_then (λ p. segment (guard_label category (process_guard me p)) bytes)
 
-  -- its internal container, which a process that has exited has no more
+  -- the internal container of a process, which one that has exited has no more
   abbrev pub inside_object : ProcName → Option Process → Found
   inside_object me = option_and_then (λ p. elim p.exited [ None ↦ bare_container (guard_label category (inside_guard me p)) | Some n ↦ None ])
 
-  -- its thread, which a process that has exited has no more
+  -- the thread of a process, which one that has exited has no more
   abbrev pub thread_object : ProcName → Option Process → Found
   thread_object me = option_and_then (λ p. elim p.exited [
     | None ↦ Some (thread_of (rights_label category (thread_rights accounts me p)) (rights_clearance category (thread_rights accounts me p)))
@@ -68,7 +68,7 @@ module _ (accounts : Accounts) (category : Categories) where
   ])
 
   module _ (f : Flat) (number : AddressNumbers) where
-    -- what stands at a path
+    -- the object at a path
     abbrev pub expected_node : Option Path → Found
     expected_node = option_and_then (λ q. node_object (get f.files q))
 
@@ -80,26 +80,26 @@ module _ (accounts : Accounts) (category : Categories) where
     abbrev pub expected_home : Option ProcName → Found
     expected_home = option_and_then (λ me. home_object me (f.processes me))
 
-    -- the bytes of its process segment
+    -- the bytes of the process segment of a process
     abbrev pub bytes_for : ProcName → Option Process → List ℕ
     bytes_for me None = []
     bytes_for me (Some p) = process_bytes f.processes number me p
 
-    -- its process segment
+    -- the process segment of a process
     abbrev pub expected_status : Option ProcName → Found
     expected_status = option_and_then (λ me. status_object (bytes_for me (f.processes me)) me (f.processes me))
 
-    -- its internal container
+    -- the internal container of a process
     abbrev pub container_inside : Option ProcName → Found
     container_inside = option_and_then (λ me. inside_object me (f.processes me))
 
-    -- its thread
+    -- the thread of a process
     abbrev pub thread_at : Option ProcName → Found
     thread_at = option_and_then (λ me. thread_object me (f.processes me))
 
-    -- What the flat state asks for at each address, but for links. In the root container stand what boot left, `/` and process 0;
-    -- in a directory its directory segment and its entries; in a process's container its process segment, the containers of its
-    -- children and its internal container, and in that the thread.
+    -- What the flat state asks for at each address, but for links. The root container holds what boot left, `/` and process 0;
+    -- a directory holds its directory segment and its entries; a process's container holds its process segment, the containers of its
+    -- children and its internal container, and that holds the thread.
     abbrev pub expected : Address Step → Found
     expected [] = bare_container (guard_label (booted accounts) boot_guard)
     expected (Left q ∷ a) = if_at [] a (left_by_boot accounts q)

@@ -1,11 +1,11 @@
--- The two kinds of labels that Unix calls make: of what is guarded, and of who has rights.
+-- The two kinds of labels that Unix calls make: those of guarded objects, and those of threads and gates with rights.
 use Rattle.std.specs.Prelude.{List, ◌++◌, map}
 use Rattle.histar_label.specs.Levels.{Levels}
 use Rattle.histar_layout.specs.Labelling.{guarded_by, owner_label, cleared_at}
 use Rattle.histar_refinement.specs.Categories.{CategoryName, Categories}
 
--- how a segment or a container is guarded: only who owns each secret category or has it at 3 reads it, and only who owns each
--- written one writes it
+-- how a segment or a container is guarded: a thread reads it only if it owns each secret category or has it at 3, and writes it only if it
+-- owns each written one
 pub record Guard : Type 0 where
   pub secret : List CategoryName
   pub written : List CategoryName
@@ -15,7 +15,7 @@ pub record Rights : Type 0 where
   pub owned : List CategoryName
   pub tainted : List CategoryName
 
--- the stored label of what is guarded so
+-- the stored label of what has this guard
 abbrev pub guard_label : Categories → Guard → Levels
 guard_label category g = guarded_by (map category g.secret) (map category g.written)
 
@@ -23,6 +23,6 @@ guard_label category g = guarded_by (map category g.secret) (map category g.writ
 abbrev pub rights_label : Categories → Rights → Levels
 rights_label category r = owner_label (map category r.owned) (map category r.tainted)
 
--- and its clearance, which has at 3 all that it owns or has at 3
+-- the clearance of a thread or a gate with these rights, which has at 3 all that it owns or has at 3
 abbrev pub rights_clearance : Categories → Rights → Levels
 rights_clearance category r = cleared_at (map category (r.owned ++ r.tainted))

@@ -1,5 +1,5 @@
--- What it comes to that a state represents a flat state: who observes and modifies what, what is reached and found, that there is one
--- such flat state at most, and the start.
+-- What follows when a state represents a flat state: who observes and modifies what, what is reached and found, that there is at most
+-- one such flat state, and the start.
 use Rattle.std.specs.Prelude.{◌≡◌, ℕ, ◌<◌, ◌≤◌, ◌⊎◌, ◌↔◌, true, ◌∷◌, length, Option, None, Some, is_some}
 use Rattle.histar_flat.specs.Words.{Path, ProcName}
 use Rattle.histar_flat.specs.Accounts.{Accounts}
@@ -25,7 +25,7 @@ use Rattle.histar_refinement.specs.Represents.{ObjectsMatch, Represents}
 use Rattle.histar_refinement.specs.Lines.{IsThreadOf, IsDirectoryAt}
 
 module _ (accounts : Accounts) (s : State) (f : Flat) (l : ObjectsMatch accounts s f) where
-  -- the object is what stands at the path, or the directory segment of the directory there
+  -- the object is the one at the path, or the directory segment of the directory there
   abbrev pub StandsFor : Path → ℕ → Type 0
   StandsFor q o = (l.naming.number (address_of q) ≡ Some o) ⊎ (l.naming.number (Listing ∷ address_of q) ≡ Some o)
 
@@ -47,7 +47,7 @@ ThreadsModifyWhatIsWritten = (accounts : Accounts) (s : State) (f : Flat) (l : O
     → (q : Path) (there : Node) (o : ℕ) → get f.files q ≡ Some there → StandsFor accounts s f l q o
     → modifies (s.objects t) (s.objects o) ≡ may_write accounts p there.class
 
--- each object that there is is reached from the root container by links
+-- each object of the state is reached from the root container by links
 abbrev pub ObjectsAreReached : Type 0
 ObjectsAreReached =
     (accounts : Accounts) (s : State) (f : Flat) → Represents accounts s f → (q : ℕ) → is_present (s.objects q) ≡ true
@@ -63,7 +63,7 @@ AreAlike (Some p) (Some q) =
     (p.exited ≡ q.exited) × (p.born ≡ q.born) × (p.chain ≡ q.chain)
     × (p.exited ≡ None → (p.user ≡ q.user) × (p.held ≡ q.held))
 
--- For one naming of its categories a state represents one flat state at most: the same files and directories of the same classes with
+-- For one naming of its categories a state represents at most one flat state: the same files and directories of the same classes with
 -- the same bytes, and the same processes, but for the users and the held jobs of those that have exited.
 abbrev pub OneIsRepresented : Type 0
 OneIsRepresented =
@@ -91,7 +91,7 @@ abbrev pub CallersAreFound : Type 0
 CallersAreFound = (accounts : Accounts) (s : State) (f : Flat) (l : ObjectsMatch accounts s f) (me : ProcName) (caller : Caller)
     → (caller_at s (roots_of (length accounts.users)).home me ≡ Some caller) ↔ ((p : Process) × IsCallerOf accounts s f l me p caller)
 
--- and each that runs is found
+-- each process that runs is found
 abbrev pub CallersAreThere : Type 0
 CallersAreThere =
     (accounts : Accounts) (s : State) (f : Flat) → ObjectsMatch accounts s f → (me : ProcName)

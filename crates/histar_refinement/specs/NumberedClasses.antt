@@ -1,4 +1,4 @@
--- Classes with the jobs that they are for by the numbers of their categories.
+-- Classes whose jobs are given by the numbers of their categories.
 use Rattle.std.specs.Prelude.{ℕ, List, map}
 use Rattle.histar_flat.specs.Words.{ProcName}
 use Rattle.histar_flat.specs.Classes.{Class}
@@ -12,7 +12,7 @@ use Rattle.histar_refinement.specs.Categories.CategoryName.{OfJob}
 abbrev pub job_numbers : Categories → List ProcName → List ℕ
 job_numbers category jobs = map (λ job. category (OfJob job)) jobs
 
--- a class, with each of its jobs by the number of its category
+-- a class, with the number of the category in place of each of its jobs
 abbrev pub numbered_class : Categories → Class → NumberedClass
 numbered_class category (Private owner) = numbered.Private owner
 numbered_class category (Readable owner) = numbered.Readable owner

@@ -1,4 +1,4 @@
--- What the process segment of each process tells, and its bytes.
+-- The status in the process segment of each process, and its bytes.
 use Rattle.std.specs.Prelude.{ℕ, List, ◌∷◌, map, Option, None, Some, is_some}
 use Rattle.std.specs.List.{filter, range_with_len}
 use Rattle.histar_flat.specs.Words.{ProcName}
@@ -26,7 +26,7 @@ listed_by number me n =
       segment = or_zero (number (Status ∷ home_address (n ∷ me)));
     }
 
--- what the segment of a process tells
+-- the status in the segment of a process
 abbrev pub status_by : (ProcName → Option Process) → AddressNumbers → ProcName → Process → ProcessStatus
 status_by processes number me p = record {
   exited = p.exited;

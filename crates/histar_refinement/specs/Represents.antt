@@ -1,4 +1,4 @@
--- When the state of a labelled kernel represents a flat state.
+-- The abstraction relation: when the state of a labelled kernel represents a flat state.
 use Rattle.std.specs.Prelude.{◌≡◌, ◌≢◌, ℕ, ◌+◌, ◌≤◌, ◌⊎◌, true, false, List, [], ◌∷◌, length, map, None, Some, is_some}
 use Rattle.histar_flat.specs.Words.{Path, ProcName, greatest_status, most_children}
 use Rattle.histar_flat.specs.Accounts.{Accounts, has, user_number}
@@ -20,17 +20,17 @@ use Rattle.histar_refinement.specs.Agrees.{Agrees}
 use Rattle.histar_refinement.specs.Directories.{directory_of}
 use Rattle.histar_refinement.specs.Expected.{expected}
 
--- jobs stand in the order in which their categories were made, so that a set of categories tells the list of jobs
+-- jobs are in the order in which their categories were made, so that a set of categories determines the list of jobs
 abbrev pub AreInOrder : Categories → List ProcName → Type 0
 AreInOrder category jobs = IsRisingFrom 0 (job_numbers category jobs)
 
--- the jobs of a class stand in order
+-- the jobs of a class are in order
 abbrev pub IsInOrder : Categories → Class → Type 0
 IsInOrder category (Scratch owner jobs) = AreInOrder category jobs
 IsInOrder category class = Unit {0}
 
 -- A process that can be represented: its user is declared, or is nobody, who is in no job and holds none; it holds no job that it is
--- in, its jobs stand in order, and its counts are those that its segment has room for. Of one that has exited neither the user nor
+-- in, its jobs are in order, and its counts are those that its segment has room for. Of one that has exited neither the user nor
 -- the held jobs can be known, and nothing is said of them.
 pub record IsProcess (accounts : Accounts) (category : Categories) (p : Process) : Type 0 where
   pub someone : p.exited ≡ None → (p.user ≡ nobody) ⊎ (is_some (user_number accounts p.user) ≡ true)
@@ -46,7 +46,7 @@ pub record IsProcess (accounts : Accounts) (category : Categories) (p : Process)
 pub record ObjectsMatch (accounts : Accounts) (s : State) (f : Flat) : Type 0 where
   pub naming : Naming Step
   pub category : Categories
-  -- each object stands at an address, links exactly what stands one step below it, and is what the flat state asks for there: its
+  -- each object has an address, links exactly what is one step below it, and is what the flat state asks for there: its
   -- label, its clearance and its bytes
   pub agrees : Agrees same_step s naming (expected accounts category f naming.number)
   -- the numbers of objects are numbers of 64 bits
@@ -57,10 +57,10 @@ pub record ObjectsMatch (accounts : Accounts) (s : State) (f : Flat) : Type 0 wh
   pub different : AreDifferent category
   pub made : (c : CategoryName) → IsUsed accounts f c → IsMade s.next_category (category c)
   pub as_made : (c : CategoryName) (q : ℕ) → boot_category accounts c ≡ Some q → category c ≡ q
-  -- each file and directory is of a user or a group that is declared, and its jobs stand in order
+  -- each file and directory is of a user or a group that is declared, and its jobs are in order
   pub guarded : (q : Path) (there : Node) → get f.files q ≡ Some there → class_guard accounts there.class ≢ None
   pub in_order : (q : Path) (there : Node) → get f.files q ≡ Some there → IsInOrder category there.class
-  -- each directory is one that a directory segment can hold
+  -- the entries of each directory are such that a directory segment can list them
   pub listable : (d : Path) → is_dir_at f d ≡ true → IsListable (directory_of f.files naming.number d)
   -- process 0 is there, and each process is one that can be represented
   pub first : is_some (f.processes []) ≡ true

@@ -1,4 +1,4 @@
--- What the last checks of a call say of the object that was found.
+-- What the last checks of a call say about the object that was found.
 use Rattle.std.proofs.Common.{◌≡◌, ℕ, Bool, List, Option, None, Some, IsSome, is_some, unwrap_or, refl, sym, ap, ◌∙◌, subst}
 use mathlib.Core.Bool.{false≢true}
 use Rattle.std.specs.Prelude.{option_map, ◌&&◌, ◌+◌, not, length, min, nat_lt}
@@ -24,7 +24,7 @@ use Rattle.histar_rules.specs.Rules.{check, no_container, no_making, no_new, no_
 use Rattle.histar_rules.proofs.Observed.{object_shown, thread_by, making_found}
 use Rattle.histar_rules.proofs.Passing.{first}
 
--- what is there is not missing
+-- a value that is there is not missing
 some_is_there : {A : Type 0} (a : A) → Some a ≡ None → ⊥
 some_is_there a e = false≢true (sym (ap is_some e))
 
@@ -53,11 +53,11 @@ module _ {Id : Type 0} (labels : Id → Option Levels) (es : TableModel Id) wher
   label_by None = refl
   label_by (Some o) = refl
 
-  -- where no label is found, none is shown
+  -- where no label is found, the state has none
   pub no_label_shown : (q : ℕ) → label_there (objects_of es q) ≡ None → label_there (objects_of (shown labels es) q) ≡ None
   no_label_shown q e = ap label_there (shows labels es q) ∙ label_by (objects_of es q) ∙ ap (option_map (label_at labels)) e
 
-  -- a label that is found stands for one
+  -- the label of an object that is found is the Id of a label
   pub found_stands : AllStand labels (objects_of es) → (q : ℕ) (label : Id) → label_there (objects_of es q) ≡ Some label → IsSome (labels label)
   found_stands stand q label e = at_object (objects_of es q) refl e
     where
@@ -66,7 +66,7 @@ module _ {Id : Type 0} (labels : Id → Option Levels) (es : TableModel Id) wher
       at_object (Some o) is some = subst (λ (l : Id). IsSome (labels l)) (ap (λ l. unwrap_or l label) some) (stand.each q o is).label
 
   module _ (t d o : ℕ) (linked : no_link (state_shown labels es) t d o ≡ None) where
-    -- where no segment is linked, this is told
+    -- where the linked object is no segment, the call is denied for this
     pub segment_missing : (later : Option Denied) (denied : Denied)
         → unless (is_segment (objects_of es o)) BadKind ≡ Some denied
         → (no_segment (state_shown labels es) t d o orelse later) ≡ Some denied
@@ -75,7 +75,7 @@ module _ {Id : Type 0} (labels : Id → Option Levels) (es : TableModel Id) wher
         ∙ ap (λ b. unless b BadKind orelse later) (ap is_segment (shows labels es o) ∙ segment_by (objects_of es o))
         ∙ ap (λ (f : Option Denied). f orelse later) e
 
-    -- where no gate is, this is told
+    -- where the linked object is no gate, the call is denied for this
     pub gate_missing : (later : Option Denied) (denied : Denied)
         → unless (is_gate (objects_of es o)) BadKind ≡ Some denied
         → (no_gate (state_shown labels es) t d o orelse later) ≡ Some denied
@@ -84,14 +84,14 @@ module _ {Id : Type 0} (labels : Id → Option Levels) (es : TableModel Id) wher
         ∙ ap (λ b. unless b BadKind orelse later) (ap is_gate (shows labels es o) ∙ gate_by (objects_of es o))
         ∙ ap (λ (f : Option Denied). f orelse later) e
 
-    -- of a question for a label, whether the object is a thread decides
+    -- a question for a label is granted where the object is no thread
     pub label_found : check (state_shown labels es) t (calls.LabelOf d o) ≡ unless (not (is_thread (objects_of es o))) BadKind
     label_found =
         ap (λ (f : Option Denied). f orelse unless (not (is_thread (objects_of (shown labels es) o))) BadKind) linked
         ∙ ap (λ b. unless (not b) BadKind) (ap is_thread (shows labels es o) ∙ thread_by labels es (objects_of es o))
 
     module _ (own own_clearance : Id) (thread : objects_of es t ≡ Some (thread_of own own_clearance)) where
-      -- of a read, whether the thread observes the segment
+      -- a read is granted where the thread observes the segment
       pub read_found : (label : Id) (bytes : List ℕ) (observed : Bool) → objects_of es o ≡ Some (segment_of label bytes)
           → observed ≡ is_below_raised (label_at labels label) (label_at labels own)
           → check (state_shown labels es) t (calls.Read d o) ≡ unless observed Observe
@@ -104,7 +104,7 @@ module _ {Id : Type 0} (labels : Id → Option Levels) (es : TableModel Id) wher
           ∙ (λ i. unless (is_segment (O i)) BadKind orelse unless (observes (T i) (O i)) Observe)
           ∙ ap (λ b. unless b Observe) (sym is)
 
-      -- of a write, whether it modifies it, and then what it is to hold
+      -- a write is granted where the thread modifies the segment and the new content fits it
       pub write_found : (keep : ℕ) (more : List ℕ) (label : Id) (bytes : List ℕ) (modified : Bool) (held added : ℕ)
           → objects_of es o ≡ Some (segment_of label bytes)
           → modified
@@ -123,7 +123,7 @@ module _ {Id : Type 0} (labels : Id → Option Levels) (es : TableModel Id) wher
           orelse unless (fits_segment (min keep (length (bytes_in (O i))) + length more)) TooBig)
           ∙ (λ i. unless (sym is i) Modify orelse unless (fits_segment (min keep (sym held_is i) + sym added_is i)) TooBig)
 
-      -- of the taking away of an object, whether it modifies the container
+      -- an unlink is granted where the thread modifies the container
       pub unlink_found : (label : Id) (links : Numbers) (below : Bool) → objects_of es d ≡ Some (container_of label links)
           → below ≡ is_below (label_at labels own) (label_at labels label) → check (state_shown labels es) t (calls.Unlink d o) ≡ unless below Modify
       unlink_found label links below container is =
@@ -132,7 +132,7 @@ module _ {Id : Type 0} (labels : Id → Option Levels) (es : TableModel Id) wher
           ∙ ap (λ (f : Option Denied). f orelse unless (modifies (objects_of (shown labels es) t) (objects_of (shown labels es) d)) Modify) (sym none)
           ∙ making_found labels es t d own own_clearance label links below none thread container is
 
-      -- of entering a gate, the labels of both
+      -- a thread's labels, the gate's and those handed in decide whether it enters
       pub enter_found : (next : Next) (wanted clearance verify : Levels) (gate_label gate_clearance : Id)
           (entry : Entry) (O M G L : Levels) → objects_of es o ≡ Some (gate_of gate_label gate_clearance entry)
           → O ≡ label_at labels own → M ≡ label_at labels own_clearance → G ≡ label_at labels gate_label → L ≡ label_at labels gate_clearance
@@ -158,7 +158,7 @@ module _ {Id : Type 0} (labels : Id → Option Levels) (es : TableModel Id) wher
 
   module _ (t d : ℕ) (own own_clearance : Id) (made : no_making (state_shown labels es) t d ≡ None)
       (thread : objects_of es t ≡ Some (thread_of own own_clearance)) where
-    -- of the making of an object that owns nothing, the thread's labels
+    -- the thread's labels decide whether an object that owns nothing is made
     pub new_found : (next : Next) (label : Levels) (size : ℕ) (O M : Levels) → O ≡ label_at labels own → M ≡ label_at labels own_clearance
         → no_new (state_with labels es next) t d label size
         ≡
@@ -174,7 +174,7 @@ module _ {Id : Type 0} (labels : Id → Option Levels) (es : TableModel Id) wher
         ∙ (λ i. unless (in_range (T i) label) Range orelse later)
         ∙ (λ i. unless (is_below (sym own_is i) label && is_below label (sym own_clearance_is i)) Range orelse later)
 
-    -- and of one that may own
+    -- and whether one that may own is made
     pub new_owner_found : (next : Next) (label clearance : Levels) (O M : Levels) → O ≡ label_at labels own → M ≡ label_at labels own_clearance
         → no_new_owner (state_with labels es next) t d label clearance
         ≡

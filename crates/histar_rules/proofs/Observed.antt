@@ -1,4 +1,4 @@
--- What the checks of a call say of the thread and the container that were found.
+-- What the checks of a call say about the thread and the container that were found.
 use Rattle.std.proofs.Common.{◌≡◌, ℕ, Bool, true, false, List, Option, None, Some, Result, Ok, Err, IsSome, refl, sym, ap, ◌∙◌}
 use Rattle.std.specs.Prelude.{option_map, ◌&&◌}
 use Rattle.std.specs.FinSet as set
@@ -23,13 +23,13 @@ use Rattle.histar_rules.specs.Finds.{container_of, gate_of, state_shown}
 use Rattle.histar_rules.specs.Rules.{no_container, no_making, no_link, FailsAt}
 use Rattle.histar_rules.proofs.Passing.{unless_none}
 
--- a check that answers the denial of its first failing part fails there
+-- a check that answers the denial of its first failing part fails with it
 pub fails_at_denial : {A : Type 0} (failing : Option Denied) (denied : Denied) (r : Result A Denied)
     → IsErrAnd r (λ e. e ≡ denied) → failing ≡ Some denied → FailsAt failing r
 fails_at_denial failing denied (Ok x) is e = absurd is
 fails_at_denial failing denied (Err other) is e = e ∙ ap (λ (d : Denied). Some d) (sym is)
 
--- so does one with more parts behind it
+-- so does one with more parts after it
 pub behind_refusal : {A : Type 0} (failing later : Option Denied) (denied : Denied) (r : Result A Denied)
     → failing ≡ Some denied → IsErrAnd r (λ e. e ≡ denied) → FailsAt (failing orelse later) r
 behind_refusal failing later denied (Ok x) e is = absurd is
@@ -56,25 +56,25 @@ module _ {Id : Type 0} (labels : Id → Option Levels) (es : TableModel Id) wher
   container_by None = refl
   container_by (Some o) = kind_container o.kind
 
-  -- an object that was found is shown with its labels by value
+  -- an object that was found is in the state, with its labels by value
   pub object_shown : (q : ℕ) (o : Object Id) → objects_of es q ≡ Some o → objects_of (shown labels es) q ≡ Some (object_by (label_at labels) o)
   object_shown q o e = shows labels es q ∙ ap (option_map (object_by (label_at labels))) e
 
-  -- the label of an object that was found stands for one
+  -- the label of an object that was found is the Id of a label
   pub label_stands : AllStand labels (objects_of es) → (q : ℕ) (o : Object Id) → objects_of es q ≡ Some o → IsSome (labels o.label)
   label_stands stand q o e = (stand.each q o e).label
 
-  -- and so does the clearance of a thread
+  -- so is the clearance of a thread
   pub clearance_stands : AllStand labels (objects_of es) → (q : ℕ) (own own_clearance : Id)
       → objects_of es q ≡ Some (thread_of own own_clearance) → IsSome (labels own_clearance)
   clearance_stands stand q own own_clearance e = (stand.each q (thread_of own own_clearance) e).kind
 
-  -- and that of a gate
+  -- and the clearance of a gate
   pub limit_stands : AllStand labels (objects_of es) → (q : ℕ) (gate_label gate_clearance : Id) (entry : Entry)
       → objects_of es q ≡ Some (gate_of gate_label gate_clearance entry) → IsSome (labels gate_clearance)
   limit_stands stand q gate_label gate_clearance entry e = (stand.each q (gate_of gate_label gate_clearance entry) e).kind
 
-  -- where there is no thread, this is told
+  -- where there is no thread, the call is denied for this
   pub thread_missing : (t d : ℕ) → is_thread (objects_of es t) ≡ false → no_container (state_shown labels es) t d ≡ Some NoThread
   thread_missing t d e =
       ap (λ b. unless b NoThread orelse unless (is_present (objects_of (shown labels es) d)) NoEntry
@@ -89,7 +89,7 @@ module _ {Id : Type 0} (labels : Id → Option Levels) (es : TableModel Id) wher
   first_of true false later denied e = e
   first_of false container later denied e = e
 
-  -- where there is a thread and no container, this is told
+  -- where there is a thread and no container, the call is denied for this
   pub container_missing : (t d : ℕ) (own own_clearance : Id) (denied : Denied) → objects_of es t ≡ Some (thread_of own own_clearance)
       → (unless (is_present (objects_of es d)) NoEntry orelse unless (is_container (objects_of es d)) BadKind)
       ≡ Some denied → no_container (state_shown labels es) t d ≡ Some denied
@@ -102,7 +102,7 @@ module _ {Id : Type 0} (labels : Id → Option Levels) (es : TableModel Id) wher
       orelse unless (observes T D) Observe) (object_shown t (thread_of own own_clearance) thread)
       ∙ first_of (is_present D) (is_container D) _ denied ((λ i. unless (there i) NoEntry orelse unless (container i) BadKind) ∙ e)
 
-  -- where there are both, whether the thread observes the container decides
+  -- where both are there, the call passes if the thread observes the container
   pub container_found : (t d : ℕ) (own own_clearance label : Id) (links : Numbers) (observed : Bool)
       → objects_of es t ≡ Some (thread_of own own_clearance) → objects_of es d ≡ Some (container_of label links)
       → observed ≡ is_below_raised (label_at labels label) (label_at labels own) → no_container (state_shown labels es) t d ≡ unless observed Observe
@@ -113,7 +113,7 @@ module _ {Id : Type 0} (labels : Id → Option Levels) (es : TableModel Id) wher
       orelse unless (is_container (D i)) BadKind orelse unless (observes (T i) (D i)) Observe)
       ∙ ap (λ b. unless b Observe) (sym is)
 
-  -- where a thread observes a container, whether it modifies it decides
+  -- where a thread observes a container, making passes if it modifies the container
   pub making_found : (t d : ℕ) (own own_clearance label : Id) (links : Numbers) (below : Bool)
       → no_container (state_shown labels es) t d ≡ None → objects_of es t ≡ Some (thread_of own own_clearance)
       → objects_of es d ≡ Some (container_of label links)
@@ -129,7 +129,7 @@ module _ {Id : Type 0} (labels : Id → Option Levels) (es : TableModel Id) wher
       ∙ (λ i. unless (modifies (T i) (D i)) Modify)
       ∙ ap (λ b. unless b Modify) (ap (λ r. is_below (label_at labels own) (label_at labels label) && r) raised ∙ and-true _ ∙ sym is)
 
-  -- where it observes it, whether the container links the object decides
+  -- where a thread observes a container, the call passes if the container links the object
   pub linking_found : (t d o : ℕ) (label : Id) (links : Numbers) (linked : Bool) → no_container (state_shown labels es) t d ≡ None
       → objects_of es d ≡ Some (container_of label links) → linked ≡ set.contains links o
       → no_link (state_shown labels es) t d o ≡ unless linked NoEntry

@@ -1,4 +1,4 @@
--- Changes of threads leave all links.
+-- Changes of threads leave all links as they are.
 use Rattle.std.proofs.Common.{◌≡◌, ℕ, true, None, Some, Option, refl}
 use Rattle.std.specs.FinSet as set
 use Rattle.histar_label.specs.Levels.{Levels}
@@ -13,26 +13,26 @@ pub thread_there : (o : Option (Object Levels)) → is_thread o ≡ true → is_
 thread_there None thread = thread
 thread_there (Some o) thread = refl
 
--- what is a thread links nothing
+-- a thread links nothing
 kind_thread_links : (k : Kind Levels) → kind_is_thread k ≡ true → set.empty ≡ kind_links k
 kind_thread_links (Segment bytes) thread = refl
 kind_thread_links (Container links) thread = cc
 kind_thread_links (Thread clearance) thread = refl
 kind_thread_links (Gate clearance entry) thread = refl
 
--- nor does a thread that is there
+-- nor does an object that is a thread
 pub thread_links : (o : Option (Object Levels)) → is_thread o ≡ true → set.empty ≡ links_in o
 thread_links None thread = refl
 thread_links (Some o) thread = kind_thread_links o.kind thread
 
--- another clearance is no other links
+-- another clearance changes no links
 pub clearing_links : (new : Levels) (k : Kind Levels) → kind_links (kind_with_clearance new k) ≡ kind_links k
 clearing_links new (Segment bytes) = refl
 clearing_links new (Container links) = refl
 clearing_links new (Thread clearance) = refl
 clearing_links new (Gate clearance entry) = refl
 
--- nor is level 3 at a category
+-- nor does level 3 at a category
 pub cleared_links : (c : ℕ) (k : Kind Levels) → kind_links (kind_with_three_at c k) ≡ kind_links k
 cleared_links c (Segment bytes) = refl
 cleared_links c (Container links) = refl

@@ -37,11 +37,11 @@ use Rattle.histar_rules.proofs.WellLabelled.{well_later, labelled_put, labelled_
 use Rattle.histar_rules.proofs.Shapes.{thread_there, thread_links, clearing_links, cleared_links}
 
 module _ (s : State) (sound : IsSound s) where
-  -- what stands at a number where a thread is, is a thread
+  -- the object at the number of a thread is a thread
   thread_at : (t : ℕ) → is_thread (s.objects t) ≡ true → (o : Object Levels) → s.objects t ≡ Some o → kind_is_thread o.kind ≡ true
   thread_at t thread o i = sym (ap is_thread i) ∙ thread
 
-  -- a thread is given another label and another clearance
+  -- a state stays sound where a thread gets another label and another clearance
   sound_with_own : (t : ℕ) (label clearance : Levels) → is_thread (s.objects t) ≡ true → known s label ≡ true
       → known s clearance ≡ true → IsSound (with_own s t label clearance)
   sound_with_own t label clearance thread l c = record {
@@ -53,7 +53,7 @@ module _ (s : State) (sound : IsSound s) where
     some_made = sound.some_made;
   }
 
-  -- a thread is given another label
+  -- where a thread gets another label
   sound_relabelled : (t : ℕ) (label : Levels) → is_thread (s.objects t) ≡ true → known s label ≡ true → IsSound (with_changed s t (with_label label))
   sound_relabelled t label thread made = record {
     tree = tree_changed s.objects root_number s.next_object sound.tree t (with_label label) (λ o. refl);
@@ -63,7 +63,7 @@ module _ (s : State) (sound : IsSound s) where
     some_made = sound.some_made;
   }
 
-  -- a thread is given another clearance
+  -- where a thread gets another clearance
   sound_clearing : (t : ℕ) (clearance : Levels) → is_thread (s.objects t) ≡ true → known s clearance ≡ true
       → IsSound (with_changed s t (with_clearance clearance))
   sound_clearing t clearance thread made = record {
@@ -74,7 +74,7 @@ module _ (s : State) (sound : IsSound s) where
     some_made = sound.some_made;
   }
 
-  -- a category is made, which the thread t owns
+  -- where the thread t makes a category
   sound_category : (t : ℕ) → is_thread (s.objects t) ≡ true → IsSound (with_category s t)
   sound_category t thread =
       let later : (q : ℕ) (o : Object Levels) → s.objects q ≡ Some o → IsWellLabelled (s.next_category + 1) o =
@@ -90,7 +90,7 @@ module _ (s : State) (sound : IsSound s) where
         some_made = omega arith;
       }
 
-  -- a new object that links nothing is linked by a container
+  -- where a container links a new object that links nothing
   sound_added : (d : ℕ) (o : Object Levels) → is_container (s.objects d) ≡ true
       → ((c : ℕ) → set.contains (kind_links o.kind) c ≡ false) → IsWellLabelled s.next_category o
       → IsSound (with_object s d o)
@@ -100,7 +100,7 @@ module _ (s : State) (sound : IsSound s) where
     some_made = sound.some_made;
   }
 
-  -- a segment is given other bytes
+  -- where a segment gets other bytes
   sound_bytes : (n : ℕ) (bytes : List ℕ) → IsSound (with_segment_bytes s n bytes)
   sound_bytes n bytes = record {
     tree = tree_held s.objects root_number s.next_object sound.tree n bytes;
@@ -110,7 +110,7 @@ module _ (s : State) (sound : IsSound s) where
     some_made = sound.some_made;
   }
 
-  -- what a container links is cut off
+  -- and where an object that a container links is cut off
   sound_cut : (d o : ℕ) (new : State) → set.contains (links_in (s.objects d)) o ≡ true → CutsOff s d o new → IsSound new
   sound_cut d o new linked cut = record {
     tree =
@@ -122,36 +122,36 @@ module _ (s : State) (sound : IsSound s) where
     some_made = subst (λ (n : ℕ). 0 < n) (sym cut.next_category) sound.some_made;
   }
 
--- who names a container is a thread
+-- a caller that may name a container is a thread
 container_caller : (s : State) (t d : ℕ) → no_container s t d ≡ None → is_thread (s.objects t) ≡ true
 container_caller s t d e = caller_is s t (first (no_thread s t) _ e)
 
--- a container in which an object may be made is one
+-- a container in which an object may be made is a container
 making_container : (s : State) (t d : ℕ) → no_making s t d ≡ None → is_container (s.objects d) ≡ true
 making_container s t d e = container_is s t d (first (no_container s t d) _ e)
 
--- the empty set has no number
+-- the empty set contains no number
 no_links : (c : ℕ) → set.contains (set.empty {R = nat_cmp}) c ≡ false
 no_links c = set.contains-empty nat_cmp c
 
 module _ (s : State) (t : ℕ) (sound : IsSound s) where
-  -- a category is made
+  -- a made category leaves the state sound
   made_category : check s t MakeCategory ≡ None → IsSound (with_category s t)
   made_category e = sound_category s sound t (caller_is s t (first (no_thread s t) _ e))
 
-  -- the caller sets its label
+  -- so does a caller that sets its label
   set_label : (label : Levels) → check s t (SetLabel label) ≡ None → IsSound (with_changed s t (with_label label))
   set_label label e =
       let after = passes (in_range (s.objects t) label) Range _ (rest (no_thread s t) _ e) in
       sound_relabelled s sound t label (caller_is s t (first (no_thread s t) _ e)) (unless_none (known s label) Range after.1)
 
-  -- the caller sets its clearance
+  -- a caller that sets its clearance
   set_clearance : (clearance : Levels) → check s t (SetClearance clearance) ≡ None → IsSound (with_changed s t (with_clearance clearance))
   set_clearance clearance e =
       let after = passes (may_clear (s.objects t) clearance) Range _ (rest (no_thread s t) _ e) in
       sound_clearing s sound t clearance (caller_is s t (first (no_thread s t) _ e)) (unless_none (known s clearance) Range after.1)
 
-  -- an object without a clearance is made, of a label that owns nothing
+  -- a new object without a clearance, whose label owns nothing
   made_plain : (d : ℕ) (o : Object Levels) (later : Option Denied) → kind_clearance o.kind ≡ None
       → ((c : ℕ) → set.contains (kind_links o.kind) c ≡ false)
       → (no_making s t d orelse unless (in_range (s.objects t) o.label) Range orelse unless (known s o.label) Range
@@ -163,7 +163,7 @@ module _ (s : State) (t : ℕ) (sound : IsSound s) where
       sound_added s sound d o (making_container s t d (first (no_making s t d) _ e)) leaf
       (well_plain s.next_category o made.0 (not-true (has_star o.label) plain.0) none)
 
-  -- an object with a clearance is made
+  -- a new object with a clearance
   made_cleared : (d : ℕ) (o : Object Levels) (clearance : Levels) (later : Option Denied)
       → kind_clearance o.kind ≡ Some clearance → (kind_is_segment o.kind || kind_is_container o.kind) ≡ false
       → ((c : ℕ) → set.contains (kind_links o.kind) c ≡ false)
@@ -177,7 +177,7 @@ module _ (s : State) (t : ℕ) (sound : IsSound s) where
       sound_added s sound d o (making_container s t d (first (no_making s t d) _ e)) leaf
       (well_cleared s.next_category o clearance made.0 has cleared.0 alone)
 
-  -- the caller enters a gate
+  -- a caller that enters a gate
   entered : (d o : ℕ) (wanted clearance verify : Levels) → check s t (Enter d o wanted clearance verify) ≡ None
       → IsSound (with_own s t wanted clearance)
   entered d o wanted clearance verify e =
@@ -189,7 +189,7 @@ module _ (s : State) (t : ℕ) (sound : IsSound s) where
       sound_with_own s sound t wanted clearance (container_caller s t d
       (first (no_container s t d) _ (first (no_link s t d o) _ (first (no_gate s t d o) _ e)))) made.0 cleared.0
 
-  -- the caller unlinks an object
+  -- and a caller that unlinks an object
   unlinked : (d o : ℕ) (new : State) → check s t (Unlink d o) ≡ None → CutsOff s d o new → IsSound new
   unlinked d o new e =
       sound_cut s sound d o new (unless_none (set.contains (links_in (s.objects d)) o) NoEntry
@@ -217,7 +217,7 @@ sound_changes s new t (Write d o keep bytes) sound e is = subst IsSound (sym is)
 sound_changes s new t (Unlink d o) sound e is = unlinked s t sound d o new e is
 sound_changes s new t (LabelOf d o) sound e is = subst IsSound (sym is) sound
 
--- and so a call, whatever it answers, leaves a sound state sound
+-- so a call leaves a sound state sound, whatever its outcome
 pub sound_decided : {A : Type 0} (old new : ObjectsModel) (t : ℕ) (call : RawCall) (r : Result A Refusal)
     (P : A → Type 0) → IsSound (state_of old) → Decides old new t call r P → IsSound (state_of new)
 sound_decided old new t call (Ok answer) P sound decides = sound_changes (state_of old) (state_of new) t call sound decides.0 decides.1
@@ -232,7 +232,7 @@ root_plain c star = by (c == 1) (sym (level_of-with_level (constant L1) 1 L0 c) 
     by true e = cc
     by false e = let k : L1 ≡ Star = sym (level_of-constant L1 c) ∙ e in cc
 
--- the labels of the root container are well
+-- the labels of the root container are well-formed
 root_well : IsWellLabelled 2 root_object
 root_well = record {
   label_made = is_made-with_level 2 (constant L1) 1 L0 (lit< tt) (lit< tt) (is_made-constant 2 L1);
@@ -240,7 +240,7 @@ root_well = record {
   owns_nothing = λ h. has_star-none root_object.label root_plain;
 }
 
--- and so are those of the boot thread
+-- so are those of the boot thread
 boot_well : IsWellLabelled 2 boot_thread
 boot_well = well_thread 2 (with_level (constant L1) 1 Star) (with_level (constant L2) 1 L3)
     (is_made-with_level 2 (constant L1) 1 Star (lit< tt) (lit< tt) (is_made-constant 2 L1))

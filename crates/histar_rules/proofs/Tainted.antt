@@ -1,4 +1,4 @@
--- What hangs below an object that is tainted in a category is not visible without that taint.
+-- An object below one that is tainted in a category is not visible without that taint.
 use Rattle.std.proofs.Common.{◌≡◌, ℕ, Bool, true, false, [], ◌∷◌, Option, None, Some, refl, sym, ap, ◌∙◌, subst, if◌then◌else◌}
 use Rattle.std.specs.Prelude.{nat_lt, ⊤}
 use Rattle.std.specs.FinSet as set
@@ -16,7 +16,7 @@ use Rattle.histar_container.proofs.Trees.{one_link, root_not_reached}
 use Rattle.histar_rules.specs.Sound.{root_number, IsSound}
 use Rattle.histar_rules.specs.Visible.{untainted, visible, end_of}
 
--- an object that is there is tainted in v
+-- there is an object, and it is tainted in v
 abbrev pub IsTainted : ℕ → Found → Type 0
 IsTainted v None = ⊤
 IsTainted v (Some o) = level_of o.label v ≡ L3
@@ -26,7 +26,7 @@ pub tainted_none : (v : ℕ) (f : Found) → IsTainted v f → untainted v f ≡
 tainted_none v None h = refl
 tainted_none v (Some o) h = ap (λ (l : Level). if nat_lt (rank l) (rank L3) then Some o else None) h
 
--- what passes a test is what was tested
+-- a value that passes a test is the one that was tested
 pub if_some : {A : Type 0} (b : Bool) (y : Option A) (z : A) → (if b then y else None) ≡ Some z → (b ≡ true) × (y ≡ Some z)
 if_some true y z e = (refl, e)
 if_some false y z e = cc
@@ -36,12 +36,12 @@ pub if_none : (b : Bool) (f : Found) → f ≡ None → (if b then f else None) 
 if_none true f e = e
 if_none false f e = refl
 
--- what is untainted is there
+-- an untainted object is there
 pub untainted_is : (v : ℕ) (f : Found) (o : Object Levels) → untainted v f ≡ Some o → f ≡ Some o
 untainted_is v None o e = cc
 untainted_is v (Some p) o e = (if_some (nat_lt (rank (level_of p.label v)) (rank L3)) (Some p) o e).1
 
--- what links something is there
+-- an object that links a number is there
 pub linker : (f : Found) (x : ℕ) → set.contains (links_in f) x ≡ true → (o : Object Levels) × (f ≡ Some o)
 linker None x k = absurd (true≢false (sym k ∙ sym (none_linked x)))
 linker (Some o) x k = (o, refl)
@@ -53,7 +53,7 @@ module _ (s : State) (v : ℕ) where
   visible_is (x ∷ path) o e = (if_some (set.contains (links_in (visible s v path)) x) (untainted v (s.objects x)) o e).1
 
   module _ (sound : IsSound s) where
-    -- what is reached from a tainted object is not visible
+    -- an object that is reached from a tainted one is not visible
     pub not_visible : (d q : ℕ) → IsTainted v (s.objects d) → Reached s.objects d q
         → (path : Address ℕ) (o : Object Levels) → end_of path ≡ q → visible s v path ≡ Some o → ⊥
     not_visible d q tainted here path o is seen =

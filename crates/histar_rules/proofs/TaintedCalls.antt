@@ -1,4 +1,4 @@
--- A granted call of a thread that is tainted in v changes only what is tainted in v, and leaves it so.
+-- A granted call of a thread that is tainted in v changes only objects that are tainted in v, and leaves them tainted.
 use Rattle.std.proofs.Common.{◌≡◌, ◌≢◌, ℕ, ◌<◌, ◌≤◌, ◌==◌, ◌⊎◌, inl, inr, Bool, true, false, ◌&&◌, List, ◌++◌, Option, None, Some, take, arith, refl}
 use Rattle.std.proofs.Common.{sym, ap, ◌∙◌, subst, if◌then◌else◌}
 use Rattle.std.specs.Prelude.{option_map, max}
@@ -36,12 +36,12 @@ use Rattle.histar_rules.specs.Visible.{IsTaintedCaller}
 use Rattle.histar_rules.proofs.Tainted.{IsTainted}
 use Rattle.histar_rules.proofs.TaintedMoves.{Moved, stays, tainted, gone}
 
--- of two tests that both pass, the first does
+-- of two tests that both pass, the first passes
 and_first : (a b : Bool) → (a && b) ≡ true → a ≡ true
 and_first true b e = refl
 and_first false b e = e
 
--- and so does the first of three
+-- so does the first of three
 first_of_three : (a b c : Bool) → (a && b && c) ≡ true → a ≡ true
 first_of_three a b c e = and_first a b (and_first (a && b) c e)
 
@@ -53,7 +53,7 @@ at_least_three L1 h = absurd (omega (arith, h))
 at_least_three L2 h = absurd (omega (arith, h))
 at_least_three L3 h = refl
 
--- the floor of 3 and what is not star is 3
+-- the floor of 3 and a level other than star is 3
 floor_of_three : (m : Level) → m ≢ Star → lowered (max 4 (raised m)) ≡ 4
 floor_of_three Star other = absurd (other refl)
 floor_of_three L0 other = refl
@@ -61,31 +61,31 @@ floor_of_three L1 other = refl
 floor_of_three L2 other = refl
 floor_of_three L3 other = refl
 
--- a test of a label and a clearance that passes has both
+-- where a test of a label and a clearance passes, both are there
 both_some : (l : Levels) (c : Option Levels) (test : Levels → Levels → Bool) → both (Some l) c test ≡ true
     → (own_clearance : Levels) × (test l own_clearance ≡ true)
 both_some l None test e = cc
 both_some l (Some own_clearance) test e = (own_clearance, e)
 
--- what is between two labels is above the first
+-- a label between two labels is above the first
 between_low : (l : Levels) (c : Option Levels) (label : Levels) → between (Some l) c label ≡ true → is_below l label ≡ true
 between_low l None label e = cc
 between_low l (Some own_clearance) label e = and_first (is_below l label) (is_below label own_clearance) e
 
--- what is reached from what a container links is reached from the container
+-- an object that is reached from one that a container links is reached from the container
 link_then : {L : Type 0} (objects : Objects L) (d o : ℕ) → set.contains (links_in (objects d)) o ≡ true → (q : ℕ)
     → Reached objects o q → Reached objects d q
 link_then objects d o k q here = there d o here k
 link_then objects d o k q (there p c r l) = there p q (link_then objects d o k p r) l
 
 module _ (v : ℕ) where
-  -- a label above one that has v at 3 has it at 3
+  -- a label above one with v at 3 has v at 3
   above_three : (L M : Levels) → level_of L v ≡ L3 → is_below L M ≡ true → level_of M v ≡ L3
   above_three L M three below =
       at_least_three (level_of M v)
       (subst (λ (l : Level). rank l ≤ rank (level_of M v)) three ((is_below-law L M).0 below v))
 
-  -- so has the floor of it and of one that doesn't own v
+  -- so has the floor of one with v at 3 and one that doesn't own v
   floor_three : (L M : Levels) → level_of L v ≡ L3 → level_of M v ≢ Star → level_of (floor_of L M) v ≡ L3
   floor_three L M three other =
       let is : rank (level_of (floor_of L M) v) ≡ 4 =
@@ -93,7 +93,7 @@ module _ (v : ℕ) where
       ∙ floor_of_three (level_of M v) other in
       at_least_three (level_of (floor_of L M) v) (omega (arith, is))
 
-  -- another level elsewhere is none at v
+  -- another level at another category leaves the level at v
   other_level : (L : Levels) (c : ℕ) (l : Level) → v ≢ c → level_of (with_level L c l) v ≡ level_of L v
   other_level L c l other = elim (eqb_tells v c) [
     | inl e ↦ absurd (other e.1)
@@ -121,7 +121,7 @@ module _ (v : ℕ) where
       e in
       above_three o.label label h (first_of_three (is_below o.label label) (is_below label clearance) (is_below clearance is.0) is.1)
 
-  -- so has the label behind a gate that doesn't own v
+  -- so has a label behind a gate that doesn't own v
   gate_tainted : (f g : Found) (label clearance : Levels) → IsTainted v f
       → ((o : Object Levels) → g ≡ Some o → level_of o.label v ≢ Star) → in_gate f g label clearance ≡ true
       → level_of label v ≡ L3
@@ -141,25 +141,25 @@ module _ (v : ℕ) where
       (first_of_three (is_below (floor_of t.label g.label) label) (is_below label clearance)
       (is_below_join clearance outer.0 is.0) is.1)
 
-  -- what a tainted thread may modify is tainted
+  -- an object that a tainted thread may modify is tainted
   modified_tainted : (f g : Found) → IsTainted v f → modifies f g ≡ true → IsTainted v g
   modified_tainted None g h e = cc
   modified_tainted (Some t) None h e = tt
   modified_tainted (Some t) (Some a) h e = above_three t.label a.label h (and_first (is_below t.label a.label) _ e)
 
-  -- what is changed so that its new label is tainted, is tainted
+  -- a changed object whose new label is tainted is tainted
   map_tainted : (change : Object Levels → Object Levels) (f : Found)
       → ((o : Object Levels) → f ≡ Some o → level_of (change o).label v ≡ L3) → IsTainted v (option_map change f)
   map_tainted change None all = tt
   map_tainted change (Some o) all = all o refl
 
-  -- a change that leaves the label leaves what is tainted
+  -- a change that leaves the label leaves a tainted object tainted
   same_tainted : (change : Object Levels → Object Levels) (f : Found)
       → ((o : Object Levels) → (change o).label ≡ o.label) → IsTainted v f → IsTainted v (option_map change f)
   same_tainted change f same h = map_tainted change f (λ o i. ap (λ (L : Levels). level_of L v) (same o) ∙ subst (IsTainted v) i h)
 
   module _ (objects : Objects Levels) where
-    -- a tainted object is changed
+    -- only tainted objects change where a tainted object is changed
     changed_moves : (n : ℕ) (change : Object Levels → Object Levels) → IsTainted v (objects n)
         → ((o : Object Levels) → objects n ≡ Some o → level_of (change o).label v ≡ L3) → (q : ℕ)
         → Moved v objects (changed_at objects n change) q
@@ -170,7 +170,7 @@ module _ (v : ℕ) where
       | inr e ↦ stays (changed_other objects n change q e.1)
     ]
 
-    -- a tainted object is put in the place of one
+    -- where a tainted object is put in the place of a tainted one
     put_moves : (n : ℕ) (o : Object Levels) → IsTainted v (objects n) → level_of o.label v ≡ L3 → (q : ℕ) → Moved v objects (put objects n o) q
     put_moves n o h three q = elim (eqb_tells q n) [
       | inl e ↦
@@ -180,7 +180,7 @@ module _ (v : ℕ) where
       | inr e ↦ stays (put_other objects n o q e.1)
     ]
 
-    -- a tainted object is linked in a tainted container
+    -- where a tainted object is linked in a tainted container
     new_moves : (d n : ℕ) (o : Object Levels) → objects n ≡ None → IsTainted v (objects d) → level_of o.label v ≡ L3
         → (q : ℕ) → Moved v objects (with_new objects d n o) q
     new_moves d n o none h three q = elim (eqb_tells q n) [
@@ -195,7 +195,7 @@ module _ (v : ℕ) where
       ]
     ]
 
-    -- what a tainted container links is cut off
+    -- and where an object that a tainted container links is cut off
     cut_moves : (d o : ℕ) (new : Objects Levels) → IsTainted v (objects d)
         → set.contains (links_in (objects d)) o ≡ true → IsCut objects d o new
         → ((q : ℕ) → Reached objects o q ⊎ (Reached objects o q → ⊥)) → (q : ℕ) → Moved v objects new q
@@ -221,7 +221,7 @@ module _ (v : ℕ) where
     link_caller : (d o : ℕ) → no_link s t d o ≡ None → IsTainted v (s.objects t)
     link_caller d o e = container_caller d (first (no_container s t d) _ e)
 
-    -- a container in which the caller may make something
+    -- a container in which the caller may make an object is tainted
     making_tainted : (d : ℕ) → no_making s t d ≡ None → IsTainted v (s.objects d)
     making_tainted d e =
         modified_tainted (s.objects t) (s.objects d) (container_caller d (first (no_container s t d) _ e))
@@ -230,7 +230,7 @@ module _ (v : ℕ) where
     making_caller : (d : ℕ) → no_making s t d ≡ None → IsTainted v (s.objects t)
     making_caller d e = container_caller d (first (no_container s t d) _ e)
 
-    -- an object is made whose label was tested
+    -- only tainted objects change where an object is made whose label was tested
     making_moves : (d : ℕ) (o : Object Levels) (test : Bool) (later : Option Denied)
         → (IsTainted v (s.objects t) → test ≡ true → level_of o.label v ≡ L3)
         → (no_making s t d orelse unless test Range orelse later) ≡ None → (q : ℕ) → Moved v s.objects (with_object s d o).objects q
@@ -240,7 +240,7 @@ module _ (v : ℕ) where
         new_moves s.objects d s.next_object o (none_next s.objects root_number s.next_object sound.tree)
         (making_tainted d may) (taints (making_caller d may) ranged.0)
 
-    -- the category that is made is another one
+    -- and where a category is made, which is not v
     category_moves : check s t MakeCategory ≡ None → (q : ℕ) → Moved v s.objects (with_category s t).objects q
     category_moves e =
         let h = caller (first (no_thread s t) _ e) in
@@ -292,11 +292,11 @@ module _ (v : ℕ) where
         (unless_none (modifies (s.objects t) (s.objects d)) Modify (rest (no_link s t d o) _ e)) in
         cut_moves s.objects d o new.objects there linked cut.is_cut (reached_decided s.objects root_number s.next_object sound.tree d o linked)
 
-    -- to a state
+    -- and so where the new state equals this one
     to : (new is : State) → new ≡ is → ((q : ℕ) → Moved v s.objects is.objects q) → (q : ℕ) → Moved v s.objects new.objects q
     to new is same moves = subst (λ (x : State). (q : ℕ) → Moved v s.objects x.objects q) (sym same) moves
 
-    -- each call
+    -- a granted call changes only tainted objects
     pub granted_moves : (call : RawCall) (new : State) → check s t call ≡ None → Changes s t call new → (q : ℕ) → Moved v s.objects new.objects q
     granted_moves MakeCategory new e is = to new (with_category s t) is (category_moves e)
     granted_moves OwnLabel new e is = to new s is (λ q. stays refl)
@@ -325,7 +325,7 @@ module _ (v : ℕ) where
     granted_moves (Unlink d o) new e is = unlink_moves d o new e is
     granted_moves (LabelOf d o) new e is = to new s is (λ q. stays refl)
 
--- no call takes a category back
+-- no call makes the number of categories smaller
 pub later_category : (s new : State) (t : ℕ) (call : RawCall) → Changes s t call new → s.next_category ≤ new.next_category
 later_category s new t MakeCategory is = subst (λ (x : State). s.next_category ≤ x.next_category) (sym is) (omega arith)
 later_category s new t OwnLabel is = subst (λ (x : State). s.next_category ≤ x.next_category) (sym is) (omega arith)

@@ -1,4 +1,4 @@
--- Changes of tainted objects alone leave what is visible.
+-- Changes of tainted objects alone leave what is visible as it was.
 use Rattle.std.proofs.Common.{◌≡◌, ◌≢◌, ℕ, true, [], ◌∷◌, None, Some, refl, sym, ap, ◌∙◌, subst, if◌then◌else◌}
 use Rattle.std.specs.FinSet as set
 use Rattle.histar_label.specs.declared.levels.Level.TheVariants.{Star, L3}
@@ -11,21 +11,21 @@ use Rattle.histar_rules.specs.Sound.{root_number, IsSound}
 use Rattle.histar_rules.specs.Visible.{untainted, visible, end_of, IsTaintedCaller}
 use Rattle.histar_rules.proofs.Tainted.{IsTainted, tainted_none, if_none, not_visible}
 
--- What happens to the object at a number where only objects tainted in v are changed: it stays; or it is tainted before and after, where
--- it is there; or it goes, and was reached from a tainted object.
+-- The object at a number, where only objects tainted in v change: it stays; or it is tainted before and after, where it is there; or it
+-- goes, and was reached from a tainted object.
 pub data Moved (v : ℕ) (old new : Objects Levels) (q : ℕ) : Type 0 where
   stays : new q ≡ old q → Moved v old new q
   tainted : IsTainted v (old q) → IsTainted v (new q) → Moved v old new q
   gone : (d : ℕ) → IsTainted v (old d) → Reached old d q → new q ≡ None → Moved v old new q
 
 module _ (s new : State) (v : ℕ) (sound : IsSound s) (moved : (q : ℕ) → Moved v s.objects new.objects q) where
-  -- what goes was not visible
+  -- an object that goes was not visible
   gone_before : (d : ℕ) (path : Address ℕ) → IsTainted v (s.objects d) → Reached s.objects d (end_of path) → (f : Found)
       → visible s v path ≡ f → f ≡ None
   gone_before d path h r None e = refl
   gone_before d path h r (Some o) e = absurd (not_visible s v sound d (end_of path) h r path o refl e)
 
-  -- what is visible stays as it was
+  -- a visible object stays as it was
   pub visible_stays : (path : Address ℕ) → visible new v path ≡ visible s v path
   visible_stays [] = elim (moved root_number) [
     | stays e ↦ ap (untainted v) e
@@ -44,7 +44,7 @@ module _ (s new : State) (v : ℕ) (sound : IsSound s) (moved : (q : ℕ) → Mo
             ∙ sym (gone_before d (x ∷ path) h r (visible s v (x ∷ path)) refl)
       ]
 
-  -- a thread that was tainted is, and so is what is a thread now and was none
+  -- a thread that was tainted still is, and a new thread is tainted
   pub still_tainted : (t : ℕ) → IsTaintedCaller s v t → IsTaintedCaller new v t
   still_tainted t before o i thread = elim (moved t) [
     | stays e ↦ before o (sym e ∙ i) thread
@@ -52,7 +52,7 @@ module _ (s new : State) (v : ℕ) (sound : IsSound s) (moved : (q : ℕ) → Mo
     | gone d h r e ↦ let no : None ≡ Some o = sym e ∙ i in cc
   ]
 
-  -- no gate owns v
+  -- still no gate owns v
   pub still_unowned : ((q : ℕ) (o : Object Levels) → s.objects q ≡ Some o → kind_is_gate o.kind ≡ true → level_of o.label v ≢ Star)
       → (q : ℕ) (o : Object Levels) → new.objects q ≡ Some o → kind_is_gate o.kind ≡ true → level_of o.label v ≢ Star
   still_unowned before q o i gate = elim (moved q) [

@@ -1,4 +1,4 @@
--- What a look-up finds of a thread, a container, a segment or a gate, each told once by its parts.
+-- What a look-up finds of a thread, a container, a segment or a gate, stated once by its parts.
 use Rattle.std.specs.Prelude.{◌≡◌, ℕ, List, false, Option, None, Some}
 use Rattle.std.specs.Borrow.{Bor}
 use Rattle.histar_label.specs.Levels.{Levels}
@@ -10,12 +10,12 @@ use Rattle.histar_object.specs.State.{State, Found}
 use Rattle.histar_container.specs.Shown.{objects_shown}
 use Rattle.histar_rules.specs.declared.limits.Next.{Next}
 
--- a thread with this label and this clearance was found, or what is there is no thread
+-- the look-up found a thread with this label and this clearance, or the object there is no thread
 abbrev pub FindsThread : {L : Type 0} → Option (Object L) → Option (L × L) → Type 0
 FindsThread here None = is_thread here ≡ false
 FindsThread here (Some own) = here ≡ Some (thread_of own.0 own.1)
 
--- the same, of labels that are lent
+-- the same, where the labels are lent
 abbrev pub LendsThread : Found → Option (Bor Levels × Bor Levels) → Type 0
 LendsThread here None = is_thread here ≡ false
 LendsThread here (Some own) = here ≡ Some (thread_of own.0.now own.1.now)
@@ -28,14 +28,14 @@ container_of label links = record { label = label; kind = Container links }
 abbrev pub segment_of : {L : Type 0} → L → List ℕ → Object L
 segment_of label bytes = record { label = label; kind = Segment bytes }
 
--- a gate with this label and this clearance, which gives this to those who enter it
+-- a gate with this label and this clearance, which gives this entry to threads that enter it
 abbrev pub gate_of : {L : Type 0} → L → L → Entry → Object L
 gate_of label clearance entry = record { label = label; kind = Gate clearance entry }
 
--- the objects that a table and its store show, as a state whose next numbers are 0
+-- the objects that a table and its store represent, as a state whose next numbers are 0
 abbrev pub state_shown : {Id : Type 0} → (Id → Option Levels) → TableModel Id → State
 state_shown labels es = record { objects = objects_shown labels es; next_object = 0; next_category = 0 }
 
--- the same, with the numbers that come next
+-- the same, with the next numbers
 abbrev pub state_with : {Id : Type 0} → (Id → Option Levels) → TableModel Id → Next → State
 state_with labels es next = record { objects = objects_shown labels es; next_object = next.object; next_category = next.category }

@@ -14,7 +14,7 @@ module _ {L : Type 0} where
   kind_of (Thread clearance) = names.Thread
   kind_of (Gate clearance entry) = names.Gate
 
-  -- the kind of an object that is there
+  -- the kind of an object, if it is there
   abbrev pub kind_there : Option (Object L) → Option ObjectKind
   kind_there None = None
   kind_there (Some o) = Some (kind_of o.kind)

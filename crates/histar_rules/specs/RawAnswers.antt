@@ -1,4 +1,4 @@
--- What a raw call answers where it is granted: the one statement of it, by the call's own type of answers.
+-- What a raw call answers where it is granted, stated once: each call has its own type of answers.
 use Rattle.std.specs.Prelude.{◌≡◌, ℕ, List, Some}
 use Rattle.histar_label.specs.Levels.{Levels}
 use Rattle.histar_object.specs.declared.objects.Entry.{Entry}
@@ -8,7 +8,7 @@ use Rattle.histar_rules.specs.declared.raw.RawCall.{RawCall}
 use Rattle.histar_rules.specs.declared.raw.RawCall.TheVariants.{MakeCategory, OwnLabel, SetLabel, SetClearance, MakeSegment, MakeContainer}
 use Rattle.histar_rules.specs.declared.raw.RawCall.TheVariants.{MakeThread, MakeGate, Enter, Read, Write, Unlink, LabelOf}
 
--- what a raw call answers where it is granted: a number, labels, an entry, bytes, or nothing
+-- the type of the answer of a raw call that is granted: a number, labels, an entry, bytes, or nothing
 abbrev pub AnswerOf : RawCall → Type 0
 AnswerOf MakeCategory = ℕ
 AnswerOf OwnLabel = Levels × Levels
@@ -24,7 +24,7 @@ AnswerOf (Write d o keep bytes) = Unit {0}
 AnswerOf (Unlink d o) = Unit {0}
 AnswerOf (LabelOf d o) = Levels
 
--- the answer is the one that the state before the call gives to the thread
+-- the answer of a granted call is the one that the state before the call determines
 abbrev pub IsAnswer : State → ℕ → (call : RawCall) → AnswerOf call → Type 0
 IsAnswer s t MakeCategory category = category ≡ s.next_category
 IsAnswer s t OwnLabel own = (Some own.0 ≡ label_there (s.objects t)) × (Some own.1 ≡ clearance_there (s.objects t))

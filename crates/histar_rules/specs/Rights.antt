@@ -9,13 +9,13 @@ use Rattle.histar_object.specs.declared.objects.Object.{Object}
 use Rattle.histar_object.specs.Objects.{changed_at, label_there, clearance_there}
 use Rattle.histar_object.specs.State.{State, Found}
 
--- a test of a label and a clearance, which nothing passes that has not both
+-- a test of a label and a clearance, which fails where one of them is missing
 abbrev pub both : Option Levels → Option Levels → (Levels → Levels → Bool) → Bool
 both None clearance test = false
 both (Some label) None test = false
 both (Some label) (Some clearance) test = test label clearance
 
--- a test of the label and the clearance of a thread or a gate that is there
+-- a test of the label and the clearance of a thread or a gate, which fails where it is missing
 abbrev pub holds_of : Found → (Levels → Levels → Bool) → Bool
 holds_of found test = both (label_there found) (clearance_there found) test
 
@@ -23,7 +23,7 @@ holds_of found test = both (label_there found) (clearance_there found) test
 abbrev pub in_span : Found → Levels → Levels → Bool
 in_span t label clearance = holds_of t (λ own own_clearance. is_below own label && is_below label clearance && is_below clearance own_clearance)
 
--- a clearance is above t's own label, and above t's clearance only where t owns
+-- a clearance is above t's own label, and is above t's clearance only where t owns
 abbrev pub may_clear : Found → Levels → Bool
 may_clear t clearance = holds_of t (λ own own_clearance. is_below own clearance && is_below_join_raised clearance own_clearance own)
 
@@ -40,21 +40,21 @@ abbrev pub lies_between : Levels → Levels → Levels → Levels → Levels →
 lies_between own gate_label label clearance own_clearance gate_clearance =
     is_below (floor_of own gate_label) label && is_below label clearance && is_below_join clearance own_clearance gate_clearance
 
--- a label and a clearance above it that t may have behind a gate: what t or the gate owns is owned, elsewhere the label is at
--- least both, and the clearance at most the greater of both
+-- t may have this label and this clearance behind a gate: it owns what t or the gate owns; elsewhere the label is at least both labels, and
+-- the clearance at most the greater of both clearances
 abbrev pub in_gate : Found → Found → Levels → Levels → Bool
 in_gate t gate label clearance =
     holds_of t (λ own own_clearance. holds_of gate
     (λ gate_label gate_clearance. lies_between own gate_label label clearance own_clearance gate_clearance))
 
--- a clearance with level 3 at a category
+-- a kind whose clearance, if it has one, has level 3 at a category
 abbrev pub kind_with_three_at : ℕ → Kind Levels → Kind Levels
 kind_with_three_at c (Segment bytes) = Segment bytes
 kind_with_three_at c (Container links) = Container links
 kind_with_three_at c (Thread clearance) = Thread (with_level clearance c L3)
 kind_with_three_at c (Gate clearance entry) = Gate (with_level clearance c L3) entry
 
--- a thread that owns one category more, and may give anyone level 3 there
+-- a thread that owns one more category, where its clearance is now 3
 abbrev pub with_star_at : ℕ → Object Levels → Object Levels
 with_star_at c o = record { label = with_level o.label c Star; kind = kind_with_three_at c o.kind }
 
@@ -62,7 +62,7 @@ with_star_at c o = record { label = with_level o.label c Star; kind = kind_with_
 abbrev pub with_label : {L : Type 0} → L → Object L → Object L
 with_label label o = record { label = label; kind = o.kind }
 
--- a thread with another clearance
+-- a thread or a gate with another clearance
 abbrev pub kind_with_clearance : {L : Type 0} → L → Kind L → Kind L
 kind_with_clearance clearance (Segment bytes) = Segment bytes
 kind_with_clearance clearance (Container links) = Container links
@@ -76,7 +76,7 @@ with_clearance clearance o = record { label = o.label; kind = kind_with_clearanc
 abbrev pub with_changed : State → ℕ → (Object Levels → Object Levels) → State
 with_changed s t f = record { objects = changed_at s.objects t f; next_object = s.next_object; next_category = s.next_category }
 
--- the state in which the next category was made, which t owns
+-- the state in which thread t has made the next category, and owns it
 abbrev pub with_category : State → ℕ → State
 with_category s t =
     record {

@@ -1,4 +1,4 @@
--- The rules of the kernel: of each raw call the first failing check, and what it leaves where none fails.
+-- The rules of the kernel: for each raw call the first failing check, and the state that it leaves where none fails.
 use Rattle.std.specs.Prelude.{◌≡◌, ℕ, ◌+◌, ◌<◌, Bool, not, List, ◌++◌, Option, None, Some, length, take, min, nat_lt, nat_le, Result, Ok, Err, ⊤}
 use Rattle.std.specs.FinSet as set
 use Rattle.histar_base.specs.Refusals.{unless, ◌orelse◌}
@@ -19,15 +19,15 @@ use Rattle.histar_rules.specs.declared.raw.RawCall.{RawCall}
 use Rattle.histar_rules.specs.declared.raw.RawCall.TheVariants.{MakeCategory, OwnLabel, SetLabel, SetClearance, MakeSegment, MakeContainer}
 use Rattle.histar_rules.specs.declared.raw.RawCall.TheVariants.{MakeThread, MakeGate, Enter, Read, Write, Unlink, LabelOf}
 
--- the greatest number of 64 bits: a counter that has it can't rise
+-- the greatest number of 64 bits: a counter with this value can't rise
 abbrev pub greatest : ℕ
 greatest = 18446744073709551615
 
--- the first checks of every call: the caller is a thread
+-- every call checks first that the caller is a thread
 abbrev pub no_thread : State → ℕ → Option Denied
 no_thread s t = unless (is_thread (s.objects t)) NoThread
 
--- then of every call that names a container: it is there, it is one, and the thread may observe it
+-- a call that names a container then checks that it is there, that it is a container, and that the thread may observe it
 abbrev pub no_container : State → ℕ → ℕ → Option Denied
 no_container s t d =
     no_thread s t
@@ -35,21 +35,21 @@ no_container s t d =
     orelse unless (is_container (s.objects d)) BadKind
     orelse unless (observes (s.objects t) (s.objects d)) Observe
 
--- then of every call that names an object in it: it is linked there
+-- a call that names an object in a container then checks that the container links it
 abbrev pub no_link : State → ℕ → ℕ → ℕ → Option Denied
 no_link s t d o =
     no_container s t d
     orelse unless (set.contains (links_in (s.objects d)) o) NoEntry
 
--- and of a call on a segment: it is one
+-- a call on a segment then checks that the object is a segment
 abbrev pub no_segment : State → ℕ → ℕ → ℕ → Option Denied
 no_segment s t d o = no_link s t d o orelse unless (is_segment (s.objects o)) BadKind
 
--- and of a call on a gate: it is one
+-- a call on a gate then checks that the object is a gate
 abbrev pub no_gate : State → ℕ → ℕ → ℕ → Option Denied
 no_gate s t d o = no_link s t d o orelse unless (is_gate (s.objects o)) BadKind
 
--- of every call that makes an object in a container: the thread may modify the container
+-- a call that makes an object in a container then checks that the thread may modify the container
 abbrev pub no_making : State → ℕ → ℕ → Option Denied
 no_making s t d = no_container s t d orelse unless (modifies (s.objects t) (s.objects d)) Modify
 
@@ -57,15 +57,15 @@ no_making s t d = no_container s t d orelse unless (modifies (s.objects t) (s.ob
 abbrev pub fits_segment : ℕ → Bool
 fits_segment n = nat_le n 4096
 
--- there is a number for one object more
+-- there is a number for one more object
 abbrev pub has_number : State → Bool
 has_number s = nat_lt s.next_object greatest
 
--- a label that was handed in names no category that was never made
+-- a label that was handed in names only categories that were made
 abbrev pub known : State → Levels → Bool
 known s label = is_made s.next_category label
 
--- of every call that makes an object that owns nothing: its label is in the thread's range, and its bytes fit a segment
+-- the checks to make an object that owns nothing: its label is in the thread's range, and its bytes fit a segment
 abbrev pub no_new : State → ℕ → ℕ → Levels → ℕ → Option Denied
 no_new s t d label size =
     no_making s t d
@@ -75,7 +75,7 @@ no_new s t d label size =
     orelse unless (fits_segment size) TooBig
     orelse unless (has_number s) TooBig
 
--- of every call that makes an object that may own: its label and its clearance are in the thread's range
+-- the checks to make an object that may own: its label and its clearance are in the thread's range
 abbrev pub no_new_owner : State → ℕ → ℕ → Levels → Levels → Option Denied
 no_new_owner s t d label clearance =
     no_making s t d
@@ -84,8 +84,8 @@ no_new_owner s t d label clearance =
     orelse unless (known s clearance) Range
     orelse unless (has_number s) TooBig
 
--- The first failing check of a raw call. First come the caller, the container and the object; then whether labels let the
--- thread observe, modify or enter; then the ranges of the labels that were handed in; then sizes and counters.
+-- The first failing check of a raw call. The order: the caller, the container and the object; then whether labels let the thread observe,
+-- modify or enter; then the ranges of the labels that were handed in; then sizes and counters.
 abbrev pub check : State → ℕ → RawCall → Option Denied
 check s t MakeCategory =
     no_thread s t
@@ -125,19 +125,19 @@ check s t (LabelOf d o) =
     no_link s t d o
     orelse unless (not (is_thread (s.objects o))) BadKind
 
--- a check fails at the first of its tests that fails, and passes where none does
+-- a check answers the first of its tests that fails, and succeeds where none fails
 abbrev pub FailsAt : {A : Type 0} → Option Denied → Result A Denied → Type 0
 FailsAt failing (Ok _) = failing ≡ None
 FailsAt failing (Err denied) = failing ≡ Some denied
 
--- a check that wants memory does the same, unless memory ran out
+-- the same of a check that needs memory, unless memory ran out
 abbrev pub FailsAtUnlessExhausted : {A : Type 0} → Option Denied → Result A Refusal → Type 0
 FailsAtUnlessExhausted failing (Ok _) = failing ≡ None
 FailsAtUnlessExhausted failing (Err (refusals.Denied denied)) = failing ≡ Some denied
 FailsAtUnlessExhausted failing (Err refusals.OutOfMemory) = ⊤
 
--- What a raw call that passes its checks leaves. A new object gets the next number, and the container links it; an object
--- that is taken away goes with all that is reached from it by links.
+-- The state that a raw call leaves once its checks pass. A new object gets the next number, and the container links it; an unlinked object
+-- goes with all that is reached from it by links.
 abbrev pub Changes : State → ℕ → RawCall → State → Type 0
 Changes s t MakeCategory new = new ≡ with_category s t
 Changes s t OwnLabel new = new ≡ s
@@ -153,23 +153,23 @@ Changes s t (Write d o keep bytes) new = new ≡ with_segment_bytes s o (take ke
 Changes s t (Unlink d o) new = CutsOff s d o new
 Changes s t (LabelOf d o) new = new ≡ s
 
--- the state after a raw call: what the call leaves where it was granted, and where it was refused the old one
+-- the state after a raw call: the one that the call leaves if it was granted, and the old one if it was refused
 abbrev pub Leaves : Option Denied → State → ℕ → RawCall → State → Type 0
 Leaves None s t call new = Changes s t call new
 Leaves (Some denied) s t call new = new ≡ s
 
--- A call that was made on the state: it passed its checks, left what the rules say, and its answer is right; or its first
--- failing check is answered, and the state is the old one; or memory ran out, and the state is the old one.
+-- How a call on the state ends: its checks passed, it left the state that the rules give, and its answer is right; or it was denied by its
+-- first failing check and left the old state; or memory ran out, and it left the old state.
 abbrev pub Decides : {A : Type 0} → ObjectsModel → ObjectsModel → ℕ → RawCall → Result A Refusal → (A → Type 0) → Type 0
 Decides old new t call (Ok answer) IsRight = (check (state_of old) t call ≡ None) × Changes (state_of old) t call (state_of new) × IsRight answer
 Decides old new t call (Err (refusals.Denied denied)) IsRight = (check (state_of old) t call ≡ Some denied) × (state_of new ≡ state_of old)
 Decides old new t call (Err refusals.OutOfMemory) IsRight = state_of new ≡ state_of old
 
--- a new object's number: the next one before the call, which is not 0
+-- a new object gets the number that came next before the call, which is not 0
 abbrev pub IsNextNumber : ObjectsModel → ℕ → Type 0
 IsNextNumber old number = (number ≡ old.next_object) × (0 < number)
 
--- the bytes of a segment, and none of anything else
+-- the bytes of a segment; an object of another kind has none
 abbrev pub AreBytesOf : ObjectsModel → ℕ → List ℕ → Type 0
 AreBytesOf old segment bytes = bytes ≡ bytes_in (objects_of old.objects segment)
 

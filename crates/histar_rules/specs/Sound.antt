@@ -1,4 +1,4 @@
--- What holds of every state that the kernel comes to.
+-- What holds in every state that the kernel reaches.
 use Rattle.std.specs.Prelude.{◌≡◌, ℕ, ◌<◌, true, false, ◌||◌, Some}
 use Rattle.histar_label.specs.Levels.{Levels, is_made, has_star}
 use Rattle.histar_object.specs.declared.objects.Object.{Object}
@@ -10,17 +10,17 @@ use Rattle.histar_container.specs.Tree.{IsTree}
 abbrev pub root_number : ℕ
 root_number = 1
 
--- the labels of an object, where this is the next category
+-- the labels of an object are well-formed, where `next` is the next category
 pub record IsWellLabelled (next : ℕ) (o : Object Levels) : Type 0 where
   -- the label names only categories that were made
   pub label_made : is_made next o.label ≡ true
-  -- and so does the clearance, where there is one
+  -- the clearance, if there is one, names only categories that were made
   pub clearance_made : (clearance : Levels) → kind_clearance o.kind ≡ Some clearance → is_made next clearance ≡ true
   -- segments and containers own nothing
   pub owns_nothing : (kind_is_segment o.kind || kind_is_container o.kind) ≡ true → has_star o.label ≡ false
 
--- Links lead from the root container to every object, in one way, so nothing is left that hung below what was taken away;
--- every label names only categories that were made; and segments and containers own nothing.
+-- Links lead from the root container to every object, in exactly one way, so nothing stays that hung below an unlinked object; every label
+-- names only categories that were made; and segments and containers own nothing.
 pub record IsSound (s : State) : Type 0 where
   pub tree : IsTree s.objects root_number s.next_object
   pub labelled : (q : ℕ) (o : Object Levels) → s.objects q ≡ Some o → IsWellLabelled s.next_category o

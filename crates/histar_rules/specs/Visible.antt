@@ -1,4 +1,4 @@
--- What of a kernel is visible without the taint of a category, and threads that this taint confines.
+-- The part of a kernel that is visible without the taint of a category, and the threads that this taint confines.
 use Rattle.std.specs.Prelude.{◌≡◌, ◌≢◌, ℕ, ◌<◌, true, List, [], ◌∷◌, None, Some, if◌then◌else◌, nat_lt}
 use Rattle.std.specs.List.{All}
 use Rattle.std.specs.FinSet as set
@@ -12,13 +12,13 @@ use Rattle.histar_container.specs.Tree.{Address, Reached}
 use Rattle.histar_rules.specs.declared.raw.RawCall.{RawCall}
 use Rattle.histar_rules.specs.Sound.{root_number}
 
--- the object that is there, unless it is tainted in v: its label has v at 3
+-- the object that is there, unless it is tainted in v, which means that its label has v at 3
 abbrev pub untainted : ℕ → Found → Found
 untainted v None = None
 untainted v (Some o) = if nat_lt (rank (level_of o.label v)) (rank L3) then Some o else None
 
--- The object at the end of a path of links from the root container, where no object on the path is tainted in v, the root and the
--- last one included; none where a link is missing or an object is tainted. A path is the numbers below the root, the last one first.
+-- The object at the end of a path of links from the root container, if no object on the path, from the root to the last one, is tainted in
+-- v; none where a link is missing or an object is tainted. A path lists the numbers below the root, the last one first.
 abbrev pub visible : State → ℕ → Address ℕ → Found
 visible s v [] = untainted v (s.objects root_number)
 visible s v (x ∷ path) = if set.contains (links_in (visible s v path)) x then untainted v (s.objects x) else None
@@ -32,7 +32,7 @@ end_of (x ∷ path) = x
 abbrev pub untainted_objects : State → ℕ → Objects Levels
 untainted_objects s v q = untainted v (s.objects q)
 
--- the same by numbers: o stands at q, is not tainted in v, and links lead to it from the root container through such objects alone
+-- the same by numbers: o is at q, is not tainted in v, and links lead to it from the root container through untainted objects alone
 pub record IsVisible (s : State) (v q : ℕ) (o : Object Levels) : Type 0 where
   pub there : s.objects q ≡ Some o
   pub below : level_of o.label v ≢ L3
@@ -42,8 +42,8 @@ pub record IsVisible (s : State) (v q : ℕ) (o : Object Levels) : Type 0 where
 abbrev pub IsTaintedCaller : State → ℕ → ℕ → Type 0
 IsTaintedCaller s v t = (o : Object Levels) → s.objects t ≡ Some o → kind_is_thread o.kind ≡ true → level_of o.label v ≡ L3
 
--- Raw calls of threads that the category v confines: each caller that is a thread is tainted in v, and there is no way for it to own
--- v: the category was made already, and no gate owns it.
+-- Raw calls of threads that the category v confines: each caller that is a thread is tainted in v, and can't come to own v, since v was
+-- already made and no gate owns it.
 pub record AreConfined (s : State) (v : ℕ) (calls : List (ℕ × RawCall)) : Type 0 where
   pub made : v < s.next_category
   pub gates : (q : ℕ) (o : Object Levels) → s.objects q ≡ Some o → kind_is_gate o.kind ≡ true → level_of o.label v ≢ Star

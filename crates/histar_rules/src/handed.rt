@@ -1,12 +1,12 @@
-//! Labels that raw calls hand over.
+//! The labels that raw calls are given.
 ghost use Rattle.std.specs.Prelude.{◌≡◌, IfOk};
 
 use histar_label::Label;
 use std::alloc::{AllocError, Global};
 use std::marker::Model;
 
-/// A label that a raw call hands over. It lies in a place of its own, so that an entry of the trace is
-/// small: most raw calls hand over no label, and an entry has room for the largest of them.
+/// A label that a raw call is given. It lies on the heap, so that an entry of the trace stays small: most raw
+/// calls are given no label, and an entry has room for the largest of them.
 #[derive(Drop)]
 pub struct HandedLabel {
     label: Box<Label>,
@@ -23,7 +23,7 @@ impl Model for HandedLabel {
 }
 
 impl HandedLabel {
-    /// Hands a label over.
+    /// Keeps a label on the heap.
     pub fn new(alloc: Global, label: Label) -> Result<HandedLabel, AllocError>
         ensures { IfOk result (λ handed. handed ≡ label) }
     {
@@ -32,8 +32,8 @@ impl HandedLabel {
         })
     }
 
-    /// Hands a label and a clearance over.
-    // Inlined, so that each is moved once, into its place.
+    /// Keeps a label and a clearance on the heap.
+    // Inlined, so that each label is moved once, onto the heap.
     #[inline(always)]
     pub fn pair(
         alloc: Global,
@@ -47,21 +47,21 @@ impl HandedLabel {
         Ok((label, clearance))
     }
 
-    /// The label itself.
+    /// Returns the label itself.
     pub fn label(&self) -> &Label
         ensures { result.now ≡ self.now }
     {
         &self.label
     }
 
-    /// The same label once more.
+    /// Copies the label.
     pub fn copy(&self, alloc: Global) -> Result<HandedLabel, AllocError>
         ensures { IfOk result (λ handed. handed ≡ self.now) }
     {
         HandedLabel::new(alloc, self.label.copy()?)
     }
 
-    /// The same label once more, and the same clearance.
+    /// Copies a label and a clearance.
     pub(crate) fn copy_pair(
         alloc: Global,
         label: &HandedLabel,
@@ -74,7 +74,7 @@ impl HandedLabel {
         Ok((label, clearance))
     }
 
-    /// The same wanted label, clearance and verify label once more.
+    /// Copies the three labels of an `enter`: the wanted label, the clearance and the verify label.
     pub(crate) fn copy_three(
         alloc: Global,
         wanted: &HandedLabel,

@@ -4,7 +4,7 @@ ghost use Rattle.histar_rules.specs.Kinds.{kind_of};
 
 use histar_object::Kind;
 
-/// What an object is, without what it holds.
+/// The kind of an object, without its content.
 #[derive(Clone, Copy, Debug, PartialEq, Eq)]
 pub enum ObjectKind {
     /// Bytes.
@@ -18,7 +18,7 @@ pub enum ObjectKind {
 }
 
 impl ObjectKind {
-    /// Names a kind.
+    /// Returns the name of a kind.
     pub(crate) fn of<L>(kind: &Kind<L>) -> ObjectKind
         ensures { result ≡ kind_of kind.now }
     {

@@ -30,8 +30,8 @@ use histar_object::{Entry, Kind, ObjId, Object, Table};
 use std::alloc::{AllocError, Global};
 use std::marker::Model;
 
-/// The objects of a kernel by number, with their labels in a store of labels, and the numbers that
-/// come next. Callers see the labels themselves; no Id of the store leaves this type.
+/// The objects of a kernel by number, with their labels in a store of labels, and the numbers that the next
+/// object and the next category get. Callers see the labels themselves; no Id of the store leaves this type.
 #[derive(Drop)]
 pub struct LabelledObjects<S: LabelStore + Drop> {
     store: S,
@@ -55,7 +55,7 @@ impl<S: LabelStore + Drop> Model for LabelledObjects<S> {
 
 #[tactic(auto, using(histar_container::proofs::Shows::shows, histar_container::proofs::Shows::stand_there))]
 impl<S: LabelStore + Drop> LabelledObjects<S> {
-    /// No objects, with the numbers that the next object and the next category get.
+    /// Makes a table of no objects, with the numbers that the next object and the next category get.
     pub fn new(alloc: Global, store: S, next_object: u64, next_category: u64) -> Self
         requires { 0 < next_object }
         ensures { state_of result ≡ record
@@ -69,7 +69,7 @@ impl<S: LabelStore + Drop> LabelledObjects<S> {
         }
     }
 
-    /// Keeps an object under the next number that no container links: the root container.
+    /// Adds an object that no container links, the root container, under the next number.
     pub fn push(&mut self, label: Label, kind: Kind<Label>) -> Result<(), AllocError>
         requires { self.old.next_object < greatest }
         ensures ok { OnOk result (state_of self.new
@@ -88,7 +88,7 @@ impl<S: LabelStore + Drop> LabelledObjects<S> {
         Ok(())
     }
 
-    /// The number that the next object gets.
+    /// Returns the number that the next object gets.
     pub fn next_object(&self) -> ObjId
         ensures value { result ≡ self.now.next_object }
         ensures positive { 0 < result }
@@ -96,14 +96,14 @@ impl<S: LabelStore + Drop> LabelledObjects<S> {
         ObjId::new(self.next_object)
     }
 
-    /// The number that the next category gets.
+    /// Returns the number that the next category gets.
     pub fn next_category(&self) -> u64
         ensures { result ≡ self.now.next_category }
     {
         self.next_category
     }
 
-    /// Counts the next category as made.
+    /// Counts one more category: the next one is now made.
     pub fn count_category(&mut self)
         requires { self.old.next_category < greatest }
         ensures { state_of self.new ≡ with_next_category (state_of self.old) }
@@ -111,14 +111,14 @@ impl<S: LabelStore + Drop> LabelledObjects<S> {
         self.next_category += 1;
     }
 
-    /// The bytes of a segment.
+    /// Returns the bytes of a segment.
     pub fn bytes(&self, object: ObjId) -> Option<&[u8]>
         ensures { option_copied result ≡ bytes_there (objects_of self.now.objects object) }
     {
         self.table.bytes(object)
     }
 
-    /// The label of an object.
+    /// Returns the label of an object.
     pub fn label(&self, object: ObjId) -> Option<&Label>
         ensures { option_copied result ≡ label_there (objects_of self.now.objects object) }
     {
@@ -148,7 +148,7 @@ impl<S: LabelStore + Drop> LabelledObjects<S> {
         }
     }
 
-    /// The clearance of a thread or a gate.
+    /// Returns the clearance of a thread or a gate.
     pub fn clearance(&self, object: ObjId) -> Option<&Label>
         ensures { option_copied result ≡ clearance_there (objects_of self.now.objects object) }
     {
@@ -162,7 +162,7 @@ impl<S: LabelStore + Drop> LabelledObjects<S> {
         }
     }
 
-    /// The kind of an object.
+    /// Returns the kind of an object.
     pub fn kind(&self, object: ObjId) -> Option<ObjectKind>
         ensures { result ≡ kind_there (objects_of self.now.objects object) }
     {
@@ -172,7 +172,7 @@ impl<S: LabelStore + Drop> LabelledObjects<S> {
         }
     }
 
-    /// The label and the clearance of a thread, by one look-up.
+    /// Returns the label and the clearance of a thread, found in one look-up.
     pub fn own(&self, thread: ObjId) -> Option<(&Label, &Label)>
         ensures { LendsThread (objects_of self.now.objects thread) result }
     {
@@ -184,7 +184,7 @@ impl<S: LabelStore + Drop> LabelledObjects<S> {
         Some((label, clearance))
     }
 
-    // The numbers that come next.
+    // Returns the numbers that the next object and the next category get.
     fn next(&self) -> Next
         ensures object { result.object ≡ self.now.next_object }
         ensures category { result.category ≡ self.now.next_category }
@@ -195,7 +195,7 @@ impl<S: LabelStore + Drop> LabelledObjects<S> {
         }
     }
 
-    /// The checks of the making of a segment of so many bytes, or of a container, which holds none.
+    /// Checks that a segment of this size, or a container (of size 0), may be made.
     pub fn check_new(
         &mut self,
         thread: ObjId,
@@ -218,7 +218,7 @@ impl<S: LabelStore + Drop> LabelledObjects<S> {
         )
     }
 
-    /// The checks of the making of a thread or a gate.
+    /// Checks that a thread or a gate may be made.
     pub fn check_new_owner(
         &mut self,
         thread: ObjId,
@@ -241,7 +241,7 @@ impl<S: LabelStore + Drop> LabelledObjects<S> {
         )
     }
 
-    /// The checks of entering a gate: where they pass, what the gate gives.
+    /// Checks that a gate may be entered, and returns what the gate gives.
     pub fn check_enter(
         &mut self,
         thread: ObjId,
@@ -270,7 +270,7 @@ impl<S: LabelStore + Drop> LabelledObjects<S> {
         )
     }
 
-    /// The checks of a read.
+    /// Checks that a segment may be read.
     pub fn check_read(
         &mut self,
         thread: ObjId,
@@ -286,7 +286,7 @@ impl<S: LabelStore + Drop> LabelledObjects<S> {
         }
     }
 
-    /// The checks of a read: where they pass, a copy of the bytes of the segment.
+    /// Checks that a segment may be read, and returns a copy of its bytes.
     pub fn read(
         &mut self,
         alloc: Global,
@@ -303,7 +303,7 @@ impl<S: LabelStore + Drop> LabelledObjects<S> {
         Ok(bytes.copy(alloc)?)
     }
 
-    /// The checks of a write.
+    /// Checks that a segment may be written.
     pub fn check_write(
         &mut self,
         thread: ObjId,
@@ -327,7 +327,7 @@ impl<S: LabelStore + Drop> LabelledObjects<S> {
         )
     }
 
-    /// The checks of the taking away of an object.
+    /// Checks that an object may be unlinked.
     pub fn check_unlink(
         &mut self,
         thread: ObjId,
@@ -340,8 +340,7 @@ impl<S: LabelStore + Drop> LabelledObjects<S> {
         unlink_in(&mut self.store, &self.table, thread, container, object)
     }
 
-    /// The label of an object that a container links, a copy of it, where the checks of the question
-    /// pass.
+    /// Checks that the label of an object that a container links may be asked for, and returns a copy of it.
     pub fn label_of(
         &mut self,
         thread: ObjId,
@@ -357,7 +356,7 @@ impl<S: LabelStore + Drop> LabelledObjects<S> {
         Ok(self.store.get(label).unwrap().copy()?)
     }
 
-    /// Makes an object in a container, under the next number.
+    /// Adds an object under the next number, and links it in a container.
     pub fn add(
         &mut self,
         container: ObjId,
@@ -381,7 +380,7 @@ impl<S: LabelStore + Drop> LabelledObjects<S> {
         Ok(())
     }
 
-    /// Takes a container's link to an object away, with the object and all that is reached from it.
+    /// Unlinks an object from a container, and removes it with all that is reached from it.
     pub fn remove(
         &mut self,
         alloc: Global,
@@ -427,7 +426,7 @@ impl<S: LabelStore + Drop> LabelledObjects<S> {
         set_own_in(&mut self.store, &mut self.table, thread, label, clearance)
     }
 
-    /// Keeps at most so many bytes of a segment, and puts these behind them.
+    /// Keeps the first bytes of a segment, at most `keep`, and appends new ones.
     pub fn splice(
         &mut self,
         alloc: Global,
@@ -443,7 +442,7 @@ impl<S: LabelStore + Drop> LabelledObjects<S> {
     }
 }
 
-// Puts the clearance of a kind into the store.
+// Puts the clearance of a kind, if it has one, into the store.
 fn put_kind<S: LabelStore>(store: &mut S, kind: Kind<Label>) -> Result<Kind<S::Id>, AllocError>
     ensures stands { IfOk result (λ k. KindStands (S.labels store.new) k) }
     ensures value { IfOk result (λ k. kind_by (label_at (S.labels store.new)) k ≡ kind) }
@@ -463,7 +462,7 @@ fn put_kind<S: LabelStore>(store: &mut S, kind: Kind<Label>) -> Result<Kind<S::I
     }
 }
 
-// Puts an object into the table and its labels into the store.
+// Puts an object into the table, and its labels into the store.
 fn push_in<S: LabelStore>(
     store: &mut S,
     table: &mut Table<S::Id>,
@@ -484,7 +483,7 @@ fn push_in<S: LabelStore>(
     table.add(number, Object { label, kind })
 }
 
-// Puts a new object into the table, its labels into the store, and links it in a container.
+// Puts a new object into the table and its labels into the store, and links it in a container.
 fn add_in<S: LabelStore>(
     store: &mut S,
     table: &mut Table<S::Id>,
@@ -506,7 +505,7 @@ fn add_in<S: LabelStore>(
     link_new(table, container, number, Object { label, kind })
 }
 
-// Puts an object's new label into the store, and then changes the object.
+// Puts the new label of an object into the store, and then changes the object.
 fn set_label_in<S: LabelStore>(
     store: &mut S,
     table: &mut Table<S::Id>,
@@ -559,7 +558,7 @@ fn set_kind_clearance<L: Drop>(kind: &mut Kind<L>, clearance: L)
     }
 }
 
-// Puts a thread's new labels into the store, and then changes the thread.
+// Puts the new labels of a thread into the store, and then changes the thread.
 fn set_own_in<S: LabelStore>(
     store: &mut S,
     table: &mut Table<S::Id>,
@@ -586,7 +585,7 @@ fn set_own_in<S: LabelStore>(
     Ok(())
 }
 
-// Keeps at most so many bytes of a segment, and puts these behind them.
+// Keeps the first bytes of a segment, at most `keep`, and appends new ones.
 fn splice_in<L: Drop>(
     table: &mut Table<L>,
     alloc: Global,
@@ -607,7 +606,7 @@ fn splice_in<L: Drop>(
     Ok(())
 }
 
-// At most so many old bytes, and the new ones behind them.
+// Returns the first bytes of the old ones, at most `keep`, followed by the new ones.
 fn spliced(alloc: Global, old: &[u8], keep: u32, new: &Bytes) -> Result<Bytes, AllocError>
     ensures { IfOk result (λ b. b ≡ take keep old.now ++ new.now) }
 {

@@ -1,5 +1,5 @@
-//! The raw calls of the kernel, the rules by which they are granted or refused, and the objects that
-//! they work on, with their labels in a store. The checks of a raw call look each object up once.
+//! The raw calls of the kernel, the rules that grant or refuse them, and the objects that they work on, with
+//! their labels in a store. The checks of a raw call look up each object once.
 #![tactic(auto)]
 
 mod checks;

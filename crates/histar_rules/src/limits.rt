@@ -1,8 +1,8 @@
-//! How far sizes and counters go.
+//! The limits of sizes and counters.
 ghost use Rattle.std.specs.Prelude.{◌≡◌, ◌+◌};
 ghost use Rattle.histar_rules.specs.Rules.{fits_segment};
 
-/// The most bytes that a segment holds.
+/// The greatest number of bytes that a segment holds.
 const MOST_BYTES: usize = 4096;
 
 /// The numbers that the next object and the next category get.
@@ -12,7 +12,7 @@ pub(crate) struct Next {
     pub(crate) category: u64,
 }
 
-/// Whether so many bytes and so many more fit a segment.
+/// Checks whether a segment has room for `more` bytes beside the `held` ones.
 pub(crate) fn fits(held: usize, more: usize) -> bool
     ensures { result ≡ fits_segment (held + more) }
 {

@@ -1,5 +1,5 @@
-//! The checks of the calls on an object that a container links: it is looked up once, as are the
-//! thread and the container.
+//! The checks of the calls on an object that a container links. They look up the thread, the container and
+//! the object once each.
 ghost use Rattle.std.specs.Prelude.{◌≡◌, ◌+◌, ◌&&◌, not, IfOk, IsSome, min};
 ghost use Rattle.histar_base.specs.Refusals.{unless, ◌orelse◌};
 ghost use Rattle.histar_label.specs.Levels.{is_below, is_below_raised};
@@ -20,7 +20,7 @@ use histar_base::Bytes;
 use histar_label::{Label, LabelStore};
 use histar_object::{Entry, Kind, ObjId, Table};
 
-// The label of a segment, and its bytes.
+// Looks up a segment: its label and its bytes.
 fn segment_in<L: Copy>(table: &Table<L>, segment: ObjId) -> Result<(L, &Bytes), Denied>
     ensures answer { FailsAt (unless (is_segment (objects_of table.now segment)) BadKind) result }
     ensures found { IfOk result (λ found. objects_of table.now segment ≡ Some (segment_of found.0 found.1.now)) }
@@ -34,7 +34,7 @@ fn segment_in<L: Copy>(table: &Table<L>, segment: ObjId) -> Result<(L, &Bytes), 
     Ok((object.label, bytes))
 }
 
-// The label of a gate, its clearance, and what it gives to those who enter it.
+// Looks up a gate: its label, its clearance, and what it gives to threads that enter it.
 fn gate_in<L: Copy>(table: &Table<L>, gate: ObjId) -> Result<(L, L, Entry), Denied>
     ensures answer { FailsAt (unless (is_gate (objects_of table.now gate)) BadKind) result }
     ensures found { IfOk result (λ found. objects_of table.now gate ≡ Some (gate_of found.0 found.1 found.2)) }
@@ -48,7 +48,7 @@ fn gate_in<L: Copy>(table: &Table<L>, gate: ObjId) -> Result<(L, L, Entry), Deni
     Ok((object.label, *clearance, *entry))
 }
 
-/// The checks of a read: where they pass, the bytes of the segment.
+/// Checks that a segment may be read, and returns its bytes.
 pub(crate) fn read_in<'t, S: LabelStore>(
     store: &mut S,
     table: &'t Table<S::Id>,
@@ -71,7 +71,7 @@ pub(crate) fn read_in<'t, S: LabelStore>(
     }
 }
 
-// Whether what has one label may modify what has another.
+// Checks whether a thread with one label may modify an object with another.
 fn modifies_by<S: LabelStore>(store: &mut S, own: S::Id, label: S::Id) -> bool
     requires own { IsSome (S.labels store.old own) }
     requires label { IsSome (S.labels store.old label) }
@@ -82,7 +82,7 @@ fn modifies_by<S: LabelStore>(store: &mut S, own: S::Id, label: S::Id) -> bool
     store.below(own, label) && store.below_raised(label, own)
 }
 
-// The last checks of a write: the thread modifies the segment, and what it is to hold fits it.
+// Makes the last checks of a write: the thread may modify the segment, and the new content fits it.
 fn check_change(modifies: bool, held: usize, keep: u32, more: usize) -> Result<(), Denied>
     ensures { FailsAt (unless modifies Modify orelse unless (fits_segment (min keep held + more)) TooBig) result }
 {
@@ -90,7 +90,7 @@ fn check_change(modifies: bool, held: usize, keep: u32, more: usize) -> Result<(
     require(fits((keep as usize).min(held), more), Denied::TooBig)
 }
 
-/// The checks of a write.
+/// Checks that a segment may be written.
 pub(crate) fn write_in<S: LabelStore>(
     store: &mut S,
     table: &Table<S::Id>,
@@ -111,7 +111,7 @@ pub(crate) fn write_in<S: LabelStore>(
     check_change(modifies, held.len(), keep, bytes.len())
 }
 
-/// The checks of the taking away of an object.
+/// Checks that an object may be unlinked.
 pub(crate) fn unlink_in<S: LabelStore>(
     store: &mut S,
     table: &Table<S::Id>,
@@ -132,7 +132,7 @@ pub(crate) fn unlink_in<S: LabelStore>(
     }
 }
 
-/// The checks of a question for a label: where they pass, the label, if the object is there.
+/// Checks that the label of an object may be asked for, and returns the label, if the object is there.
 pub(crate) fn label_in<S: LabelStore>(
     store: &mut S,
     table: &Table<S::Id>,
@@ -150,7 +150,7 @@ pub(crate) fn label_in<S: LabelStore>(
     label_unless_thread(table, object)
 }
 
-// The label of an object that is no thread, if it is there.
+// Returns the label of an object, if it is there; refuses a thread.
 fn label_unless_thread<L: Copy>(table: &Table<L>, object: ObjId) -> Result<Option<L>, Denied>
     ensures answer { FailsAt (unless (not (is_thread (objects_of table.now object))) BadKind) result }
     ensures label { IfOk result (λ label. label ≡ label_there (objects_of table.now object)) }
@@ -164,7 +164,7 @@ fn label_unless_thread<L: Copy>(table: &Table<L>, object: ObjId) -> Result<Optio
     }
 }
 
-/// The checks of entering a gate: where they pass, what the gate gives.
+/// Checks that a gate may be entered, and returns what the gate gives.
 pub(crate) fn enter_in<S: LabelStore>(
     store: &mut S,
     table: &Table<S::Id>,

@@ -1,4 +1,4 @@
-//! What a call finds of its thread and of the container that it names, each by one look-up.
+//! What a call looks up of its thread and of the container that it names, in one look-up each.
 ghost use Rattle.std.specs.Prelude.{◌≡◌, IfOk, IsSome, Some};
 ghost use Rattle.histar_base.specs.Refusals.{unless, ◌orelse◌};
 ghost use Rattle.histar_label.specs.Store.{label_at};
@@ -14,20 +14,20 @@ use crate::raw::Denied;
 use histar_label::{Label, LabelStore};
 use histar_object::{Kind, Links, ObjId, Table};
 
-/// A thread and a container that it may observe, as they were found.
+/// A thread and a container that it may observe, as the look-up found them.
 #[derive(Clone, Copy)]
 pub(crate) struct Observed<'t, L> {
     /// The thread's own label.
     pub(crate) own: L,
-    /// Its clearance.
+    /// The thread's clearance.
     pub(crate) own_clearance: L,
     /// The container's label.
     pub(crate) label: L,
-    /// What the container links.
+    /// The links of the container.
     pub(crate) links: &'t Links,
 }
 
-/// The label and the clearance of a thread.
+/// Looks up a thread: its label and its clearance.
 pub(crate) fn thread_in<L: Copy>(table: &Table<L>, thread: ObjId) -> Option<(L, L)>
     ensures { FindsThread (objects_of table.now thread) result }
 {
@@ -38,7 +38,7 @@ pub(crate) fn thread_in<L: Copy>(table: &Table<L>, thread: ObjId) -> Option<(L, 
     Some((object.label, clearance))
 }
 
-/// The label of a container, and what it links.
+/// Looks up a container: its label and its links.
 pub(crate) fn container_in<L: Copy>(
     table: &Table<L>,
     container: ObjId,
@@ -56,7 +56,7 @@ pub(crate) fn container_in<L: Copy>(
     Ok((object.label, links))
 }
 
-/// The checks of every call that names a container.
+/// Makes the first checks of every call that names a container: the thread may observe it.
 pub(crate) fn observed_in<'t, S: LabelStore>(
     store: &mut S,
     table: &'t Table<S::Id>,
@@ -87,7 +87,7 @@ pub(crate) fn observed_in<'t, S: LabelStore>(
     }
 }
 
-/// The checks of every call that makes an object in a container, before those of its labels.
+/// Makes the checks of every call that makes an object in a container, up to those of the new labels.
 pub(crate) fn modified_in<'t, S: LabelStore>(
     store: &mut S,
     table: &'t Table<S::Id>,
@@ -108,7 +108,7 @@ pub(crate) fn modified_in<'t, S: LabelStore>(
     }
 }
 
-// The labels that two Ids stand for.
+// Looks up the labels that two Ids stand for.
 pub(crate) fn labels_in<S: LabelStore>(store: &S, first: S::Id, second: S::Id) -> (&Label, &Label)
     requires first { IsSome (S.labels store.now first) }
     requires second { IsSome (S.labels store.now second) }
@@ -118,7 +118,7 @@ pub(crate) fn labels_in<S: LabelStore>(store: &S, first: S::Id, second: S::Id) -
     (store.get(first).unwrap(), store.get(second).unwrap())
 }
 
-/// The checks of the making of an object that owns nothing and holds so many bytes.
+/// Checks that an object that owns nothing may be made, with this many bytes.
 pub(crate) fn new_in<S: LabelStore>(
     store: &mut S,
     table: &Table<S::Id>,
@@ -138,7 +138,7 @@ pub(crate) fn new_in<S: LabelStore>(
     check_new(own, own_clearance, label, size, next)
 }
 
-/// The checks of the making of an object that may own.
+/// Checks that an object that may own, a thread or a gate, may be made.
 pub(crate) fn new_owner_in<S: LabelStore>(
     store: &mut S,
     table: &Table<S::Id>,
@@ -158,7 +158,7 @@ pub(crate) fn new_owner_in<S: LabelStore>(
     check_new_owner(own, own_clearance, label, clearance, next)
 }
 
-/// The checks of every call that names an object in a container.
+/// Makes the first checks of every call that names an object in a container: the container links it.
 pub(crate) fn linked_in<'t, S: LabelStore>(
     store: &mut S,
     table: &'t Table<S::Id>,

@@ -1,4 +1,4 @@
-//! The ranges in which a thread chooses labels, of itself, of what it makes, and behind a gate.
+//! The ranges in which a thread chooses labels: its own, those of new objects, and those behind a gate.
 ghost use Rattle.std.specs.Prelude.{◌≡◌, ◌&&◌, not, nat_lt};
 ghost use Rattle.histar_base.specs.Refusals.{unless, ◌orelse◌};
 ghost use Rattle.histar_label.specs.Levels.{is_below, is_made, has_star};
@@ -11,7 +11,7 @@ use crate::limits::{Next, fits};
 use crate::raw::Denied;
 use histar_label::Label;
 
-/// The labels of a thread that would enter a gate, and the gate's.
+/// The labels of a thread that wants to enter a gate, and those of the gate.
 #[derive(Clone, Copy)]
 pub(crate) struct Opening<'s> {
     /// The thread's own label.
@@ -24,14 +24,14 @@ pub(crate) struct Opening<'s> {
     pub(crate) gate_clearance: &'s Label,
 }
 
-/// Whether a label lies between a thread's own label and its clearance.
+/// Checks whether a label lies between a thread's own label and its clearance.
 pub fn in_range(own: &Label, own_clearance: &Label, label: &Label) -> bool
     ensures { result ≡ (is_below own.now label.now && is_below label.now own_clearance.now) }
 {
     own.below(label) && label.below(own_clearance)
 }
 
-/// Whether a label and a clearance above it lie between a thread's own label and its clearance.
+/// Checks whether a label, and a clearance above it, lie between a thread's own label and its clearance.
 pub(crate) fn in_span(own: &Label, own_clearance: &Label, label: &Label, clearance: &Label) -> bool
     ensures { result ≡ (is_below own.now label.now && is_below label.now clearance.now && is_below
         clearance.now own_clearance.now) }
@@ -39,7 +39,7 @@ pub(crate) fn in_span(own: &Label, own_clearance: &Label, label: &Label, clearan
     own.below(label) && label.below(clearance) && clearance.below(own_clearance)
 }
 
-/// Whether a label is above the floor of two labels, and a clearance between it and the join of two
+/// Checks whether a label is above the floor of two labels, and a clearance between it and the join of two
 /// clearances.
 fn lies_between(opening: Opening, label: &Label, clearance: &Label) -> bool
     ensures { result ≡ lies_between opening.entry.own.now opening.entry.gate_label.now label.now clearance.now
@@ -50,8 +50,8 @@ fn lies_between(opening: Opening, label: &Label, clearance: &Label) -> bool
         && clearance.below_join(opening.own_clearance, opening.gate_clearance)
 }
 
-/// The last checks of the making of an object that owns nothing and holds so many bytes: its label,
-/// its size, and the counter of objects.
+/// Makes the last checks for an object that owns nothing: its label, its size in bytes, and the counter of
+/// objects.
 pub(crate) fn check_new(
     own: &Label,
     own_clearance: &Label,
@@ -72,8 +72,7 @@ pub(crate) fn check_new(
     require(next.object < u64::MAX, Denied::TooBig)
 }
 
-/// The last checks of the making of an object that may own: its label, its clearance, and the counter
-/// of objects.
+/// Makes the last checks for an object that may own: its label, its clearance, and the counter of objects.
 pub(crate) fn check_new_owner(
     own: &Label,
     own_clearance: &Label,
@@ -92,10 +91,10 @@ pub(crate) fn check_new_owner(
     require(next.object < u64::MAX, Denied::TooBig)
 }
 
-/// The last checks of entering a gate: whether the gate lets a thread with this verify label in, and gives
-/// it the label and the clearance that it wants. What the thread or the gate owns it may own;
-/// elsewhere the label is at least both labels, so that no taint is lost, and the clearance is at
-/// most the greater of both clearances.
+/// Makes the last checks of entering a gate: the gate lets in a thread with this verify label, and gives it
+/// the label and the clearance that it wants. The thread may own behind the gate what it or the gate owns.
+/// Elsewhere the label is at least both labels, so that no taint is lost, and the clearance is at most the
+/// greater of both clearances.
 pub(crate) fn check_opening(
     opening: Opening,
     wanted: &Label,

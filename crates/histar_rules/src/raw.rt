@@ -1,4 +1,4 @@
-//! Raw calls, and what becomes of them.
+//! The raw calls, and the reasons to refuse them.
 ghost use Rattle.std.specs.Prelude.{◌≡◌, IfOk};
 
 use crate::handed::HandedLabel;
@@ -6,16 +6,16 @@ use histar_base::Bytes;
 use histar_object::{Entry, ObjId};
 use std::alloc::{AllocError, AllocFailed, Global};
 
-/// Why the kernel refuses a raw call: the first failing check, in the order of the variants' use by
-/// the call. A refused call changes nothing but the trace.
+/// The reason why the kernel refuses a raw call: the first of the call's checks that fails. A refused call
+/// changes nothing but the trace.
 #[derive(Clone, Copy, Debug, PartialEq, Eq)]
 pub enum Denied {
     /// The thread may not observe the container or the object.
     Observe = 1,
     /// The thread may not modify the container or the object.
     Modify = 2,
-    /// A label that was handed in lies outside its range, names a category that was never made, or
-    /// has star where no owner may be.
+    /// A label that was handed in lies outside its range, names a category that was never made, or has star
+    /// where the object may own nothing.
     Range = 3,
     /// The thread may not enter the gate.
     Gate = 4,
@@ -23,14 +23,14 @@ pub enum Denied {
     NoEntry = 5,
     /// The caller is no thread.
     NoThread = 6,
-    /// The object is of another kind than the call wants.
+    /// The object is of another kind than the call needs.
     BadKind = 7,
-    /// More than 4,096 bytes, or a counter at its greatest value.
+    /// The segment would hold more than 4,096 bytes, or a counter has reached its greatest value.
     TooBig = 8,
 }
 
-/// A raw call: the calls of HiStar's kernel (OSDI 2006), in this kernel's profile. The rules of all
-/// of them stand in `specs/Rules.antt`.
+/// A raw call: a call of HiStar's kernel (OSDI 2006), in this kernel's profile. `specs/Rules.antt` contains
+/// the rules of all of them.
 #[derive(Drop)]
 pub enum RawCall {
     /// Makes a category, which the thread owns.
@@ -47,23 +47,24 @@ pub enum RawCall {
     MakeContainer(ObjId, HandedLabel),
     /// Makes a thread in a container, with a label and a clearance.
     MakeThread(ObjId, HandedLabel, HandedLabel),
-    /// Makes a gate in a container, with a label, a clearance and what it gives to those who enter.
+    /// Makes a gate in a container, with a label, a clearance and an entry, which it gives to threads that
+    /// enter it.
     MakeGate(ObjId, HandedLabel, HandedLabel, Entry),
     /// Enters a gate that a container links: the label and the clearance that the thread wants, and its
     /// verify label.
     Enter(ObjId, ObjId, HandedLabel, HandedLabel, HandedLabel),
     /// Reads a segment that a container links.
     Read(ObjId, ObjId),
-    /// Keeps at most so many bytes of a segment that a container links, and puts these behind them.
+    /// Keeps the first bytes of a segment that a container links, at most this many, and appends new ones.
     Write(ObjId, ObjId, u32, Bytes),
-    /// Takes an object that a container links away, with all that hangs below it.
+    /// Unlinks an object from a container, and removes it with all that hangs below it.
     Unlink(ObjId, ObjId),
-    /// Asks for the label of an object that a container links, which is no thread.
+    /// Asks for the label of an object that a container links and that is no thread.
     LabelOf(ObjId, ObjId),
 }
 
 impl RawCall {
-    /// The same call once more.
+    /// Copies the call.
     pub fn copy(&self, alloc: Global) -> Result<RawCall, AllocError>
         ensures { IfOk result (λ call. call ≡ self.now) }
     {
@@ -104,12 +105,12 @@ impl RawCall {
     }
 }
 
-/// Why a raw call answers nothing.
+/// The reason why a raw call has no answer.
 #[derive(Clone, Copy, Debug, PartialEq, Eq)]
 pub enum Refusal {
-    /// The kernel refuses it, and says so in the trace.
+    /// The kernel refuses it, and records the denial in the trace.
     Denied(Denied),
-    /// Memory ran out; nothing has changed, the trace neither.
+    /// Memory ran out; nothing has changed, not even the trace.
     OutOfMemory,
 }
 

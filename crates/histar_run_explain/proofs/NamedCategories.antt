@@ -1,4 +1,4 @@
--- In a state that represents a flat state what a category is said to be for is what it is for.
+-- In a state that represents a flat state the purpose given for a category is its purpose.
 use Rattle.std.proofs.Common.{◌≡◌, ℕ, ◌+◌, ◌*◌, ◌-◌, ◌%◌, ◌<◌, ◌≤◌, ◌==◌, Bool, true, false, ◌&&◌, ◌||◌, cond, List, [], ◌∷◌, length, Option, None}
 use Rattle.std.proofs.Common.{Some, refl, sym, ap, ◌∙◌, subst, inl, inr, if◌then◌else◌, arith}
 use Rattle.std.specs.Prelude.{map, not, nat_le, nat_lt, is_some, option_map, option_and_then, slice_get}
@@ -166,7 +166,7 @@ module _ (accounts : Accounts) (s : State) (f : Flat) (l : ObjectsMatch accounts
       ∙ sym (ap (λ (L : Option Levels). has_three L c) (outer_there me p is)) ∙ e in
       (three_secret (is_in (jobs_of p) c) (is_in (own me ∷ []) c) level).0
 
-  -- and what it hasn't is none, where the process doesn't write by it
+  -- a category that the container hasn't at 3 gives no purpose, if the process doesn't write by it
   not_outside : (me : ProcName) (p : Process) (c : ℕ) → f.processes me ≡ Some p
       → not (has_three (outer_label s first me) c) ≡ true → is_in (own me ∷ []) c ≡ false → is_in (jobs_of p) c ≡ false
   not_outside me p c is e other =

@@ -1,4 +1,4 @@
--- In a state that represents a flat state what an object is said to be is what it is.
+-- In a state that represents a flat state the location given for an object is its location.
 use Rattle.std.proofs.Common.{◌≡◌, ◌≢◌, ℕ, ◌+◌, ◌*◌, ◌-◌, ◌/◌, ◌%◌, ◌<◌, ◌≤◌, ◌==◌, Bool, true, false, ◌&&◌, ◌||◌, cond, [], ◌∷◌, length, Option}
 use Rattle.std.proofs.Common.{None, Some, refl, sym, ap, ◌∙◌, subst, inl, inr, if◌then◌else◌, arith}
 use Rattle.std.specs.Prelude.{not, nat_le, nat_lt, is_some, option_map, option_and_then}
@@ -94,7 +94,7 @@ module _ (accounts : Accounts) (s : State) (f : Flat) (l : ObjectsMatch accounts
       at_table : q ≡ 3 + 2 * n → Agrees q Users
       at_table is = (left_at q (omega (arith, is)) (omega (arith, is)), is)
 
-  -- ---- what stands at a path
+  -- ---- the objects at a path
 
   -- where an entry leads, both of its numbers are those of the path
   abbrev IsAt : Path → Target → Type 0
@@ -156,7 +156,7 @@ module _ (accounts : Accounts) (s : State) (f : Flat) (l : ObjectsMatch accounts
   equal : (a b : ℕ) → (a == b) ≡ true → a ≡ b
   equal a b is = grind (arith, nat_tests, is)
 
-  -- one of the objects of a target stands for its path
+  -- one of the objects of a target is the object of its path
   target_agrees : (q : ℕ) (d : Path) (t : Option Target) → target_at s roots d ≡ t → is_target q t ≡ true → StandsFor accounts s f l d q
   target_agrees q d None at e = absurd (true≢false (sym e))
   target_agrees q d (Some (targets.File o)) at e = inl (target_is d (targets.File o) at ∙ ap Some (sym (equal q o e)))

@@ -1,4 +1,4 @@
--- What a value that is there was made of.
+-- The parts from which a value was made.
 use Rattle.std.proofs.Common.{◌≡◌, ℕ, Bool, true, false, ◌&&◌, ◌||◌, List, [], ◌∷◌, ◌++◌, Option, None, Some, Result, Ok, Err, is_ok, refl, sym, ap}
 use Rattle.std.proofs.Common.{◌∙◌, inl, inr, ◌⊎◌, if◌then◌else◌}
 use Rattle.std.specs.Prelude.{OnOk, option_and_then}
@@ -40,7 +40,7 @@ pub one_piece : {X E : Type 0} (r : Result X E) (new old a b : List ℕ) → new
 one_piece (Ok x) new old a b written same = written ∙ ap (λ l. old ++ l) same
 one_piece (Err e) new old a b written same = tt
 
--- an object that stands at a path stands at it or above it
+-- the path of an object is that path or one above it
 pub path_here : (s : State) (roots : Roots) (q : ℕ) (path : Path) → is_target q (target_at s roots path) ≡ true → Some path ≡ path_up s roots q path
 path_here s roots q [] e = sym (ap (λ b. if b then Some [] else None) e)
 path_here s roots q (name ∷ d) e = sym (ap (λ b. if b then Some (name ∷ d) else path_up s roots q d) e)

@@ -3,14 +3,14 @@ use Rattle.std.proofs.Common.{◌≡◌, ℕ, ◌-◌, ◌<◌, ◌≤◌, List,
 use Rattle.std.proofs.lemmas.List.{length-append}
 
 module _ {A : Type 0} (x : A) where
-  -- one is put behind, and one fewer is left
+  -- one birth is appended, and one fewer is left
   pub one_noted : (xs : List A) (n : ℕ) → length xs < n
       → (xs ++ x ∷ []) ++ replicate (n - length (xs ++ x ∷ [])) x ≡ xs ++ replicate (n - length xs) x
   one_noted xs n lt =
       let left : n - length xs ≡ suc (n - length (xs ++ x ∷ [])) = omega (arith, lt, length-append xs (x ∷ [])) in
       append_assoc xs (x ∷ []) (replicate (n - length (xs ++ x ∷ [])) x) ∙ sym (ap (λ k. xs ++ replicate k x) left)
 
-  -- none is left
+  -- no birth is left
   pub all_noted : (xs : List A) (n : ℕ) → n ≤ length xs → xs ++ replicate (n - length xs) x ≡ xs
   all_noted xs n le =
       let none : n - length xs ≡ 0 = omega (arith, le) in

@@ -60,17 +60,17 @@ look_leaves s end t (Write d o keep bytes) e new = absurd (true≢false (sym e))
 look_leaves s end t (Unlink d o) e new = absurd (true≢false (sym e))
 look_leaves s end t (LabelOf d o) e new = new
 
--- and so does a denied one
+-- a denied call leaves the state as it is
 nothing_leaves : (s end : State) (t : ℕ) (denied : Option Denied) (call : RawCall) → changes_nothing denied call ≡ true
     → Leaves denied s t call end → end ≡ s
 nothing_leaves s end t None call e new = look_leaves s end t call e new
 nothing_leaves s end t (Some denied) call e new = new
 
--- so an entry that changes nothing may be skipped
+-- an entry that changes nothing may be skipped
 pub skipped : (s : State) (e : TraceEntry) → changes_nothing e.denied e.call ≡ true → EndsAsRun s (e ∷ []) s
 skipped s e is = λ end run. sym (nothing_leaves s run.0 e.thread e.denied e.call is run.2) ∙ sym run.3
 
--- and the call of another is made once more
+-- the call of an entry that changes something is made once more
 made_again : (old new : KernelModel) (e : TraceEntry) → IsMade old e.thread e.call new → IsSound (state old)
     → EndsAsRun (state old) (e ∷ []) (state new)
 made_again old new e made sound = λ end run.
@@ -79,7 +79,7 @@ made_again old new e made sound = λ end run.
     made.1.state in
     one_end (state old) (state new) end (e ∷ []) sound (state new, run.1, leaves, refl) run
 
--- whatever making it answers
+-- whatever the raw call is answered
 pub made_or_failed : {X E : Type 0} (r : Result X E) (old new : KernelModel) (e : TraceEntry)
     → OnOk r (IsMade old e.thread e.call new) → OnOk r (IsSound (state old))
     → OnOk r (EndsAsRun (state old) (e ∷ []) (state new))
@@ -91,7 +91,7 @@ pub record IsReplayed (words : Words) (first : State) (entries : List TraceEntry
   pub explained : AddsEntries words first (take i entries) now old text
   pub rest : (end : State) → IsRun first entries end → IsRun now (drop i entries) end
 
--- one more was made, or skipped
+-- one entry more was made, or skipped
 module _ (words : Words) (first end : State) (entries : List TraceEntry) (run : IsRun first entries end) (i : ℕ)
     (e : TraceEntry) (lt : i < length entries) (is : e ≡ get_or entries i e) where
   pub replayed_more : (s new : State) (before text longer : List ℕ) → IsReplayed words first entries i before text s
@@ -119,11 +119,11 @@ module _ (words : Words) (first end : State) (entries : List TraceEntry) (run : 
             subst (λ (x : State). IsRun x (drop (i + 1) entries) last) (sym (ends there.0 (there.0, there.1, there.2, refl))) there.3;
       }
 
--- none yet
+-- no entry was made yet
 pub replayed_none : (words : Words) (first : State) (entries : List TraceEntry) (text : List ℕ) → IsReplayed words first entries 0 text text first
 replayed_none words first entries text = record { explained = ([], sym (append-nil text), (refl, refl)); rest = λ end run. run }
 
--- all were
+-- all entries were made
 module _ (words : Words) (first : State) (entries : List TraceEntry) (i : ℕ) (old text : List ℕ) (now : State)
     (le : length entries ≤ i) (all : IsReplayed words first entries i old text now) where
   pub replayed_all : AddsEntries words first entries now old text

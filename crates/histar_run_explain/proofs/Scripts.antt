@@ -39,14 +39,14 @@ use Rattle.histar_run_explain.specs.Session.{births_by, ExplainsInTurn, Explains
 use Rattle.histar_run_explain.specs.Run.{births_of, words_of, ExplainsRows, ExplainsTrace, ExplainsAs}
 use Rattle.histar_run_explain.proofs.Turns.{answers_calls}
 
--- what the lines have done, from a machine that shows a flat state on
+-- what the lines have done, from a machine on that represents a flat state
 record IsExplainedSession (accounts : Accounts) (m : MachineModel) (f : Flat) (births : Births) (calls : List CallLine)
     (text : List ℕ) (end : MachineModel) : Type 0 where
   entries : List TraceEntry
   trace : end.kernel.trace ≡ m.kernel.trace ++ entries
   refinements : ExplainsRows accounts (state m.kernel) f births calls entries text (state end.kernel)
 
--- the words of a machine are those of what it shows
+-- the words of a machine are those of the flat state that it represents
 module _ (accounts : Accounts) (m mid : MachineModel) (g : Flat) (asked : CallLine) (shows : Shows accounts mid g) where
   words_shown : (births : Births) (entries : List TraceEntry) (lines : List ℕ) (one : ExplainsLine m mid asked births lines) → one.entries ≡ entries
       → ExplainsEntries (words_of accounts (state mid.kernel) asked births) (state m.kernel) entries lines (state mid.kernel)
@@ -61,7 +61,7 @@ module _ (accounts : Accounts) (m mid : MachineModel) (g : Flat) (asked : CallLi
       (words_at mid.users mid.roots (state mid.kernel) (clue_of asked.process asked.call) births)
       (state m.kernel) es lines (state mid.kernel)) same one.explained))
 
-  -- and so is what is known of births
+  -- the births that are known are those of the state
   births_shown : (births : Births) → births_by mid asked births ≡ births_of accounts (state mid.kernel) asked births
   births_shown births = ap (λ (roots : Roots). births_after (state mid.kernel) roots asked.process births) shows.roots
 
@@ -102,7 +102,7 @@ accounts_explained accounts m f births (a ∷ answers) text end born h shows can
       );
     }
 
--- explained rows are rows
+-- explained lines refine their rules
 refinements_explained : (accounts : Accounts) (s : State) (f : Flat) (births : Births) (calls : List CallLine)
     (entries : List TraceEntry) (text : List ℕ) (end : State) → ExplainsRows accounts s f births calls entries text end
     → SimulatesLines accounts s f calls entries end
@@ -168,14 +168,14 @@ module _ (script : ScriptModel) (declared : IsDeclared script.accounts) (can : A
       abbrev run_text : List ℕ
       run_text = meaning_text options script ++ asked_trace options end.kernel.trace
 
-      -- what stands behind the replies was written too
+      -- what follows the replies was written too
       run_written : (mid : Option (List ℕ)) → AppendsEnding options end replied mid → Appends old mid run_text
       run_written mid ending =
           subst (Appends old mid) (whole_is calls_refine script declared can start starts options old replied end answered ending.0 ending.1
           end.kernel.trace refl)
           (Appends-trans old replied mid (answers_text all.answers) ending.0 all.written ending.2)
 
-      -- and then the explanations
+      -- the explanations were written too
       pub all_explained : (mid new : Option (List ℕ)) → AppendsEnding options end replied mid → Appends mid new text
           → ExplainsAs (Appends old new) options script
       all_explained mid new ending written = record {
@@ -185,7 +185,7 @@ module _ (script : ScriptModel) (declared : IsDeclared script.accounts) (can : A
         written = Appends-trans old mid new run_text text (run_written mid ending) written;
       }
 
-      -- or a beginning of them
+      -- a beginning of the explanations was written
       pub front_explained : (mid new : Option (List ℕ)) → AppendsEnding options end replied mid
           → AppendsFront mid new text → ExplainsAs (AppendsFront old new) options script
       front_explained mid new ending begun = record {
@@ -197,7 +197,7 @@ module _ (script : ScriptModel) (declared : IsDeclared script.accounts) (can : A
             (front_after old mid new run_text text [] (run_written mid ending) begun);
       }
 
-      -- or a beginning of what stands behind the replies
+      -- a beginning of what follows the replies was written
       pub ending_begun : (new : Option (List ℕ)) → BeginsTheEnding options end replied new → ExplainsAs (AppendsFront old new) options script
       ending_begun new begun = record {
         trace = end.kernel.trace;

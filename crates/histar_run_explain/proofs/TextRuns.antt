@@ -1,4 +1,4 @@
--- What `explain_script` says, put together from what its parts say.
+-- What `explain_script` writes and returns, put together from its parts.
 use Rattle.std.proofs.Common.{◌≡◌, ℕ, ◌<◌, true, false, ltb, List, ◌++◌, length, Option, Some, None, Result, Ok, Err, refl, sym, ap, subst, ◌∙◌}
 use Rattle.std.proofs.Common.{arith, rules, tests, append-nil, inl, inr}
 use Rattle.std.specs.Prelude.{IfErr, IfSome, MatchResult, OnErr, OnOk, is_ok}
@@ -34,7 +34,7 @@ use Rattle.histar_run_explain.specs.Run.{ExplainsText, ExplainsScript, BeginsExp
 use Rattle.histar_run_explain.proofs.Turns.{answers_calls}
 use Rattle.histar_run_explain.proofs.Scripts.{all_explained, front_explained, ending_begun, replies_begun}
 
--- what it answers
+-- what `explain_script` returns
 abbrev Answer : Type 0
 Answer = Result (Unit {0}) Fault
 
@@ -46,12 +46,12 @@ no_read_failed OutOfMemory fault = refl
 no_read_failed ReadFailed fault = absurd fault
 no_read_failed WriteFailed fault = refl
 
--- what writing answers says that no read failed
+-- the result of writing shows that no read failed
 pub no_read_fails : (r : Answer) → IfErr r IsOutputFault → is_read_failed r ≡ false
 no_read_fails (Ok done) h = refl
 no_read_fails (Err f) h = no_read_failed f h
 
--- and of the sink
+-- after writing, no fault occurs that leaves the sink as it was
 pub sink_after : {W : Type 0} (old new : W) (r : Answer) → IfErr r IsOutputFault → IfErr r (LeavesSink old new)
 sink_after old new (Ok done) h = tt
 sink_after old new (Err f) h = sink_called old new f h
@@ -67,7 +67,7 @@ module _ (options : Options) where
   script_fault_agrees ReadFailed read given = absurd given
   script_fault_agrees WriteFailed read given = absurd given
 
-  -- and nothing was written then
+  -- at a fault of the script nothing was written
   script_fault_writes : (f : Fault) (w : Option (List ℕ)) (read : Result ScriptModel Fault) → Gives (Err f) read → ExplainsAtFault options w w read f
   script_fault_writes (BadScript n) w read given = Keeps-refl w
   script_fault_writes TooLong w read given = Keeps-refl w
@@ -95,7 +95,7 @@ module _ (options : Options) where
     started : IsStart script.accounts start
     started = subst (λ (s : Accounts). IsStart s start) accounts_is starts
 
-    -- its trace is a run
+    -- the trace of the machine at the start is a run
     pub start_traced : IsTraced start.kernel
     start_traced = booted_traced accounts start.kernel starts.booted
 
@@ -125,13 +125,13 @@ module _ (options : Options) where
       all_lines : ExplainsCalls start end old replied script.calls lines born
       all_lines = subst (λ (cs : List CallLine). ExplainsCalls start end old replied cs lines born) calls_are all
 
-      -- all lines were, so the machine has a tree
+      -- all lines were answered, so the machine has a tree
       pub has_tree : HasTree end
       has_tree =
           tree_at_last calls_refine text script given start end started calls calls_are old replied
           (answers_calls start end old replied calls lines born all)
 
-      -- and a beginning of what stands behind the replies was written
+      -- a beginning of what follows the replies was written
       pub begun_ending : (f : Fault) (new : Option (List ℕ)) → IsOutputFault f → BeginsTheEnding options end replied new
           → ExplainsText options text old new (Err f)
       begun_ending f new h b =
@@ -143,7 +143,7 @@ module _ (options : Options) where
                 options new b);
           })
 
-      -- or all that, and a beginning of the explanations
+      -- all that, and a beginning of the explanations, was written
       pub begun_explanations : (f : Fault) (mid new : Option (List ℕ)) → IsOutputFault f
           → AppendsEnding options end replied mid → AppendsFront mid new lines
           → ExplainsText options text old new (Err f)
@@ -156,7 +156,7 @@ module _ (options : Options) where
                 options mid new ending b);
           })
 
-      -- or all of them
+      -- all explanations were written
       pub explained_text : (mid new : Option (List ℕ)) → AppendsEnding options end replied mid → Appends mid new lines
           → ExplainsText options text old new (Ok tt)
       explained_text mid new ending written =
@@ -171,7 +171,7 @@ module _ (options : Options) where
             };
           }
 
-      -- so it is, whatever writing the explanations answers
+      -- the text was explained, whatever writing the explanations returns
       pub last_written : (mid new : Option (List ℕ)) (bytes : List ℕ) → bytes ≡ lines → (r : Answer)
           → AppendsEnding options end replied mid → OnOk r (Appends mid new bytes)
           → OnErr r (AppendsFront mid new bytes) → IfErr r IsOutputFault → ExplainsText options text old new r

@@ -31,7 +31,7 @@ use Rattle.histar_run_explain.specs.NamedWords.{words_at}
 use Rattle.histar_run_explain.specs.Entries.{AddsEntries, ExplainsEntries, IsRunFrom, EndsAsRun}
 use Rattle.histar_run_explain.specs.Session.{births_by, words_after, ExplainsLine, ExplainsInTurn, ExplainsCall, ExplainsCalls}
 
--- what stands behind a list
+-- what is after the front of a list
 dropped : (front back : List TraceEntry) → drop (length front) (front ++ back) ≡ back
 dropped [] back = refl
 dropped (e ∷ front) back = dropped front back
@@ -67,7 +67,7 @@ module _ (old new : MachineModel) (a b : Option (List ℕ)) (asked : CallLine) (
   pub grown : length old.kernel.trace ≤ length trace
   grown = omega (arith, ap length (same ∙ goes.trace), length-append old.kernel.trace goes.entries)
 
-  -- by the entries behind what was there
+  -- the new entries are those after what was there
   new_end : (n : ℕ) → n ≡ length old.kernel.trace → drop n trace ≡ goes.entries
   new_end n is = (λ i. drop (is i) ((same ∙ goes.trace) i)) ∙ dropped old.kernel.trace goes.entries
 
@@ -81,11 +81,11 @@ module _ (old new : MachineModel) (a b : Option (List ℕ)) (asked : CallLine) (
     pub runs_on : IsRunFrom first (drop n trace)
     runs_on = (state new.kernel, run_on)
 
-    -- a second kernel comes to the same state
+    -- a second kernel is brought to the same state
     pub same_end : (last : State) → EndsAsRun first (drop n trace) last → last ≡ state new.kernel
     same_end last ends = ends (state new.kernel) run_on
 
-    -- and its explanations are those of the line
+    -- the explanations of the second kernel are those of the line
     line_explained : (last : State) (births : Births) (lines : List ℕ) → EndsAsRun first (drop n trace) last
         → ExplainsEntries (words_after new asked births) first (drop n trace) lines last
         → ExplainsCall old new a b asked births lines
@@ -100,7 +100,7 @@ module _ (old new : MachineModel) (a b : Option (List ℕ)) (asked : CallLine) (
       };
     }
 
-    -- also where the words are by what the line names
+    -- the same where the words are those of the line's clue
     pub line_said : (last : State) (clue : Clue) (births : Births) (lines : List ℕ)
         → clue ≡ clue_of asked.process asked.call → EndsAsRun first (drop n trace) last
         → ExplainsEntries (words_at new.users new.roots (state new.kernel) clue births) first (drop n trace) lines last
@@ -114,7 +114,7 @@ module _ (old new : MachineModel) (a b : Option (List ℕ)) (asked : CallLine) (
 pub line_begins : (old new : MachineModel) (a b : Option (List ℕ)) (asked : CallLine) → AnswersCall old new a b asked → BeginsAnswer old new a b asked
 line_begins old new a b asked one = record { outcome = Ok one.reply; answered = one.answered; written = whole_front a b _ one.written }
 
--- the same entries are explained, and end so
+-- the same entries have the same explanations and end
 module _ (words : Words) (s last : State) (es fs : List TraceEntry) (same : es ≡ fs) where
   pub entries_are : {X E : Type 0} (r : Result X E) (old new : List ℕ) → OnOk r (AddsEntries words s es last old new)
       → OnOk r (AddsEntries words s fs last old new)
@@ -137,7 +137,7 @@ module _ (k : KernelModel) (traced : IsTraced k) (first : State) (empty : first 
   pub boot_runs : IsRunFrom first trace
   boot_runs = (state k, boot_run)
 
-  -- and a second kernel comes to the same state by it
+  -- a second kernel is brought to the same state by the calls of boot
   pub boot_end : (last : State) → EndsAsRun first trace last → last ≡ state k
   boot_end last ends = ends (state k) boot_run
 

@@ -35,26 +35,26 @@ ExplainsEntries words s (e ∷ entries) text last =
 abbrev pub IsRunFrom : State → List TraceEntry → Type 0
 IsRunFrom s entries = (end : State) × IsRun s entries end
 
--- lines of which this holds stand behind what was there
+-- lines with this property were appended
 abbrev pub Adds : (List ℕ → Type 0) → List ℕ → List ℕ → Type 0
 Adds Holds old new = (lines : List ℕ) × (new ≡ old ++ lines) × Holds lines
 
--- lines that explain these entries between two states do
+-- lines that explain these entries between two states were appended
 abbrev pub AddsEntries : Words → State → List TraceEntry → State → List ℕ → List ℕ → Type 0
 AddsEntries words s entries last old new = Adds (λ lines. ExplainsEntries words s entries lines last) old new
 
--- a call that is granted only looks
+-- a granted call only looks
 abbrev pub only_looks : RawCall → Bool
 only_looks OwnLabel = true
 only_looks (Read d o) = true
 only_looks (LabelOf d o) = true
 only_looks call = false
 
--- a call of this outcome leaves the state as it was: it was denied, or it only looks
+-- a call with this outcome leaves the state as it was: it was denied, or it only looks
 abbrev pub changes_nothing : Option Denied → RawCall → Bool
 changes_nothing (Some denied) call = true
 changes_nothing None call = only_looks call
 
--- where the entries lead from the first state, the last one is
+-- the last state is the one to which the entries lead from the first
 abbrev pub EndsAsRun : State → List TraceEntry → State → Type 0
 EndsAsRun s entries last = (end : State) → IsRun s entries end → last ≡ end

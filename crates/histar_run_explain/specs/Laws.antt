@@ -1,4 +1,4 @@
--- What names amount to in a state that represents a flat state.
+-- The names of objects and categories are right in a state that represents a flat state.
 use Rattle.std.specs.Prelude.{◌≡◌, ℕ, ◌-◌, ◌+◌, ◌*◌, ◌≤◌, ◌⊎◌, true, false, ◌∷◌, [], length, nat_le, Some, if◌then◌else◌}
 use Rattle.histar_flat.specs.Words.{ProcName}
 use Rattle.histar_flat.specs.Accounts.{Accounts, has}
@@ -23,11 +23,11 @@ use Rattle.histar_run_explain.specs.Location.{location_of}
 
 -- ---- categories
 
--- the category by which nobody, a user or a group reads: these are numbered from 0, 1 and on behind the users
+-- the category by which nobody, a user or a group reads: nobody is number 0, then come the users, then the groups
 abbrev pub reads_of : Accounts → ℕ → CategoryName
 reads_of accounts i = if nat_le i (length accounts.users) then names.ReadsUser i else names.ReadsGroup (i - length accounts.users)
 
--- and the one by which it writes
+-- the category by which nobody, a user or a group writes
 abbrev pub writes_of : Accounts → ℕ → CategoryName
 writes_of accounts i = if nat_le i (length accounts.users) then names.WritesUser i else names.WritesGroup (i - length accounts.users)
 
@@ -38,7 +38,7 @@ pub record BeginsJob (f : Flat) (job : ProcName) (n : ℕ) (above : ProcName) : 
   pub inside : has process.chain job ≡ true
   pub outside : (parent : Process) → f.processes above ≡ Some parent → has parent.chain job ≡ false
 
--- a purpose is that of the category of this name: a job is told by a process that is in it and whose parent isn't
+-- this is the purpose of the category of this name: a job's is given by a process that is in it and whose parent isn't
 abbrev pub IsPurposeOf : Accounts → Flat → CategoryName → Purpose → Type 0
 IsPurposeOf accounts f name Boot = name ≡ names.OfBoot
 IsPurposeOf accounts f name (Reads i) = name ≡ reads_of accounts i
@@ -49,7 +49,7 @@ IsPurposeOf accounts f name (Job me) =
     (job : ProcName) × (n : ℕ) × (above : ProcName) × (me ≡ n ∷ above) × (name ≡ names.OfJob job)
     × BeginsJob f job n above
 
--- Whatever naming represents the flat state: a category for which a purpose is given is that of a name that is used, and has this purpose.
+-- Under each naming by which the state represents the flat state, a category with a purpose has a name that is used, and this purpose.
 abbrev pub PurposesAreRight : Type 0
 PurposesAreRight =
     (accounts : Accounts) (s : State) (f : Flat) (l : ObjectsMatch accounts s f) (clue : Clue) (births : Births) (c : ℕ) (purpose : Purpose)
@@ -69,7 +69,7 @@ module _ (accounts : Accounts) (s : State) (f : Flat) (l : ObjectsMatch accounts
       ((l.naming.number (home_address me) ≡ Some q) ⊎ (l.naming.number (Status ∷ home_address me) ≡ Some q))
       ⊎ ((l.naming.number (Inside ∷ home_address me) ≡ Some q) ⊎ (l.naming.number (Runner ∷ Inside ∷ home_address me) ≡ Some q))
 
-  -- an object of this number is what is said: boot left the password and the gate of user i under 1 + 2i and 2 + 2i
+  -- the object of this number is at this location: boot left the password and the gate of user i under 1 + 2i and 2 + 2i
   abbrev pub StandsAs : ℕ → Location → Type 0
   StandsAs q Root = l.naming.number [] ≡ Some q
   StandsAs q (Password i) = IsLeft q × (q ≡ 1 + 2 * i) × (1 ≤ i) × (i ≤ length accounts.users)
@@ -78,7 +78,7 @@ module _ (accounts : Accounts) (s : State) (f : Flat) (l : ObjectsMatch accounts
   StandsAs q (At path) = StandsFor accounts s f l path q
   StandsAs q (Part me) = IsPartOf me q
 
--- Whatever naming represents the flat state: what an object is said to be is what it is at the address that has its number.
+-- Under each naming by which the state represents the flat state, an object's location is that of the address that has its number.
 abbrev pub LocationsAreRight : Type 0
 LocationsAreRight =
     (accounts : Accounts) (s : State) (f : Flat) (l : ObjectsMatch accounts s f) (clue : Clue) (q : ℕ) (location : Location)

@@ -1,4 +1,4 @@
--- What an object is: what boot left, what stands at a path, or a part of a process.
+-- What an object is: what boot left, the file or directory at a path, or a part of a process.
 use Rattle.std.specs.Prelude.{ℕ, ◌+◌, ◌*◌, ◌-◌, ◌/◌, ◌%◌, ◌==◌, Bool, false, ◌&&◌, ◌||◌, not, nat_le, nat_lt, List, [], ◌∷◌, ◌++◌, length}
 use Rattle.std.specs.Prelude.{Option, None, Some, is_some, codes, if◌then◌else◌}
 use Rattle.histar_flat.specs.Words.{Path, ProcName}
@@ -21,16 +21,16 @@ use Rattle.histar_run_explain.specs.declared.location.Location.TheVariants.{Root
 
 -- ---- what boot left in the root container: the password and the gate of each user, and the user table
 
--- the password or the gate of the user that the object is of
+-- the password or the gate of the user to whom the object belongs
 abbrev pub users_own : ℕ → Location
 users_own q = if (q % 2) == 1 then Password ((q - 1) / 2) else Gate ((q - 1) / 2)
 
--- what boot left under a number, where there are so many users
+-- what boot left under a number, with this many users
 abbrev pub left_location : ℕ → ℕ → Option Location
 left_location n q =
     if q == 1 then Some Root else (if nat_le 3 q && nat_lt q (3 + 2 * n) then Some (users_own q) else (if q == 3 + 2 * n then Some Users else None))
 
--- ---- what stands at a path
+-- ---- the objects at a path
 
 -- the directory segment of a directory
 abbrev pub listing_in : Target → Option ℕ
@@ -55,7 +55,7 @@ abbrev pub is_target : ℕ → Option Target → Bool
 is_target q None = false
 is_target q (Some target) = is_of_target q target
 
--- the object stands at this path, or at one above it
+-- the path of the object, if it is this one or one above it
 abbrev pub path_up : State → Roots → ℕ → Path → Option Path
 path_up s roots q [] = if is_target q (target_at s roots []) then Some [] else None
 path_up s roots q (name ∷ d) = if is_target q (target_at s roots (name ∷ d)) then Some (name ∷ d) else path_up s roots q d
@@ -72,32 +72,32 @@ abbrev pub is_part : State → ℕ → Option Home → Bool
 is_part s q None = false
 is_part s q (Some home) = q == home.container || q == home.segment || is_inside q (status_at s home.segment)
 
--- the object is a part of this process, or of one above it
+-- the process that the object is a part of, if it is this one or one above it
 abbrev pub process_up : State → Home → ℕ → ProcName → Option ProcName
 process_up s first q [] = if is_part s q (home_at s first []) then Some [] else None
 process_up s first q (n ∷ above) = if is_part s q (home_at s first (n ∷ above)) then Some (n ∷ above) else process_up s first q above
 
 -- ---- what an object is
 
--- what stands there is at a path
+-- an object that has a path is at that path
 abbrev pub at_path : Option Path → Option Location
 at_path None = None
 at_path (Some q) = Some (At q)
 
--- it is a part of a process
+-- an object that has a process is a part of it
 abbrev pub of_process : Option ProcName → Option Location
 of_process None = None
 of_process (Some me) = Some (Part me)
 
--- What an object is: what boot left is known by its number; others are looked for on the way to the path that a line names, and at the
--- processes that it names and those above them.
+-- What an object is: what boot left is known by its number; others are looked for on the way to the path in a line, and at the
+-- processes in the line and those above them.
 abbrev pub location_of : Accounts → Roots → State → Clue → ℕ → Option Location
 location_of accounts roots s clue q =
     or_else (left_location (length accounts.users) q)
     (or_else (at_path (path_up s roots q clue.path))
     (or_else (of_process (process_up s roots.home q clue.caller)) (of_process (process_up s roots.home q clue.named))))
 
--- how it is written
+-- the text of a location
 abbrev pub location_text : Accounts → Location → List ℕ
 location_text accounts Root = codes "the root container"
 location_text accounts (Password i) = codes "the password of " ++ owner_name accounts i

@@ -1,4 +1,4 @@
--- How the explanation of a denied call of a script names what it speaks of.
+-- The names of objects and categories in the explanation of a denied call of a script.
 use Rattle.std.specs.Prelude.{ℕ, List, Option, None, Some}
 use Rattle.histar_flat.specs.Accounts.{Accounts}
 use Rattle.histar_flat.specs.Texts.{process_text}
@@ -12,12 +12,12 @@ use Rattle.histar_run_explain.specs.declared.location.Location.{Location}
 use Rattle.histar_run_explain.specs.Purposes.{purpose_of, purpose_text}
 use Rattle.histar_run_explain.specs.Location.{location_of, location_text}
 
--- a category by what it is for, and one of which this isn't known by its number
+-- a category by its purpose, or by its number where this isn't known
 abbrev pub category_text : Accounts → ℕ → Option Purpose → List ℕ
 category_text accounts c None = raw_words.category c
 category_text accounts c (Some purpose) = purpose_text accounts purpose
 
--- an object by what it is, and one of which this isn't known by its number
+-- an object by its location, or by its number where this isn't known
 abbrev pub object_text : Accounts → ℕ → Option Location → List ℕ
 object_text accounts q None = raw_words.object q
 object_text accounts q (Some location) = location_text accounts location

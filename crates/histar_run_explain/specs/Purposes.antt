@@ -1,4 +1,4 @@
--- What a category is for, as the numbers that boot gave and the labels of the containers of processes say.
+-- What a category is for, by the numbers that boot gave and the labels of the containers of processes.
 use Rattle.std.specs.Prelude.{ℕ, ◌+◌, ◌*◌, ◌-◌, ◌/◌, ◌%◌, ◌==◌, Bool, false, ◌&&◌, nat_le, nat_lt, List, [], ◌∷◌, ◌++◌, length}
 use Rattle.std.specs.Prelude.{Option, None, Some, slice_get, codes, if◌then◌else◌}
 use Rattle.histar_flat.specs.Words.{Name, ProcName}
@@ -19,14 +19,14 @@ use Rattle.histar_run_explain.specs.declared.clues.Clue.{Clue}
 use Rattle.histar_run_explain.specs.declared.purposes.Purpose.{Purpose}
 use Rattle.histar_run_explain.specs.declared.purposes.Purpose.TheVariants.{Boot, Reads, Writes, ReadsProcess, WritesProcess, Job}
 
--- the first of two, where it is there, and else the second
+-- the first of two, if it is there, and else the second
 abbrev pub or_else : {A : Type 0} → Option A → Option A → Option A
 or_else None y = y
 or_else (Some x) y = Some x
 
 -- ---- what boot made: one for itself, and then two for nobody, for each user and for each group
 
--- who owns both categories of a pair: nobody is 0, and behind it come the users, and then the groups
+-- the owner of both categories of a pair: 0 is nobody, then come the users, and then the groups
 abbrev pub owner_in : ℕ → ℕ
 owner_in c = (c - 2) / 2
 
@@ -34,11 +34,11 @@ owner_in c = (c - 2) / 2
 abbrev pub pair_purpose : ℕ → Purpose
 pair_purpose c = if (c % 2) == 0 then Reads (owner_in c) else Writes (owner_in c)
 
--- what boot made a category for, where there are so many users and groups together
+-- what boot made a category for, with this many users and groups together
 abbrev pub boot_purpose : ℕ → ℕ → Option Purpose
 boot_purpose owners c = if c == 1 then Some Boot else (if nat_le 2 c && nat_lt c (4 + 2 * owners) then Some (pair_purpose c) else None)
 
--- ---- what is a process's
+-- ---- the categories of a process
 
 -- the label of the container of a process
 abbrev pub outer_label : State → Home → ProcName → Option Levels
@@ -46,7 +46,7 @@ outer_label s first me = do
   home ← home_at s first me
   label_there (s.objects home.container)
 
--- the label of its internal container, where it runs
+-- the label of the internal container of a process, if it runs
 abbrev pub inner_label : State → Home → ProcName → Option Levels
 inner_label s first me = do
   home ← home_at s first me
@@ -63,25 +63,25 @@ abbrev pub has_three : Option Levels → ℕ → Bool
 has_three None c = false
 has_three (Some L) c = is_three (level_of L c)
 
--- the job of a process whose container has its category at 3, where it begins with the process: the container of its parent hasn't that
+-- the job of a process whose container has its category at 3, if it begins with the process: its parent's container doesn't have it at 3
 abbrev pub job_by : State → Home → ℕ → ProcName → Option Purpose
 job_by s first c [] = None
 job_by s first c (n ∷ above) = if has_three (outer_label s first above) c then None else Some (Job (n ∷ above))
 
--- What a category is for, where it is one of a process's: its container has at 0 the one by which it writes, and at 3 those of its
--- jobs, and its internal container has beside these at 3 the one by which it keeps its secrets.
+-- What a category is for, if it is one of a process's: its container has at 0 the one by which it writes, and at 3 those of its
+-- jobs; its internal container also has at 3 the one by which it keeps its secrets.
 abbrev pub purpose_by : State → Home → ℕ → ProcName → Option Purpose
 purpose_by s first c me =
     if has_zero (outer_label s first me) c then Some (WritesProcess me)
     else (if has_three (outer_label s first me) c then job_by s first c me
     else (if has_three (inner_label s first me) c then Some (ReadsProcess me) else None))
 
--- what it is for, where it is one of a process's or of one above it
+-- what a category is for, if it is one of a process's or of one above it
 abbrev pub purpose_up : State → Home → ℕ → ProcName → Option Purpose
 purpose_up s first c [] = purpose_by s first c []
 purpose_up s first c (n ∷ above) = or_else (purpose_by s first c (n ∷ above)) (purpose_up s first c above)
 
--- what it is for, where it is one of the process's that it may be of
+-- what a category is for, if it is one of the process's that it may be of
 abbrev pub purpose_born : State → Home → ℕ → Births → Option Purpose
 purpose_born s first c births = do
   birth ← slice_get births c
@@ -89,14 +89,14 @@ purpose_born s first c births = do
   purpose_by s first c child
 
 -- What a category is for: boot's are known by their numbers, and others are looked for at the process that was born with the
--- category, and then at the processes that a line names and those above them.
+-- category, and then at the processes in a line and those above them.
 abbrev pub purpose_of : Accounts → Roots → State → Clue → Births → ℕ → Option Purpose
 purpose_of accounts roots s clue births c =
     or_else (boot_purpose (declared accounts) c)
     (or_else (purpose_born s roots.home c births)
     (or_else (purpose_up s roots.home c clue.caller) (purpose_up s roots.home c clue.named)))
 
--- ---- how it is written
+-- ---- its text
 
 -- the name of a group that is there
 abbrev pub name_of_group : Option Group → Name

@@ -26,17 +26,17 @@ use Rattle.histar_run_explain.specs.Clues.{clue_of}
 use Rattle.histar_run_explain.specs.Entries.{ExplainsEntries}
 use Rattle.histar_run_explain.specs.NamedWords.{words_at}
 
--- how the state after a line names what the line's explanations speak of
+-- the names of objects and categories in the state after a line
 abbrev pub words_of : Accounts → State → CallLine → Births → Words
 words_of accounts after asked births =
     words_at (without_passwords accounts) (roots_of (length accounts.users)) after (clue_of asked.process asked.call) births
 
--- what is known of births after a line
+-- the births that are known after a line
 abbrev pub births_of : Accounts → State → CallLine → Births → Births
 births_of accounts after asked births = births_after after (roots_of (length accounts.users)) asked.process births
 
--- The lines of a script, one after another, from a state that represents this flat state: each is the row of its call, and the text
--- explains each denied entry of it at the state before the entry, in the words of the state after the line and of what is known of births then.
+-- The lines of a script, one after another, from a state that represents this flat state: each refines its rule, and the text
+-- explains each denied entry of it at the state before the entry, with the names of the state after the line and the births known then.
 abbrev pub ExplainsRows : Accounts → State → Flat → Births → List CallLine → List TraceEntry → List ℕ → State → Type 0
 ExplainsRows accounts s f births [] entries text end = (entries ≡ []) × (text ≡ []) × (end ≡ s)
 ExplainsRows accounts s f births (asked ∷ more) entries text end =
@@ -58,25 +58,25 @@ pub record ExplainsAs (Writes : List ℕ → Type 0) (options : Options) (script
   pub explains : ExplainsTrace script trace explanations
   pub written : Writes ((meaning_text options script ++ asked_trace options trace) ++ explanations)
 
--- the reading is of a script, and what `run` writes was written, and then the explanations
+-- what was read is a script, and what `run` writes was written, and then the explanations
 pub record ExplainsScript (options : Options) (old new : Option (List ℕ)) (read : Result ScriptModel Fault) : Type 0 where
   pub script : ScriptModel
   pub is_read : read ≡ Ok script
   pub explained : ExplainsAs (Appends old new) options script
 
--- the reading is of a script, and a beginning of that was written
+-- what was read is a script, and a beginning of that was written
 pub record BeginsExplained (options : Options) (old new : Option (List ℕ)) (read : Result ScriptModel Fault) : Type 0 where
   pub script : ScriptModel
   pub is_read : read ≡ Ok script
   pub begun : AppendsFront old new (meaning_text options script) ⊎ ExplainsAs (AppendsFront old new) options script
 
--- where memory runs out and at a failed write a beginning was written, and at the other faults nothing
+-- where memory runs out and after a failed write a beginning was written, and after the other faults nothing
 abbrev pub ExplainsAtFault : Options → Option (List ℕ) → Option (List ℕ) → Result ScriptModel Fault → Fault → Type 0
 ExplainsAtFault options old new read OutOfMemory = Keeps old new ⊎ BeginsExplained options old new read
 ExplainsAtFault options old new read WriteFailed = BeginsExplained options old new read
 ExplainsAtFault options old new read fault = Keeps old new
 
--- The text was run and explained: the fault of the script is answered, or what `run` writes was written, and then the explanations.
+-- The text was run and explained: the fault of the script is returned, or what `run` writes was written, and then the explanations.
 pub record ExplainsText (options : Options) (text : List ℕ) (old new : Option (List ℕ)) (result : Result (Unit {0}) Fault) : Type 0 where
   pub faults : AgreesWith (script_of text) result
   pub writes : MatchResult result (λ _. ExplainsScript options old new (script_of text)) (ExplainsAtFault options old new (script_of text))

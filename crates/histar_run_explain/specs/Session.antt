@@ -14,11 +14,11 @@ use Rattle.histar_run_explain.specs.Clues.{clue_of}
 use Rattle.histar_run_explain.specs.Entries.{ExplainsEntries}
 use Rattle.histar_run_explain.specs.NamedWords.{words_at}
 
--- how a machine's state after a line names what the line's explanations speak of
+-- the names of objects and categories in a machine's state after a line
 abbrev pub words_after : MachineModel → CallLine → Births → Words
 words_after m asked births = words_at m.users m.roots (state m.kernel) (clue_of asked.process asked.call) births
 
--- what is known of births, once a machine has answered a line
+-- the births that are known after a machine has answered a line
 abbrev pub births_by : MachineModel → CallLine → Births → Births
 births_by m asked births = births_after (state m.kernel) m.roots asked.process births
 

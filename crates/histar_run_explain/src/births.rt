@@ -1,4 +1,4 @@
-//! With each category, where its process is looked for.
+//! For each category, the process where it is looked for.
 ghost use Rattle.std.specs.Prelude.{◌≡◌, ◌<◌, ◌-◌, ◌++◌, ◌∷◌, length, nat_lt, replicate, Some, None, OnOk, if◌then◌else◌};
 ghost use Rattle.histar_flat.specs.Words.{most_numbers};
 ghost use Rattle.histar_syscall.specs.KernelModel.{state};
@@ -13,7 +13,7 @@ use histar_shell::Machine;
 use histar_syscall::Kernel;
 use std::alloc::AllocError;
 
-/// Returns the child of a process that has a number, where a name has room for one number more.
+/// Returns the child of a process that has this number, if a name has room for one number more.
 fn child_of(process: &ProcName, number: u8) -> Option<ProcName>
     ensures { result ≡ child_of process.now number }
 {
@@ -24,7 +24,7 @@ fn child_of(process: &ProcName, number: u8) -> Option<ProcName>
     }
 }
 
-/// Returns the child that was born last to a process.
+/// Returns the last child that was born to a process.
 fn last_child<S: LabelStore + Drop>(
     kernel: &Kernel<S>,
     roots: &Roots,
@@ -52,8 +52,8 @@ fn add_births(
     Ok(())
 }
 
-/// Notes for each category that is new after a call of a process that it may be of the child that was born
-/// last to that process.
+/// Notes for each category that is new after a call of a process that it may be of the last child that was
+/// born to that process.
 pub(crate) fn note_births<S: LabelStore + Drop>(
     machine: &Machine<S>,
     process: &ProcName,

@@ -1,10 +1,10 @@
-//! What a line names.
+//! The processes and the path in a line.
 ghost use Rattle.std.specs.Prelude.{◌≡◌};
 ghost use Rattle.histar_run_explain.specs.Clues.{clue_of, process_named};
 
 use histar_flat::{Path, ProcName, UnixCall};
 
-/// What a line names: objects and categories are looked for at these.
+/// The processes and the path in a line: objects and categories are looked for at these.
 #[derive(Clone, Copy)]
 pub(crate) struct Clue {
     /// The process that makes the call.
@@ -26,7 +26,7 @@ fn process_named(caller: &ProcName, call: &UnixCall) -> ProcName
     }
 }
 
-/// Returns what a line names.
+/// Returns the processes and the path in a line.
 pub(crate) fn clue_of(caller: &ProcName, call: &UnixCall) -> Clue
     ensures { result ≡ clue_of caller.now call.now }
 {

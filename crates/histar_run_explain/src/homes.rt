@@ -10,7 +10,7 @@ use histar_label::LabelStore;
 use histar_layout::find_child;
 use histar_syscall::Kernel;
 
-/// Returns where the process of these numbers is found, of which the last stands first.
+/// Returns where the process of these numbers is found, the last number first.
 pub(crate) fn home_at<S: LabelStore + Drop>(
     kernel: &Kernel<S>,
     first: Home,
@@ -31,7 +31,7 @@ pub(crate) fn home_at<S: LabelStore + Drop>(
     })
 }
 
-/// Returns the name of these numbers, of which the last stands first.
+/// Returns the name of these numbers, the last number first.
 pub(crate) fn name_of(numbers: &[u8]) -> ProcName
     requires { length numbers.now ≤ most_numbers }
     ensures { result ≡ numbers.now }

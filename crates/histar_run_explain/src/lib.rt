@@ -1,7 +1,7 @@
-//! Runs of scripts with explanations: what `run` of `histar_shell` writes, and behind it why each denied raw
+//! Runs of scripts with explanations: what `run` of `histar_shell` writes, and after it why each denied raw
 //! call was denied, with names.
 //!
-//! [`laws`] says what the names amount to.
+//! [`laws`] says that the names are right.
 #![tactic(auto)]
 
 mod births;

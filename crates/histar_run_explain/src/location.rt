@@ -31,13 +31,13 @@ pub(crate) enum Location {
     Gate(usize),
     /// The user table.
     Users,
-    /// What stands at this path, or the directory segment of the directory there.
+    /// The file or directory at this path, or the directory segment of the directory there.
     At(Path),
     /// A container, the process segment or the thread of a process.
     Part(ProcName),
 }
 
-/// Returns the password or the gate of the user that an object is of.
+/// Returns the password or the gate of the user to whom an object belongs.
 fn users_own(number: usize) -> Location
     requires { 3 ≤ number }
     ensures { result ≡ users_own number }
@@ -50,7 +50,7 @@ fn users_own(number: usize) -> Location
     }
 }
 
-/// Returns what boot left in the root container under a number, where there are so many users.
+/// Returns what boot left in the root container under a number, with this many users.
 fn left_location(users: usize, object: ObjId) -> Option<Location>
     requires { users ≤ most_users }
     ensures { result ≡ left_location users object }
@@ -77,7 +77,7 @@ fn listing_in(target: Target) -> Option<ObjId>
     }
 }
 
-/// Returns where the path of these names leads, of which the last stands first.
+/// Returns where the path of these names leads, the last name first.
 fn target_at<S: LabelStore + Drop>(
     kernel: &Kernel<S>,
     roots: &Roots,
@@ -93,7 +93,7 @@ fn target_at<S: LabelStore + Drop>(
     look_up(kernel.bytes(listing), name)
 }
 
-/// Checks whether two objects are one.
+/// Checks whether two objects are the same.
 fn is_same(object: ObjId, other: ObjId) -> bool
     ensures { result ≡ (object == other) }
 {
@@ -112,7 +112,7 @@ fn is_of_target(object: ObjId, target: Target) -> bool
     }
 }
 
-/// Checks whether an object is one of a target that is there.
+/// Checks whether an object is one of those of a target that is there.
 fn is_target(object: ObjId, target: Option<Target>) -> bool
     ensures { result ≡ is_target object target }
 {
@@ -133,7 +133,7 @@ fn path_of(names: &[Name]) -> Path
     }
 }
 
-/// Returns the path at which an object stands, where that is the path of these names or one above it.
+/// Returns the path of an object, where it is the path of these names or one above it.
 fn path_among<S: LabelStore + Drop>(
     kernel: &Kernel<S>,
     roots: &Roots,
@@ -152,7 +152,7 @@ fn path_among<S: LabelStore + Drop>(
     path_among(kernel, roots, object, above)
 }
 
-/// Returns the path at which an object stands, where that is this one or one above it.
+/// Returns the path of an object, where it is this one or one above it.
 fn path_up<S: LabelStore + Drop>(
     kernel: &Kernel<S>,
     roots: &Roots,
@@ -194,7 +194,7 @@ fn is_part<S: LabelStore + Drop>(kernel: &Kernel<S>, object: ObjId, home: Option
         || is_inside(object, kernel.bytes(home.segment))
 }
 
-/// Returns the process that an object is a part of, where that is this one or one above it.
+/// Returns the process that an object is a part of, where it is this one or one above it.
 fn process_up<S: LabelStore + Drop>(
     kernel: &Kernel<S>,
     roots: &Roots,

@@ -1,4 +1,4 @@
-//! How the explanation of a denied call of a script names what it speaks of.
+//! The names of objects and categories in the explanation of a denied call of a script.
 ghost use Rattle.std.specs.Prelude.{◌≡◌, ◌≤◌, ◌++◌, slice_get, OnOk};
 ghost use Rattle.histar_flat.specs.Accounts.{most_users};
 ghost use Rattle.histar_flat.specs.Texts.{process_text};

@@ -20,21 +20,21 @@ use histar_syscall::Kernel;
 /// What a category is for.
 #[derive(Clone, Copy)]
 pub(crate) enum Purpose {
-    /// It was there before boot, and nobody owns it.
+    /// It was made before boot, and nobody owns it.
     Boot,
-    /// To read what is a user's or a group's: nobody is 0, and behind it come the users and then the groups.
+    /// To read what is a user's or a group's: 0 is nobody, then come the users, and then the groups.
     Reads(usize),
-    /// To write it.
+    /// To write what is a user's or a group's.
     Writes(usize),
     /// To keep the secrets of a process.
     ReadsProcess(ProcName),
     /// To write the objects of a process.
     WritesProcess(ProcName),
-    /// To keep what the job knows that begins with this process.
+    /// To keep the secrets of the job that begins with this process.
     Job(ProcName),
 }
 
-/// Returns what boot made a category for, where there are so many users and groups together.
+/// Returns what boot made a category for, with this many users and groups together.
 fn boot_purpose(owners: usize, category: Category) -> Option<Purpose>
     requires { owners ≤ most_users + most_groups }
     ensures { result ≡ boot_purpose owners category }
@@ -110,8 +110,8 @@ fn has_three(label: Option<&Label>, category: Category) -> bool
     }
 }
 
-/// Returns the job of a process whose container has its category at 3, where it begins with the process: the
-/// container of its parent hasn't that.
+/// Returns the job of a process whose container has its category at 3, if it begins with the process: the
+/// container of its parent doesn't have it at 3.
 fn job_by<S: LabelStore + Drop>(
     kernel: &Kernel<S>,
     roots: &Roots,
@@ -130,7 +130,7 @@ fn job_by<S: LabelStore + Drop>(
     Some(Purpose::Job(name_of(numbers)))
 }
 
-/// Returns what a category is for, where it is one of a process's.
+/// Returns what a category is for, if it is a category of this process.
 fn purpose_by<S: LabelStore + Drop>(
     kernel: &Kernel<S>,
     roots: &Roots,
@@ -152,7 +152,7 @@ fn purpose_by<S: LabelStore + Drop>(
     }
 }
 
-/// Returns what a category is for, where it is one of a process's or of one above it.
+/// Returns what a category is for, if it is a category of this process or of one above it.
 fn purpose_up<S: LabelStore + Drop>(
     kernel: &Kernel<S>,
     roots: &Roots,
@@ -172,7 +172,7 @@ fn purpose_up<S: LabelStore + Drop>(
     }
 }
 
-/// Returns what a category is for, where it is one of the process's that it may be of.
+/// Returns what a category is for, if it is a category of the process that it may be of.
 fn purpose_born<S: LabelStore + Drop>(
     kernel: &Kernel<S>,
     roots: &Roots,

@@ -13,7 +13,7 @@ use histar_rules::{RawCall, Refusal};
 use histar_syscall::{Kernel, TraceEntry};
 use std::alloc::Global;
 
-/// Checks whether a call that is granted only looks.
+/// Checks whether a granted call only looks.
 fn only_looks(call: &RawCall) -> bool
     ensures { result ≡ only_looks call.now }
 {
@@ -30,7 +30,7 @@ fn changes_nothing(entry: &TraceEntry) -> bool
     entry.denied.is_some() || only_looks(&entry.call)
 }
 
-/// Has a second kernel make the call of an entry once more.
+/// Makes the call of an entry once more on a second kernel.
 fn make_again<S: LabelStore + Drop>(
     alloc: Global,
     kernel: &mut Kernel<S>,
@@ -49,7 +49,7 @@ fn make_again<S: LabelStore + Drop>(
     }
 }
 
-/// Brings a second kernel to the state behind an entry.
+/// Brings a second kernel to the state after an entry.
 fn replay<S: LabelStore + Drop>(
     alloc: Global,
     kernel: &mut Kernel<S>,
@@ -81,8 +81,8 @@ fn explain_outcome<S: LabelStore + Drop, V: Wording>(
     push_explanation(alloc, text, words, entry, &explanation)
 }
 
-/// Brings a second kernel to the state behind entries, and adds the lines that explain why those that were
-/// denied were denied, each at the state before it.
+/// Brings a second kernel to the state after entries, and adds the lines that explain why the denied ones
+/// were denied, each at the state before it.
 pub(crate) fn explain_entries<S: LabelStore + Drop, V: Wording>(
     alloc: Global,
     kernel: &mut Kernel<S>,

@@ -31,7 +31,7 @@ const REMEMBERED_ANSWERS: usize = 256;
 /// What explanations are made from, beside the machine.
 #[derive(Drop)]
 struct Explainer<S: LabelStore + Drop> {
-    /// The kernel that comes to the state before each raw call.
+    /// The kernel that is brought to the state before each raw call.
     second: Kernel<S>,
     /// For each category, by its number, a process that it may be of.
     births: Vec<Option<ProcName>>,
@@ -39,9 +39,9 @@ struct Explainer<S: LabelStore + Drop> {
     text: Vec<u8>,
 }
 
-/// Runs a script as `run` does, and writes behind all that was asked for why each denied raw call was denied.
+/// Runs a script as `run` does, and writes after all that was asked for why each denied raw call was denied.
 ///
-/// The raw calls of a line that change something are made once more on a second kernel, which so comes to the
+/// The raw calls of a line that change something are made once more on a second kernel, which then is in the
 /// state before each of them. The explanations are kept until all else is written. It doesn't flush the sink.
 pub fn explain_script<R: Source, W: Sink>(
     alloc: Global,
@@ -56,13 +56,13 @@ pub fn explain_script<R: Source, W: Sink>(
     ensures reads { CountsFailure (R.failures reader.old) (R.failures reader.new) (is_read_failed result) }
     ensures writes { CountsFailure (W.failures writer.old) (W.failures writer.new) (is_write_failed result) }
 
-    // Whatever the source says, bytes of it were taken, to its end but never more than 1,048,577: the fault of the script that they
-    // are is answered, or exactly the text of its meaning is written, and then where it is asked for a trace of that meaning, and
-    // then exactly the explanations of the denied calls of that trace, each at the state before its call.
+    // Whatever the source gives, bytes of it were taken, to its end but never over 1,048,577: the fault of
+    // their script is returned, or exactly the text of its meaning is written, then a trace of that meaning,
+    // if asked for, and then exactly the explanations of its denied calls, each at the state before its call.
     ensures runs { RunsInput (ExplainsText options) (R.left reader.old) (R.left reader.new)
         (W.written writer.old) (W.written writer.new) result }
 
-    // So where the input is known, the script of the whole input was run and explained.
+    // If the input is known, the script of the whole input was run and explained.
     ensures known { IfSome (R.left reader.old)
         (λ input. ExplainsText options input (W.written writer.old) (W.written writer.new) result) }
 {
@@ -70,7 +70,7 @@ pub fn explain_script<R: Source, W: Sink>(
     explain_text(alloc, input.as_slice(), writer, options)
 }
 
-/// Runs and explains the script that a text is.
+/// Runs and explains the script of a text.
 fn explain_text<W: Sink>(
     alloc: Global,
     text: &[u8],
@@ -125,8 +125,8 @@ fn second_kernel<S: LabelStore + Drop>(
     Ok(kernel)
 }
 
-/// Has the machine do the calls in their order, writes a line for each, and keeps the explanations of the raw
-/// calls that were denied.
+/// Makes the calls on the machine in their order, writes a line for each, and keeps the explanations of
+/// the raw calls that were denied.
 fn answer_calls<S: LabelStore + Drop, T: LabelStore + Drop, W: Sink>(
     alloc: Global,
     machine: &mut Machine<S>,
@@ -149,7 +149,7 @@ fn answer_calls<S: LabelStore + Drop, T: LabelStore + Drop, W: Sink>(
     Ok(())
 }
 
-/// Has the machine do one call, writes its line, and keeps the lines that explain its raw calls that were
+/// Makes one call on the machine, writes its line, and keeps the lines that explain its raw calls that were
 /// denied.
 fn answer_and_explain<S: LabelStore + Drop, T: LabelStore + Drop, W: Sink>(
     alloc: Global,
@@ -175,7 +175,7 @@ fn answer_and_explain<S: LabelStore + Drop, T: LabelStore + Drop, W: Sink>(
     Ok(explain_line(alloc, machine, explainer, &clue, before)?)
 }
 
-/// Returns what stands in a trace behind so many entries.
+/// Returns the entries of a trace after this many.
 fn entries_behind(trace: &[TraceEntry], before: usize) -> &[TraceEntry]
     requires { before ≤ length trace.now }
     ensures { result.now ≡ drop before trace.now }
@@ -184,8 +184,8 @@ fn entries_behind(trace: &[TraceEntry], before: usize) -> &[TraceEntry]
     entries
 }
 
-/// Brings the second kernel behind a line, whose raw calls stand behind so many entries of the machine's trace,
-/// and keeps the lines that explain those that were denied.
+/// Brings the second kernel to the state after a line, whose raw calls come after this many entries of the
+/// machine's trace, and keeps the lines that explain those that were denied.
 fn explain_line<S: LabelStore + Drop, T: LabelStore + Drop>(
     alloc: Global,
     machine: &Machine<S>,

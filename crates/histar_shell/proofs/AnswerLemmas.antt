@@ -66,7 +66,7 @@ answers_more first mid last a b c calls call done one =
           (Appends-trans a b c (answers_text done.answers) (answer_text next) done.written one.written);
     }
 
--- where the machine stopped at the next line, nothing was written of it
+-- if the machine stopped at the next line, nothing was written of it
 begins_stopped : (first mid : MachineModel) (a b c : Option (List ℕ)) (calls front rest : List CallLine)
     → calls ≡ front ++ rest → AnswersCalls first mid a b front → Keeps b c → BeginsAnswers first a c calls
 begins_stopped first mid a b c calls front rest parts done keeps = record {
@@ -78,7 +78,7 @@ begins_stopped first mid a b c calls front rest parts done keeps = record {
   written = whole_front a c (answers_text done.answers) (Appends-kept a b c (answers_text done.answers) done.written keeps);
 }
 
--- where it answered, a beginning of the next line makes a beginning of all
+-- if the machine answered, a beginning of the next line makes a beginning of all
 begins_next : (first mid last : MachineModel) (a b c : Option (List ℕ)) (calls front rest : List CallLine)
     (call : CallLine) (reply : Reply) → calls ≡ front ++ call ∷ rest → AnswersCalls first mid a b front
     → AnswersLine mid last call.line call.process call.call (Ok reply) → AppendsFront b c (line_text call.line reply)
@@ -109,14 +109,14 @@ begins_more first mid last a b c calls front rest call parts done begun =
       | Err stopped ↦ (λ answered written. begins_stopped first mid a b c calls front (call ∷ rest) parts done written)
     ] begun.answered begun.written
 
--- a whole line that tells the machine's reply answers the call line
+-- a whole line with the machine's reply answers the call line
 pub answers_written : (before after : MachineModel) (old new : Option (List ℕ)) (call : CallLine) (reply : Reply)
     (line bytes : List ℕ) → AnswersLine before after call.line call.process call.call (Ok reply)
     → line ≡ line_text call.line reply → bytes ≡ line → Appends old new bytes → AnswersCall before after old new call
 answers_written before after old new call reply line bytes answered text same written =
     record { reply = reply; answered = answered; written = subst (Appends old new) (same ∙ text) written }
 
--- and a beginning of it begins to
+-- a beginning of a line with the machine's reply begins the answer
 pub begins_written : (before after : MachineModel) (old new : Option (List ℕ)) (call : CallLine) (reply : Reply)
     (line bytes : List ℕ) → AnswersLine before after call.line call.process call.call (Ok reply)
     → line ≡ line_text call.line reply → bytes ≡ line → AppendsFront old new bytes
@@ -129,12 +129,12 @@ pub begins_unwritten : (before after : MachineModel) (a : Option (List ℕ)) (ca
     → AnswersLine before after call.line call.process call.call (Ok reply) → BeginsAnswer before after a a call
 begins_unwritten before after a call reply answered = record { outcome = Ok reply; answered = answered; written = (_, sent_none a _) }
 
--- where the machine stopped nothing was written
+-- if the machine stopped nothing was written
 pub begins_unanswered : (before after : MachineModel) (a : Option (List ℕ)) (call : CallLine) (stopped : Stopped)
     → AnswersLine before after call.line call.process call.call (Err stopped) → BeginsAnswer before after a a call
 begins_unanswered before after a call stopped answered = record { outcome = Err stopped; answered = answered; written = Keeps-refl a }
 
--- a list is what comes before a place, what stands there, and what comes after it
+-- a list is what comes before a place, what is at the place, and what comes after it
 pub parts_at : (calls front : List CallLine) (call : CallLine) → front ≡ take (length front) calls
     → (length front < length calls) × (call ≡ get_or calls (length front) call)
     → calls ≡ front ++ call ∷ drop (length front + 1) calls

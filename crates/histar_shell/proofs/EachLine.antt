@@ -22,7 +22,7 @@ use Rattle.histar_shell.proofs.AnswerLemmas.{front_after}
 abbrev pub node_text : State → TreeNode → List ℕ
 node_text s node = tree_line_text (line_at s node)
 
--- the lines of all of them are those of what is told of them
+-- the lines of all files and directories are those of the tree
 pub nodes_text : (s : State) (nodes : List TreeNode) → flat_map (node_text s) nodes ≡ tree_text (lines_at s nodes)
 nodes_text s [] = refl
 nodes_text s (node ∷ nodes) = ap (λ (l : List ℕ). node_text s node ++ l) (nodes_text s nodes)
@@ -61,7 +61,7 @@ module _ {A : Type 0} (f : A → List ℕ) (xs : List A) (i : ℕ) (x : A) (lt :
   pub line_unwritten : (a b : Option (List ℕ)) → Appends a b so_far → AppendsFront a b (flat_map f xs)
   line_unwritten a b written = (f x ++ flat_map f (drop (i + 1) xs), record { front = so_far; parts = all_parts; appended = written })
 
--- a beginning of the tree is one of what stands behind the replies
+-- a beginning of the tree is a beginning of what follows the replies
 pub tree_begun : (options : Options) (m : MachineModel) (old new : Option (List ℕ)) → BeginsTree options m old new → BeginsTheEnding options m old new
 tree_begun options m old new begun =
     let trace = asked_trace options m.kernel.trace in (
@@ -99,7 +99,7 @@ ending_written options m old mid new trace same tree whole = (
   Appends-trans old mid new tree.0 trace tree.2 whole,
 )
 
--- where the tree is asked for, the text of the machine's tree is the one that is
+-- if the tree is asked for, the text of the machine's tree is the text to be written
 pub tree_revealed : (b : Bool) (m : MachineModel) (tree : List TreeNode) → b ≡ true → IsTreeIn m tree
     → IsAsked b (PrintsTree m) (tree_text (lines_at (state m.kernel) tree))
 tree_revealed b m tree asked is =

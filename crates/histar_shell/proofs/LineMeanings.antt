@@ -69,7 +69,7 @@ module _ (refinements : CallsRefine) (accounts : Accounts) (old new : MachineMod
           thread = thread_led accounts (state old.kernel) f shows.represents.matched me p caller.thread runs.runs.0 runs.runs.1 runs.runs.2;
         }
 
-    -- a call of the process is its row
+    -- a call of the process refines its rule
     made_refined : (k : KernelModel) → state k ≡ state old.kernel → (call : UnixCall) (result : Result Reply Stopped) → IsCall call
         → Makes accounts (roots_of (length accounts.users)) me caller k new.kernel call result
         → FollowsRule accounts f me call k new.kernel caller.thread result
@@ -79,7 +79,7 @@ module _ (refinements : CallsRefine) (accounts : Accounts) (old new : MachineMod
         ap (λ (s : State). caller_at s (roots_of (length accounts.users)).home me) same ∙ found in
         refinements accounts ok call can me caller k new.kernel f result there at made
 
-    -- its program reads no password
+    -- the program of a call reads no password
     made_of : (k : KernelModel) (call : UnixCall) (result : Result Reply Stopped)
         → Makes old.users (roots_of (length accounts.users)) me caller k new.kernel call result
         → Makes accounts (roots_of (length accounts.users)) me caller k new.kernel call result
@@ -89,7 +89,7 @@ module _ (refinements : CallsRefine) (accounts : Accounts) (old new : MachineMod
         (ap (λ (users : Accounts). program_of users roots me caller call) shows.users
         ∙ same_program accounts roots me caller call) made
 
-    -- at the places that boot told the machine
+    -- a call of the machine refines its rule, at the places that boot made
     refined_of_made : (line : ℕ) (call : UnixCall) (result : Result Reply Stopped) → IsCall call → HasMade old new line me caller call result
         → FollowsRule accounts f me call (on_line line old.kernel) new.kernel caller.thread result
     refined_of_made line call result can h =
@@ -98,7 +98,7 @@ module _ (refinements : CallsRefine) (accounts : Accounts) (old new : MachineMod
         (λ (roots : Roots). Makes old.users roots me caller (on_line line old.kernel) new.kernel call result)
         shows.roots h.made))
 
-    -- the machine after it shows what its kernel represents
+    -- the machine after the line represents what its kernel represents
     still_shows : (line : ℕ) (call : UnixCall) (result : Result Reply Stopped) (g : Flat)
         → HasMade old new line me caller call result → Represents accounts (state new.kernel) g → IsFirstFree g
         → AreFilesSmall g → AreShallow g
@@ -171,7 +171,7 @@ module _ (refinements : CallsRefine) (accounts : Accounts) (old new : MachineMod
         shows = subst (Shows accounts old) (sym still.1) shows;
       }
 
-  -- who is not found doesn't run
+  -- a process that is not found doesn't run
   lost_is_gone : (me : ProcName) → caller_at (state old.kernel) (roots_of (length accounts.users)).home me ≡ None → running f me ≡ None
   lost_is_gone me lost = none_of (running f me) (sym (caller_there accounts (state old.kernel) f shows.represents.matched me) ∙ ap is_some lost)
 

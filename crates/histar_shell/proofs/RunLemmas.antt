@@ -1,4 +1,4 @@
--- What a run says, put together from what its parts say.
+-- What a run writes and returns, put together from its parts.
 use Rattle.std.proofs.Common.{◌≡◌, ℕ, ◌<◌, true, false, ltb, List, [], ◌++◌, length, Option, Some, None, Result, Ok, Err, refl, sym, ap, subst, ◌∙◌}
 use Rattle.std.proofs.Common.{arith, rules, tests, append-nil, inl, inr}
 use Rattle.std.specs.Prelude.{Bool, IfSome, IsOk, is_ok}
@@ -49,7 +49,7 @@ counts_on old mid new failed same counts = rw (sym same) counts
 module _ (options : Options) where
   -- ---- a text that is run
 
-  -- its answers are those of its meaning
+  -- the replies of a run are those of its script's meaning
   pub runs_text : (refinements : CallsRefine) (text : List ℕ) (old new : Option (List ℕ)) (result : Answer)
       → AgreesWith (script_of text) result → WritesAnswers options old new (script_of text) result
       → RunsText options text old new result
@@ -64,7 +64,7 @@ module _ (options : Options) where
   script_fault_agrees ReadFailed read given = absurd given
   script_fault_agrees WriteFailed read given = absurd given
 
-  -- and nothing was written then
+  -- at a fault of the script nothing was written
   script_fault_writes : (f : Fault) (w : Option (List ℕ)) (read : Result ScriptModel Fault) → Gives (Err f) read → WritesAtFault options w w read f
   script_fault_writes (BadScript n) w read given = Keeps-refl w
   script_fault_writes TooLong w read given = Keeps-refl w
@@ -91,7 +91,7 @@ module _ (options : Options) where
   answer_fault_agrees ReadFailed read h right = absurd h
   answer_fault_agrees WriteFailed read h right = right
 
-  -- and a beginning of the answers was written then
+  -- at a fault of the output a beginning of the answers was written
   answer_fault_writes : (f : Fault) (old new : Option (List ℕ)) (read : Result ScriptModel Fault) → IsOutputFault f
       → BeginsScript options old new read → WritesAtFault options old new read f
   answer_fault_writes (BadScript n) old new read h begun = absurd h
@@ -118,7 +118,7 @@ module _ (options : Options) where
         begun = inl (subst (λ (l : List CallLine). BeginsAnswers start old new l) listed begun);
       }
 
-  -- the calls of the script were answered, and a beginning of what stands behind the replies was written
+  -- the calls of the script were answered, and a beginning of what follows the replies was written
   pub begins_ending : (old replied new : Option (List ℕ)) (script : ScriptModel) (start end : MachineModel)
       (calls : List CallLine) → IsStart script.accounts start → calls ≡ script.calls
       → AnswersCalls start end old replied calls → BeginsTheEnding options end replied new
@@ -139,7 +139,7 @@ module _ (options : Options) where
         });
   }
 
-  -- the calls of the script were answered, what stands behind the replies was written, and the trace is that of the machine at the end
+  -- the calls of the script were answered, what follows the replies was written, and the trace is that of the machine at the end
   pub answers_script : (old replied new : Option (List ℕ)) (script : ScriptModel) (start end : MachineModel)
       (calls : List CallLine) (trace : List TraceEntry) → IsStart script.accounts start → calls ≡ script.calls
       → AnswersCalls start end old replied calls → AppendsEnding options end replied new → trace ≡ end.kernel.trace

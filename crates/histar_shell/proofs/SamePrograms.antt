@@ -124,7 +124,7 @@ module _ (accounts : Accounts) where
       λ i. wrap_by roots name me path (λ own job. same_directory_label accounts own job i)
       (λ own job. same_kin_in accounts own job i)
 
-  -- so a call has the program that it has by the users with no passwords
+  -- a call has the same program with the users without passwords
   pub same_program : (roots : Roots) (me : ProcName) (caller : Caller) (call : UnixCall)
       → program_of (without_passwords accounts) roots me caller call ≡ program_of accounts roots me caller call
   same_program roots me caller (Create path mode) = same_create roots path mode

@@ -1,4 +1,4 @@
--- What is read of the users and groups of a session reads no password.
+-- What is read of the users and groups of some accounts includes no password.
 use Rattle.std.proofs.Common.{◌≡◌, ◌∙◌, ℕ, zero, suc, ◌+◌, ◌*◌, subst, Bool, false, List, [], ◌∷◌, length, cond, Option, None, Some, refl, sym, ap}
 use Rattle.std.proofs.Common.{if◌then◌else◌}
 use Rattle.std.specs.Prelude.{map, not, nat_lt, option_and_then, option_map}
@@ -34,11 +34,11 @@ use Rattle.histar_readout.specs.Tree.{Listed, AreListed, IsBelow, IsNodeAt, IsTr
 
 -- ---- the users
 
--- there are as many
+-- there are as many users without passwords
 as_many : (users : List User) → length (map without_password users) ≡ length users
 as_many users = search length-map
 
--- they have the names that they had
+-- the users keep their names
 pub same_name : (users : List User) (number : ℕ) → user_name (map without_password users) number ≡ user_name users number
 same_name [] zero = refl
 same_name [] (suc i) = refl
@@ -127,7 +127,7 @@ module _ (accounts : Accounts) where
   same_class_label (Scratch owner jobs) = ap (option_map (λ user. scratch_label user jobs)) (same_user_number owner)
   same_class_label (Grouped group) = λ i. option_map (λ number. owned_label (group_owner (count i) number)) (group_number accounts group)
 
-  -- and jobs stand behind as many users and groups
+  -- jobs come after as many users and groups
   jobs_still : (class : Class) → HasJobs accounts class → HasJobs (without_passwords accounts) class
   jobs_still (Private owner) has = tt
   jobs_still (Readable owner) has = tt
@@ -136,7 +136,7 @@ module _ (accounts : Accounts) where
   jobs_still (Grouped group) has = tt
 
   module _ (s : State) where
-    -- what stands at a path is of the same class
+    -- the object at a path is of the same class
     node_still : (q : Path) (target : Target) (node : TreeNode) → IsNodeAt accounts s q target node
         → IsNodeAt (without_passwords accounts) s q target node
     node_still q target node is = record {
@@ -147,7 +147,7 @@ module _ (accounts : Accounts) where
       of_class = record { jobs = jobs_still node.class is.of_class.jobs; is = same_class_label node.class ∙ is.of_class.is };
     }
 
-    -- and a tree is a tree still
+    -- a tree stays a tree
     abbrev IsStill : Listed → Listed → Type 0
     IsStill is_tree still = (q : Path) (target : Target) (tree : List TreeNode) → is_tree q target tree → still q target tree
 
@@ -176,7 +176,7 @@ module _ (accounts : Accounts) where
       is.4,
     )
 
-    -- the tree of a session is that of its users with no passwords
+    -- the tree of some accounts is that of their users with no passwords
     pub tree_unproved : (roots : Roots) (tree : List TreeNode) → IsTreeOf accounts s roots tree → IsTreeOf (without_passwords accounts) s roots tree
     unfolding IsTreeOf
     tree_unproved roots tree is = tree_still (levels_at []) [] (Directory roots.slash.container roots.slash.listing) tree is

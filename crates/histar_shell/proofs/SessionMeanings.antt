@@ -1,4 +1,4 @@
--- A run is as its script means: the fold of its lines.
+-- A run does what its script means: the fold of its lines.
 use Rattle.std.proofs.Common.{◌≡◌, ℕ, List, [], ◌∷◌, ◌++◌, Option, Result, Ok, Err, refl, sym, ap, ◌∙◌, subst, append-nil, append_assoc, inl, inr}
 use Rattle.std.proofs.Common.{◌⊎◌}
 use Rattle.std.specs.List.{AllByRecursion}
@@ -40,7 +40,7 @@ use Rattle.histar_shell.proofs.LineMeanings.{line_follows}
 use Rattle.histar_shell.proofs.RefinedRuns.{run_after, refinements_run}
 use Rattle.histar_shell.proofs.Starts.{start_is_matched, start_shows}
 
--- What the lines of a session have done, from a machine that shows a flat state on.
+-- What some lines have done, from a machine on that represents a flat state.
 pub record IsMeantSession (accounts : Accounts) (m : MachineModel) (f : Flat) (answers : List RepliedCall) (end : MachineModel) : Type 0 where
   pub replies : answers ≡ answered_from accounts f (calls_of answers)
   pub entries : List TraceEntry
@@ -49,7 +49,7 @@ pub record IsMeantSession (accounts : Accounts) (m : MachineModel) (f : Flat) (a
   pub shows : Shows accounts end (flat_end accounts f (calls_of answers))
 
 module _ (declared : Accounts) where
-  -- a session of no line
+  -- no lines
   accounts_none : (m : MachineModel) (f : Flat) (end : MachineModel) → end ≡ m → Shows declared m f → IsMeantSession declared m f [] end
   accounts_none m f end same shows = record {
     replies = refl;
@@ -59,7 +59,7 @@ module _ (declared : Accounts) where
     shows = subst (λ (x : MachineModel). Shows declared x f) (sym same) shows;
   }
 
-  -- a line before a session
+  -- a line before other lines
   accounts_first : (m mid : MachineModel) (f : Flat) (a : RepliedCall) (answers : List RepliedCall) (end : MachineModel)
       → AnswersAsMeant declared m mid f a.call a.reply
       → IsMeantSession declared mid (flat_after declared f a.call.process a.call.call) answers end → IsMeantSession declared m f (a ∷ answers) end
@@ -71,7 +71,7 @@ module _ (declared : Accounts) where
     shows = later.shows;
   }
 
-  -- a session of lines that a script can have
+  -- lines that a script can have do what they mean
   pub accounts_means : (refinements : CallsRefine) (m : MachineModel) (f : Flat) (answers : List RepliedCall)
       (end : MachineModel) → AnswersInTurn m answers end → Shows declared m f → AreScriptable (calls_of answers)
       → IsMeantSession declared m f answers end
@@ -114,7 +114,7 @@ boot_trace accounts m booted =
 
 module _ (refinements : CallsRefine) (script : ScriptModel) (declared : IsDeclared script.accounts)
     (can : AreScriptable script.calls) (start : MachineModel) (starts : IsStart script.accounts start) where
-  -- the session from the start on
+  -- what the lines do from the start on
   from_start : (answers : List RepliedCall) (end : MachineModel) → AreScriptable (calls_of answers)
       → AnswersInTurn start answers end → IsMeantSession script.accounts start (boot script.accounts) answers end
   from_start answers end these accounts =
@@ -130,7 +130,7 @@ module _ (refinements : CallsRefine) (script : ScriptModel) (declared : IsDeclar
   abbrev last : Flat
   last = last_state script
 
-  -- which the machine shows
+  -- the machine represents this flat state
   pub shows_end : (end : MachineModel) (answers : List RepliedCall) → calls_of answers ≡ script.calls
       → AnswersInTurn start answers end → Shows script.accounts end last
   shows_end end answers each in_turn =
@@ -139,7 +139,7 @@ module _ (refinements : CallsRefine) (script : ScriptModel) (declared : IsDeclar
       (λ (calls : List CallLine). Shows script.accounts end (flat_end script.accounts (boot script.accounts) calls))
       each (from_start answers end these in_turn).shows
 
-  -- also where the replies were written
+  -- the machine represents the last flat state also where the replies were written
   pub shows_last : (old replied : Option (List ℕ)) (end : MachineModel)
       → AnswersCalls start end old replied script.calls → Shows script.accounts end last
   shows_last old replied end answered = shows_end end answered.answers answered.each answered.in_turn
@@ -151,7 +151,7 @@ module _ (refinements : CallsRefine) (script : ScriptModel) (declared : IsDeclar
       let these : AreScriptable (calls_of answers) = subst AreScriptable (sym each) can in
       replies_to answers end these in_turn ∙ ap (meaning script.accounts) each
 
-  -- their text
+  -- the text of the replies
   replies_are : (old replied : Option (List ℕ)) (end : MachineModel)
       (answered : AnswersCalls start end old replied script.calls)
       → answers_text answered.answers ≡ answers_text (meaning script.accounts script.calls)
@@ -187,7 +187,7 @@ module _ (refinements : CallsRefine) (script : ScriptModel) (declared : IsDeclar
       }
 
   module _ (options : Options) where
-    -- the replies, and then what stands behind them
+    -- the replies, and then what follows them
     pub whole_is : (old replied : Option (List ℕ)) (end : MachineModel)
         (answered : AnswersCalls start end old replied script.calls) (ending : List ℕ) → IsEnding options end ending
         → (trace : List TraceEntry) → trace ≡ end.kernel.trace
@@ -214,7 +214,7 @@ module _ (refinements : CallsRefine) (script : ScriptModel) (declared : IsDeclar
           (Appends-trans old replied new (answers_text answered.answers) ending answered.written revealed);
     }
 
-    -- they were, and then a beginning of what stands behind the replies was written
+    -- the calls were answered, and then a beginning of what follows the replies was written
     ends_meaning : (old new : Option (List ℕ)) → BeginsEnding options start old new script.calls → BeginsTrace options old new script
     ends_meaning old new begun = record {
       trace = begun.end.kernel.trace;

@@ -60,7 +60,7 @@ module _ (f : Flat) (shallow : AreShallow f) where
       by true e = shallow r e
       by false e = absurd (true≢false (sym e))
 
-  -- and so is what has another path
+  -- a path that is renamed has no more names
   shallow_renamed : (n k : Name) (d : Path) → n ≢ k → ((r : Path) → under_path (k ∷ d) r ≡ true → get f.files r ≡ None)
       → AreShallow (with_renamed f (n ∷ d) (k ∷ d))
   shallow_renamed n k d apart free r at =
@@ -85,7 +85,7 @@ module _ (f : Flat) (shallow : AreShallow f) where
       shallow_effect p q Wraps may can = shallow_put q _ Dir (short_path q can)
       shallow_effect p q _ may can = shallow
 
-      -- and so after each line
+      -- no path has more names than can be named after each line
       pub shallow_after : (call : UnixCall) → IsCall call → AreShallow (flat_after accounts f me call)
       shallow_after call can = by_rule accounts f me call AreShallow shallow (λ p there may. shallow_effect p (path_of call) (rule call).effect may can)
 

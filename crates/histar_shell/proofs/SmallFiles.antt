@@ -63,7 +63,7 @@ module _ (f : Flat) (small : AreFilesSmall f) where
       by true e = small r class bytes e
       by false e = absurd cc
 
-  -- and so is what has another path
+  -- a file that is renamed stays small
   small_renamed : (n k : Name) (d : Path) → n ≢ k → ((r : Path) → under_path (k ∷ d) r ≡ true → get f.files r ≡ None)
       → AreFilesSmall (with_renamed f (n ∷ d) (k ∷ d))
   small_renamed n k d apart free r class bytes at = by (under_path (n ∷ d) r) (sym (get_renamed n k d apart f.files free r) ∙ at)
@@ -90,7 +90,7 @@ module _ (f : Flat) (small : AreFilesSmall f) where
       small_effect p q Wraps may = small_put q _ Dir tt
       small_effect p q _ may = small
 
-      -- and so after each line
+      -- files stay small after each line
       pub small_after : (call : UnixCall) → AreFilesSmall (flat_after accounts f me call)
       small_after call = by_rule accounts f me call AreFilesSmall small (λ p there may. small_effect p (path_of call) (rule call).effect may)
 

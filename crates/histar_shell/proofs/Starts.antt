@@ -1,4 +1,4 @@
--- A machine that was booted shows the flat start.
+-- A machine that was booted represents the flat start.
 use Rattle.std.proofs.Common.{◌≤◌, sym, subst, arith}
 use Rattle.histar_flat.specs.Accounts.{Accounts}
 use Rattle.histar_flat.specs.Meaning.{boot}
@@ -25,7 +25,7 @@ module _ (accounts : Accounts) (declared : IsDeclared accounts) where
   pub start_is_matched : Represents accounts (start_state accounts) (boot accounts)
   start_is_matched = start_represents accounts declared.users.some (is_accounts accounts declared).no_one room
 
-  -- a machine that was booted shows the flat start
+  -- a machine that was booted represents the flat start
   pub start_shows : (m : MachineModel) → IsStart accounts m → Shows accounts m (boot accounts)
   start_shows m start = record {
     declared = declared;

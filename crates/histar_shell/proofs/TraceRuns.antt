@@ -1,4 +1,4 @@
--- Whoever runs a program has made a run of the kernel, which is the new end of its trace.
+-- A call that runs a program has made a run of the kernel, which is the new end of its trace.
 use Rattle.std.proofs.Common.{◌≡◌, ℕ, List, [], ◌∷◌, ◌++◌, Option, Some, None, Result, Ok, Err, inl, inr, sym, ap, ◌∙◌, subst, append_assoc}
 use Rattle.std.proofs.lemmas.List.{append-nil}
 use Rattle.histar_flat.specs.Accounts.{Accounts}
@@ -26,11 +26,11 @@ pub record GoesBy (old new : KernelModel) : Type 0 where
   pub trace : new.trace ≡ old.trace ++ entries
   pub run : IsRun (state old) entries (state new)
 
--- by nothing
+-- an unchanged kernel has made no raw call
 by_nothing : (old new : KernelModel) → IsUnchanged old new → GoesBy old new
 by_nothing old new same = record { entries = []; trace = same.trace ∙ sym (append-nil old.trace); run = same.state }
 
--- by one raw call, and then more
+-- a kernel that made one raw call, and then more, went on by a run
 by_call : (old mid new : KernelModel) (t : ℕ) (call : RawCall) (d : Option Denied) → Called old mid t call d → GoesBy mid new → GoesBy old new
 by_call old mid new t call d called later = record {
   entries = entry_of old.line t call d ∷ later.entries;
@@ -40,7 +40,7 @@ by_call old mid new t call d called later = record {
   run = (state mid, called.outcome, called.state, later.run);
 }
 
--- whatever its outcome is
+-- the same, whatever the outcome of the raw call is
 by_outcome : (old mid new : KernelModel) (t : ℕ) (call : RawCall) (o : Outcome call) → Asked old mid t call o → GoesBy mid new → GoesBy old new
 by_outcome old mid new t call (Ok answer) asked later = by_call old mid new t call None asked.0 later
 by_outcome old mid new t call (Err denied) asked later = by_call old mid new t call (Some denied) asked later
@@ -64,7 +64,7 @@ unfolding Runs
 by_program p old new t (Ok reply) runs = completed p old new t reply runs
 by_program p old new t (Err stopped) runs = begun p old new t runs
 
--- so the trace stays a run from the empty kernel
+-- the trace stays a run from the empty kernel
 pub traced_on : (accounts : Accounts) (roots : Roots) (me : ProcName) (caller : Caller) (old new : KernelModel)
     (call : UnixCall) (result : Result Reply Stopped) → IsTraced old
     → Makes accounts roots me caller old new call result → IsTraced new

@@ -1,4 +1,4 @@
--- The users and the groups of a script are those of a session, and its calls are calls that a line can make.
+-- The users and the groups of a script are accounts, and its calls are calls that a line can make.
 use Rattle.std.proofs.Common.{◌≡◌, ◌≢◌, ℕ, ◌+◌, ◌<◌, get_or, Bool, true, false, ◌&&◌, List, [], ◌∷◌, ◌++◌, length, cond, None, Some, Result, Ok, Err}
 use Rattle.std.proofs.Common.{refl, sym, ap, ◌∙◌, subst, inl, inr, if◌then◌else◌, arith}
 use Rattle.std.specs.Prelude.{IsTrue, All, AllPairs, is_some, not, nat_lt, option_map, slice_get}
@@ -43,7 +43,7 @@ is_not_nobody : (name : List ℕ) → IsTrue (is_user_name name) → bytes_eq na
 unfolding is_user_name
 is_not_nobody name h = not-true (bytes_eq name nobody) (last_passes (is_name name) (begins_with_letter name) (not (bytes_eq name nobody)) h)
 
--- so no user of a script is the first with the name
+-- no user of a script is the first with the name of nobody
 none_first : (users : List User) → All (λ (u : User). IsTrue (is_user_name u.name)) users
     → position_or_len (λ (u : User). bytes_eq u.name nobody) users ≡ length users
 none_first [] named = refl
@@ -53,7 +53,7 @@ none_first (u ∷ users) named =
     ap (λ (b : Bool). cond (not b) (1 + position_or_len (λ (v : User). bytes_eq v.name nobody) users) 0)
     (is_not_nobody u.name (All-head (λ (v : User). IsTrue (is_user_name v.name)) u users named)) ∙ next
 
--- and nobody has no number
+-- nobody has no number
 nobody_unnumbered : (accounts : Accounts) → IsUserList accounts.users → user_number accounts nobody ≡ None
 nobody_unnumbered accounts h =
     let users = accounts.users in
@@ -94,7 +94,7 @@ member_declared accounts are name group member =
     has_a_number accounts name user.0 user.1 (slice_get-get_or accounts.users user.0 user.1 user.2 ∙ ap Some user.3)
     (equal_tested user.1.name name (user.4 ∙ sym (equal_names name among.1 among.4)))
 
--- the users and the groups of a script are those of a session
+-- the users and the groups of a script are accounts
 pub is_accounts : (accounts : Accounts) → IsDeclared accounts → AreAccounts accounts
 is_accounts accounts declared = record {
   no_one = nobody_unnumbered accounts declared.users;
@@ -106,7 +106,7 @@ is_accounts accounts declared = record {
 abbrev pub AreScriptable : List CallLine → Type 0
 AreScriptable calls = AllByRecursion (λ (c : CallLine). IsCall c.call) calls
 
--- with one call more
+-- call lines with one call more
 more_scriptable : (calls : List CallLine) (c : CallLine) → AreScriptable calls → IsCall c.call → AreScriptable (calls ++ c ∷ [])
 more_scriptable [] c h k = (k, tt)
 more_scriptable (d ∷ calls) c h k = (h.0, more_scriptable calls c h.1 k)

@@ -9,7 +9,7 @@ use Rattle.histar_flat.specs.Meaning.{RepliedCall}
 use Rattle.histar_shell.specs.Answers.{answers_text, calls_of, line_text}
 use Rattle.histar_shell.specs.Machine.{MachineModel, AnswersLine}
 
--- A machine answered these call lines one after another, each as the one before had left it, and each with the reply that it
+-- A machine answered these call lines one after another, each in the state after the one before, and each with the reply that it
 -- is listed with.
 abbrev pub AnswersInTurn : MachineModel → List RepliedCall → MachineModel → Type 0
 AnswersInTurn m [] end = end ≡ m
@@ -23,8 +23,8 @@ pub record AnswersCall (before after : MachineModel) (old new : Option (List ℕ
   pub answered : AnswersLine before after call.line call.process call.call (Ok reply)
   pub written : Appends old new (line_text call.line reply)
 
--- The machine was given this call line: where it answered with a reply, a beginning of the line of this reply was
--- written, and where it stopped, nothing was.
+-- The machine was given this call line: if it answered with a reply, a beginning of the line of this reply was
+-- written, and if it stopped, nothing was.
 pub record BeginsAnswer (before after : MachineModel) (old new : Option (List ℕ)) (call : CallLine) : Type 0 where
   pub outcome : Result Reply Stopped
   pub answered : AnswersLine before after call.line call.process call.call outcome

@@ -10,11 +10,11 @@ use Rattle.histar_flat.specs.declared.calls.CallLine.{CallLine}
 abbrev pub line_text : ℕ → Reply → List ℕ
 line_text number reply = decimal number ++ codes " " ++ reply_text reply ++ codes "\n"
 
--- the line of the reply
+-- the line of an answer's reply
 abbrev pub answer_text : RepliedCall → List ℕ
 answer_text a = line_text a.call.line a.reply
 
--- the lines of all of them
+-- the lines of all answers
 abbrev pub answers_text : List RepliedCall → List ℕ
 answers_text answers = flat_map answer_text answers
 

@@ -1,4 +1,4 @@
--- What is written behind the replies: where it is asked for the tree, and then where it is asked for the trace.
+-- What is written after the replies: the tree, if it is asked for, and then the trace, if it is asked for.
 use Rattle.std.specs.Prelude.{◌≡◌, ℕ, Bool, true, false, List, [], ◌++◌, Option, if◌then◌else◌}
 use Rattle.std.specs.Io.KnownBytes.{Appends}
 use Rattle.histar_io.specs.Writing.{AppendsFront}
@@ -16,41 +16,41 @@ use Rattle.histar_shell.specs.TreeText.{tree_text}
 abbrev pub IsTreeIn : MachineModel → List TreeNode → Type 0
 IsTreeIn m tree = IsTreeOf m.users (state m.kernel) m.roots tree
 
--- they list a tree
+-- the objects of a machine's kernel list a tree
 abbrev pub HasTree : MachineModel → Type 0
 HasTree m = (tree : List TreeNode) × IsTreeIn m tree
 
--- the text prints the tree that they list
+-- the text prints the tree that the objects list
 abbrev pub PrintsTree : MachineModel → List ℕ → Type 0
 PrintsTree m text = (tree : List TreeNode) × IsTreeIn m tree × (text ≡ tree_text (lines_at (state m.kernel) tree))
 
--- the text is such a one where it is asked for, and else there is none
+-- the text is one of these if it is asked for, and else it is empty
 abbrev pub IsAsked : Bool → (List ℕ → Type 0) → List ℕ → Type 0
 IsAsked true is text = is text
 IsAsked false is text = text ≡ []
 
--- the lines of a trace, where it is asked for
+-- the lines of a trace, if it is asked for
 abbrev pub asked_trace : Options → List TraceEntry → List ℕ
 asked_trace options trace = if options.trace then trace_text trace else []
 
--- what stands behind the replies of a machine
+-- the text that follows the replies of a machine
 pub record IsEnding (options : Options) (m : MachineModel) (text : List ℕ) : Type 0 where
   pub tree : List ℕ
   pub prints : IsAsked options.tree (PrintsTree m) tree
   pub parts : text ≡ tree ++ asked_trace options m.kernel.trace
 
--- the tree of a machine was written, where it is asked for
+-- the tree of a machine was written, if it is asked for
 abbrev pub AppendsTree : Options → MachineModel → Option (List ℕ) → Option (List ℕ) → Type 0
 AppendsTree options m old new = (text : List ℕ) × IsAsked options.tree (PrintsTree m) text × Appends old new text
 
--- a beginning of it was written
+-- a beginning of the tree was written
 abbrev pub BeginsTree : Options → MachineModel → Option (List ℕ) → Option (List ℕ) → Type 0
 BeginsTree options m old new = (text : List ℕ) × IsAsked options.tree (PrintsTree m) text × AppendsFront old new text
 
--- what stands behind the replies of a machine was written
+-- the text that follows the replies of a machine was written
 abbrev pub AppendsEnding : Options → MachineModel → Option (List ℕ) → Option (List ℕ) → Type 0
 AppendsEnding options m old new = (text : List ℕ) × IsEnding options m text × Appends old new text
 
--- a beginning of it was written
+-- a beginning of the text that follows the replies was written
 abbrev pub BeginsTheEnding : Options → MachineModel → Option (List ℕ) → Option (List ℕ) → Type 0
 BeginsTheEnding options m old new = (text : List ℕ) × IsEnding options m text × AppendsFront old new text

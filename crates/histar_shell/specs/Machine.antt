@@ -1,4 +1,4 @@
--- What a machine keeps, and what a call line does to it.
+-- The parts of a machine, and what a call line does to it.
 use Rattle.std.specs.Prelude.{◌≡◌, ℕ, Bool, true, false, length, Option, None, Some, Result, Ok, IsErr, is_err, refl}
 use Rattle.std.specs.Coded.{Coded, code_by, coded×, coded_bool}
 use Rattle.histar_flat.specs.declared.calls.UnixCall.{UnixCall}
@@ -48,7 +48,7 @@ pub record MachineModel : Type 0 where
   pub users : Accounts
   pub is_stopped : Bool
 
--- stored as the tuple of its parts
+-- a machine is stored as the tuple of its parts
 abbrev pub coded_machine_model : Coded MachineModel
 coded_machine_model =
     code_by (KernelModel × (Roots × (Accounts × Bool)))
@@ -70,7 +70,7 @@ pub record IsStart (declared : Accounts) (m : MachineModel) : Type 0 where
   pub line : m.kernel.line ≡ 0
   pub runs : m.is_stopped ≡ false
 
--- the line that the next raw calls stand on
+-- the kernel with this line for its next raw calls
 abbrev pub on_line : ℕ → KernelModel → KernelModel
 on_line line k = record { kept = k.kept; line = line; trace = k.trace }
 
@@ -99,8 +99,8 @@ program_of accounts roots me caller (Wrap path) = wrap_program accounts roots me
 abbrev pub Makes : Accounts → Roots → ProcName → Caller → KernelModel → KernelModel → UnixCall → Result Reply Stopped → Type 0
 Makes accounts roots me caller old new call result = Runs (program_of accounts roots me caller call) old new caller.thread result
 
--- The call was made by the thread of the process on the line that was begun; the machine has the places, the users and the groups that
--- it had, and has stopped where the call ended without an answer.
+-- The call was made by the thread of the process on the line that was begun; the machine has the same places, users and groups as
+-- before, and has stopped if the call ended without an answer.
 pub record HasMade (old new : MachineModel) (line : ℕ) (me : ProcName) (caller : Caller) (call : UnixCall)
     (result : Result Reply Stopped) : Type 0 where
   pub made : Makes old.users old.roots me caller (on_line line old.kernel) new.kernel call result
@@ -108,7 +108,7 @@ pub record HasMade (old new : MachineModel) (line : ℕ) (me : ProcName) (caller
   pub users : new.users ≡ old.users
   pub stops : new.is_stopped ≡ is_err result
 
--- a process that is found has its call made; one that is not is answered `gone`, and nothing changes
+-- if the process is found, its call is made; if not, the answer is `gone`, and nothing changes
 abbrev pub AnswersFound : Option Caller → MachineModel → MachineModel → ℕ → ProcName → UnixCall → Result Reply Stopped → Type 0
 AnswersFound None old new line me call result = (result ≡ Ok Gone) × (new ≡ old)
 AnswersFound (Some caller) old new line me call result = HasMade old new line me caller call result
@@ -117,7 +117,7 @@ AnswersFound (Some caller) old new line me call result = HasMade old new line me
 abbrev pub AnswersRunning : MachineModel → MachineModel → ℕ → ProcName → UnixCall → Result Reply Stopped → Type 0
 AnswersRunning old new line me call result = AnswersFound (caller_at (state old.kernel) old.roots.home me) old new line me call result
 
--- a machine that has stopped does nothing, and answers so
+-- a machine that has stopped does nothing, and answers `Stopped`
 abbrev pub AnswersIf : Bool → MachineModel → MachineModel → ℕ → ProcName → UnixCall → Result Reply Stopped → Type 0
 AnswersIf true old new line process call result = IsErr result × (new ≡ old)
 AnswersIf false old new line process call result = AnswersRunning old new line process call result

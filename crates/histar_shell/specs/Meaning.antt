@@ -37,17 +37,17 @@ use Rattle.histar_shell.specs.Machine.{MachineModel}
 abbrev pub last_state : ScriptModel → Flat
 last_state script = flat_end script.accounts (boot script.accounts) script.calls
 
--- the lines of the files and directories of a flat state, by rising paths, where the tree is asked for
+-- the lines of the files and directories of a flat state, by rising paths, if the tree is asked for
 abbrev pub asked_tree : Options → Flat → List ℕ
 asked_tree options f = if options.tree then tree_text (flat_lines f) else []
 
--- the text of a script's meaning: for each call line, its number and the reply that the flat rules give; and then the tree after all calls,
--- where it is asked for
+-- the text of a script's meaning: for each call line, its number and the reply that the flat rules give; then the tree after all calls,
+-- if it is asked for
 abbrev pub meaning_text : Options → ScriptModel → List ℕ
 meaning_text options script = answers_text (meaning script.accounts script.calls) ++ asked_tree options (last_state script)
 
 -- A machine of these users and groups, which are those of a script, represents a flat state, in which process 0 is in no job: its kernel
--- does, it has the names and the groups and no passwords, and it knows of `/` and of process 0 what boot answered.
+-- does, it has the names and the groups and no passwords, and its places of `/` and of process 0 are those that boot made.
 pub record Shows (accounts : Accounts) (m : MachineModel) (f : Flat) : Type 0 where
   pub declared : IsDeclared accounts
   pub users : m.users ≡ without_passwords accounts
@@ -57,8 +57,8 @@ pub record Shows (accounts : Accounts) (m : MachineModel) (f : Flat) : Type 0 wh
   pub small : AreFilesSmall f
   pub shallow : AreShallow f
 
--- The line was answered what the flat state says. The new end of the trace are its raw calls, which are its row, and the machine lays
--- out the flat state after the call.
+-- The reply of the line is that of the flat state. The new end of the trace are its raw calls, which refine its rule, and the machine
+-- represents the flat state after the call.
 pub record AnswersAsMeant (accounts : Accounts) (old new : MachineModel) (f : Flat) (asked : CallLine) (reply : Reply) : Type 0 where
   pub is_reply : reply ≡ reply_to accounts f asked.process asked.call
   pub entries : List TraceEntry
@@ -74,12 +74,12 @@ pub record StopsAsMeant (accounts : Accounts) (old new : MachineModel) (f : Flat
   pub run : IsBrokenOff (reply_to accounts f asked.process asked.call) (state old.kernel) entries (state new.kernel)
   pub own : AllByRecursion (λ e. (e.line ≡ asked.line) × IsThreadOf accounts (state old.kernel) asked.process e.thread) entries
 
--- a line that ends so
+-- a line that ends in this way
 abbrev pub EndsAsMeant : Accounts → MachineModel → MachineModel → Flat → CallLine → Result Reply Stopped → Type 0
 EndsAsMeant accounts old new f asked (Ok reply) = AnswersAsMeant accounts old new f asked reply
 EndsAsMeant accounts old new f asked (Err stopped) = StopsAsMeant accounts old new f asked
 
--- Whatever flat state the machine represents before the line, of whatever users and groups whose names it has, the line ends as that says.
+-- For each flat state that the machine represents before the line, with users and groups of its names, the line ends as that state says.
 abbrev pub FollowsMeaning : MachineModel → MachineModel → ℕ → ProcName → UnixCall → Result Reply Stopped → Type 0
 FollowsMeaning old new line process call result =
     (accounts : Accounts) (f : Flat) → Shows accounts old f
@@ -90,7 +90,7 @@ abbrev pub ShowsStart : Accounts → MachineModel → Type 0
 ShowsStart accounts m = Shows accounts m (boot accounts)
 
 -- The trace of a run: one run of the labelled kernel from its empty state on. It is raw calls of boot, by the boot thread on line 0,
--- which leave a state that represents the flat start; then the raw calls of the lines, each line the row of its call.
+-- which leave a state that represents the flat start; then the raw calls of the lines, each line refining the rule of its call.
 pub record IsMeantTrace (script : ScriptModel) (trace : List TraceEntry) : Type 0 where
   pub of_boot : List TraceEntry
   pub of_lines : List TraceEntry
@@ -103,8 +103,8 @@ pub record IsMeantTrace (script : ScriptModel) (trace : List TraceEntry) : Type 
   pub refinements : SimulatesLines script.accounts start (boot script.accounts) script.calls of_lines end
   pub run : IsRun empty_state trace end
 
--- The reading is of a script; the trace is that of its meaning; and the text of the meaning was written, and then where it is asked for
--- the trace, line by line.
+-- What was read is a script; the trace is that of its meaning; and the text of the meaning was written, and then the trace, line by
+-- line, if it is asked for.
 pub record WritesMeaning (options : Options) (old new : Option (List ℕ)) (read : Result ScriptModel Fault) (trace : List TraceEntry) : Type 0 where
   pub script : ScriptModel
   pub is_read : read ≡ Ok script
@@ -117,18 +117,18 @@ pub record BeginsTrace (options : Options) (old new : Option (List ℕ)) (script
   pub recorded : IsMeantTrace script trace
   pub written : AppendsFront old new (meaning_text options script ++ asked_trace options trace)
 
--- the reading is of a script, and a beginning of the text of its meaning was written, or of that and the lines of a trace of it
+-- what was read is a script, and a beginning of the text of its meaning was written, or all of it and the lines of a trace of it
 pub record BeginsMeaning (options : Options) (old new : Option (List ℕ)) (read : Result ScriptModel Fault) : Type 0 where
   pub script : ScriptModel
   pub is_read : read ≡ Ok script
   pub written : AppendsFront old new (meaning_text options script) ⊎ BeginsTrace options old new script
 
--- where memory runs out and at a failed write a beginning of the text was written, and at the other faults nothing
+-- where memory runs out and after a failed write a beginning of the text was written, and after the other faults nothing
 abbrev pub WritesMeaningAtFault : Options → Option (List ℕ) → Option (List ℕ) → Result ScriptModel Fault → Fault → Type 0
 WritesMeaningAtFault options old new read OutOfMemory = Keeps old new ⊎ BeginsMeaning options old new read
 WritesMeaningAtFault options old new read WriteFailed = BeginsMeaning options old new read
 WritesMeaningAtFault options old new read fault = Keeps old new
 
--- what a run writes, and the trace that it answers, are those of its script's meaning
+-- what a run writes, and the trace that it returns, are those of its script's meaning
 abbrev pub RunsAsMeant : Options → Option (List ℕ) → Option (List ℕ) → Result ScriptModel Fault → Result (List TraceEntry) Fault → Type 0
 RunsAsMeant options old new read result = MatchResult result (WritesMeaning options old new read) (WritesMeaningAtFault options old new read)

@@ -4,18 +4,18 @@ use Rattle.std.specs.List.{flat_map}
 use Rattle.histar_flat.specs.Texts.{path_text, stat_text}
 use Rattle.histar_readout.specs.TreeLines.{TreeLine}
 
--- what a line has behind the mode: of a file its bytes, after an equals sign, also where there are none
+-- the text after the mode in a line: for a file its bytes, after an equals sign, even if there are none
 abbrev pub content_text : TreeLine → List ℕ
 content_text line = if line.stat.is_directory then [] else codes " = " ++ line.bytes
 
--- a path, what stands there, its owner and its mode, and its bytes
+-- a path, the kind of what is there, its owner and its mode, and its bytes
 abbrev pub node_text : TreeLine → List ℕ
 node_text line = path_text line.path ++ codes " " ++ stat_text line.stat ++ content_text line
 
--- that, and a line end
+-- the text of a file or directory, and a line end
 abbrev pub tree_line_text : TreeLine → List ℕ
 tree_line_text line = node_text line ++ codes "\n"
 
--- the lines of all of them
+-- the lines of all files and directories
 abbrev pub tree_text : List TreeLine → List ℕ
 tree_text lines = flat_map tree_line_text lines

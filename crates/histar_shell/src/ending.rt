@@ -1,4 +1,4 @@
-//! Writing what stands behind the replies: the tree and the trace.
+//! Writing what follows the replies: the tree and the trace.
 ghost use Rattle.std.specs.Prelude.{◌≡◌, IfErr, OnErr, OnOk};
 ghost use Rattle.std.specs.Io.KnownBytes.{Appends};
 ghost use Rattle.histar_io.specs.Device.{CountsFailure};
@@ -21,7 +21,7 @@ use histar_script::Fault;
 use histar_syscall::TraceEntry;
 use std::alloc::Global;
 
-/// Writes the tree of a machine and then its trace, each where it is asked for.
+/// Writes the tree of a machine and then its trace, if they are asked for.
 pub fn write_ending<S: LabelStore + Drop, W: Sink>(
     alloc: Global,
     machine: &Machine<S>,
@@ -38,7 +38,7 @@ pub fn write_ending<S: LabelStore + Drop, W: Sink>(
     write_trace(alloc, machine.trace(), writer, options)
 }
 
-/// Writes the tree of a machine, where it is asked for.
+/// Writes the tree of a machine, if it is asked for.
 fn write_tree<S: LabelStore + Drop, W: Sink>(
     alloc: Global,
     machine: &Machine<S>,
@@ -80,7 +80,7 @@ fn write_nodes<S: LabelStore + Drop, W: Sink>(
     Ok(())
 }
 
-/// Writes a trace, where it is asked for.
+/// Writes a trace, if it is asked for.
 fn write_trace<W: Sink>(
     alloc: Global,
     entries: &[TraceEntry],

@@ -43,7 +43,7 @@ impl Model for Trace {
 }
 
 impl Trace {
-    /// The entries of the trace.
+    /// Lends the entries of the trace.
     pub fn entries(&self) -> &[TraceEntry]
         ensures { result.now ≡ self.now }
     {
@@ -74,7 +74,7 @@ impl<S: LabelStore + Drop> Model for Machine<S> {
 }
 
 impl<S: LabelStore + Drop> Machine<S> {
-    /// A machine with these users and groups that was booted by its raw calls, before the first call of a
+    /// Boots a machine with these users and groups by its raw calls, before the first call of a
     /// script: `/` is the first user's, readable and empty, and process 0 is nobody's. It keeps the names of
     /// the users and their groups, and none of the passwords.
     pub fn boot(alloc: Global, store: S, accounts: Accounts) -> Result<Self, Stopped>
@@ -92,7 +92,7 @@ impl<S: LabelStore + Drop> Machine<S> {
         })
     }
 
-    /// Does one call of a process, on this line of the script. `Gone` for a process that was never born,
+    /// Makes one call of a process, on this line of the script. `Gone` for a process that was never born,
     /// has exited or was killed. After the first `Stopped` it does nothing and answers `Stopped`.
     pub fn step(
         &mut self,
@@ -126,14 +126,14 @@ impl<S: LabelStore + Drop> Machine<S> {
         result
     }
 
-    /// The raw calls so far.
+    /// Lends the raw calls made so far.
     pub fn trace(&self) -> &[TraceEntry]
         ensures { result.now ≡ self.now.kernel.trace }
     {
         self.kernel.trace()
     }
 
-    /// The files and directories, by rising paths, as the kernel's own objects tell them, with no raw
+    /// Returns the files and directories, by rising paths, read off the kernel's own objects with no raw
     /// call.
     pub fn tree(&self, alloc: Global) -> Result<Vec<TreeNode>, AllocError>
         requires { HasTree self.now }
@@ -146,7 +146,7 @@ impl<S: LabelStore + Drop> Machine<S> {
     }
 
     /// Returns the bytes of a file that the tree lists, lent by the kernel's table; of a directory there
-    /// are none. What a tree doesn't list, as a password, is not lent.
+    /// are none. What a tree doesn't list, for example a password, is not lent.
     pub fn bytes_of(&self, node: &TreeNode) -> &[u8]
         ensures { result.now ≡ node_bytes (state self.now.kernel) node.now }
     {
@@ -174,7 +174,7 @@ impl<S: LabelStore + Drop> Machine<S> {
         &self.users
     }
 
-    /// The raw calls so far, moved out: a run of the kernel from its empty state to the machine's.
+    /// Moves out the raw calls made so far: a run of the kernel from its empty state to the machine's.
     pub fn into_trace(self) -> Trace
         ensures trace { result ≡ self.kernel.trace }
         ensures run { IsTraced self.kernel }
@@ -185,7 +185,7 @@ impl<S: LabelStore + Drop> Machine<S> {
     }
 }
 
-/// Does one call of a process on the line that was begun.
+/// Makes one call of a process on the line that was begun.
 fn make<S: LabelStore + Drop>(
     alloc: Global,
     kernel: &mut Kernel<S>,

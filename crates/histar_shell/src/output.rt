@@ -31,7 +31,7 @@ pub fn push_process(line: &mut Vec<u8>, process: &ProcName) -> Result<(), AllocE
     Ok(())
 }
 
-/// Adds an entry of a directory: a space and its name, and a slash behind a directory's.
+/// Adds an entry of a directory: a space and its name, and a slash after a directory's.
 fn push_entry(line: &mut Vec<u8>, name: &Name, is_directory: bool) -> Result<(), AllocError>
     ensures { OnOk result (line.new.items ≡ line.old.items ++ entry_text (name.now, is_directory)) }
 {
@@ -53,7 +53,7 @@ fn push_entries(line: &mut Vec<u8>, entries: &[(Name, bool)]) -> Result<(), Allo
     Ok(())
 }
 
-/// Adds an owner: what has none has a hyphen.
+/// Adds an owner, or a hyphen where there is none.
 fn push_owner(line: &mut Vec<u8>, owner: Option<Name>) -> Result<(), AllocError>
     ensures { OnOk result (line.new.items ≡ line.old.items ++ owner_text owner) }
 {
@@ -79,7 +79,7 @@ fn push_mode(line: &mut Vec<u8>, mode: FileMode) -> Result<(), AllocError>
     }
 }
 
-/// Adds the kind of what stands at a path, its owner and its mode.
+/// Adds the kind, the owner and the mode of a file or directory.
 pub fn push_stat(line: &mut Vec<u8>, stat: Stat) -> Result<(), AllocError>
     ensures { OnOk result (line.new.items ≡ line.old.items ++ stat_text stat) }
 {
@@ -128,7 +128,7 @@ fn push_reply(line: &mut Vec<u8>, reply: &Reply) -> Result<(), AllocError>
     }
 }
 
-/// The text of a reply.
+/// Returns the text of a reply.
 pub fn reply_text(alloc: Global, reply: &Reply) -> Result<Vec<u8>, AllocError>
     ensures { IfOk result (λ text. text.items ≡ reply_text reply.now) }
 {
@@ -137,7 +137,7 @@ pub fn reply_text(alloc: Global, reply: &Reply) -> Result<Vec<u8>, AllocError>
     Ok(text)
 }
 
-/// Makes a buffer the line that answers a call line: its number, a space, the text of the reply, and a line end.
+/// Sets a buffer to the line of the reply to a call line: number, space, text of the reply, line end.
 pub fn set_reply_line(line: &mut Vec<u8>, number: u32, reply: &Reply) -> Result<(), AllocError>
     ensures { OnOk result (line.new.items ≡ line_text number reply.now) }
 {
@@ -148,7 +148,7 @@ pub fn set_reply_line(line: &mut Vec<u8>, number: u32, reply: &Reply) -> Result<
     line.extend_from_slice(b"\n")
 }
 
-/// Adds the names of a path, of which the last stands first, each after a slash.
+/// Adds the names of a path, the last name first in the list, each after a slash.
 fn push_names(line: &mut Vec<u8>, names: &[Name]) -> Result<(), AllocError>
     ensures { OnOk result (line.new.items ≡ line.old.items ++ names_text names.now) }
 {
@@ -169,7 +169,7 @@ pub fn push_path(line: &mut Vec<u8>, path: &Path) -> Result<(), AllocError>
     }
 }
 
-/// What is printed of a file or a directory: its path, its kind, its owner and its mode, and of a file
+/// Returns the text of a file or a directory: its path, its kind, its owner and its mode, and of a file
 /// its bytes after an equals sign.
 pub fn node_text(
     alloc: Global,
@@ -192,7 +192,7 @@ pub fn node_text(
     Ok(text)
 }
 
-/// The line of a file or a directory: what is printed of it, and a line end.
+/// Returns the line of a file or a directory: its text, and a line end.
 pub fn tree_line(
     alloc: Global,
     path: &Path,

@@ -14,7 +14,7 @@ use histar_label::{InternStore, LabelStore};
 use histar_script::{Fault, read_script};
 use std::alloc::Global;
 
-/// What a run is asked for beside the replies.
+/// What a run writes beside the replies.
 #[derive(Clone, Copy)]
 pub struct Options {
     /// The tree after the last call: a line for each file and directory, by rising paths.
@@ -44,13 +44,13 @@ pub fn run<R: Source, W: Sink>(
     ensures reads { CountsFailure (R.failures reader.old) (R.failures reader.new) (is_read_failed result) }
     ensures writes { CountsFailure (W.failures writer.old) (W.failures writer.new) (is_write_failed result) }
 
-    // Whatever the source tells, the run took bytes of it, to its end but never more than 1,048,577, and ran the script that
-    // these are: their fault is answered, or exactly the text of the script's meaning is written, and behind it where it is asked
-    // for the trace that is answered, which is that of the meaning, line by line.
+    // Whatever the source gives, the run took bytes of it, to its end but never over 1,048,577, and ran
+    // their script: its fault is returned, or exactly the text of its meaning is written, and then the
+    // trace, if it is asked for, line by line; the trace that is returned is that of the meaning.
     ensures runs { RunsInput (RunsText options) (R.left reader.old) (R.left reader.new)
         (W.written writer.old) (W.written writer.new) result }
 
-    // So where the input is known, the script of the whole input was run.
+    // If the input is known, the script of the whole input was run.
     ensures known { IfSome (R.left reader.old)
         (λ input. RunsText options input (W.written writer.old) (W.written writer.new) result) }
 {
@@ -58,7 +58,7 @@ pub fn run<R: Source, W: Sink>(
     run_with(alloc, store, reader, writer, options)
 }
 
-/// The same over any store of labels, which is handed over with no label in use: whatever it remembers, the
+/// Does the same over any store of labels, which is passed with no label in use: whatever it remembers, the
 /// replies, the tree and the trace are the same.
 pub fn run_with<S: LabelStore + Drop, R: Source, W: Sink>(
     alloc: Global,
@@ -79,7 +79,7 @@ pub fn run_with<S: LabelStore + Drop, R: Source, W: Sink>(
     run_text(alloc, store, input.as_slice(), writer, options)
 }
 
-/// Runs the script that a text is.
+/// Runs the script of a text.
 fn run_text<S: LabelStore + Drop, W: Sink>(
     alloc: Global,
     store: S,
@@ -102,7 +102,7 @@ fn run_text<S: LabelStore + Drop, W: Sink>(
     Ok(machine.into_trace())
 }
 
-/// Has the machine do the calls in their order, and writes a line for each.
+/// Makes the calls on the machine in their order, and writes a line for each.
 fn answer_calls<S: LabelStore + Drop, W: Sink>(
     alloc: Global,
     machine: &mut Machine<S>,
@@ -122,7 +122,7 @@ fn answer_calls<S: LabelStore + Drop, W: Sink>(
     Ok(())
 }
 
-/// Has the machine do one call, and writes its line.
+/// Makes one call on the machine, and writes its line.
 pub fn answer_call<S: LabelStore + Drop, W: Sink>(
     alloc: Global,
     machine: &mut Machine<S>,
@@ -139,7 +139,7 @@ pub fn answer_call<S: LabelStore + Drop, W: Sink>(
     answer_by(alloc, machine, call, &mut line, writer)
 }
 
-/// The same, where the line is made in a buffer, whatever this holds.
+/// Does the same, where the line is made in a buffer, whatever this holds.
 fn answer_by<S: LabelStore + Drop, W: Sink>(
     alloc: Global,
     machine: &mut Machine<S>,

@@ -1,4 +1,4 @@
--- An append does what the flat rule of `append` says.
+-- The program of `append` refines its rule.
 use Rattle.std.proofs.Common.{ℕ, List, [], ◌∷◌, ◌++◌, refl, ap}
 use Rattle.std.proofs.lemmas.List.{take_all}
 use Rattle.histar_flat.specs.declared.calls.UnixCall.TheVariants as calls
@@ -11,13 +11,13 @@ use Rattle.histar_calls.specs.Append.{append_program}
 use Rattle.histar_sim.specs.Laws.{AppendRefines}
 use Rattle.histar_sim.proofs.Files.{WritesFile, slash_is_no_file, writing_step}
 
--- the file has the new bytes behind its old ones then
+-- then the file has the new bytes after its old ones
 append_writes : (accounts : Accounts) (f : Flat) (me : ProcName) (p : Process) (q : Path) (bytes : List ℕ)
     → WritesFile accounts f me p q (calls.Append q bytes) (bytes_at f q ++ bytes)
 append_writes accounts f me p q bytes =
     record { reaches = record { refuses = refl; reads = λ s reply entries walk. walk }; changes = refl; answers = refl }
 
--- an append does what its flat rule says
+-- the program of `append` refines its rule
 pub append_refines : AppendRefines
 unfolding append_program
 append_refines accounts ok [] bytes me old new f t result ready run =

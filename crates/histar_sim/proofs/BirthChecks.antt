@@ -1,4 +1,4 @@
--- What the kernel says to the raw calls of a birth: each is granted, but for the number of a new object or category.
+-- The kernel's checks of the raw calls of a birth: each is granted, but for the number of a new object or category.
 use Rattle.std.proofs.Common.{◌≡◌, ℕ, ◌+◌, ◌&&◌, true, false, List, length, None, arith, ap, ◌∙◌}
 use Rattle.std.specs.Prelude.{not, min, nat_lt}
 use Rattle.std.specs.FinSet as set
@@ -21,7 +21,7 @@ pub category_said : (s : State) (T : ℕ) (own own_clearance : Levels) → s.obj
     → check s T MakeCategory ≡ unless (nat_lt s.next_category greatest) TooBig
 category_said s T own own_clearance thread = λ i. caller_passes s T own own_clearance thread i orelse unless (nat_lt s.next_category greatest) TooBig
 
--- A thread may hand this label in, and modify what has it.
+-- A thread may give this label to what it makes, and modify what has it.
 pub record IsModified (own own_clearance label : Levels) (next : ℕ) : Type 0 where
   pub above : is_below own label ≡ true
   pub below : is_below label own_clearance ≡ true
@@ -29,7 +29,7 @@ pub record IsModified (own own_clearance label : Levels) (next : ℕ) : Type 0 w
   pub made : is_made next label ≡ true
   pub plain : has_star label ≡ false
 
--- It may make a thread with this label and this clearance.
+-- The thread may make a thread with this label and this clearance.
 pub record IsLesser (own own_clearance label clearance : Levels) (next : ℕ) : Type 0 where
   pub above : is_below own label ≡ true
   pub below : is_below label clearance ≡ true
@@ -37,7 +37,7 @@ pub record IsLesser (own own_clearance label clearance : Levels) (next : ℕ) : 
   pub made : is_made next label ≡ true
   pub cleared : is_made next clearance ≡ true
 
--- It may take this label and then this clearance.
+-- The thread may take this label and then this clearance.
 pub record IsTaken (own own_clearance label clearance : Levels) (next : ℕ) : Type 0 where
   pub above : is_below own label ≡ true
   pub below : is_below label own_clearance ≡ true
@@ -88,7 +88,7 @@ module _ (s : State) (T : ℕ) (own own_clearance : Levels) (thread : s.objects 
       orelse unless ((ap (λ (x : Found). in_range x label) thread ∙ and_from _ _ is.above is.below) i) Range
       orelse unless (is.made i) Range
 
--- and then the clearance
+-- after the label the thread may take the clearance
 pub clearance_said : (s : State) (T : ℕ) (own own_clearance label clearance : Levels)
     → s.objects T ≡ object label (Thread own_clearance) → IsTaken own own_clearance label clearance s.next_category
     → check s T (SetClearance clearance) ≡ unless true Range

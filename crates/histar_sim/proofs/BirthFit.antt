@@ -65,7 +65,7 @@ module _ (accounts : Accounts) (ok : AreAccounts accounts) (s : State) (f : Flat
   abbrev kin : Kin
   kin = kin_of accounts own
 
-  -- what the own label of the thread tells
+  -- the own label of the thread shows the user
   revealed : user_of own (length accounts.users) ≡ or_zero (user_number accounts p.user)
   revealed = own_user_is accounts s f represents.matched me p
 
@@ -73,7 +73,7 @@ module _ (accounts : Accounts) (ok : AreAccounts accounts) (s : State) (f : Flat
   abbrev then_names : Categories
   then_names = names accounts s f represents.matched me p here runs room C S at_home at_status
 
-  -- what was used has its number still
+  -- a name that was used keeps its number
   kept : (c : CategoryName) → IsUsed accounts f c → then_names c ≡ represents.matched.category c
   kept c used =
       keeps accounts s f represents.matched me p here runs room p.chain
@@ -82,11 +82,11 @@ module _ (accounts : Accounts) (ok : AreAccounts accounts) (s : State) (f : Flat
       (chain_free accounts s f represents.matched me p here runs room C S at_home at_status) C S at_home at_status c
       used
 
-  -- so have boot's categories
+  -- boot's categories keep their numbers
   as_made : (c : CategoryName) (q : ℕ) → boot_category accounts c ≡ Some q → then_names c ≡ q
   as_made c q booted = kept c (boot_used accounts f represents.matched.first c q booted) ∙ represents.matched.as_made c q booted
 
-  -- and the own label of the thread tells the jobs of the process by their numbers then
+  -- the own label of the thread has the jobs of the process by these numbers
   own_kept : rights_label then_names (thread_rights accounts me p) ≡ own
   own_kept =
       let used = rights_used accounts f me p here in
@@ -115,7 +115,7 @@ module _ (accounts : Accounts) (ok : AreAccounts accounts) (s : State) (f : Flat
       (represents.matched.processes me p here).chain
       (chain_free accounts s f represents.matched me p here runs room C S at_home at_status) C S at_home at_status
 
-  -- so the labels that are handed in are the child's
+  -- the labels of the objects that are made are the child's
   abbrev child : ProcName
   child = (p.born + 1) ∷ me
 
@@ -181,7 +181,7 @@ module _ (accounts : Accounts) (ok : AreAccounts accounts) (s : State) (f : Flat
         (let listed = few_listed f.processes represents.matched.naming.number me p in omega (arith, listed, room));
   }
 
-  -- the state after it is the one that represents the flat state with the child
+  -- the state after the birth is the one that represents the flat state with the child
   module _ (few : s.next_object + 3 < greatest) where
     abbrev matched_state : State
     matched_state = state_spawned accounts s f represents me p here runs room C S T at_home at_status at_thread few
@@ -201,7 +201,7 @@ module _ (accounts : Accounts) (ok : AreAccounts accounts) (s : State) (f : Flat
         })
         (own_bytes_are accounts s f represents.matched me p here runs room p.chain (chain_used accounts s f represents.matched me p here runs room C S at_home at_status) (represents.matched.processes me p here).chain (chain_free accounts s f represents.matched me p here runs room C S at_home at_status) C S at_home at_status i)) own clearance
 
-    -- The flat state with the child is represented then.
+    -- This state represents the flat state with the child.
     pub spawned_matched : Represents accounts
         (spawned s T (record { container = C; segment = S })
         (status_by f.processes represents.matched.naming.number me p)

@@ -1,4 +1,4 @@
--- What stands around a birth: the parent's thread, its container with its process segment in it. Each raw call of a birth leaves them.
+-- The objects around a birth: the parent's thread, its container with its process segment in it. Each raw call of a birth leaves them.
 use Rattle.std.proofs.Common.{◌≡◌, ◌≢◌, ℕ, ◌<◌, ◌==◌, Bool, true, false, List, if◌then◌else◌, arith, sym, ap, ◌∙◌, subst}
 use Rattle.std.specs.Prelude.{option_map}
 use Rattle.std.specs.FinSet as set
@@ -24,7 +24,7 @@ IsHolder label x = (links : Links) × (x ≡ object label (Container links))
 abbrev pub LinksTo : Levels → ℕ → Found → Type 0
 LinksTo label q x = (links : Links) × (x ≡ object label (Container links)) × (set.contains links q ≡ true)
 
--- a link more changes no thread and no segment, and takes no link away
+-- one link more changes no thread and no segment, and removes no link
 linked_thread : (b : Bool) (n : ℕ) (x : Found) (label clearance : Levels) → x ≡ object label (Thread clearance)
     → (if b then option_map (linking n) x else x) ≡ object label (Thread clearance)
 linked_thread true n x label clearance is = ap (option_map (linking n)) is
@@ -75,7 +75,7 @@ module _ (s : State) (d : ℕ) (o : Object Levels) where
       → LinksTo label k ((with_object s d o).objects q)
   links_stay q label k below is = subst (LinksTo label k) (sym (old_object q below)) (linked_links (q == d) s.next_object (s.objects q) label k is)
 
--- a new container stands under the next number
+-- a new container is under the next number
 pub holder_made : (s : State) (d : ℕ) (label : Levels)
     → IsHolder label ((with_object s d (record { label = label; kind = Container set.empty })).objects s.next_object)
 holder_made s d label =
@@ -91,7 +91,7 @@ pub record Around (T C S : ℕ) (own own_clearance label : Levels) (held : List 
   pub segment_below : S < s.next_object
 
 module _ (T C S : ℕ) (own own_clearance label : Levels) (held : List ℕ) (s : State) (a : Around T C S own own_clearance label held s) where
-  -- they stay where an object is made
+  -- the thread, the container and the segment stay as they are where an object is made
   pub around_added : (d : ℕ) (o : Object Levels) → Around T C S own own_clearance label held (with_object s d o)
   around_added d o = record {
     thread = thread_stays s d o T own own_clearance a.thread_below a.thread;
@@ -102,14 +102,14 @@ module _ (T C S : ℕ) (own own_clearance label : Levels) (held : List ℕ) (s :
     segment_below = let low = a.segment_below in omega (arith, low);
   }
 
-  -- neither of them is the thread
+  -- neither the container nor the process segment is the thread
   pub home_apart : C ≢ T
   home_apart e = true≢false (sym (ap (λ (q : ℕ). is_thread (s.objects q)) e ∙ ap is_thread a.thread) ∙ ap is_thread a.home.1)
 
   pub segment_apart : S ≢ T
   segment_apart e = true≢false (sym (ap (λ (q : ℕ). is_thread (s.objects q)) e ∙ ap is_thread a.thread) ∙ ap is_thread a.segment)
 
-  -- where the thread makes a category it owns that too
+  -- where the thread makes a category, it owns that too
   pub around_category : Around T C S (with_level own s.next_category Star) (with_level own_clearance s.next_category L3)
       label held (with_category s T)
   around_category = record {

@@ -1,4 +1,4 @@
--- What the thread of a process may do once it has made the two categories of a child, and what it stands by.
+-- What the thread of a process may do once it has made the two categories of a child, and which objects are there.
 use Rattle.std.proofs.Common.{◌≡◌, ◌≢◌, ℕ, ◌+◌, ◌<◌, true, false, List, [], ◌∷◌, ◌++◌, None, Some, arith, refl, sym, ap, ◌∙◌, subst, inl}
 use Rattle.std.specs.Prelude.{is_some}
 use Rattle.std.specs.FinSet as set
@@ -95,7 +95,7 @@ module _ (accounts : Accounts) (s : State) (f : Flat) (l : ObjectsMatch accounts
   abbrev next : ℕ
   next = s.next_category
 
-  -- the numbers of categories once both have theirs, and once the first has
+  -- the numbers of categories once both new categories have theirs, and once the first has
   abbrev pub names : Categories
   names = category accounts s f l me p here runs room p.chain chain_used (l.processes me p here).chain chain_free C S at_home at_status
 
@@ -144,7 +144,7 @@ module _ (accounts : Accounts) (s : State) (f : Flat) (l : ObjectsMatch accounts
       ∙ ap is_some (no_child accounts s f l me p here runs room p.chain chain_used (l.processes me p here).chain
       chain_free C S at_home at_status))
 
-  -- a name that was used is old, for the one category and for the other
+  -- a name that was used is old, beside the first new category and beside the second
   abbrev IsOldFirst : CategoryName → Type 0
   IsOldFirst = IsOld l.category l.different next (ReadsProcess child)
 
@@ -185,7 +185,7 @@ module _ (accounts : Accounts) (s : State) (f : Flat) (l : ObjectsMatch accounts
   clearance_grown = ap (λ (x : Levels). with_level x (next + 1) L3) (made_clearance l.category l.different next (ReadsProcess child) mine first_has)
       ∙ made_clearance first_names first_apart (next + 1) (WritesProcess child) first second_has
 
-  -- ---- what stands there
+  -- ---- the objects that are there
 
   module _ (T : ℕ) (at_thread : l.naming.number (Runner ∷ Inside ∷ home_address me) ≡ Some T) where
     -- once both categories are made
@@ -219,12 +219,12 @@ module _ (accounts : Accounts) (s : State) (f : Flat) (l : ObjectsMatch accounts
       + 1 = omega arith in subst (λ (n : ℕ). IsMade n (names c)) two (made_then accounts s f l me p here runs
       room p.chain chain_used (l.processes me p here).chain chain_free C S at_home at_status c is)
 
-  -- it modifies its own container and process segment
+  -- the thread modifies its own container and process segment
   pub home_modified : (is_below owner (guard_label names (process_guard me p)) ≡ true)
       × (is_below_raised (guard_label names (process_guard me p)) owner ≡ true)
   home_modified = own_modified accounts names apart me p child
 
-  -- it makes the child's container and process segment, and its internal container
+  -- the thread makes the child's container and process segment, and its internal container
   pub outer_modified : IsModified owner owner_clearance (guard_label names (process_guard ((p.born + 1) ∷ me)
       (record { user = p.user; chain = p.chain; held = []; exited = None; born = 0 })))
       (s.next_category + 1 + 1)
@@ -268,7 +268,7 @@ module _ (accounts : Accounts) (s : State) (f : Flat) (l : ObjectsMatch accounts
   rights_are_made : (r : Rights) → RightsHave (IsUsed accounts then_flat) r → AreMade (next + 1 + 1) names (r.owned ++ r.tainted)
   rights_are_made r has = each_append (λ c. IsMade (next + 1 + 1) (names c)) r.owned r.tainted (λ c e. made c (has.0 c e)) (λ c e. made c (has.1 c e))
 
-  -- and its thread
+  -- the thread makes the child's thread
   pub thread_lesser : IsLesser owner owner_clearance (rights_label names (thread_rights accounts ((p.born + 1) ∷ me)
       (record { user = p.user; chain = p.chain; held = []; exited = None; born = 0 })))
       (rights_clearance names (thread_rights accounts ((p.born + 1) ∷ me)
@@ -289,7 +289,7 @@ module _ (accounts : Accounts) (s : State) (f : Flat) (l : ObjectsMatch accounts
         cleared = clearance_made (next + 1 + 1) names (childs.owned ++ childs.tainted) (rights_are_made childs these);
       }
 
-  -- it may have its own labels again
+  -- the thread may have its own labels again
   taken_then : IsTaken owner owner_clearance (rights_label names mine) (rights_clearance names mine) (next + 1 + 1)
   taken_then =
       let these : RightsHave (IsUsed accounts then_flat) mine =

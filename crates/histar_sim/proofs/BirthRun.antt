@@ -1,4 +1,4 @@
--- The raw calls of a birth and the two that set the parent's own labels behind them, one after another, from the making of the child's two
+-- The raw calls of a birth and the two after them that set the parent's own labels, one after another, from the making of the child's two
 -- categories on.
 use Rattle.std.proofs.Common.{◌≡◌, ℕ, ◌+◌, ◌<◌, true, List, [], ◌∷◌, ◌++◌, Result, arith, refl, sym, ap, ◌∙◌, subst, length}
 use Rattle.std.specs.Prelude.{min, option_map}
@@ -44,8 +44,8 @@ use Rattle.histar_sim.proofs.BirthChecks as checks
 use Rattle.histar_sim.proofs.BirthChecks.{IsModified, IsLesser, IsTaken, category_said}
 use Rattle.histar_sim.proofs.BirthSteps.{numbered_step, category_step}
 
--- What a birth needs of the state before it: the thread has its own labels, and once it has made the child's categories it stands by its
--- container and its process segment, may hand in what it makes the child of and may have its own labels again; and the bytes are few.
+-- What a birth needs of the state before it: the thread has its own labels, its container and its process segment; once it has made the
+-- child's categories it may make the child's objects and have its own labels again; and the bytes are few.
 pub record IsFit (s : State) (t : ℕ) (home : Home) (status : ProcessStatus) (kin : Kin) (own own_clearance : Levels) : Type 0 where
   pub thread : s.objects t ≡ object own (Thread own_clearance)
   pub owner : Levels
@@ -90,7 +90,7 @@ module _ (accounts : Accounts) (f : Flat) (me : ProcName) (caller : IsRunning f 
   abbrev m : ℕ
   m = s.next_object
 
-  -- what is handed in by them
+  -- the labels of what they make
   abbrev outer : Levels
   outer = outer_label kin write
 
@@ -163,7 +163,7 @@ module _ (accounts : Accounts) (f : Flat) (me : ProcName) (caller : IsRunning f 
   kept_then : (calls : List RawCall) (next : RawCall) → AreKept calls → AreKept (calls ++ next ∷ [])
   kept_then calls next kept = among_then old.line t wanted calls (next ∷ []) kept
 
-  -- what comes after all of them
+  -- what comes after all raw calls of the birth
   abbrev pub Ends : Type 0
   Ends =
       (calls : List RawCall) (later : KernelModel) → AreAmong wanted (entries_of old.line t (all_granted calls))

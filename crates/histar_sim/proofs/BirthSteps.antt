@@ -47,7 +47,7 @@ module _ (accounts : Accounts) (f : Flat) (me : ProcName) (caller : IsRunning f 
         → Runs (ask next rest) mid new t result → (has_number (state mid) ≡ true → GoesOn calls mid next rest) → Refined
     numbered_step said runs go_on = numbered_by (has_number (state mid)) refl said runs go_on
 
-    -- or for a new category
+    -- a raw call that is granted unless there is no number for a new category
     category_by : (b : Bool) → has_category (state mid) ≡ b
         → check (state mid) t next ≡ unless (has_category (state mid)) TooBig → Runs (ask next rest) mid new t result
         → GoesOn calls mid next rest → Refined

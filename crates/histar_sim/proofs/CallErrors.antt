@@ -56,14 +56,14 @@ module _ (s : State) (entries : List TraceEntry) where
   backed_revealed (Data held) backed bytes e = let same : held ≡ bytes = cc in subst (EndsWithRead s entries) same backed
   backed_revealed r backed bytes e = absurd cc
 
--- a reply that tells a refusal is EACCES exactly where the refusal is by label, and EPERM exactly where it is by range
+-- the errno of a denial is EACCES exactly where it is by label, and EPERM exactly where it is by range
 revealed_by : (denied : Denied)
     → (is_label_refusal (Some denied) ≡ is_some_and (write_errno_of denied) is_access)
     × (is_range_refusal (Some denied) ≡ is_some_and (write_errno_of denied) is_permission)
 revealed_by Observe = (refl, refl)
 revealed_by denied = (refl, refl)
 
--- what any raw call's refusal is told as, a write's is told as too
+-- an errno of a denial of any raw call is that of the same denial of a write
 shown_by : (denied : Denied) (errno : Errno) → errno_of denied ≡ Some errno → write_errno_of denied ≡ Some errno
 shown_by TooBig errno revealed = absurd cc
 shown_by denied errno revealed = revealed
@@ -72,7 +72,7 @@ pub revealed_shown : (call : RawCall) (denied : Denied) (errno : Errno) → errn
 revealed_shown (Write container segment keep bytes) denied errno revealed = revealed
 revealed_shown call denied errno revealed = shown_by denied errno revealed
 
--- the refusals among these entries are what the reply tells
+-- the refusals among these entries are those that the reply shows
 pub record Agrees (r : Reply) (entries : List TraceEntry) : Type 0 where
   pub access : some_label_refusal entries ≡ is_no_access r
   pub permission : some_range_refusal entries ≡ is_no_permission r
@@ -90,7 +90,7 @@ module _ (line t : ℕ) where
   granted_agree r plain [] = record { access = sym plain.0; permission = sym plain.1; denials = tt; once = tt }
   granted_agree r plain (call ∷ calls) = after_granted r call (entries_of line t (all_granted calls)) (granted_agree r plain calls)
 
-  -- granted raw calls are refused neither by label nor by range, and no reply has a denial of them to tell
+  -- granted raw calls are refused neither by label nor by range, and have no denial that a reply must show
   none_refused : (r : Reply) (calls : List RawCall)
       → (some_label_refusal (entries_of line t (all_granted calls)) ≡ false)
       × (some_range_refusal (entries_of line t (all_granted calls)) ≡ false)
@@ -98,7 +98,7 @@ module _ (line t : ℕ) where
   none_refused r [] = (refl, refl, tt)
   none_refused r (call ∷ calls) = let later = none_refused r calls in (later.0, later.1, (tt, later.2))
 
-  -- granted raw calls, then one that was refused, then some that give the thread labels: they agree with what the refusal is told as
+  -- granted raw calls, then one that was refused, then some that give the thread labels: they agree with the errno of the denial
   refused_agree : (last : RawCall) (denied : Denied) (errno : Errno) → write_errno_of denied ≡ Some errno
       → (restoring : List RawCall) → AllByRecursion (λ (c : RawCall). sets_labels c ≡ true) restoring
       → (calls : List RawCall) → Agrees (Refused errno) (entries_of line t (all_granted calls ++ (last, Some denied) ∷ all_granted restoring))
@@ -119,7 +119,7 @@ module _ (line t : ℕ) where
       (entries_of line t (all_granted calls ++ (last, Some denied) ∷ all_granted restoring))
       (refused_agree last denied errno revealed restoring sets calls)
 
--- granted raw calls, and behind them a read that is granted too: what it tells is what the segment held then
+-- granted raw calls, and after them a granted read: it reads what the segment held then
 pub read_last : (old mid : KernelModel) (t : ℕ) (calls : List RawCall) → Chain old t (all_granted calls) mid → (container segment : ℕ)
     → EndsWithRead (state old) (entries_of old.line t (all_granted calls ++ (Read container segment, None) ∷ []))
     (bytes_in ((state mid).objects segment))
@@ -142,7 +142,7 @@ module _ (accounts : Accounts) (f : Flat) (me : ProcName) (caller : IsRunning f 
       ∙ ap (λ (x : Option ℕ). elim x as (λ _. Option Process) [ None ↦ Some caller.process | Some n ↦ None ])
       caller.runs
 
-  -- so its call is answered by its flat rule, and the state after it is the rule's too
+  -- the reply of a call of a running process is that of its flat rule, and the state after it is the rule's too
   pub reply_is : (refusal : Option Errno) → refused accounts f me caller.process call ≡ refusal
       → reply_to accounts f me call ≡ reply_or refusal (flat.answer f me caller.process call)
   reply_is refusal e =
@@ -169,7 +169,7 @@ module _ (accounts : Accounts) (f : Flat) (me : ProcName) (caller : IsRunning f 
         own = chain_own t old.line steps;
       }
 
-  -- the reads that the call cannot do without, where it is answered so, are among these raw calls
+  -- the reads that the call cannot do without, given this reply, are among these raw calls
   abbrev pub ReadsAmong : List Step → Reply → Type 0
   ReadsAmong steps r = HasReadsByCall accounts (state old) f caller.process call r (entries_of old.line t steps)
 
@@ -184,7 +184,7 @@ module _ (accounts : Accounts) (f : Flat) (me : ProcName) (caller : IsRunning f 
   all_own line [] = tt
   all_own line (s ∷ steps) = ((refl, named), all_own line steps)
 
-  -- where the raw calls agree with the reply of the flat rules, and the state represents the flat state after the call, a call is answered so
+  -- a call refines its rule if its raw calls agree with the flat rules' reply, and the state represents the flat state after the call
   agreed_refined : (steps : List Step) → Chain old t steps new → (refusal : Option Errno)
       → refused accounts f me caller.process call ≡ refusal → (r : Reply) → reply_or refusal allowed ≡ r
       → Agrees r (entries_of old.line t steps)
@@ -233,8 +233,8 @@ module _ (accounts : Accounts) (f : Flat) (me : ProcName) (caller : IsRunning f 
       (granted_agree old.line t allowed (backed_plain (state old) entries allowed backed) calls)
       (backed_revealed (state old) entries allowed backed) reads (backed_runs (state old) entries allowed backed) represents
 
-  -- Where one raw call was refused and those behind it give the thread labels, a call that the flat rules refuse as that refusal is told is
-  -- answered so, if the state still represents the flat state.
+  -- Where one raw call was refused, those after it give the thread labels, and the state still represents the flat state, a call that the
+  -- flat rules refuse with the errno of the denial refines its rule.
   pub given_back_refined : (calls : List RawCall) (last : RawCall) (denied : Denied) (restoring : List RawCall)
       → AllByRecursion (λ (c : RawCall). sets_labels c ≡ true) restoring
       → Chain old t (all_granted calls ++ (last, Some denied) ∷ all_granted restoring) new → (errno : Errno)
@@ -259,7 +259,7 @@ module _ (accounts : Accounts) (f : Flat) (me : ProcName) (caller : IsRunning f 
         (granted_agree old.line t (Refused errno) (no_access, no_permission) calls) (λ bytes e. absurd cc) reads
         (λ e. absurd cc) still
 
-    -- where the last raw call was refused, the others granted and nothing has changed, a call that the flat rules refuse as that refusal is told is answered so
+    -- where only the last raw call was refused and nothing has changed, a call that the flat rules refuse with its errno refines its rule
     pub refused_refined : (calls : List RawCall) (last : RawCall) (denied : Denied) → Chain old t (all_granted calls ++ (last, Some denied) ∷ []) new
         → (errno : Errno) → write_errno_of denied ≡ Some errno → refused accounts f me caller.process call ≡ Some errno
         → ReadsAmong (all_granted calls ++ (last, Some denied) ∷ []) (Refused errno)

@@ -40,7 +40,7 @@ pub record IsPart (old new : KernelModel) (entries : List TraceEntry) : Type 0 w
   pub line : new.line ≡ old.line
 
 module _ (t : ℕ) where
-  -- what a chain has left behind
+  -- a chain is a part of a run
   pub chain_run : (old new : KernelModel) (steps : List Step) → Chain old t steps new → IsPart old new (entries_of old.line t steps)
   chain_run old new [] same = record { trace = same.trace ∙ sym (append-nil old.trace); run = same.state; line = same.line }
   chain_run old new (s ∷ steps) chain =
@@ -73,12 +73,12 @@ module _ (t : ℕ) where
   all_restoring line [] sets = tt
   all_restoring line (call ∷ calls) sets = ((refl, sets.0), all_restoring line calls sets.1)
 
-  -- a chain of a kernel that is as it was
+  -- a chain after a kernel that is unchanged
   chain_from : (old mid new : KernelModel) (steps : List Step) → IsUnchanged old mid → Chain mid t steps new → Chain old t steps new
   chain_from old mid new [] same later = still_same old mid new same later
   chain_from old mid new (s ∷ steps) same later = (later.0, call_after old mid later.0 t s.0 s.1 same later.1, later.2)
 
-  -- a chain behind another
+  -- a chain after another
   pub chain_after : (old mid new : KernelModel) (steps more : List Step) → Chain old t steps mid → Chain mid t more new
       → Chain old t (steps ++ more) new
   chain_after old mid new [] more same later = chain_from old mid new more same later
@@ -106,7 +106,7 @@ module _ (t : ℕ) where
     granted_broken_off old new line (call ∷ calls) chain =
         (state chain.0, chain.1.outcome, chain.1.state, tt, granted_broken_off chain.0 new line calls chain.2)
 
-    -- and so may one whose last raw call was refused since the next object or the next category has no number
+    -- a run whose last raw call was refused, since the next object or the next category has no number, may be broken off
     pub exhausted_broken_off : (old mid new : KernelModel) (line : ℕ) (calls : List RawCall) (last : RawCall)
         → Chain old t (all_granted calls) mid → Chain mid t ((last, Some TooBig) ∷ []) new
         → (has_number (state mid) ≡ false) ⊎ (has_category (state mid) ≡ false)
@@ -129,7 +129,7 @@ module _ (t : ℕ) where
           chain.2 later greatest,
     )
 
-    -- and one whose last raw calls give the thread labels, behind one whose denial the reply tells
+    -- a run whose last raw calls give the thread labels, after one whose denial the reply shows, may be broken off
     pub refused_broken_off : (old new : KernelModel) (line : ℕ) (calls : List RawCall) (last : RawCall) (denied : Denied) (restoring : List RawCall)
         → IsReplyOfDenial reply (Some denied) → AllByRecursion (λ (c : RawCall). sets_labels c ≡ true) restoring
         → Chain old t (all_granted calls ++ (last, Some denied) ∷ all_granted restoring) new

@@ -1,4 +1,4 @@
--- The bytes that a spawn writes: the child's process segment tells a process that has just started, and the parent's one child more.
+-- The bytes that a spawn writes: the child's segment is that of a process that has just started, and the parent's lists one more child.
 use Rattle.std.proofs.Common.{◌≡◌, ◌≢◌, ℕ, zero, suc, ◌+◌, ◌*◌, ◌<◌, ◌≤◌, Bool, true, false, cond, List, [], ◌∷◌, ◌++◌, map, length, Option, None}
 use Rattle.std.proofs.Common.{Some, arith, refl, sym, ap, ◌∙◌, length-append}
 use Rattle.std.specs.Prelude.{is_some, min}
@@ -38,7 +38,7 @@ use Rattle.histar_sim.proofs.OwnSegment.{children_long}
 
 -- ---- how many bytes there are
 
--- the head has 19
+-- the head has 19 bytes
 head_long : (exited : Option ℕ) (born internal thread : ℕ)
     → length (head_bytes (record { exited = exited; born = born; internal = internal; thread = thread })) ≡ 19
 head_long None born internal thread = refl
@@ -52,13 +52,13 @@ status_long status =
     let listed = children_long status.children in
     omega (arith, parts, head, joined, listed)
 
--- those of a process that has just started fit in a segment
+-- the bytes of a process that has just started fit in a segment
 pub started_fits : (internal thread : ℕ) → fits_segment (length (status_bytes (started internal thread))) ≡ true
 started_fits internal thread =
     let long = status_long (started internal thread) in let none : length (started internal thread).children
     ≡ 0 = refl in grind (arith, nat_tests, long, none)
 
--- and so do those of one with 64 children at most, where nothing else is kept
+-- the bytes of a process with at most 64 children fit in a segment, where nothing else is kept
 pub grown_fits : (held : List ℕ) (container segment : ℕ) (status : ProcessStatus) → length status.children < 64
     → fits_segment (min 0 (length held) + length (status_bytes (with_child_listed container segment status))) ≡ true
 grown_fits held container segment status few =
@@ -69,7 +69,7 @@ grown_fits held container segment status few =
     let within : length (status_bytes (with_child_listed container segment status)) ≤ 4096 = omega (arith, long, more, few) in
     grind (arith, nat_tests, within)
 
--- as many children are listed as were born at most
+-- no more children are listed than were born
 pub few_listed : (processes : ProcName → Option Process) (number : AddressNumbers) (me : ProcName) (p : Process)
     → length (status_by processes number me p).children ≤ p.born
 few_listed processes number me p =
@@ -99,7 +99,7 @@ module _ (old new : ℕ → Listed) (test tests : ℕ → Bool) (n : ℕ) (same_
       ∙ one_alike a (filter tests (range_with_len (a + 1) k)) (filter test (range_with_len (a + 1) k)) (test a)
       (same_listed a (omega (arith, within))) (alike_below (a + 1) k (omega (arith, within)))
 
-  -- and where the next one passes it is listed behind them
+  -- where the next number passes the test, it is listed after the others
   pub listed_grown : (born : ℕ) → born + 1 ≡ n → tests (born + 1) ≡ true
       → map new (filter tests (range_with_len 1 (born + 1)))
       ≡ map old (filter test (range_with_len 1 born)) ++ new (born + 1) ∷ []
@@ -146,7 +146,7 @@ module _ (accounts : Accounts) (s : State) (f : Flat) (l : ObjectsMatch accounts
   abbrev child_clearance : Levels
   child_clearance = clearance accounts s f l me p here runs room chain chain_used chain_ordered chain_free C S at_home at_status
 
-  -- the parent's container stands, and nothing of the child's
+  -- the parent's container is there, and no object of the child's
   holds : is_container (asked (home_address me)) ≡ true
   holds = holder accounts s f l me p here runs room chain chain_used chain_ordered chain_free C S at_home at_status
 
@@ -193,7 +193,7 @@ module _ (accounts : Accounts) (s : State) (f : Flat) (l : ObjectsMatch accounts
         at_status (j ∷ me) (earlier j low)) i);
   }
 
-  -- the child is listed behind the others
+  -- the child is listed after the others
   children_are : map (listed_by numbers me) (children
       (after accounts s f l me p here runs room chain chain_used chain_ordered chain_free C S at_home at_status).processes
       me (p.born + 1))

@@ -1,4 +1,4 @@
--- The labels that a birth hands in are those of the child by the names of its categories.
+-- The labels that a birth gives are those of the child by the names of its categories.
 use Rattle.std.proofs.Common.{◌≡◌, ℕ, zero, suc, ◌==◌, ◌||◌, List, [], ◌∷◌, ◌++◌, Option, None, Some, arith, refl, sym, ap, ◌∙◌}
 use Rattle.std.specs.Prelude.{map}
 use Rattle.std.proofs.lemmas.List.{append-nil, map-append}
@@ -23,7 +23,7 @@ module _ (accounts : Accounts) (category : Categories) (p : Process)
   abbrev newborn : Process
   newborn = record { user = p.user; chain = p.chain; held = []; exited = None; born = 0 }
 
-  -- what it gets from its parent are its jobs, and what it owns as its user
+  -- what the child gets from its parent are its jobs, and what it owns as its user
   module _ (kin : Kin) (alike : (q : ℕ) → is_in kin.jobs q ≡ is_in (map category (map OfJob p.chain)) q)
       (revealed : kin.owned ≡ owned_by accounts (or_zero (user_number accounts p.user)) (is_free p)) where
     kin_owned : kin.owned ≡ map category (owned_as accounts newborn (user_number accounts p.user) ++ [])

@@ -69,7 +69,7 @@ module _ (accounts : Accounts) (me : ProcName) (caller : Caller) (old new : Kern
   abbrev l : ObjectsMatch accounts (state old) f
   l = ready.represents.matched
 
-  -- where it is found
+  -- the caller is found in the state
   is_caller : (q : Process) × IsCallerOf accounts (state old) f l me q caller
   is_caller = caller_found accounts (state old) f l me caller found
 
@@ -82,7 +82,7 @@ module _ (accounts : Accounts) (me : ProcName) (caller : Caller) (old new : Kern
   pub at_thread : l.naming.number (Runner ∷ Inside ∷ home_address me) ≡ Some t
   at_thread = (thread_back accounts (state old) f l me t ready.thread).3
 
-  -- its thread's own label and clearance, and what its segment tells
+  -- the own label and clearance of the process's thread, and the status in its segment
   abbrev pub own_of : Levels
   own_of = rights_label l.category (thread_rights accounts me p)
 
@@ -98,17 +98,17 @@ module _ (accounts : Accounts) (me : ProcName) (caller : Caller) (old new : Kern
   abbrev pub status_of : ProcessStatus
   status_of = status_by f.processes l.naming.number me p
 
-  -- the raw call that reads its segment
+  -- the raw call that reads the process's own segment
   abbrev pub reads : RawCall
   reads = Read caller.home.container caller.home.segment
 
-  -- what stands there
+  -- the objects around the process
   pub around : Around t caller.home.container caller.home.segment own_of own_clearance_of home_label held (state old)
   around =
       around_before accounts (state old) f l me p ready.caller.agrees ready.caller.runs caller.home.container
       caller.home.segment at_home at_status t at_thread
 
-  -- it sees its own container
+  -- the thread sees its own container
   seen : is_below_raised home_label own_of ≡ true
   seen = sees_process accounts me p l.category l.different me p ∙ all_known p
 
@@ -155,7 +155,7 @@ module _ (accounts : Accounts) (me : ProcName) (caller : Caller) (old new : Kern
         → refused accounts f me p call ≡ ((unless born EAGAIN orelse unless long EAGAIN) orelse behind)
     refused_is born long is_born is_long = needs.refuses ∙ λ i. (unless (is_born i) EAGAIN orelse unless (is_long i) EAGAIN) orelse behind
 
-    -- one refusal of two that are the same is the refusal
+    -- a refusal and the same refusal after it are the refusal
     either_again : (b : Bool) → ((unless b EAGAIN orelse Some EAGAIN) orelse behind) ≡ Some EAGAIN
     either_again true = refl
     either_again false = refl
@@ -173,7 +173,7 @@ module _ (accounts : Accounts) (me : ProcName) (caller : Caller) (old new : Kern
         (needs.reads (all_granted (reads ∷ [])) old.line t (state old)) runs
     by_born true is long mid chain stays runs go_on = go_on long is mid chain stays runs
 
-    -- its own segment is read
+    -- the process's own segment is read
     abbrev with_bytes : List ℕ → Program
     with_bytes bytes = if_there with_status (status_in bytes)
 

@@ -1,4 +1,4 @@
--- A create does what the flat rule of `create` says.
+-- The program of `create` refines its rule.
 use Rattle.std.proofs.Common.{ℕ, [], ◌∷◌, ◌++◌, Result, arith, refl, ap, ◌∙◌, subst, length}
 use Rattle.std.specs.Prelude.{IsTrue}
 use Rattle.std.specs.FinMap as map
@@ -89,7 +89,7 @@ module _ (accounts : Accounts) (ok : AreAccounts accounts) (old new : KernelMode
       (guard_label ready.represents.matched.category made.guard) q) linked new t result)
       (number_is ∙ ap (λ (s : State). s.next_object) stays) rest)
 
--- a create does what its flat rule says
+-- the program of `create` refines its rule
 pub create_refines : CreateRefines
 unfolding create_program
 create_refines accounts ok [] mode right me old new f t result ready run =

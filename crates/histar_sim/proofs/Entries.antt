@@ -1,4 +1,4 @@
--- A call that takes an entry away or renames it: the entry is found, or the call is refused as the flat rules refuse it.
+-- A call that removes or renames an entry: the entry is found, or the call is refused as the flat rules refuse it.
 use Rattle.std.proofs.Common.{◌≡◌, ℕ, true, false, ◌&&◌, List, ◌∷◌, Option, None, Some, Result, refl, sym, ap, ◌∙◌, subst, length}
 use Rattle.std.specs.Prelude.{not, is_some}
 use Rattle.std.specs.FinMap as map
@@ -43,7 +43,7 @@ use Rattle.histar_sim.proofs.Walks.{numbers, place_at, walk_reads, nothing_there
 
 module _ (accounts : Accounts) (ok : AreAccounts accounts) (s : State) (f : Flat) (me : ProcName) (t : ℕ)
     (ready : IsReady accounts s f me t) (m : Name) (d : Path) where
-  -- the object of what stands at the path: a file's segment, or a directory's container
+  -- the object at the path: a file's segment, or a directory's container
   abbrev pub object_at : ℕ
   object_at = or_zero (numbers accounts ok s f me t ready (address_of (m ∷ d)))
 
@@ -62,13 +62,13 @@ module _ (accounts : Accounts) (ok : AreAccounts accounts) (s : State) (f : Flat
         target = target_at content;
       }
 
-  -- it leads to that object
+  -- the entry leads to that object
   pub object_led_to : (content : Content) → object_of (target_at content) ≡ object_at
   object_led_to Dir = refl
   object_led_to (File bytes) = refl
 
   module _ (class : Class) where
-    -- what stands there has its number
+    -- the object at the path has its number
     pub object_numbered : (content : Content) → get f.files (m ∷ d) ≡ Some (record { class = class; content = content })
         → numbers accounts ok s f me t ready (address_of (m ∷ d)) ≡ Some object_at
     object_numbered content at =
@@ -78,7 +78,7 @@ module _ (accounts : Accounts) (ok : AreAccounts accounts) (s : State) (f : Flat
         (record { class = class; content = content }) at) in
         found.1 ∙ sym (ap (λ (o : Option ℕ). Some (or_zero o)) found.1)
 
-    -- and the directory has its entry
+    -- the directory has the entry of the path
     pub entry_leads : (content : Content) → get f.files (m ∷ d) ≡ Some (record { class = class; content = content })
         → map.get (directory_of f.files (numbers accounts ok s f me t ready) d) m ≡ Some (target_at content)
     entry_leads Dir at = directory_there accounts ok s f me t ready m d class at
@@ -104,7 +104,7 @@ module _ (accounts : Accounts) (ok : AreAccounts accounts) (old new : KernelMode
       → get f.files (m ∷ d) ≡ o → refused accounts f me ready.caller.process call ≡ ((way orelse test o) orelse later)
   refused_is way o is_way is_o = split ∙ (λ i. (is_way i orelse test (is_o i)) orelse later)
 
-  -- once the way is open and something stands there, the flat rules refuse what they refuse of the entry
+  -- once the way is open and something is at the path, the flat rules refuse what they refuse of the entry
   pub reached : into accounts f ready.caller.process d ≡ None → (node : Node) → get f.files (m ∷ d) ≡ Some node
       → refused accounts f me ready.caller.process call ≡ later
   reached open_so_far node at = refused_is None (Some node) open_so_far at

@@ -1,4 +1,4 @@
--- An exit does what the flat rule of `exit` says.
+-- The program of `exit` refines its rule.
 use Rattle.std.proofs.Common.{◌≡◌, ℕ, ◌≤◌, ◌&&◌, true, List, [], ◌∷◌, None, Some, Result, refl, sym, ap, ◌∙◌, subst}
 use Rattle.std.specs.Prelude.{option_map}
 use mathlib.Core.Bool.{true≢false}
@@ -68,7 +68,7 @@ module _ (accounts : Accounts) (ok : AreAccounts accounts) (number : ℕ) (small
   abbrev Refined : Type 0
   Refined = Goal accounts f me ready.caller call old new t ready.thread result
 
-  -- its container, its process segment and its internal container
+  -- the process's container, its process segment and its internal container
   abbrev C : ℕ
   C = (where_is accounts (state old) f ready.represents.matched me).container
 
@@ -83,7 +83,7 @@ module _ (accounts : Accounts) (ok : AreAccounts accounts) (number : ℕ) (small
       zero_there _ o (l.agrees.tree.held Runner (Inside ∷ home_address me)
       (numbered_runner accounts (state old) f l me p here ready.caller.runs)) refl
 
-  -- the labels of the thread and of both
+  -- the labels of the thread, and of the container and the process segment
   abbrev own : Levels
   own = rights_label ready.represents.matched.category (thread_rights accounts me ready.caller.process)
 
@@ -174,7 +174,7 @@ module _ (accounts : Accounts) (ok : AreAccounts accounts) (number : ℕ) (small
       (subst (λ (b : List ℕ). CutsOff (with_segment_bytes (state old) S b) C o end) (sym written_so) cuts) ready.represents.jobs_given
 
   module _ (mid : KernelModel) (stays : state mid ≡ state old) (chain : Chain old t (all_granted (read ∷ [])) mid) where
-    -- the internal container is taken away, and the call is answered
+    -- the internal container is unlinked, and the call is answered
     unlinked : (later : KernelModel) → state later ≡ exited → Chain old t (all_granted (read ∷ writing ∷ [])) later
         → Runs call_error later new t result → Refined
     unlinked later is so_far on =
@@ -200,7 +200,7 @@ module _ (accounts : Accounts) (ok : AreAccounts accounts) (number : ℕ) (small
       (λ unseen. absurd (true≢false (sym sees_itself ∙ unseen)))
       (λ seen mid stays chain on. wrote mid stays chain on)
 
--- an exit does what its flat rule says
+-- the program of `exit` refines its rule
 pub exit_refines : ExitRefines
 exit_refines accounts ok number small me caller old new f result ready found run =
     let is = (caller_found accounts (state old) f ready.represents.matched me caller found).1 in

@@ -81,7 +81,7 @@ pub record WritesFile (accounts : Accounts) (f : Flat) (me : ProcName) (p : Proc
   pub changes : changed accounts f me p call ≡ with_file_bytes f q whole
   pub answers : flat.answer f me p call ≡ Done
 
--- what is kept of the old bytes counts, and what is written behind it
+-- the length counts what is kept of the old bytes, and what is written after it
 kept_length : (keep : ℕ) (held bytes whole : List ℕ) → take keep held ++ bytes ≡ whole
     → fits_segment (min keep (length held) + length bytes) ≡ nat_le (length whole) most_bytes
 kept_length keep held bytes whole is =
@@ -119,7 +119,7 @@ module _ (accounts : Accounts) (ok : AreAccounts accounts) (old new : KernelMode
         → refused accounts f me p call ≡ ((way orelse tests o) orelse later)
     refused_is way o is_way is_o = file.refuses ∙ (λ i. (is_way i orelse tests (is_o i)) orelse later)
 
-    -- once the way is open and a file stands there, the flat rules refuse what they refuse of the file
+    -- once the way is open and a file is at the path, the flat rules refuse what they refuse of the file
     pub reached : into accounts f p d ≡ None → (class : Class) (bytes : List ℕ)
         → get f.files (m ∷ d) ≡ Some (record { class = class; content = File bytes })
         → refused accounts f me p call ≡ later
@@ -203,7 +203,7 @@ module _ (accounts : Accounts) (ok : AreAccounts accounts) (old new : KernelMode
     abbrev fits : Bool
     fits = nat_le (length whole) most_bytes
 
-    -- what is kept of the file's bytes, and the new ones behind it, are the bytes that it has then
+    -- what is kept of the file's bytes, and the new ones after it, are the bytes that it has then
     module _ (kept : take keep (bytes_at f (m ∷ d)) ++ bytes ≡ whole) (open_so_far : into accounts f p d ≡ None)
         (class : Class) (held : List ℕ)
         (at : get f.files (m ∷ d) ≡ Some (record { class = class; content = File held }))
@@ -219,7 +219,7 @@ module _ (accounts : Accounts) (ok : AreAccounts accounts) (old new : KernelMode
           ∙ write_said accounts ok (state old) f me t ready d open_so_far m class held at keep bytes
           ∙ (λ i. unless (e i) Modify orelse unless ((kept_length keep (bytes_at f (m ∷ d)) bytes whole kept ∙ more) i) TooBig)
 
-      -- a denial is told
+      -- a denial is replied
       denied : (d : Denied) (errno : Errno) → check (state mid) t next ≡ Some d → write_errno_of d ≡ Some errno
           → refused accounts f me p call ≡ Some errno → Runs (ask next (λ _. Answers Done)) mid new t result → Refined
       denied d errno fails revealed is on =

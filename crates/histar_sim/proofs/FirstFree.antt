@@ -17,12 +17,12 @@ use Rattle.histar_flat.specs.Meaning.{boot, first_process}
 use Rattle.histar_flat.proofs.Changes.{by_rule}
 use Rattle.histar_sim.specs.Simulation.{IsFirstFree}
 
--- with a process under a name it stays so, if the process is in no job where that name is process 0's
+-- process 0 stays in no job once a process is under a name, if that process is in no job or its name isn't process 0's
 first_free_with : (f : Flat) (name : ProcName) (p : Process) → IsFirstFree f → (name ≡ [] → p.chain ≡ []) → IsFirstFree (with_process f name p)
 first_free_with f [] p first none q at = ap (λ (o : Process). o.chain) (sym (same_Some p q at)) ∙ none refl
 first_free_with f (n ∷ above) p first none q at = first q at
 
--- and so it does without a process and all below it
+-- process 0 stays in no job once a process and all below it are removed
 first_free_without : (f : Flat) (name : ProcName) → IsFirstFree f → IsFirstFree (without_process f name)
 first_free_without f name first q at = by (under_process name []) at
   where
@@ -30,16 +30,16 @@ first_free_without f name first q at = by (under_process name []) at
     by true e = absurd (none-some q e)
     by false e = first q e
 
--- and with a child, in whatever jobs
+-- process 0 stays in no job once there is a child, in whatever jobs
 first_free_child : (f : Flat) (me : ProcName) (p : Process) (chain : List ProcName) → IsFirstFree f
     → (me ≡ [] → p.chain ≡ []) → IsFirstFree (with_child f me p chain)
 first_free_child f me p chain first none = first_free_with f me (record p { born = p.born + 1 }) first none
 
--- so it is at the start
+-- process 0 is in no job at the start
 pub first_free_at_start : (accounts : Accounts) → IsFirstFree (boot accounts)
 first_free_at_start accounts q at = ap (λ (o : Process). o.chain) (sym (same_Some first_process q at))
 
--- and after each effect of a process that is in no job where it is process 0
+-- process 0 is in no job after each effect of a process, which is in no job if it is process 0
 first_free_effect : (accounts : Accounts) (f : Flat) → IsFirstFree f → (me : ProcName) (p : Process)
     → (me ≡ [] → p.chain ≡ []) → (q : Path) (effect : Effect) → IsFirstFree (apply accounts f me p q effect)
 first_free_effect accounts f first me p none q Spawns = first_free_child f me p p.chain first none
@@ -51,7 +51,7 @@ first_free_effect accounts f first me p none q Wraps =
     (record p { held = p.held ++ next_child me p ∷ [] }) (inner_chain me p) first none
 first_free_effect accounts f first me p none q _ = first
 
--- so it is after each call
+-- process 0 is in no job after each call
 pub first_free_after : (accounts : Accounts) (f : Flat) → IsFirstFree f → (me : ProcName) (call : UnixCall)
     → IsFirstFree (flat_after accounts f me call)
 first_free_after accounts f first me call = by_rule accounts f me call IsFirstFree first

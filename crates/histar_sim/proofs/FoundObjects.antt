@@ -117,11 +117,11 @@ module _ (accounts : Accounts) (ok : AreAccounts accounts) (s : State) (f : Flat
       pub writes_as_class : writes accounts f p d ≡ may_write accounts p directory_class
       writes_as_class = ap (λ (o : Option Node). is_some_and o (λ n. may_write accounts p n.class)) directory_agrees
 
-      -- how the directory is guarded
+      -- the guard of the directory
       pub directory_guard : (g : Guard) × (class_guard accounts directory_class ≡ Some g)
       directory_guard = guard_at accounts s f l d (record { class = directory_class; content = Dir }) directory_agrees
 
-      -- the thread, the container of the directory and its directory segment stand in a state as they did
+      -- the thread, the container of the directory and its directory segment are in a state as they were
       abbrev pub HasListing : State → Type 0
       HasListing later =
           HasSegment later t container listing label clearance
@@ -143,7 +143,7 @@ module _ (accounts : Accounts) (ok : AreAccounts accounts) (s : State) (f : Flat
                 listing_numbered;
           }
 
-      -- once an object is added to the directory, and once one more is made in that
+      -- they are there once an object is added to the directory, and once one more is made in that
       pub listing_still : (o : Object Levels) → HasListing (with_object s container o)
       listing_still o =
           still_there s t container listing label clearance (guard_label l.category directory_guard.0)
@@ -156,7 +156,7 @@ module _ (accounts : Accounts) (ok : AreAccounts accounts) (s : State) (f : Flat
           has_listing thread_below (below (address_of d) container container_numbered)
           (below (Listing ∷ address_of d) listing listing_numbered) o inner
 
-      -- in a container that was added to it something may be made, as its label says
+      -- in a container that was added to the directory something may be made, as its label says
       pub inside_passes : (inner : Levels) → is_below_raised inner label ≡ true
           → (is_below label inner && is_below_raised inner label) ≡ true
           → no_making (with_object s container (record { label = inner; kind = Container set.empty })) t s.next_object
@@ -166,7 +166,7 @@ module _ (accounts : Accounts) (ok : AreAccounts accounts) (s : State) (f : Flat
           (spelling entries) has_listing thread_below (below (address_of d) container container_numbered)
           (below (Listing ∷ address_of d) listing listing_numbered) inner
 
-      -- A raw call that makes an object in the directory with the label that it is handed: its denials are told, and the kernel refuses a label
+      -- A raw call that makes an object in the directory with this label: its denials have errnos, and the kernel refuses a label
       -- out of the thread's range, and else only where the directory may not be written or there is no number for the object.
       pub record MakesObject (make : Levels → RawCall) : Type 0 where
         pub reveals : (x : Levels) (denied : Denied) → errno_for (make x) denied ≡ errno_of denied
@@ -179,7 +179,7 @@ module _ (accounts : Accounts) (ok : AreAccounts accounts) (s : State) (f : Flat
             orelse unless (is_made_within accounts l.category l.different me p g) Range
             orelse unless (has_number s) TooBig)
 
-      -- an empty segment is made so, and a container
+      -- making an empty segment is such a raw call, and making a container too
       pub segment_made : MakesObject (λ x. raw.MakeSegment container x [])
       segment_made = record {
         reveals = λ x denied. refl;
@@ -218,13 +218,13 @@ module _ (accounts : Accounts) (ok : AreAccounts accounts) (s : State) (f : Flat
         pub writes_is : writes accounts f p (m ∷ d) ≡ may_write accounts p class
         writes_is = ap (λ (x : Option Node). is_some_and x (λ n. may_write accounts p n.class)) at
 
-        -- its segment holds its bytes
+        -- the segment of a file holds its bytes
         pub held_there : bytes_in (s.objects (segment m)) ≡ bytes_at f (m ∷ d)
         held_there =
             let guard = guard_at accounts s f l (m ∷ d) (record { class = class; content = File held }) at in
             ap bytes_in (file_found accounts s f l (m ∷ d) class held at guard.0 guard.1 (segment m) file_numbered) ∙ sym holds_bytes
 
-        -- and is read and written as the flat rules say
+        -- a file is read and written as the flat rules say
         pub read_said : check s t (raw.Read container (segment m)) ≡ unless (reads accounts f p (m ∷ d)) Observe
         read_said =
             read_file_said accounts s f l ok me p t (runs accounts ok s f me t ready) d directory_class directory_agrees

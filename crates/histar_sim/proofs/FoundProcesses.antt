@@ -1,4 +1,4 @@
--- Where processes are found in a state that is represented, and what the kernel says to the raw calls on them by the thread of a process.
+-- Where processes are found in a state that is represented, and the kernel's checks of raw calls on them by the thread of a process.
 use Rattle.std.proofs.Common.{◌≡◌, ℕ, ◌&&◌, Bool, true, false, [], ◌∷◌, length, Option, Some, refl, sym, ap, ◌∙◌}
 use Rattle.std.specs.Prelude.{is_some}
 use Rattle.std.specs.List.{list_all}
@@ -60,11 +60,11 @@ module _ (accounts : Accounts) (s : State) (f : Flat) (l : ObjectsMatch accounts
     pub at_segment : l.naming.number (Status ∷ home_address name) ≡ Some (where_is accounts s f l name).segment
     at_segment = zero_there (l.naming.number (Status ∷ home_address name)) segment (numbered_status accounts s f l name ∙ ap is_some here) refl
 
-    -- the process segments lead there
+    -- the process segments lead to the process
     pub led_to : IsStatusSegment accounts s name (where_is accounts s f l name).container (where_is accounts s f l name).segment
     led_to = status_found accounts s f l name other container segment here at_container at_segment
 
-    -- the label of both
+    -- the label of the container and of the process segment
     abbrev pub due : Levels
     due = guard_label l.category (process_guard name other)
 
@@ -87,7 +87,7 @@ module _ (accounts : Accounts) (s : State) (f : Flat) (l : ObjectsMatch accounts
         status_object accounts l.category (bytes_for accounts l.category f l.naming.number name x) name x)
         here)
 
-    -- what stands one step below its container is linked there
+    -- an object one step below the container of a process is linked there
     pub step_below : (x : Step) (o : ℕ) → l.naming.number (x ∷ home_address name) ≡ Some o → set.contains container_found.0 o ≡ true
     step_below x o at =
         sym (ap (λ (found : Found). set.contains (links_in found) o) container_found.1)
@@ -100,7 +100,7 @@ module _ (accounts : Accounts) (s : State) (f : Flat) (l : ObjectsMatch accounts
       abbrev clearance : Levels
       clearance = rights_clearance l.category (thread_rights accounts me p)
 
-      -- it is observed where the process sees it
+      -- the container of a process is observed where the caller sees the process
       pub observed : is_below_raised (guard_label l.category (process_guard name other))
           (rights_label l.category (thread_rights accounts me p)) ≡ sees p other
       observed = sees_process accounts me p l.category l.different name other
@@ -112,7 +112,7 @@ module _ (accounts : Accounts) (s : State) (f : Flat) (l : ObjectsMatch accounts
           and-true (list_all (has other.chain) p.chain) ∙ ap (λ (q : Process). list_all (has q.chain) p.chain) one ∙ all_had p.chain
       own_secret agrees false is = and-false (list_all (has other.chain) p.chain)
 
-      -- and a process that sees it modifies it where it is its own
+      -- a process that sees another modifies its container only where it is its own
       pub modified : f.processes me ≡ Some p → sees p other ≡ true
           → (is_below (rights_label l.category (thread_rights accounts me p))
           (guard_label l.category (process_guard name other))
@@ -128,7 +128,7 @@ module _ (accounts : Accounts) (s : State) (f : Flat) (l : ObjectsMatch accounts
             (Thread (rights_clearance l.category (thread_rights accounts me p)))
         thread = thread_found accounts s f l me p runs.0 runs.1 t runs.2
 
-        -- Its process segment is read unless the process may not see it.
+        -- The process segment is read unless the caller may not see the process.
         pub read_said : check s t (Read (where_is accounts s f l name).container (where_is accounts s f l name).segment)
             ≡ unless (sees p other) Observe
         read_said = by (sees p other) refl
@@ -141,7 +141,7 @@ module _ (accounts : Accounts) (s : State) (f : Flat) (l : ObjectsMatch accounts
                 (process_bytes f.processes l.naming.number name other) segment_found
                 ∙ ap (λ (b : Bool). unless b Observe) (observed ∙ is)
 
-        -- What its container links is taken away by itself alone.
+        -- What a process's container links is unlinked by the process alone.
         pub unlink_said : sees p other ≡ true → (x : Step) (o : ℕ) → l.naming.number (x ∷ home_address name) ≡ Some o
             → check s t (Unlink (where_is accounts s f l name).container o) ≡ unless (same name me) Modify
         unlink_said seen x o at =

@@ -1,4 +1,4 @@
--- Room for an entry: the walk into its directory is made, nothing of the name stands there, and the directory has fewer than 64 entries; or the
+-- Room for an entry: the walk into its directory is made, it has no entry of the name, and it has fewer than 64 entries; or the
 -- call is refused as the flat rules refuse it.
 use Rattle.std.proofs.Common.{◌≡◌, ℕ, Bool, true, false, List, [], ◌∷◌, ◌++◌, Option, None, Some, Result, arith, refl, ◌∙◌, subst, length, ◌≤◌, ◌==◌}
 use Rattle.std.specs.Prelude.{nat_lt, not}
@@ -50,7 +50,7 @@ pub record NeedsRoom (accounts : Accounts) (f : Flat) (me : ProcName) (p : Proce
   pub reads : (s : State) (reply : Reply) (entries : List TraceEntry) → HasWalk accounts s f p q entries
       → HasReadsByCall accounts s f p call reply entries
 
--- there is no room for `/`, which stands already
+-- there is no room for `/`, which is there already
 pub slash_agrees : (accounts : Accounts) (old new : KernelModel) (f : Flat) (me : ProcName) (t : ℕ)
     (ready : IsReady accounts (state old) f me t) (call : UnixCall) (result : Result Reply Stopped)
     (behind : Option Errno)

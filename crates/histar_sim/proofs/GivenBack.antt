@@ -41,19 +41,19 @@ module _ (accounts : Accounts) (f : Flat) (me : ProcName) (caller : IsRunning f 
   abbrev Refined : Type 0
   Refined = Goal accounts f me caller call old new t named result
 
-  -- raw calls that were granted, the last one, which was refused, and the errno that the denial is told as and the flat rules reply
+  -- raw calls that were granted, the last one, which was refused, and the errno of its denial, which the flat rules reply
   module _ (calls : List RawCall) (last : RawCall) (denied : Denied) (errno : Errno)
       (revealed : write_errno_of denied ≡ Some errno) (is : refused accounts f me caller.process call ≡ Some errno)
     where
-      -- behind the refused one come these, which are granted
+      -- after the refused one come these, which are granted
       abbrev steps : List RawCall → List Step
       steps restoring = all_granted calls ++ (last, Some denied) ∷ all_granted restoring
 
-      -- the reply of the flat rules tells the denial
+      -- the reply of the flat rules is that of the denial
       reveals : IsReplyOfDenial (reply_to accounts f me call) (Some denied)
       reveals = ap (option_map Refused) revealed ∙ ap Some (sym (reply_is accounts f me caller call old new t named (Some errno) is))
 
-      -- Behind the refused one the thread was given labels.
+      -- After the refused one the thread was given labels.
       module _ (restoring : List RawCall) (sets : AllByRecursion (λ (c : RawCall). sets_labels c ≡ true) restoring)
           (mid : KernelModel) (so_far : Chain old t (steps restoring) mid) where
         -- the call ends here without a reply
@@ -126,7 +126,7 @@ module _ (accounts : Accounts) (f : Flat) (me : ProcName) (caller : IsRunning f 
             (sym (called_then.state ∙ ap (λ (s : State). with_changed s t (with_clearance own.1)) called.state))
             represents) reads answers))
 
-  -- A raw call that the rules refuse, as the flat rules refuse the call, once the thread has taken what it gives back.
+  -- A raw call that the rules refuse, as the flat rules refuse the call, once the thread has taken what it gives up.
   pub given_back_step : (calls : List RawCall) (mid : KernelModel) → Chain old t (all_granted calls) mid
       → (errno : Errno) → refused accounts f me caller.process call ≡ Some errno
       → (own : Levels × Levels) (next : RawCall) (rest : AnswerOf next → Program) (denied : Denied)

@@ -124,7 +124,7 @@ module _ (accounts : Accounts) (ok : AreAccounts accounts) (me : ProcName) (call
       (λ _. birth caller.home status (kin_in accounts own job)
       (λ _. hold_job (own, own_clearance) job (λ _. Answers (Child ((status.born + 1) ∷ me))))))
 
-  -- where nothing refuses the call and the container is made, the call is its row
+  -- where nothing refuses the call and the container is made, the call refines its rule
   abbrev pub JobBegun : Type 0
   JobBegun =
       nat_lt (length me) most_numbers ≡ true → nat_lt p.born most_children ≡ true
@@ -196,7 +196,7 @@ module _ (accounts : Accounts) (ok : AreAccounts accounts) (me : ProcName) (call
         orelse unless (room_above j) ENOSPC orelse unless (writes_is j) EACCES)
         orelse unless (not (not_nobody accounts ok p.user i declared j)) EPERM
 
-    -- where the directory and the process stand
+    -- the directory above and the process
     abbrev above : Class
     above = directory_class accounts ok (state old) f me t ready d open_so_far
 
@@ -259,7 +259,7 @@ module _ (accounts : Accounts) (ok : AreAccounts accounts) (me : ProcName) (call
       abbrev before : State
       before = wrapping.state_directory accounts (state old) f ready.represents me p wrapper named few_entries
 
-      -- the category of the job has its name in it, and what is made for the job the label that is due
+      -- the category of the job has its name, and what is made for the job has the expected label
       abbrev job_named : ObjectsMatch accounts (with_next_category (state old)) f
       job_named = wrapping.m accounts (state old) f ready.represents me p wrapper
 
@@ -314,7 +314,7 @@ module _ (accounts : Accounts) (ok : AreAccounts accounts) (me : ProcName) (call
       counted : made_state.next_category ≤ before.next_category
       counted = wrapping.counted accounts (state old) f ready.represents me p wrapper named few_entries
 
-      -- what the process segment of the parent tells, and what its thread has
+      -- the status in the process segment of the parent, and the labels of its thread
       status_is : status ≡ status_by f.processes later.naming.number me p
       status_is =
           same_process_status ready.represents.matched.naming.number later.naming.number
@@ -363,7 +363,7 @@ module _ (accounts : Accounts) (ok : AreAccounts accounts) (me : ProcName) (call
           names_are)
           (owned_revealed accounts (state old) f ready.represents.matched me p ready.caller.agrees unused)
 
-      -- it leaves the state in which the parent holds the job
+      -- the wrap leaves the state in which the parent holds the job
       held_then : (few_born : before.next_object + 3 < greatest)
           → spawned before t caller.home (status_by f.processes later.naming.number me p) kin own_then later_clearance
           ≡ wrapping.state_wrapped accounts (state old) f ready.represents me p wrapper named few_entries few_born
@@ -375,7 +375,7 @@ module _ (accounts : Accounts) (ok : AreAccounts accounts) (me : ProcName) (call
           (owned_revealed accounts (state old) f ready.represents.matched me p ready.caller.agrees unused)
           stranger held_ordered few_born counted
 
-      -- in which the flat state of the row is represented
+      -- that state represents the flat state of the rule
       matched_then : (few_born : before.next_object + 3 < greatest)
           → Represents accounts (spawned before t caller.home (status_by f.processes later.naming.number me p) kin own_then
           later_clearance) (changed accounts f me p call)
@@ -440,7 +440,7 @@ module _ (accounts : Accounts) (ok : AreAccounts accounts) (me : ProcName) (call
           born (calls ++ write ∷ []) end (among_then old.line t reads calls (write ∷ []) kept) longer
           (called.state ∙ ap (λ (s : State). with_segment_bytes s place.listing written) at ∙ state_is) goes)
 
-  -- A wrap whose container is made is its row.
+  -- A wrap whose container is made refines its rule.
   pub job_begun : JobBegun
   unfolding hold_job
   job_begun long room open_so_far absent room_above may i declared has calls kept linked at chain runs =

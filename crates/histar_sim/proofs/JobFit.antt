@@ -78,7 +78,7 @@ module _ (accounts : Accounts) (ok : AreAccounts accounts) (s : State) (f : Flat
   abbrev newborn : Process
   newborn = record { user = p.user; chain = jobs; held = []; exited = None; born = 0 }
 
-  -- what its thread has with the job
+  -- the labels of its thread with the job
   abbrev pub own_with_job : Levels
   own_with_job = rights_label l.category (rights_with_job accounts me p)
 
@@ -96,11 +96,11 @@ module _ (accounts : Accounts) (ok : AreAccounts accounts) (s : State) (f : Flat
   same : (c : CategoryName) → IsUsed accounts f c → then_names c ≡ l.category c
   same = kept accounts s f l me p parent
 
-  -- boot's categories have theirs still
+  -- boot's categories keep their numbers
   as_made : (c : CategoryName) (q : ℕ) → boot_category accounts c ≡ Some q → then_names c ≡ q
   as_made c q booted = same c (boot_used accounts f l.first c q booted) ∙ l.as_made c q booted
 
-  -- and so have the jobs
+  -- the jobs keep their numbers
   used : (c : CategoryName) → among (map OfJob jobs) c ≡ true → IsUsed accounts f c
   used c e =
       let found = job_among jobs c e in
@@ -128,7 +128,7 @@ module _ (accounts : Accounts) (ok : AreAccounts accounts) (s : State) (f : Flat
       writes_number accounts s f l me p parent.here parent.runs parent.room jobs (jobs_used accounts s f l me p parent)
       parent.jobs_ordered (jobs_free accounts s f l me p parent) C S parent.at_home parent.at_status
 
-  -- so the labels that are handed in are the child's
+  -- the labels of the objects that are made are the child's
   outer_same : outer_label kin (s.next_category + 1) ≡ guard_label then_names (process_guard child newborn)
   outer_same =
       outer_is accounts then_names newborn as_made named kin alike_then revealed_then child s.next_category
@@ -185,7 +185,7 @@ module _ (accounts : Accounts) (ok : AreAccounts accounts) (s : State) (f : Flat
         (arith, listed, room));
   }
 
-  -- the state after it is the one in which its parent holds the job
+  -- the state after the birth is the one in which its parent holds the job
   module _ (stranger : has p.chain ((p.born + 1) ∷ me) ≡ false)
       (held_ordered : AreInOrder l.category (p.held ++ ((p.born + 1) ∷ me) ∷ [])) (few : s.next_object + 3 < greatest)
       (counted : s.next_category ≤ s.next_category) where

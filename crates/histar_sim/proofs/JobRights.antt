@@ -1,4 +1,4 @@
--- What the thread of a process may do once it has made the category of a job and the two of the job's first process, and what it stands by.
+-- What the thread of a process may do once it has made the category of a job and the two of the job's first process, and what is there.
 use Rattle.std.proofs.Common.{◌≡◌, ◌≢◌, ℕ, ◌+◌, ◌<◌, inl, inr, true, false, List, [], ◌∷◌, ◌++◌, None, Some, arith, sym, ap, ◌∙◌, subst}
 use Rattle.std.specs.Prelude.{is_some}
 use Rattle.std.proofs.lemmas.Bool.{or_left}
@@ -55,7 +55,7 @@ pub record JobParent (accounts : Accounts) (s : State) (f : Flat) (l : ObjectsMa
 
 module _ (accounts : Accounts) (s : State) (f : Flat) (l : ObjectsMatch accounts s f) (me : ProcName) (p : Process)
     (parent : JobParent accounts s f l me p) where
-  -- its fields by name
+  -- the fields of the parent by name
   abbrev here : f.processes me ≡ Some p
   here = parent.here
 
@@ -153,7 +153,7 @@ module _ (accounts : Accounts) (s : State) (f : Flat) (l : ObjectsMatch accounts
       let own = rights_used accounts f me p here in
       (each_head (IsUsed accounts f) (OfJob child) (thread_rights accounts me p).owned (inr served) own.0, own.1)
 
-  -- used names have their numbers still
+  -- used names keep their numbers
   pub kept : (c : CategoryName) → IsUsed accounts f c → names c ≡ l.category c
   kept = keeps accounts s f l me p here runs room jobs jobs_used jobs_ordered jobs_free C S at_home at_status
 
@@ -171,7 +171,7 @@ module _ (accounts : Accounts) (s : State) (f : Flat) (l : ObjectsMatch accounts
       ∙ ap is_some (no_child accounts s f l me p here runs room jobs jobs_used jobs_ordered jobs_free C S at_home
       at_status))
 
-  -- a name that was used is old, for the one category and for the other
+  -- a name that was used is old, beside the first of the child's categories and beside the second
   abbrev IsOldFirst : CategoryName → Type 0
   IsOldFirst = IsOld l.category l.different next (ReadsProcess child)
 
@@ -210,7 +210,7 @@ module _ (accounts : Accounts) (s : State) (f : Flat) (l : ObjectsMatch accounts
   clearance_grown = ap (λ (x : Levels). with_level x (next + 1) L3) (made_clearance l.category l.different next (ReadsProcess child) mine first_has)
       ∙ made_clearance first_names first_apart (next + 1) (WritesProcess child) first second_has
 
-  -- ---- what stands there
+  -- ---- the objects that are there
 
   -- In a state with these objects, where the thread has the job and all other objects are as they are.
   module _ (objects : Objects Levels) (others : (q : ℕ) → q ≢ T → objects q ≡ s.objects q)
@@ -266,7 +266,7 @@ module _ (accounts : Accounts) (s : State) (f : Flat) (l : ObjectsMatch accounts
   made_before : (c : CategoryName) → IsUsed accounts f c → IsMade (next + 1 + 1) (names c)
   made_before c is = let old = l.made c is in let same = kept c is in (omega (arith, old.0, same), omega (arith, old.1, same))
 
-  -- it modifies its own container and process segment
+  -- the thread modifies its own container and process segment
   pub home_modified : (is_below owner (guard_label names (process_guard me p)) ≡ true)
       × (is_below_raised (guard_label names (process_guard me p)) owner ≡ true)
   home_modified =
@@ -275,7 +275,7 @@ module _ (accounts : Accounts) (s : State) (f : Flat) (l : ObjectsMatch accounts
         second_of (is_below owner (guard_label names (process_guard me p))) (is_below_raised (guard_label names (process_guard me p)) owner) both,
       )
 
-  -- it makes the child's container and process segment, and its internal container
+  -- the thread makes the child's container and process segment, and its internal container
   pub outer_modified : IsModified owner owner_clearance (guard_label names (process_guard ((p.born + 1) ∷ me) newborn)) (s.next_category + 1 + 1)
   outer_modified =
       let these =
@@ -305,7 +305,7 @@ module _ (accounts : Accounts) (s : State) (f : Flat) (l : ObjectsMatch accounts
   rights_are_made : (r : Rights) → RightsHave (λ c. IsMade (next + 1 + 1) (names c)) r → AreMade (next + 1 + 1) names (r.owned ++ r.tainted)
   rights_are_made r has = each_append (λ c. IsMade (next + 1 + 1) (names c)) r.owned r.tainted has.0 has.1
 
-  -- and its thread
+  -- the thread makes the child's thread
   pub thread_lesser : IsLesser owner owner_clearance
       (rights_label names (thread_rights accounts ((p.born + 1) ∷ me) newborn))
       (rights_clearance names (thread_rights accounts ((p.born + 1) ∷ me) newborn)) (s.next_category + 1 + 1)
@@ -356,7 +356,7 @@ module _ (accounts : Accounts) (s : State) (f : Flat) (l : ObjectsMatch accounts
             (clearance_made (next + 1 + 1) names (mine.owned ++ mine.tainted) (rights_are_made mine are));
       }
 
-  -- it may have its own labels with the job
+  -- the thread may have its own labels with the job
   pub own_taken : IsTaken owner owner_clearance (rights_label l.category (rights_with_job accounts me p))
       (rights_clearance l.category (rights_with_job accounts me p)) (s.next_category + 1 + 1)
   own_taken =

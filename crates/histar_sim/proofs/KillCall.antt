@@ -1,4 +1,4 @@
--- A kill does what the flat rule of `kill` says.
+-- The program of `kill` refines its rule.
 use Rattle.std.proofs.Common.{◌≡◌, ℕ, ◌&&◌, ◌||◌, Bool, true, false, List, [], ◌∷◌, ◌++◌, Option, None, Some, Result, inl, inr, refl, sym, ap, ◌∙◌}
 use Rattle.std.proofs.Common.{subst, length, if◌then◌else◌}
 use Rattle.std.specs.FinSet as set
@@ -70,7 +70,7 @@ use Rattle.histar_sim.proofs.KilledChild.{killed_bytes, killed_few, thread_then,
 use Rattle.histar_sim.proofs.OwnSegment.{write_granted}
 use Rattle.histar_sim.proofs.Searches.{Refuses, runs_as, status_of, search_reads, has_search, parent_refuses, child_step, search_step}
 
--- the test of names is one of either to the other
+-- the test of names is symmetric
 same_turned : (a b : ProcName) → same a b ≡ same b a
 same_turned a b = elim (same_name_found a b) [
   | inl e ↦ elim (same_name_found b a) [ inl k ↦ e.0 ∙ sym k.0 | inr k ↦ absurd (k.1 (sym e.1)) ]
@@ -95,7 +95,7 @@ owns_no_boot accounts me p =
         among-append (reading accounts p.user i) (if is_free p then writing accounts p.user i else []) OfBoot
         ∙ (λ k. among_none ReadsGroup OfBoot (λ g. refl) (groups_of accounts p.user) k || picked (is_free p) i k)
 
--- so what the root container links is taken away by none
+-- no process may unlink what the root container links
 module _ (accounts : Accounts) (s : State) (f : Flat) (l : ObjectsMatch accounts s f) (me : ProcName) (p : Process)
     (t : ℕ) (runs : RunsAs accounts s f l me p t) where
   abbrev own_label : Levels
@@ -284,7 +284,7 @@ module _ (accounts : Accounts) (ok : AreAccounts accounts) (old new : KernelMode
           (λ _. call_error) (said true is) on
           (λ cut done called right so_far rest. written is cut (subst (λ (s : State). CutsOff s C o (state cut)) stays called.state) so_far rest)
 
-  -- the parent is found, then the child, which is taken away
+  -- the parent is found, then the child, which is killed
   kill_is_refined : (n : ℕ) (above : ProcName)
       → Runs (kill_program (roots_of (length accounts.users)) (n ∷ above)) old new t result → Refined (n ∷ above)
   unfolding kill_program
@@ -304,7 +304,7 @@ module _ (accounts : Accounts) (ok : AreAccounts accounts) (old new : KernelMode
       by_kin n above parent here seen child_found child there mid stays chain (same above me) refl on)
       found parent here mid stays chain on)
 
--- a kill does what its flat rule says
+-- the program of `kill` refines its rule
 pub kill_refines : KillRefines
 kill_refines accounts ok [] me old new f t result ready run = kill_of_first accounts ok old new f me t ready result run
 kill_refines accounts ok (n ∷ above) me old new f t result ready run = kill_is_refined accounts ok old new f me t ready result n above run

@@ -1,4 +1,4 @@
--- A child is taken out of its parent's container, with all below it: what stands there then, and what is written of its parent.
+-- A child is unlinked from its parent's container, with all below it: the objects after that, and the bytes written for its parent.
 use Rattle.std.proofs.Common.{◌≡◌, ◌≢◌, ℕ, ◌≤◌, ◌==◌, ◌&&◌, ◌||◌, Bool, true, false, cond, List, [], ◌∷◌, None, Some, inl, inr, refl, sym, ap, ◌∙◌}
 use Rattle.std.proofs.Common.{subst, map, length, if◌then◌else◌}
 use Rattle.std.specs.FinSet as set
@@ -96,7 +96,7 @@ module _ (accounts : Accounts) (s : State) (f : Flat) (l : ObjectsMatch accounts
   kept : (b : Address Step) → under same_step (home_address top) b ≡ false → l.naming.number b ≡ naming.number b
   kept b e = sym (ap (λ (t : Bool). if t then None else l.naming.number b) e)
 
-  -- neither the parent nor another child lies below it
+  -- neither the parent nor another child lies below the child
   parent_outside : under same_step (home_address top) (home_address me) ≡ false
   parent_outside = above same_step step_tests_equality (home_address me) (Below n)
 
@@ -137,13 +137,13 @@ module _ (accounts : Accounts) (s : State) (f : Flat) (l : ObjectsMatch accounts
         (λ k. is_some (after.processes (k ∷ me))) child_gone child_stays child_same (range_with_len 1 p.born) i;
   })
 
-  -- it is few bytes
+  -- the parent's process segment has few bytes
   pub killed_few : length (status_bytes (without_child n (status_by f.processes l.naming.number me p))) ≤ 4096
   killed_few =
       subst (λ (b : List ℕ). length b ≤ 4096) (sym killed_bytes) (status_few (status_by after.processes naming.number me p)
       (listed_few after.processes naming.number me p.born (l.processes me p here).few))
 
-  -- the state once the child was taken out of the container
+  -- the state once the child was unlinked from the container
   module _ (child : Process) (there : f.processes (n ∷ me) ≡ Some child) (caller : ProcName) (q : Process) (t : ℕ)
       (runs : RunsAs accounts s f l caller q t)
       (outside : under same_step (home_address (n ∷ me)) (home_address caller) ≡ false)
@@ -181,7 +181,7 @@ module _ (accounts : Accounts) (s : State) (f : Flat) (l : ObjectsMatch accounts
     at_victim : l.naming.number (home_address (n ∷ me)) ≡ Some o
     at_victim = at_container accounts s f l (n ∷ me) child there
 
-    -- what lies elsewhere is as it was, but for the container
+    -- an object that isn't below the child is as it was, but for the container
     remains : (b : Address Step) (k : ℕ) → l.naming.number b ≡ Some k → under same_step (home_address top) b ≡ false
         → k ≢ C → cut.objects k ≡ s.objects k
     remains b k at_k out other =

@@ -1,4 +1,4 @@
--- A list does what the flat rule of `list` says.
+-- The program of `list` refines its rule.
 use Rattle.std.proofs.Common.{◌≡◌, ℕ, true, [], ◌∷◌, Result, refl, sym, ap, ◌∙◌, subst, length}
 use Rattle.histar_base.specs.Refusals.{◌orelse◌, unless}
 use Rattle.histar_flat.specs.declared.calls.UnixCall.{UnixCall}
@@ -61,6 +61,6 @@ module _ (accounts : Accounts) (ok : AreAccounts accounts) (old new : KernelMode
       (has_way accounts ok (state old) f me t ready path _ (among_granted_all old.line t walk))
       (subst (λ (s : State). Represents accounts s f) (sym stays) ready.represents) on)
 
--- a list does what its flat rule says
+-- the program of `list` refines its rule
 pub list_refines : ListRefines
 list_refines accounts ok path me old new f t result ready run = list_is_refined accounts ok old new f me t ready path result run

@@ -1,4 +1,4 @@
--- A login is the row of its call: the gate keeps out who is in a job; else its raw calls are granted by the lemmas of the refinement, and it ends as the user or as it was.
+-- A login refines its rule: the gate keeps out processes in a job; else its raw calls are granted, and it ends as the user or as it was.
 use Rattle.std.proofs.Common.{◌≡◌, ℕ, ◌+◌, ◌≤◌, Bool, true, false, List, [], ◌∷◌, ◌++◌, length, Option, None, Some, Result, inl, inr, refl, sym, ap}
 use Rattle.std.proofs.Common.{◌∙◌, subst}
 use Rattle.std.specs.Prelude.{option_map, is_some}
@@ -64,7 +64,7 @@ use Rattle.histar_sim.proofs.ReadsByCall.{reads_of_login}
 use Rattle.histar_sim.proofs.Chains.{all_granted, entries_of, Chain}
 use Rattle.histar_sim.proofs.Steps.{granted_step, refused_step, refused_at_once, answered_step}
 
--- whether a process is free is said by the jobs that it is in
+-- a process is free exactly if the list of its jobs is empty
 free_by_chain : (p : Process) (chain : List ProcName) → p.chain ≡ chain → is_free p ≡ elim chain as (λ _. Bool) [ [] ↦ true | job ∷ jobs ↦ false ]
 free_by_chain p chain e = λ i. elim (e i) as (λ _. Bool) [ [] ↦ true | job ∷ jobs ↦ false ]
 
@@ -134,7 +134,7 @@ module _ (accounts : Accounts) (name : Name) (password : Password) (me : ProcNam
     thread : (state old).objects t ≡ Some (thread_of own clearance)
     thread = thread_found accounts (state old) f l me p runs_as.0 runs_as.1 t runs_as.2
 
-    -- ---- the labels that the code hands in are those of names
+    -- ---- the labels of the code are those of names
 
     -- whose categories the user owns
     abbrev owners : List ℕ
@@ -149,7 +149,7 @@ module _ (accounts : Accounts) (name : Name) (password : Password) (me : ProcNam
     abbrev behind : State
     behind = entered accounts (state old) f l me p t runs_as name (place + 1) numbered
 
-    -- behind the gate the password is what it was
+    -- after the gate the password is what it was
     password_then : bytes_in (behind.objects (password_of (place + 1))) ≡ user.0.password
     password_then =
         kept_bytes (state old) t own clearance thread
@@ -170,14 +170,14 @@ module _ (accounts : Accounts) (name : Name) (password : Password) (me : ProcNam
     asks_said : check (state old) t OwnLabel ≡ None
     asks_said = λ k. unless (is_thread (thread k)) NoThread
 
-    -- the gate lets in exactly who is in no job
+    -- the gate lets in exactly the processes in no job
     enters_said : check (state old) t enters ≡ unless (is_free p) Gate
     enters_said =
         (λ k. check (state old) t (Enter root_number (gate_of (place + 1)) (floor_of own (sym gate_label k))
         (join_of clearance (sym gate_clearance k)) own))
         ∙ enter_said accounts (state old) f l me p t runs_as name (place + 1) numbered
 
-    -- behind it the thread has the labels that the code asks for
+    -- after the gate the thread has the labels that the code asks for
     abbrev code_label : Levels
     code_label = floor_of own (owners_label owners)
 
@@ -210,7 +210,7 @@ module _ (accounts : Accounts) (name : Name) (password : Password) (me : ProcNam
         AreAmong (reads_of_login accounts o true) (entries_of old.line t (all_granted (all_calls right))))
         (sym at_place) (inr (inr (inl (refl, tt))))
 
-    -- labels of rights that are no more than the thread has behind the gate are taken
+    -- the thread takes the labels of rights that are no more than it has after the gate
     module _ (right : Bool) (r : Rights) (owned : (c : CategoryName) → among r.owned c ≡ true
         → among (more accounts (state old) f l me p t runs_as name (place + 1) numbered).owned c ≡ true)
         (fewer : (c : CategoryName) → among r.tainted c ≡ true → among (thread_rights accounts me p).tainted c ≡ true)
@@ -229,7 +229,7 @@ module _ (accounts : Accounts) (name : Name) (password : Password) (me : ProcNam
           → state later ≡ with_own (state old) t (rights_label l.category r) (rights_clearance l.category r)
           → Runs (Answers (reply_if right)) later new t result → Goal
 
-      -- the clearance behind the label
+      -- the clearance after the label
       cleared : (labelled : KernelModel)
           → Chain old t (all_granted (OwnLabel ∷ enters ∷ reads ∷ takes_label right ∷ [])) labelled
           → state labelled ≡ after_label
@@ -258,7 +258,7 @@ module _ (accounts : Accounts) (name : Name) (password : Password) (me : ProcNam
           (λ labelled done called revealed chain clears.
           cleared labelled chain (called.state ∙ λ k. with_changed (at k) t (with_label (label_is k))) clears go_on)
 
-    -- the program behind the gate
+    -- the program after the gate
     abbrev reading : Program
     reading = ask reads (λ kept. taking (bytes_eq kept password))
 
@@ -281,7 +281,7 @@ module _ (accounts : Accounts) (name : Name) (password : Password) (me : ProcNam
       refused_by : (right : Bool) → same user.0.password password ≡ right → refused accounts f me p call ≡ unless right EAUTH
       refused_by right is = refused_is (Some user.0) true user.1 alone ∙ ap (λ (b : Bool). unless b EAUTH) is
 
-      -- behind the gate, by whether the password is right
+      -- after the gate, by whether the password is right
       ends : (right : Bool) → same user.0.password password ≡ right → (mid : KernelModel)
           → Chain old t (all_granted (OwnLabel ∷ enters ∷ reads ∷ [])) mid → state mid ≡ behind
           → Runs (taking right) mid new t result → Goal
@@ -317,7 +317,7 @@ module _ (accounts : Accounts) (name : Name) (password : Password) (me : ProcNam
           (sym (ap (λ (bytes : List ℕ). bytes_eq bytes password) kept_so ∙ equal_bytes user.0.password password))
           read longer (called.state ∙ is) goes)
 
-      -- the gate lets it in
+      -- the gate lets the thread in
       let_in : (asked : KernelModel) → Chain old t (all_granted (OwnLabel ∷ [])) asked → state asked ≡ state old
           → Runs (ask enters (λ _. reading)) asked new t result → Goal
       let_in asked chain stays runs =
@@ -372,7 +372,7 @@ module _ (accounts : Accounts) (name : Name) (password : Password) (me : ProcNam
   by_place None nowhere runs = unknown nowhere runs
   by_place (Some place) at_place runs = someone place at_place runs
 
--- A login is the row of its call.
+-- The program of `login` refines its rule.
 pub login_refines : LoginRefines
 login_refines accounts ok name password me caller old new f result ready found runs =
     by_place accounts name password me caller old new f result ready found (place_of accounts.users name) refl runs

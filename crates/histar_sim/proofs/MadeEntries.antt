@@ -74,7 +74,7 @@ module _ (accounts : Accounts) (ok : AreAccounts accounts) (s : State) (f : Flat
   abbrev walk : List RawCall
   walk = walk_reads accounts ok s f me t ready d
 
-  -- the raw calls up to the making
+  -- the raw calls up to the make call
   abbrev pub asked : List RawCall
   asked = walk_reads accounts ok s f me t ready d ++ raw.OwnLabel ∷ []
 
@@ -107,7 +107,7 @@ module _ (accounts : Accounts) (ok : AreAccounts accounts) (old new : KernelMode
   abbrev room_here : Room
   room_here = the_room accounts ok (state old) f me t ready d m
 
-  -- behind the walk there must be a class for it
+  -- after the walk there must be a class for it
   abbrev no_class : Option Errno
   no_class = unless (is_some (class_made accounts p mode)) EPERM
 
@@ -171,7 +171,7 @@ module _ (accounts : Accounts) (ok : AreAccounts accounts) (old new : KernelMode
       abbrev may : Bool
       may = may_write accounts p (directory_class accounts ok (state old) f me t ready d open_so_far)
 
-      -- the making is denied, and so the call refused
+      -- the make call is denied, and so the Unix call is refused
       denied : (x : Levels) (why : Denied) (errno : Errno) → check (state mid) t (make place.container x) ≡ Some why
           → errno_of why ≡ Some errno → refused accounts f me p call ≡ Some errno → Runs (making x) mid new t result
           → Refined
@@ -182,7 +182,7 @@ module _ (accounts : Accounts) (ok : AreAccounts accounts) (old new : KernelMode
           (has_reads_made _ _ (among_also old.line t reads calls ((make place.container x, Some why) ∷ [])
           (among_then old.line t reads reads (raw.OwnLabel ∷ []) (among_granted_all old.line t reads)))) on
 
-      -- where the kernel lets the thread hand in a label as the flat rules let the process make something, the making is granted or denied as they say
+      -- if the label is in range exactly where the flat rules let the process make something, the make call is granted or denied as they do
       by_right : (x : Levels) (can makes has : Bool) → may ≡ can → is_some (class_made accounts p mode) ≡ makes
           → has_number (state old) ≡ has
           → check (state mid) t (make place.container x)
@@ -200,7 +200,7 @@ module _ (accounts : Accounts) (ok : AreAccounts accounts) (old new : KernelMode
           granted_step accounts f me ready.caller call old new t ready.thread result calls mid chain
           (make place.container x) (within room_here x) said on (go_on is_may refl is_has)
 
-      -- the thread hands in the label of what it makes
+      -- the thread makes the object with this label
       made_step : GoesOn → Runs (making (label_made accounts mine mode)) mid new t result → Refined
       made_step go_on on =
           makes accounts ok (state old) f me t ready mode
@@ -277,7 +277,7 @@ module _ (accounts : Accounts) (ok : AreAccounts accounts) (old new : KernelMode
     changed_is : changed accounts f me p call ≡ with_node f (m ∷ d) made.class content
     changed_is = entry.changes ∙ ap (λ (o : Option Class). with_node f (m ∷ d) (class_or_open o) content) made.class_is
 
-    -- The directory is written with the entry, and the call is done, where the objects of the flat state with the new entry stand then.
+    -- The directory is written with the entry, and the call is done, if the objects then match the flat state with the new entry.
     pub entry_written : (before : List RawCall) → AreAmong reads (entries_of old.line t (all_granted before))
         → (linked : KernelModel) → state linked ≡ later → Chain old t (all_granted before) linked
         → ObjectsMatch accounts after (with_node f (m ∷ d) made.class content)

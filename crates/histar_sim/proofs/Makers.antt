@@ -1,4 +1,4 @@
--- What a process makes: the label that its thread hands in is that of the class that it makes, or lies outside the thread's range.
+-- What a process makes: its thread asks for the label of the class that the process makes, or for one outside the thread's range.
 use Rattle.std.proofs.Common.{◌≡◌, ◌≢◌, ◌⊎◌, ℕ, ◌≤◌, ◌==◌, ◌||◌, ◌&&◌, Bool, true, false, List, [], ◌∷◌, Option, None, Some, arith, inl, inr, refl}
 use Rattle.std.proofs.Common.{sym, ap, ◌∙◌, length, if◌then◌else◌}
 use Rattle.std.specs.Prelude.{is_some, map, option_map}
@@ -35,12 +35,12 @@ use Rattle.histar_refinement.proofs.CallLabels.{reads_numbered, private_label, r
 use Rattle.histar_sim.specs.Simulation.{IsReady}
 use Rattle.histar_sim.proofs.FoundObjects.{is_nobody}
 
--- how what is for the group of this number is guarded; of no group, as nobody's
+-- the guard of what is for the group of this number; without a group, nobody's
 abbrev guard_of_group : Option ℕ → Guard
 guard_of_group None = private_guard 0
 guard_of_group (Some k) = group_guard k
 
--- how what is made in this mode for user i is guarded
+-- the guard of what is made in this mode for user i
 abbrev guard_of : Accounts → Mode → ℕ → Guard
 guard_of accounts modes.Private i = private_guard i
 guard_of accounts modes.Readable i = readable_guard i
@@ -62,14 +62,14 @@ module _ (accounts : Accounts) (ok : AreAccounts accounts) (s : State) (f : Flat
   abbrev number : Option ℕ
   number = user_number accounts p.user
 
-  -- the thread's own label, and the one that it hands in
+  -- the thread's own label, and the one that it asks for
   abbrev pub own : Levels
   own = rights_label ready.represents.matched.category (thread_rights accounts me ready.caller.process)
 
   abbrev pub handed : Levels
   handed = label_made accounts own mode
 
-  -- Of this label nothing may be made: it lies outside the thread's range, and the flat rules know of no class.
+  -- Nothing may be made with this label: it is outside the thread's range, and the flat rules know no class of it.
   pub record MakesNothing : Type 0 where
     pub guard : Guard
     pub label_is : handed ≡ guard_label ready.represents.matched.category guard
@@ -131,7 +131,7 @@ module _ (accounts : Accounts) (ok : AreAccounts accounts) (s : State) (f : Flat
       reads : may_read accounts p (class_of_mode x p.user) ≡ true
       writes : may_write accounts p (class_of_mode x p.user) ≡ true
 
-    -- it makes nothing in this mode, and the label lies outside its thread's range
+    -- the process makes nothing in this mode, and the label is outside its thread's range
     record CannotMake (x : Mode) (i : ℕ) : Type 0 where
       outside : is_made_within accounts ready.represents.matched.category ready.represents.matched.different me p (guard_of accounts x i) ≡ false
       nothing : is_some (free_class accounts p x) ≡ false
@@ -143,7 +143,7 @@ module _ (accounts : Accounts) (ok : AreAccounts accounts) (s : State) (f : Flat
         by None is = refl
         by (Some i) is = let low = (user_range accounts p.user i is).0 in grind (arith, nat_tests, low)
 
-    -- a group's is made by its members
+    -- the members of a group make what is the group's
     by_group : (group : Name) (i : ℕ) (o : Option ℕ) → group_number accounts group ≡ o → (b : Bool)
         → is_member accounts p.user group ≡ b → CanMake (modes.Group group) i ⊎ CannotMake (modes.Group group) i
     by_group group i None is b member = inr (record {
@@ -172,11 +172,11 @@ module _ (accounts : Accounts) (ok : AreAccounts accounts) (s : State) (f : Flat
       nothing = ap (λ (x : Bool). is_some (if x then Some (Grouped group) else None)) member;
     })
 
-    -- what everyone may read and write is made by everyone
+    -- everyone makes what everyone may read and write
     makes_open : (i : ℕ) → CanMake modes.Open i
     makes_open i = record { made = refl; guarded = refl; reads = refl; writes = free }
 
-    -- a user makes its own
+    -- a user makes what is its own
     by_user : (i : ℕ) → number ≡ Some i → (x : Mode) → CanMake x i ⊎ CannotMake x i
     by_user i is modes.Private = inl (record {
       made = ap (λ (b : Bool). if b then None else Some (Private p.user)) (not_nobody accounts ok p.user i is);
@@ -193,7 +193,7 @@ module _ (accounts : Accounts) (ok : AreAccounts accounts) (s : State) (f : Flat
     by_user i is modes.Open = inl (makes_open i)
     by_user i is (modes.Group group) = by_group group i (group_number accounts group) refl (is_member accounts p.user group) refl
 
-    -- and nobody none
+    -- nobody's process makes this, or makes nothing
     by_nobody : number ≡ None → (x : Mode) → CanMake x 0 ⊎ CannotMake x 0
     by_nobody none modes.Private = inr (record {
       outside = private_range accounts ready.represents.matched.category ready.represents.matched.different me p 0 ∙ off;
@@ -236,7 +236,7 @@ module _ (accounts : Accounts) (ok : AreAccounts accounts) (s : State) (f : Flat
           writes = can.writes;
         }
 
-    -- and where it makes nothing
+    -- where the process makes nothing in this mode
     not_made : (i : ℕ) → or_zero number ≡ i → i ≤ length accounts.users → CannotMake mode i → MakesNothing
     not_made i is low cannot = record {
       guard = guard_of accounts mode i;
@@ -276,7 +276,7 @@ module _ (accounts : Accounts) (ok : AreAccounts accounts) (s : State) (f : Flat
     low : (user number refl).0 ≤ length accounts.users
     low = (user_range accounts p.user (user number refl).0 (user number refl).1).1
 
-    -- what the thread hands in is secret to its user and to its jobs
+    -- the label that the thread asks for in a job is secret to its user and to its jobs
     label_in_jobs : handed ≡ guard_label ready.represents.matched.category (scratch_guard p.chain (user number refl).0)
     label_in_jobs =
         ap (λ (b : Bool). if b then file_label accounts mode (user_of own (length accounts.users)) else scratch_label
@@ -300,7 +300,7 @@ module _ (accounts : Accounts) (ok : AreAccounts accounts) (s : State) (f : Flat
     of_chain : (owner : Name) (jobs : List ProcName) → Scratch p.user p.chain ≡ Scratch owner jobs → jobs ≡ p.chain
     of_chain owner jobs e = sym (ap (λ (class : Class). elim class as (λ _. List ProcName) [ Private name ↦ [] | Readable name ↦ [] | Open ↦ [] | Scratch name of ↦ of | Grouped name ↦ [] ]) e)
 
-    -- what is made there is for the jobs
+    -- what is made in a job is for the job
     made_in_chain : MakesClass
     made_in_chain = record {
       class = Scratch p.user p.chain;
@@ -321,7 +321,7 @@ module _ (accounts : Accounts) (ok : AreAccounts accounts) (s : State) (f : Flat
       writes = λ j. (equal_tested p.user p.user refl j && all_known p j) && all_had p.chain j;
     }
 
-  -- The label that the thread hands in for a mode: it makes what the process makes by the flat rules, or nothing where they make nothing.
+  -- The label that the thread asks for in a mode: it makes what the process makes by the flat rules, or nothing where they make nothing.
   pub makes : {Result : Type 0} → (MakesNothing → Result) → (MakesClass → Result) → Result
   makes {Result} nothing class = by (is_free p) refl
     where

@@ -1,4 +1,4 @@
--- A mkdir does what the flat rule of `mkdir` says.
+-- The program of `mkdir` refines its rule.
 use Rattle.std.proofs.Common.{◌≡◌, ℕ, ◌+◌, Bool, true, false, List, [], ◌∷◌, ◌++◌, None, Result, arith, refl, ap, ◌∙◌, subst, length}
 use Rattle.std.specs.Prelude.{IsTrue, not, nat_lt}
 use Rattle.std.specs.FinMap as map
@@ -189,7 +189,7 @@ module _ (accounts : Accounts) (ok : AreAccounts accounts) (old new : KernelMode
       (has_number (with_object (state old) above held)) refl
       (subst (λ (q : ℕ). Runs (within room_here label q) linked new t result) (inner_is ∙ ap (λ (s : State). s.next_object) stays) rest)
 
--- a mkdir does what its flat rule says
+-- the program of `mkdir` refines its rule
 pub mkdir_refines : MkdirRefines
 unfolding mkdir_program
 mkdir_refines accounts ok [] mode right me old new f t result ready run =

@@ -29,7 +29,7 @@ last_name m d right =
     (and_parts (is_name m) (list_all is_name d)
     (and_parts (nat_le (length (m ∷ d)) most_names) (list_all is_name (m ∷ d)) right).1).0
 
--- A thread stands in the state, and a container that links a segment of these bytes, both of the same label.
+-- The state has a thread, and a container that links a segment of these bytes, both of the same label.
 pub record HasSegment (s : State) (t d n : ℕ) (label clearance above : Levels) (old : List ℕ) : Type 0 where
   pub links : Links
   pub thread : s.objects t ≡ object label (Thread clearance)
@@ -59,7 +59,7 @@ module _ (s : State) (t d n : ℕ) (label clearance above : Levels) (old : List 
       stays : (q : ℕ) → q < s.next_object → q ≢ d → (with_object s d o).objects q ≡ s.objects q
       stays q low = new_other s.objects s.next_object d o q (λ e. absurd (omega (arith, low, e)))
 
-      -- all of it stands there once an object is added to the container
+      -- all of it is there once an object is added to the container
       pub still_there : HasSegment (with_object s d o) t d n label clearance above old
       still_there = record {
         links = set.insert there.links s.next_object;
@@ -81,7 +81,7 @@ module _ (s : State) (t d n : ℕ) (label clearance above : Levels) (old : List 
             new_other (with_object s d o).objects (s.next_object + 1) s.next_object inner q
             (λ e. absurd (omega (arith, low, e))) (λ e. absurd (omega (arith, low, e)))
 
-        -- and all of it stands there then
+        -- all of it is there once something is made in that object too
         pub there_then : HasSegment (with_object (with_object s d o) s.next_object inner) t d n label clearance above old
         there_then = record {
           links = still_there.links;

@@ -1,4 +1,4 @@
--- A process's own container and process segment: it writes the segment, which has few bytes, and takes away what the container links.
+-- A process's own container and process segment: it writes the segment, which has few bytes, and unlinks what the container links.
 use Rattle.std.proofs.Common.{◌≡◌, ◌≢◌, ℕ, ◌*◌, ◌≤◌, ◌&&◌, Bool, true, List, [], ◌∷◌, ◌++◌, length, map, Option, None, Some, arith, refl, sym, ap}
 use Rattle.std.proofs.Common.{◌∙◌}
 use Rattle.std.specs.Prelude.{is_some}
@@ -28,7 +28,7 @@ use Rattle.histar_refinement.proofs.RawChecks.{object, write_check, unlink_check
 
 -- ---- a process segment has few bytes
 
--- each child has 17
+-- each child takes 17 bytes
 pub children_long : (cs : List Listed) → length (flat_map child_bytes cs) ≡ 17 * length cs
 children_long [] = refl
 children_long (c ∷ cs) = let later = children_long cs in omega (arith, later)
@@ -42,7 +42,7 @@ long_by (Some n) status few = let long = children_long status.children in omega 
 pub status_few : (status : ProcessStatus) → length status.children ≤ most_children → length (status_bytes status) ≤ 4096
 status_few status few = long_by status.exited status few
 
--- of as many children as a process can have no more are listed
+-- no more children are listed than a process can have
 pub listed_few : (processes : ProcName → Option Process) (number : AddressNumbers) (me : ProcName) (born : ℕ)
     → born ≤ most_children → length (map (listed_by number me) (children processes me born)) ≤ most_children
 listed_few processes number me born most =
@@ -74,6 +74,6 @@ module _ (s : State) (t C S : ℕ) (own most due : Levels) (links : Links) (held
         write_check s t own most thread C due links holder seen S linked due held segment 0 bytes
         ∙ (λ i. unless (may i) Modify orelse unless (fits held bytes few i) TooBig)
 
-    -- and what the container links is taken away
+    -- unlinking what the container links is granted
     pub unlink_granted : (o : ℕ) → set.contains links o ≡ true → check s t (Unlink C o) ≡ None
     unlink_granted o linked = unlink_check s t own most thread C due links holder seen o linked ∙ ap (λ (b : Bool). unless b Modify) may

@@ -1,4 +1,4 @@
--- A read does what the flat rule of `read` says.
+-- The program of `read` refines its rule.
 use Rattle.std.proofs.Common.{◌≡◌, ℕ, Bool, true, false, List, [], ◌∷◌, ◌++◌, None, Some, Result, refl, sym, ap, ◌∙◌, subst}
 use Rattle.std.proofs.lemmas.List.{map-append}
 use Rattle.histar_base.specs.Refusals.{unless}
@@ -104,7 +104,7 @@ module _ (accounts : Accounts) (ok : AreAccounts accounts) (old new : KernelMode
         (walked_then accounts ok (state old) f me t ready m d old.line (next ∷ []))
         (subst (λ (s : State). Represents accounts s f) (sym same) ready.represents) end)
 
--- a read does what its flat rule says
+-- the program of `read` refines its rule
 pub read_refines : ReadRefines
 unfolding read_program
 read_refines accounts ok [] me old new f t result ready run =

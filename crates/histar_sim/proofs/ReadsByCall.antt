@@ -1,4 +1,4 @@
--- The reads of each call, in the words of its walk, its search or its label, and that they are what the call is due to ask.
+-- The reads of each call, by its walk, its search or its label, and that they ask the expected questions.
 use Rattle.std.proofs.Common.{◌≡◌, ℕ, ◌+◌, Bool, true, false, List, [], ◌∷◌, ◌++◌, Option, None, Some, map, refl, ap, subst, sym}
 use Rattle.histar_flat.specs.declared.calls.UnixCall.{UnixCall}
 use Rattle.histar_flat.specs.declared.calls.UnixCall.TheVariants.{List as ListCall, Stat, Rmdir, Status, Kill, Whoami, Login, Wrap}
@@ -30,7 +30,7 @@ module _ (accounts : Accounts) where
         (container : ℕ) × (listing : ℕ) × (later : List RawCall)
         × IsDirectoryAt accounts s d container listing × (calls ≡ raw.Read container listing ∷ later) × AreReadsOf more later
 
-    -- among the entries are reads of the directories that the way into a directory looks at
+    -- among the entries are reads of the directories that the way into a directory tests
     abbrev pub HasWay : Flat → Process → Path → List TraceEntry → Type 0
     HasWay f p d entries = (calls : List RawCall) × AreReadsOf (tested accounts f p d) calls × AreAmong calls entries
 
@@ -39,7 +39,7 @@ module _ (accounts : Accounts) where
     HasWalk f p [] entries = Unit {0}
     HasWalk f p (n ∷ d) entries = HasWay f p d entries
 
-    -- the directories that the walk to a path looks whether it may read
+    -- the directories that the walk to a path tests for reading
     abbrev pub walked_paths : Flat → Process → Path → List Path
     walked_paths f p [] = []
     walked_paths f p (n ∷ d) = tested accounts f p d
@@ -49,7 +49,7 @@ module _ (accounts : Accounts) where
     HasWalkUnlessFull f p q (Refused EAGAIN) entries = Unit {0}
     HasWalkUnlessFull f p q _ entries = HasWalk f p q entries
 
-    -- a raw call that asks for the label of what stands at a path, where the reply tells of it
+    -- a raw call that asks for the label of the object at a path, if the reply shows it
     abbrev pub AreLabelCalls : Path → Reply → List RawCall → Type 0
     AreLabelCalls q (Stats stat) calls =
         (container : ℕ) × (object : ℕ) × IsObjectAt accounts s q container object
@@ -73,18 +73,18 @@ module _ (accounts : Accounts) where
     abbrev pub HasSearch : Flat → Process → ProcName → List TraceEntry → Type 0
     HasSearch f p name entries = (calls : List RawCall) × AreStatusReads (looked_at accounts f p name) calls × AreAmong calls entries
 
-    -- a directory that is to be taken away is read itself, as the ones on the way are
+    -- a directory that is to be removed is read itself, as the ones on the way are
     abbrev pub HasWayUnlessSlash : Flat → Process → Path → List TraceEntry → Type 0
     HasWayUnlessSlash f p [] entries = Unit {0}
     HasWayUnlessSlash f p (n ∷ d) entries = HasWay f p (n ∷ d) entries
 
-  -- a login whose password was looked at reads the user's password segment
+  -- a login whose password was compared reads the user's password segment
   abbrev pub reads_of_login : Option ℕ → Bool → List RawCall
   reads_of_login None compared = []
   reads_of_login (Some place) false = []
   reads_of_login (Some place) true = raw.Read root_number (password_of (place + 1)) ∷ []
 
-  -- among the entries are the reads that the call of a process cannot do without, so that what it tells was asked of the kernel
+  -- among the entries are the reads that the call of a process cannot do without, so that what it replies was asked of the kernel
   abbrev pub HasReadsByCall : State → Flat → Process → UnixCall → Reply → List TraceEntry → Type 0
   HasReadsByCall s f p (ListCall path) reply entries = HasWay s f p path entries
   HasReadsByCall s f p (Stat path) reply entries = HasLabel s f p path reply entries
@@ -97,7 +97,7 @@ module _ (accounts : Accounts) where
   HasReadsByCall s f p call reply entries = HasWalk s f p (path_of call) entries
 
   module _ (s : State) (f : Flat) (p : Process) where
-    -- what is asked first, and then what is asked behind it
+    -- the first questions, and the ones after them
     asked_then : (xs ys : List Question) (a b : List RawCall) → AskAll accounts s xs a → AskAll accounts s ys b
         → AskAll accounts s (xs ++ ys) (a ++ b)
     asked_then [] ys a b h k = subst (λ (c : List RawCall). AskAll accounts s ys (c ++ b)) (sym h) k
@@ -113,7 +113,7 @@ module _ (accounts : Accounts) where
     asked_statuses [] calls h = h
     asked_statuses (name ∷ more) calls h = (raw.Read h.0 h.1, h.2, (h.0, h.1, h.3, refl), h.4, asked_statuses more h.2 h.5)
 
-    -- the reads of a walk ask what the walk is due to ask
+    -- the reads of a walk ask the questions of the walk
     asked_walk : (q : Path) (calls : List RawCall) → AreReadsOf s (walked_paths s f p q) calls → AskAll accounts s (walked accounts f p q) calls
     asked_walk [] calls h = h
     asked_walk (n ∷ d) calls h = asked_entries (tested accounts f p d) calls h
@@ -123,19 +123,19 @@ module _ (accounts : Accounts) where
     asked_label q (Stats stat) calls h = (raw.LabelOf h.0 h.1, [], (h.0, h.1, h.2, refl), h.3, refl)
     asked_label q reply calls h = h
 
-    -- what is due to a walk is asked
+    -- the questions of a walk are asked
     walk_due : (q : Path) (entries : List TraceEntry) → HasWalk s f p q entries
         → (calls : List RawCall) × AskAll accounts s (walked accounts f p q) calls × AreAmong calls entries
     walk_due [] entries h = ([], refl, tt)
     walk_due (n ∷ d) entries h = (h.0, asked_entries (tested accounts f p d) h.0 h.1, h.2)
 
-    -- what is due to a call that looks into a directory that it removes
+    -- the questions of a call that looks into a directory that it removes are asked
     into_due : (q : Path) (entries : List TraceEntry) → HasWayUnlessSlash s f p q entries
         → (calls : List RawCall) × AskAll accounts s (walked_into accounts f p q) calls × AreAmong calls entries
     into_due [] entries h = ([], refl, tt)
     into_due (n ∷ d) entries h = (h.0, asked_entries (tested accounts f p (n ∷ d)) h.0 h.1, h.2)
 
-    -- what is due to a wrap
+    -- the questions of a wrap are asked
     wrap_due : (q : Path) (reply : Reply) (entries : List TraceEntry) → HasWalkUnlessFull s f p q reply entries
         → (calls : List RawCall) × AskAll accounts s (walked_unless_full accounts f p q reply) calls
         × AreAmong calls entries
@@ -143,13 +143,13 @@ module _ (accounts : Accounts) where
     wrap_due q (Refused errno) entries h = walk_due q entries h
     wrap_due q reply entries h = walk_due q entries h
 
-    -- what is due to a search
+    -- the questions of a search are asked
     search_due : (name : ProcName) (entries : List TraceEntry) → HasSearch s f p name entries
         → (calls : List RawCall) × AskAll accounts s (map StatusOf (looked_at accounts f p name)) calls
         × AreAmong calls entries
     search_due name entries h = (h.0, asked_statuses (looked_at accounts f p name) h.0 h.1, h.2)
 
-    -- what is due to a login
+    -- the questions of a login are asked
     login_due : (place : Option ℕ) (compared : Bool) (entries : List TraceEntry)
         → AreAmong (reads_of_login place compared) entries
         → (calls : List RawCall) × AskAll accounts s (password_asked place compared) calls × AreAmong calls entries
@@ -162,7 +162,7 @@ module _ (accounts : Accounts) where
       h,
     )
 
-    -- what is due to a call is asked, where it has the reads of its words
+    -- the expected questions of a call are asked, if it has its reads
     pub reads_due : (call : UnixCall) (reply : Reply) (entries : List TraceEntry)
         → HasReadsByCall s f p call reply entries → HasReads accounts s f (Some p) call reply entries
     reads_due (ListCall path) reply entries h = (h.0, asked_entries (tested accounts f p path) h.0 h.1, h.2)

@@ -1,4 +1,4 @@
--- A rename does what the flat rule of `rename` says.
+-- The program of `rename` refines its rule.
 use Rattle.std.proofs.Common.{◌≡◌, ℕ, Bool, true, false, List, [], ◌∷◌, ◌++◌, Option, None, Some, Result, refl, sym, ap, ◌∙◌, subst, length}
 use Rattle.std.specs.Prelude.{IsTrue, not}
 use Rattle.std.specs.FinMap as map
@@ -193,7 +193,7 @@ rename_of_slash accounts old new f me t name result ready run =
     refused_at_once accounts f me ready.caller (calls.Rename [] name) old new t ready.thread result [] old
     (same_kernel old) refl ready.represents EBUSY refl refl refl tt run
 
--- a rename does what its flat rule says
+-- the program of `rename` refines its rule
 pub rename_refines : RenameRefines
 rename_refines accounts ok [] name named me old new f t result ready run = rename_of_slash accounts old new f me t name result ready run
 rename_refines accounts ok (m ∷ d) name named me old new f t result ready run =

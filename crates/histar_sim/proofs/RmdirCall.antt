@@ -1,4 +1,4 @@
--- An rmdir does what the flat rule of `rmdir` says.
+-- The program of `rmdir` refines its rule.
 use Rattle.std.proofs.Common.{◌≡◌, ℕ, ◌==◌, ◌&&◌, Bool, true, false, List, [], ◌∷◌, ◌++◌, Option, None, Some, Result, Ok, Err, refl, sym, ap, ◌∙◌}
 use Rattle.std.proofs.Common.{subst, length, if◌then◌else◌}
 use Rattle.std.proofs.lemmas.List.{map-append, append-nil}
@@ -99,7 +99,7 @@ module _ (accounts : Accounts) (ok : AreAccounts accounts) (old new : KernelMode
   abbrev is_empty : Bool
   is_empty = length (entries_in f (m ∷ d)) == 0
 
-  -- once the entry was found, and once the directory was read
+  -- what comes after the entry was found, and after the directory was read
   abbrev when_read : FoundEntry → Directory → Program
   when_read entry directory = given (must_be_empty directory.entries) (λ _. take_away entry (λ _. Answers Done))
 
@@ -186,7 +186,7 @@ rmdir_of_slash accounts old new f me t result ready run =
     refused_at_once accounts f me ready.caller (calls.Rmdir []) old new t ready.thread result [] old (same_kernel old)
     refl ready.represents EBUSY refl refl refl tt run
 
--- an rmdir does what its flat rule says
+-- the program of `rmdir` refines its rule
 pub rmdir_refines : RmdirRefines
 rmdir_refines accounts ok [] me old new f t result ready run = rmdir_of_slash accounts old new f me t result ready run
 rmdir_refines accounts ok (m ∷ d) me old new f t result ready run = rmdir_is_refined accounts ok old new f me t ready m d result run

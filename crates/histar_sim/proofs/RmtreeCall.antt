@@ -1,4 +1,4 @@
--- An rmtree does what the flat rule of `rmtree` says.
+-- The program of `rmtree` refines its rule.
 use Rattle.std.proofs.Common.{ℕ, [], ◌∷◌, Option, Result, refl, length}
 use Rattle.histar_base.specs.Refusals.{unless}
 use Rattle.histar_flat.specs.declared.calls.UnixCall.{UnixCall}
@@ -62,7 +62,7 @@ rmtree_of_slash accounts old new f me t result ready run =
     refused_at_once accounts f me ready.caller (calls.Rmtree []) old new t ready.thread result [] old (same_kernel old)
     refl ready.represents EBUSY refl refl refl tt run
 
--- an rmtree does what its flat rule says
+-- the program of `rmtree` refines its rule
 pub rmtree_refines : RmtreeRefines
 rmtree_refines accounts ok [] me old new f t result ready run = rmtree_of_slash accounts old new f me t result ready run
 rmtree_refines accounts ok (m ∷ d) me old new f t result ready run = rmtree_is_refined accounts ok old new f me t ready m d result run

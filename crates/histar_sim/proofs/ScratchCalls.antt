@@ -1,4 +1,4 @@
--- What the kernel says to the raw calls that make the directory segment of a scratch directory and write its entry, once its container is made.
+-- The kernel's checks of raw calls that make the directory segment of a scratch directory and write its entry, once the container is made.
 use Rattle.std.proofs.Common.{◌≡◌, ◌≢◌, ℕ, ◌+◌, ◌<◌, ◌≤◌, ◌&&◌, ◌==◌, true, false, List, [], ◌∷◌, length, None, Some, refl, sym, ap, ◌∙◌}
 use Rattle.std.specs.Prelude.{option_map}
 use Rattle.std.specs.FinSet as set
@@ -38,7 +38,7 @@ use Rattle.histar_sim.proofs.BirthChecks.{IsModified, segment_said}
 use Rattle.histar_wrap.specs.Scratch.{directory_label}
 use Rattle.histar_sim.proofs.ScratchLabels.{directory_modified, above_modified}
 
--- A thread, a container and the segment that it links stand there still once the thread has made a category, which it owns.
+-- A thread, a container and the segment that it links are still there once the thread has made a category, which it owns.
 module _ (s : State) (t d n : ℕ) (own own_clearance above : Levels) (old : List ℕ) (there : HasSegment s t d n own own_clearance above old) where
   holder_apart : d ≢ t
   holder_apart e = true≢false (sym (ap (λ (q : ℕ). is_thread (s.objects q)) e ∙ ap is_thread there.thread) ∙ ap is_thread there.holder)

@@ -1,4 +1,4 @@
--- What the kernel says once the category of a new job is made: the thread makes the container of the scratch directory exactly where the
+-- The kernel's checks once the category of a new job is made: the thread makes the container of the scratch directory exactly where the
 -- directory above may be written, its user is declared and there is a number for it; and it may take its own label and clearance again.
 use Rattle.std.proofs.Common.{◌≡◌, ◌≢◌, ℕ, ◌+◌, ◌&&◌, Bool, true, [], ◌∷◌, ◌++◌, None, Some, sym, ap, ◌∙◌, subst}
 use Rattle.std.specs.Prelude.{is_some, not, option_map}
@@ -54,7 +54,7 @@ module _ (accounts : Accounts) (ok : AreAccounts accounts) (s : State) (f : Flat
   abbrev child : ProcName
   child = (p.born + 1) ∷ me
 
-  -- the new job's category, and what is represented once it is named
+  -- the new job's category, and the flat state that is represented once it is named
   abbrev job : ℕ
   job = s.next_category
 
@@ -147,11 +147,11 @@ module _ (accounts : Accounts) (ok : AreAccounts accounts) (s : State) (f : Flat
   abbrev i : ℕ
   i = or_zero (user_number accounts p.user)
 
-  -- how it is guarded
+  -- the guard of the scratch directory
   abbrev guard : Guard
   guard = scratch_guard (p.chain ++ child ∷ []) i
 
-  -- The label that the thread hands in is secret to its user, to its jobs and to the new one.
+  -- The label that the thread asks for is secret to its user, to its jobs and to the new one.
   due_is : directory_label accounts own job ≡ guard_label m.category guard
   due_is = directory_by accounts s f l me p ready.caller.agrees unused m.category naming_is
 

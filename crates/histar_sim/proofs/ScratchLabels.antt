@@ -97,7 +97,7 @@ module _ (accounts : Accounts) (s : State) (f : Flat) (l : ObjectsMatch accounts
   own_old : RightsHave (IsOld l.category l.different job (OfJob child)) (thread_rights accounts me p)
   own_old = let used = rights_used accounts f me p here in (λ c e. old c (used.0 c e), λ c e. old c (used.1 c e))
 
-  -- it owns the job's category
+  -- the thread's label owns the job's category
   label_with_job : with_level own job Star ≡ rights_label names (rights_with_job accounts me p)
   label_with_job = made_label l.category l.different job (OfJob child) (thread_rights accounts me p) own_old
 
@@ -132,7 +132,7 @@ module _ (accounts : Accounts) (s : State) (f : Flat) (l : ObjectsMatch accounts
       by None is = omega arith
       by (Some i) is = (user_range accounts p.user i is).1
 
-  -- its label is secret to the user and to the jobs
+  -- the label of the scratch directory is secret to the user and to the jobs
   directory_is : directory_label accounts own job ≡ guard_label names (scratch_guard jobs user)
   directory_is =
       ap (λ (number : ℕ). scratch_label number (jobs_with own job)) (own_user_is accounts s f l me p)
@@ -154,7 +154,7 @@ module _ (accounts : Accounts) (s : State) (f : Flat) (l : ObjectsMatch accounts
         | inr is ↦ subst (λ (x : CategoryName). IsMade (job + 1) (names x)) (sym (found.1 ∙ ap OfJob is)) job_made
       ]
 
-  -- it names categories that are made
+  -- the label of the scratch directory names only categories that were made
   made_by_names : is_made (job + 1) (guard_label names (scratch_guard jobs user)) ≡ true
   made_by_names =
       guard_made (job + 1) names (scratch_guard jobs user) (each_head (λ c. IsMade (job + 1) (names c))
@@ -178,7 +178,7 @@ module _ (accounts : Accounts) (s : State) (f : Flat) (l : ObjectsMatch accounts
       plain = guard_owns_nothing names (scratch_guard jobs user);
     }
 
-    -- The thread may hand it in.
+    -- The thread may give the label to what it makes.
     pub directory_modified : IsModified (with_level own job Star) (with_level clearance job L3)
         (directory_label accounts own job) (s.next_category + 1)
     directory_modified =

@@ -1,5 +1,5 @@
 -- The way to a process, at a state that represents a flat state: it is refused as the flat rules refuse it, or the process segment of each
--- process on the way is read, and the last one is handed on.
+-- process on the way is read, and the last one is passed on.
 use Rattle.std.proofs.Common.{◌≡◌, ℕ, ◌&&◌, Bool, true, false, List, [], ◌∷◌, ◌++◌, Option, None, Some, Result, refl, sym, ap, ◌∙◌, subst, length}
 use Rattle.std.proofs.Common.{if◌then◌else◌}
 use Rattle.std.proofs.lemmas.List.{map-append, append-nil}
@@ -69,7 +69,7 @@ module _ (accounts : Accounts) (s : State) (f : Flat) (me : ProcName) (t : ℕ) 
   abbrev pub place_of : ProcName → Home
   place_of name = where_is accounts s f ready.represents.matched name
 
-  -- what its process segment tells
+  -- the status in the process segment of a process
   abbrev pub status_of : ProcName → Process → ProcessStatus
   status_of name other = status_by f.processes ready.represents.matched.naming.number name other
 
@@ -77,7 +77,7 @@ module _ (accounts : Accounts) (s : State) (f : Flat) (me : ProcName) (t : ℕ) 
   abbrev pub read_of : ProcName → RawCall
   read_of name = raw.Read (place_of name).container (place_of name).segment
 
-  -- the raw calls of the way to it
+  -- the raw calls of the way to a process
   abbrev pub search_reads : ProcName → List RawCall
   search_reads name = map read_of (looked_at accounts f p name)
 
@@ -111,7 +111,7 @@ module _ (accounts : Accounts) (s : State) (f : Flat) (me : ProcName) (t : ℕ) 
   pub has_search : (name : ProcName) (entries : List TraceEntry) → AreAmong (search_reads name) entries → HasSearch accounts s f p name entries
   has_search name entries among = (search_reads name, are_reads (looked_at accounts f p name) (looked_there name), among)
 
-  -- on the way to a child it is looked at where it is there, behind those on the way to its parent
+  -- on the way to a child, the child is looked at if it is there, after those on the way to its parent
   search_longer : (n : ℕ) (above : ProcName) → not_found f p above ≡ None → (b : Bool) → is_some (f.processes (n ∷ above)) ≡ b
       → search_reads (n ∷ above) ≡ search_reads above ++ (if b then read_of (n ∷ above) ∷ [] else [])
   search_longer n above found b is =
@@ -135,12 +135,12 @@ module _ (accounts : Accounts) (s : State) (f : Flat) (me : ProcName) (t : ℕ) 
       (if not (is_some (is i)) && is_some (f.processes (n ∷ above)) then (n ∷ above) ∷ [] else []))
       ∙ append-nil (search_reads above)
 
-  -- what the bytes of a process segment tell
+  -- the status that the bytes of a process segment spell
   pub revealed : (name : ProcName) (other : Process) → f.processes name ≡ Some other
       → status_in (bytes_in (s.objects (place_of name).segment)) ≡ Some (status_of name other)
   revealed name other here = status_is accounts s f l name other here
 
-  -- and what they tell of a child
+  -- the child that these bytes list
   pub child_revealed : (n : ℕ) (name : ProcName) (other : Process) → f.processes name ≡ Some other
       → child_at (status_of name other).children n
       ≡ option_map (λ (q : Process). record {
@@ -170,19 +170,19 @@ module _ (accounts : Accounts) (ok : AreAccounts accounts) (old new : KernelMode
   abbrev read : ProcName → RawCall
   read name = read_of accounts (state old) f me t ready name
 
-  -- the call is refused so, and these raw calls are the reads that it cannot do without
+  -- the call is refused with this errno, and these raw calls are the reads that it cannot do without
   abbrev pub IsRefusedBy : Errno → List Step → Type 0
   IsRefusedBy errno steps =
       (refused accounts f me process call ≡ Some errno)
       × ReadsAmong accounts f me ready.caller call old new t ready.thread steps (Refused errno)
 
-  -- where the process cannot be learnt of, the call is refused, once the reads of the way are made
+  -- where the search for the process is refused, so is the call, once the reads of the way are made
   abbrev pub Refuses : ProcName → Type 0
   Refuses name =
       (errno : Errno) → not_found f process name ≡ Some errno → (steps : List Step)
       → AreAmong (calls_to name) (entries_of old.line t steps) → IsRefusedBy errno steps
 
-  -- where it can, the call goes on with where it is found and what its process segment tells
+  -- where the process is found, the call goes on with its home and the status in its process segment
   abbrev pub GoesOn : ProcName → (Home → ProcessStatus → Program) → Type 0
   GoesOn name rest =
       not_found f process name ≡ None → (other : Process) → f.processes name ≡ Some other → sees process other ≡ true
@@ -263,13 +263,13 @@ module _ (accounts : Accounts) (ok : AreAccounts accounts) (old new : KernelMode
         ready.represents ESRCH end.0 refl refl end.1 on
     by_child (Some child) is on = enters child is on
 
-    -- the number is looked up in what the parent's process segment tells, and the child's is read
+    -- the number is looked up in the status of the parent's process segment, and the child's is read
     pub child_step : Runs (at_child (child_at (status above parent).children n)) mid new t result → Refined
     child_step run =
         by_child (f.processes (n ∷ above)) refl (subst (λ (o : Option Listed). Runs (at_child o) mid new t result)
         (child_revealed accounts (state old) f me t ready n above parent here) run)
 
-  -- where the parent cannot be learnt of, no more can the child
+  -- where the search for the parent is refused, so is that for the child
   pub parent_refuses : (n : ℕ) (above : ProcName) → Refuses (n ∷ above) → Refuses above
   parent_refuses n above refuses errno is steps among =
       refuses errno (ap (λ (o : Option Errno). o orelse unless (is_some (f.processes (n ∷ above))) ESRCH

@@ -1,4 +1,4 @@
--- A spawn is the row of its call: it is refused as the flat rules say, or the child is born.
+-- A spawn refines its rule: it is refused as the flat rules say, or the child is born.
 use Rattle.std.proofs.Common.{◌≡◌, ℕ, ◌+◌, ◌<◌, true, List, [], ◌∷◌, ◌++◌, length, Option, None, Some, Result, refl, sym, subst}
 use Rattle.std.specs.Prelude.{nat_lt}
 use Rattle.std.proofs.lemmas.Bool.{ltb-true}
@@ -44,7 +44,7 @@ use Rattle.histar_sim.proofs.BirthRun.{spawned, birth_made}
 use Rattle.histar_sim.proofs.ChildRoom.{NeedsChild, own_of, own_clearance_of, status_of, reads, at_home, at_status, at_thread, child_room_step}
 use Rattle.histar_sim.proofs.ChildRoom.{own_label_step}
 
--- what is refused first is refused, whatever nothing comes behind it
+-- a first refusal is the refusal, if none comes after it
 nothing_behind : (o : Option Errno) → o ≡ (o orelse None)
 nothing_behind None = refl
 nothing_behind (Some errno) = refl
@@ -127,7 +127,7 @@ module _ (accounts : Accounts) (ok : AreAccounts accounts) (me : ProcName) (call
         own_label_step accounts me caller old new f result ready found Spawn before mid chain stays (with_labels status)
         runs born
 
--- A spawn is the row of its call.
+-- The program of `spawn` refines its rule.
 pub spawn_refines : SpawnRefines
 unfolding spawn_program
 spawn_refines accounts ok me caller old new f result ready found runs =

@@ -1,4 +1,4 @@
--- A stat does what the flat rule of `stat` says.
+-- The program of `stat` refines its rule.
 use Rattle.std.proofs.Common.{◌≡◌, ℕ, true, Bool, List, [], ◌∷◌, ◌++◌, Option, None, Some, Result, refl, sym, ap, ◌∙◌, subst, length}
 use Rattle.std.proofs.lemmas.List.{append-nil}
 use Rattle.std.proofs.lemmas.Option.{same_Some}
@@ -71,7 +71,7 @@ module _ (accounts : Accounts) (ok : AreAccounts accounts) (old new : KernelMode
   abbrev Refined : Path → Type 0
   Refined q = Goal accounts f me ready.caller (calls.Stat q) old new t ready.thread result
 
-  -- the label of what stands at a path is asked for, once these raw calls were made
+  -- the label of the object at a path is asked for, once these raw calls were made
   module _ (q : Path) (there : Node) (at : get f.files q ≡ Some there) (D O : ℕ)
       (numbered : ready.represents.matched.naming.number (address_of q) ≡ Some O)
       (object_at : IsObjectAt accounts (state old) q D O)
@@ -133,7 +133,7 @@ module _ (accounts : Accounts) (ok : AreAccounts accounts) (old new : KernelMode
     abbrev place : Place
     place = place_at accounts ok (state old) f me t ready d
 
-    -- the way, and then whether something stands there
+    -- the refusal of the way, or that nothing is at the path
     refused_is : (way : Option Errno) (o : Option Node) → into accounts f ready.caller.process d ≡ way
         → get f.files (m ∷ d) ≡ o
         → refused accounts f me ready.caller.process stat ≡ (way orelse unless (is_some_and o (λ n. true)) ENOENT)
@@ -230,7 +230,7 @@ module _ (accounts : Accounts) (ok : AreAccounts accounts) (old new : KernelMode
       (runs accounts ok (state old) f me t ready))
       [] refl old refl (same_kernel old) run
 
--- a stat does what its flat rule says
+-- the program of `stat` refines its rule
 pub stat_refines : StatRefines
 stat_refines accounts ok [] me old new f t result ready run = stat_of_slash accounts ok old new f me t ready result run
 stat_refines accounts ok (m ∷ d) me old new f t result ready run = stat_is_refined accounts ok old new f me t ready result m d run

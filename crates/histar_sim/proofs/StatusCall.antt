@@ -1,4 +1,4 @@
--- A question for a process's status does what the flat rule of `status` says.
+-- The program of `status` refines its rule.
 use Rattle.std.proofs.Common.{◌≡◌, ℕ, List, Option, None, Some, Result, refl, sym, ap, ◌∙◌, subst, length}
 use Rattle.histar_flat.specs.declared.calls.UnixCall.{UnixCall}
 use Rattle.histar_flat.specs.declared.calls.UnixCall.TheVariants as calls
@@ -26,12 +26,12 @@ use Rattle.histar_sim.proofs.Walks.{among_granted_all}
 use Rattle.histar_sim.specs.Laws.{StatusRefines}
 use Rattle.histar_sim.proofs.Searches.{search_reads, has_search, search_step}
 
--- what the program tells of a process's life is what the flat rules answer
+-- the program's reply on a process's life is that of the flat rules
 life_is : (e : Option ℕ) → status_reply e ≡ elim e as (λ _. Reply) [ None ↦ Running | Some n ↦ Exited n ]
 life_is None = refl
 life_is (Some n) = refl
 
--- and needs no more than granted raw calls
+-- the reply needs only granted raw calls
 life_backed : (s : State) (entries : List TraceEntry) (e : Option ℕ) → IsBacked s entries (status_reply e)
 life_backed s entries None = tt
 life_backed s entries (Some n) = tt
@@ -57,6 +57,6 @@ module _ (accounts : Accounts) (ok : AreAccounts accounts) (old new : KernelMode
       (has_search accounts (state old) f me t ready name _ (among_granted_all old.line t reads))
       (subst (λ (s : State). Represents accounts s f) (sym stays) ready.represents) on)
 
--- a question for a status does what its flat rule says
+-- the program of `status` refines its rule
 pub status_refines : StatusRefines
 status_refines accounts ok name me old new f t result ready run = status_is_refined accounts ok old new f me t ready name result run

@@ -131,20 +131,20 @@ module _ (t : ℕ) (old new : KernelModel) where
 
 module _ (accounts : Accounts) (f : Flat) (me : ProcName) (caller : IsRunning f me) (call : UnixCall)
     (old new : KernelModel) (t : ℕ) (named : IsThreadOf accounts (state old) me t) (result : Result Reply Stopped) where
-  -- what a row shows
+  -- what is to be shown: the call follows its rule
   abbrev pub Goal : Type 0
   Goal = FollowsRule accounts f me call old new t result
 
   -- the raw calls so far, each granted
   module _ (calls : List RawCall) (mid : KernelModel) (so_far : Chain old t (all_granted calls) mid) where
-    -- with one more
+    -- the raw calls with one more
     longer : (next : RawCall) (later : KernelModel) → Called mid later t next None → Chain old t (all_granted (calls ++ next ∷ [])) later
     longer next later called =
         subst (λ (steps : List Step). Chain old t steps later)
         (sym (map-append (λ (c : RawCall). (c, None)) calls (next ∷ [])))
         (chain_after t old mid later (all_granted calls) ((next, None) ∷ []) so_far (later, called, same_kernel later))
 
-    -- with nothing more
+    -- the raw calls with nothing more
     kept : IsUnchanged mid new → Chain old t (all_granted calls) new
     kept same =
         subst (λ (steps : List Step). Chain old t steps new) (append-nil (all_granted calls))
@@ -163,7 +163,7 @@ module _ (accounts : Accounts) (f : Flat) (me : ProcName) (caller : IsRunning f 
             chain_unanswered accounts f me caller call old new t named (all_granted calls) chain
             (granted_broken_off t (reply_to accounts f me call) old new old.line calls chain)
 
-    -- a raw call that the rules grant, whatever a denial would have come to
+    -- a raw call that the rules grant, whatever would follow a denial
     pub allowed_step : (next : RawCall) (rest : Outcome next → Program) → check (state mid) t next ≡ None → Runs (Asks next rest) mid new t result
         → ((later : KernelModel) (answer : AnswerOf next) → Called mid later t next None
         → IsAnswer (state mid) t next answer → Chain old t (all_granted (calls ++ next ∷ [])) later
@@ -173,7 +173,7 @@ module _ (accounts : Accounts) (f : Flat) (me : ProcName) (caller : IsRunning f 
       | inr goes ↦ go_on goes.mid goes.answer goes.called goes.right (longer next goes.mid goes.called) goes.runs
     ]
 
-    -- one whose denial is replied or stops the call
+    -- a granted raw call whose denial would be replied or stop the call
     pub granted_step : (next : RawCall) (rest : AnswerOf next → Program) → check (state mid) t next ≡ None → Runs (ask next rest) mid new t result
         → ((later : KernelModel) (answer : AnswerOf next) → Called mid later t next None
         → IsAnswer (state mid) t next answer → Chain old t (all_granted (calls ++ next ∷ [])) later
@@ -199,7 +199,7 @@ module _ (accounts : Accounts) (f : Flat) (me : ProcName) (caller : IsRunning f 
     listed_step bytes dir is rest runs go_on =
         elim (listed_as t mid new bytes dir is rest result runs) [ inl ends ↦ ends_here ends | inr goes ↦ go_on goes ]
 
-    -- a raw call that they refuse since a counter has its greatest value, and that stops the call then
+    -- a raw call that the rules refuse since a counter has its greatest value, and that stops the call then
     pub spent_step : (next : RawCall) (rest : Outcome next → Program) → check (state mid) t next ≡ Some TooBig → rest (Err TooBig) ≡ Stops
         → (has_number (state mid) ≡ false) ⊎ (has_category (state mid) ≡ false) → Runs (Asks next rest) mid new t result → Goal
     spent_step next rest fails stops greatest runs = elim (refused_so t mid new next rest TooBig fails result runs) [
@@ -218,18 +218,18 @@ module _ (accounts : Accounts) (f : Flat) (me : ProcName) (caller : IsRunning f 
         by (Ok reply) err refined = absurd cc
         by (Err stopped) err refined = refined
 
-    -- the same of one whose denial is replied, if it has an errno
+    -- a raw call that they refuse since a counter has its greatest value, and whose denial has no errno
     counted_out : (next : RawCall) (rest : AnswerOf next → Program) → check (state mid) t next ≡ Some TooBig → errno_for next TooBig ≡ None
         → (has_number (state mid) ≡ false) ⊎ (has_category (state mid) ≡ false) → Runs (ask next rest) mid new t result → Goal
     counted_out next rest fails unrevealed greatest runs =
         spent_step next (or_refused (errno_for next) rest) fails (ap refused_with unrevealed) greatest runs
 
-    -- one that makes an object, since the next object has no number
+    -- a raw call that makes an object is refused, since the next object has no number
     pub exhausted_step : (next : RawCall) (rest : AnswerOf next → Program) → check (state mid) t next ≡ Some TooBig
         → errno_for next TooBig ≡ None → has_number (state mid) ≡ false → Runs (ask next rest) mid new t result → Goal
     exhausted_step next rest fails unrevealed greatest runs = counted_out next rest fails unrevealed (inl greatest) runs
 
-    -- and one that makes a category, since the next category has none
+    -- a raw call that makes a category is refused, since the next category has no number
     pub exhausted_category_step : (next : RawCall) (rest : AnswerOf next → Program)
         → check (state mid) t next ≡ Some TooBig → errno_for next TooBig ≡ None → has_category (state mid) ≡ false
         → Runs (ask next rest) mid new t result → Goal
@@ -237,7 +237,7 @@ module _ (accounts : Accounts) (f : Flat) (me : ProcName) (caller : IsRunning f 
 
     module _ (stays : state mid ≡ state old) (represents : Represents accounts (state old) f) (errno : Errno)
         (is : refused accounts f me caller.process call ≡ Some errno) where
-      -- a raw call that they refuse, as the flat rules refuse the call
+      -- a raw call that the rules refuse, as the flat rules refuse the call
       pub refused_step : (next : RawCall) (rest : AnswerOf next → Program) (denied : Denied)
           → check (state mid) t next ≡ Some denied → errno_for next denied ≡ Some errno
           → ReadsAmong accounts f me caller call old new t named (all_granted calls ++ (next, Some denied) ∷ [])
@@ -255,7 +255,7 @@ module _ (accounts : Accounts) (f : Flat) (me : ProcName) (caller : IsRunning f 
                 represents calls next denied chain errno (revealed_shown next denied errno revealed) is reads)
           ]
 
-      -- and a call that is refused with no raw call more
+      -- a call that is refused with no further raw call
       pub refused_at_once : is_access errno ≡ false → is_permission errno ≡ false
           → ReadsAmong accounts f me caller call old new t named (all_granted calls) (Refused errno)
           → Runs (Answers (Refused errno)) mid new t result → Goal

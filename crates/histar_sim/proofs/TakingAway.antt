@@ -1,4 +1,4 @@
--- An entry is taken away: its object is unlinked with all below it, and then the directory is written without it.
+-- An entry is removed: its object is unlinked with all below it, and then the directory is written without it.
 use Rattle.std.proofs.Common.{◌≡◌, ◌≢◌, ℕ, ◌&&◌, Bool, true, false, List, [], ◌∷◌, ◌++◌, Option, None, Some, Result, refl, sym, ap, ◌∙◌, subst}
 use Rattle.std.specs.FinMap as map
 use Rattle.std.specs.FinSet as set
@@ -101,7 +101,7 @@ module _ (accounts : Accounts) (s : State) (f : Flat) (l : ObjectsMatch accounts
   segment : s.objects N ≡ object due (Segment (spelling (directory_of f.files l.naming.number d)))
   segment = listing_found accounts s f l d class at guard.0 guard.1 N at_listing
 
-  -- what lies elsewhere is as it was, but for the directory's container
+  -- an object elsewhere is as it was, but for the directory's container
   stays : (b : Address Step) (q : ℕ) → l.naming.number b ≡ Some q → under same_step top b ≡ false → q ≢ D → mid.objects q ≡ s.objects q
   stays b q at_q outside other =
       cuts.is_cut.stays q
@@ -131,7 +131,7 @@ module _ (accounts : Accounts) (s : State) (f : Flat) (l : ObjectsMatch accounts
       let same = one_address same_step step_tests_equality s l.naming (expected accounts l.category f l.naming.number)
       l.agrees (Listing ∷ address_of d) top N at_listing (at_entry ∙ ap Some (sym e)) in absurd cc
 
-  -- and is still linked
+  -- the directory segment is still linked
   linked_then : set.contains (set.remove links O) N ≡ true
   linked_then =
       unlinked_links (Some (record { label = due; kind = Container links })) O N
@@ -171,7 +171,7 @@ module _ (accounts : Accounts) (ok : AreAccounts accounts) (old new : KernelMode
   abbrev entries : Entries
   entries = directory_of f.files ready.represents.matched.naming.number d
 
-  -- The flat rule takes the entry away where the directory that it lies in may be written.
+  -- The flat rule removes the entry where the directory that it lies in may be written.
   pub record TakesAway : Type 0 where
     pub refuses : refused accounts f me p call ≡ unless (writes accounts f p d) EACCES
     pub removes : changed accounts f me p call ≡ without_below f (m ∷ d)
@@ -271,7 +271,7 @@ module _ (accounts : Accounts) (ok : AreAccounts accounts) (old new : KernelMode
         granted_step accounts f me ready.caller call old new t ready.thread result calls mid chain unlinks (λ _. call_error) (said true is) on
         (λ cut done called right longer rest. written is cut (subst (λ (s : State). CutsOff s container o (state cut)) same called.state) longer rest)
 
-    -- the entry is taken away, or the call is refused
+    -- the entry is removed, or the call is refused
     pub take_away_step : Runs (take_away (entry_of accounts ok (state old) f me t ready m d content) (λ _. Answers Done)) mid new t result → Refined
     unfolding take_away
     take_away_step run =

@@ -1,4 +1,4 @@
--- An unlink does what the flat rule of `unlink` says.
+-- The program of `unlink` refines its rule.
 use Rattle.std.proofs.Common.{◌≡◌, ℕ, List, [], ◌∷◌, Option, None, Some, Result, refl, ap, ◌∙◌, length}
 use Rattle.std.specs.Prelude.{not}
 use Rattle.histar_base.specs.Refusals.{◌orelse◌, unless}
@@ -96,7 +96,7 @@ unlink_of_slash accounts old new f me t result ready run =
     refused_at_once accounts f me ready.caller (calls.Unlink []) old new t ready.thread result [] old (same_kernel old)
     refl ready.represents EBUSY refl refl refl tt run
 
--- an unlink does what its flat rule says
+-- the program of `unlink` refines its rule
 pub unlink_refines : UnlinkRefines
 unlink_refines accounts ok [] me old new f t result ready run = unlink_of_slash accounts old new f me t result ready run
 unlink_refines accounts ok (m ∷ d) me old new f t result ready run = unlink_is_refined accounts ok old new f me t ready m d result run

@@ -1,5 +1,5 @@
 -- The walk into a directory, at a state that represents a flat state: it is refused as the flat rules refuse it, or each directory on
--- the way is read, and the last one is handed on.
+-- the way is read, and the last one is passed on.
 use Rattle.std.proofs.Common.{◌≡◌, ℕ, ◌&&◌, Bool, true, false, List, [], ◌∷◌, ◌++◌, Option, None, Some, Result, inl, inr, refl, sym, ap, ◌∙◌, subst}
 use Rattle.std.proofs.Common.{append_assoc, length, if◌then◌else◌}
 use Rattle.std.proofs.lemmas.List.{map-append, append-nil}
@@ -100,7 +100,7 @@ module _ (line t : ℕ) where
       ∙ map-append (λ (s : Step). entry_of line t s.0 s.1) (all_granted calls) (all_granted more)))
       (among_more wanted (entries_of line t (all_granted calls)) (entries_of line t (all_granted more)) among)
 
-  -- and among those of these and any steps behind them
+  -- they are among the entries of these steps and any steps after them
   pub among_also : (wanted calls : List RawCall) (steps : List Step)
       → AreAmong wanted (entries_of line t (all_granted calls))
       → AreAmong wanted (entries_of line t (all_granted calls ++ steps))
@@ -108,18 +108,18 @@ module _ (line t : ℕ) where
       subst (AreAmong wanted) (sym (map-append (λ (s : Step). entry_of line t s.0 s.1) (all_granted calls) steps))
       (among_more wanted (entries_of line t (all_granted calls)) (entries_of line t steps) among)
 
-  -- a last one that was refused is among them too
+  -- a last raw call that was refused is among them too
   pub among_refused : (calls : List RawCall) (last : RawCall) (denied : Denied)
       → AreAmong (calls ++ last ∷ []) (entries_of line t (all_granted calls ++ (last, Some denied) ∷ []))
   among_refused [] last denied = inl (refl, tt)
   among_refused (call ∷ calls) last denied = inl (refl, among_refused calls last denied)
 
-  -- what is among entries is among them behind one more
+  -- what is among entries is among them after one more
   among_after : (wanted : List RawCall) (e : TraceEntry) (entries : List TraceEntry) → AreAmong wanted entries → AreAmong wanted (e ∷ entries)
   among_after [] e entries among = tt
   among_after (call ∷ wanted) e entries among = inr among
 
-  -- and so it is behind more granted calls
+  -- what is among entries is among them after more granted calls
   pub among_behind : (wanted before : List RawCall) (steps : List Step) → AreAmong wanted (entries_of line t steps)
       → AreAmong wanted (entries_of line t (all_granted before ++ steps))
   among_behind wanted [] steps among = among
@@ -127,14 +127,14 @@ module _ (line t : ℕ) where
       among_after wanted (entry_of line t call None) (entries_of line t (all_granted before ++ steps))
       (among_behind wanted before steps among)
 
-  -- granted calls behind others are among the entries of all
+  -- granted calls after others are among the entries of all
   pub among_granted_behind : (before calls : List RawCall) → AreAmong calls (entries_of line t (all_granted (before ++ calls)))
   among_granted_behind before calls =
       subst (λ (steps : List Step). AreAmong calls (entries_of line t steps))
       (sym (map-append (λ (c : RawCall). (c, None)) before calls))
       (among_behind calls before (all_granted calls) (among_granted_all calls))
 
-  -- and with a last one that was refused
+  -- granted calls after others, and a last one that was refused, are among the entries of all
   among_refused_behind : (before calls : List RawCall) (last : RawCall) (denied : Denied)
       → AreAmong (calls ++ last ∷ []) (entries_of line t (all_granted (before ++ calls) ++ (last, Some denied) ∷ []))
   among_refused_behind [] calls last denied = among_refused calls last denied
@@ -202,14 +202,14 @@ module _ (accounts : Accounts) (ok : AreAccounts accounts) (s : State) (f : Flat
     pub reads_is : reads accounts f p d ≡ may_read accounts p agrees.0
     reads_is = ap (λ (o : Option Node). is_some_and o (λ n. may_read accounts p n.class)) agrees.1
 
-    -- its directory segment is read unless the process may not read it
+    -- the directory segment is read unless the process may not read it
     pub read_said : check s t (read_of d) ≡ unless (reads accounts f p d) Observe
     read_said =
         read_listing_said accounts s f ready.represents.matched ok me p t runs d agrees.0 agrees.1
         (place_at d).container (place_at d).listing at_container at_listing
         ∙ ap (λ (b : Bool). unless b Observe) (sym reads_is)
 
-  -- the walk looks whether directories may be read, and nothing else
+  -- the walk tests whether directories may be read, and nothing else
   tested_dirs : (d : Path) → AllByRecursion (λ (q : Path). is_dir_at f q ≡ true) (tested accounts f p d)
   tested_dirs [] = (slash_is_dir, tt)
   tested_dirs (n ∷ d) =
@@ -234,16 +234,16 @@ module _ (accounts : Accounts) (ok : AreAccounts accounts) (s : State) (f : Flat
   pub has_way : (d : Path) (entries : List TraceEntry) → AreAmong (walk_reads d) entries → HasWay accounts s f p d entries
   has_way d entries among = (walk_reads d, reads_way d, among)
 
-  -- and so for a call on what lies in the directory
+  -- the raw calls of a walk are the reads of a call on an entry of the directory
   pub has_walk : (m : Name) (d : Path) (entries : List TraceEntry) → AreAmong (walk_reads d) entries → HasWalk accounts s f p (m ∷ d) entries
   has_walk m d entries among = has_way d entries among
 
-  -- they are among the entries of the walk and of raw calls behind it
+  -- the raw calls of a walk are among the entries of the walk and of raw calls after it
   pub walked_then : (m : Name) (d : Path) (line : ℕ) (more : List RawCall)
       → HasWalk accounts s f p (m ∷ d) (entries_of line t (all_granted (walk_reads d ++ more)))
   walked_then m d line more = has_walk m d _ (among_then line t (walk_reads d) (walk_reads d) more (among_granted_all line t (walk_reads d)))
 
-  -- also of one that was refused
+  -- the same where the last raw call was refused
   pub walked_also : (m : Name) (d : Path) (line : ℕ) (steps : List Step)
       → HasWalk accounts s f p (m ∷ d) (entries_of line t (all_granted (walk_reads d) ++ steps))
   walked_also m d line steps = has_walk m d _ (among_also line t (walk_reads d) (walk_reads d) steps (among_granted_all line t (walk_reads d)))
@@ -269,11 +269,11 @@ module _ (accounts : Accounts) (ok : AreAccounts accounts) (s : State) (f : Flat
     target_is : (o : Option Node) → get f.files (m ∷ d) ≡ o → finite.get (directory_of f.files numbers d) m ≡ leads o
     target_is o is = get_directory f.files numbers d m ∙ ap leads is
 
-    -- nothing stands there
+    -- nothing is at the path
     pub nothing_there : get f.files (m ∷ d) ≡ None → finite.get (directory_of f.files numbers d) m ≡ None
     nothing_there is = target_is None is
 
-    -- a file does
+    -- a file at the path has a number
     pub file_number : (class : Class) (bytes : List ℕ)
         → get f.files (m ∷ d) ≡ Some (record { class = class; content = File bytes })
         → numbers (address_of (m ∷ d)) ≡ Some (or_zero (numbers (address_of (m ∷ d))))
@@ -287,7 +287,7 @@ module _ (accounts : Accounts) (ok : AreAccounts accounts) (s : State) (f : Flat
         target_is (Some (record { class = class; content = File bytes })) is
         ∙ ap (option_map targets.File) (file_number class bytes is)
 
-    -- a directory does
+    -- a directory at the path is the target of its entry
     pub directory_there : (class : Class) → get f.files (m ∷ d) ≡ Some (record { class = class; content = Dir })
         → finite.get (directory_of f.files numbers d) m ≡ Some (targets.Directory (place_at (m ∷ d)).container (place_at (m ∷ d)).listing)
     directory_there class is =
@@ -311,7 +311,7 @@ module _ (accounts : Accounts) (ok : AreAccounts accounts) (old new : KernelMode
   abbrev read : Path → RawCall
   read d = read_of accounts ok (state old) f me t ready d
 
-  -- the call is refused so, and these raw calls are the reads that it cannot do without
+  -- the call is refused with this errno, and these raw calls are the reads that it cannot do without
   abbrev pub IsRefusedBy : Errno → List Step → Type 0
   IsRefusedBy errno steps =
       (refused accounts f me process call ≡ Some errno)
@@ -374,30 +374,30 @@ module _ (accounts : Accounts) (ok : AreAccounts accounts) (old new : KernelMode
       listed_step accounts f me ready.caller call old new t ready.thread result (before ++ read d ∷ []) later
       longer bytes (entries_at d) is _ on (go_on seen later same longer))
 
-  -- the walk is made behind raw calls that were granted and have changed nothing
+  -- the walk is made after raw calls that were granted and have changed nothing
   module _ (before : List RawCall) (start : KernelModel) (unchanged : state start ≡ state old) (begun : Chain old t (all_granted before) start) where
     -- the raw calls up to the end of the walk
     abbrev reached : Path → List RawCall
     reached d = before ++ calls_to d
 
-    -- the directory segment is read, and the call goes on so
+    -- the directory segment is read, and the call goes on with its bytes
     abbrev reading : (Place → List ℕ → Program) → Place → Program
     reading after place = ask (raw.Read place.container place.listing) (after place)
 
-    -- where the way is not refused, it goes on with the bytes of the directory
+    -- where the way is not refused, the call goes on with the bytes of the directory
     abbrev GoesOnReading : Path → (Place → List ℕ → Program) → Type 0
     GoesOnReading d after =
         into accounts f process d ≡ None → (mid : KernelModel) → state mid ≡ state old → Chain old t (all_granted (reached d)) mid
         → (bytes : List ℕ) → IsDirectory bytes (entries_at d)
         → Runs (after (place_at accounts ok (state old) f me t ready d) bytes) mid new t result → Refined
 
-    -- or with where a name leads in it
+    -- where the way is not refused, the call goes on with where a name leads in the directory
     abbrev pub GoesOnLooking : Path → Name → (Place → Option Target → Program) → Type 0
     GoesOnLooking d n rest =
         into accounts f process d ≡ None → (mid : KernelModel) → state mid ≡ state old → Chain old t (all_granted (reached d)) mid
         → Runs (rest (place_at accounts ok (state old) f me t ready d) (finite.get (entries_at d) n)) mid new t result → Refined
 
-    -- or with the directory
+    -- where the way is not refused, the call goes on with the directory
     abbrev pub GoesOn : Path → (Directory → Program) → Type 0
     GoesOn d rest =
         into accounts f process d ≡ None → (mid : KernelModel) → state mid ≡ state old
@@ -416,7 +416,7 @@ module _ (accounts : Accounts) (ok : AreAccounts accounts) (old new : KernelMode
       into_is : (o : Option Node) → get f.files (n ∷ d) ≡ o → into accounts f process (n ∷ d) ≡ tests o
       into_is o is = λ i. open_so_far i orelse tests (is i)
 
-      -- the directories that are looked at
+      -- the directories that the walk tests
       calls_are : (b : Bool) → is_dir_at f (n ∷ d) ≡ b → calls_to (n ∷ d) ≡ calls_to d ++ (if b then read (n ∷ d) ∷ [] else [])
       calls_are b is =
           map-append read (tested accounts f process d)
@@ -536,13 +536,13 @@ module _ (accounts : Accounts) (ok : AreAccounts accounts) (old new : KernelMode
         Runs (rest (place_at accounts ok (state old) f me t ready d) target) mid new t result)
         (found_in_directory bytes (entries_at d) n is) on))
 
-  -- the same of a walk with which the call begins
+  -- the same for a walk at the beginning of the call
   pub walk_step : (d : Path) (rest : Directory → Program)
       → Runs (walk_to (roots_of (length accounts.users)) d rest) old new t result → Refuses d
       → GoesOn [] old refl (same_kernel old) d rest → Refined
   walk_step d rest run refuses go_on = walk_step_behind [] old refl (same_kernel old) d rest run refuses go_on
 
-  -- and of a look-up
+  -- the same for a look-up at the beginning of the call
   pub look_step : (d : Path) (n : Name) (rest : Place → Option Target → Program)
       → Runs (find_place (roots_of (length accounts.users)) d (λ place. look_in place n (rest place))) old new t result
       → Refuses d → GoesOnLooking [] old refl (same_kernel old) d n rest → Refined

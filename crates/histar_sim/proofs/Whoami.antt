@@ -1,4 +1,4 @@
--- A whoami does what the flat rule of `whoami` says.
+-- The program of `whoami` refines its rule.
 use Rattle.std.proofs.Common.{◌≡◌, ℕ, [], ◌∷◌, Some, Result, inl, refl, sym, ap, ◌∙◌, subst, length}
 use Rattle.std.specs.Prelude.{not}
 use Rattle.std.proofs.lemmas.Option.{same_Some}
@@ -77,6 +77,6 @@ module _ (accounts : Accounts) (ok : AreAccounts accounts) (old new : KernelMode
       (reply_by label.0) (revealed label.0 right.0) refl tt (inl (refl, tt))
       (subst (λ (s : State). Represents accounts s f) (sym called.state) ready.represents) on)
 
--- a whoami does what its flat rule says
+-- the program of `whoami` refines its rule
 pub whoami_refines : WhoamiRefines
 whoami_refines accounts ok me old new f t result ready run = whoami_is_refined accounts ok old new f me t ready result run

@@ -1,4 +1,4 @@
--- A wrap is the row of its call: it is refused as the flat rules say, and then what the thread took is given back; or the container of its
+-- A wrap refines its rule: it is refused as the flat rules say, and then what the thread took is given up; or the container of its
 -- scratch directory is made, and the job is begun.
 use Rattle.std.proofs.Common.{◌≡◌, ℕ, ◌+◌, inl, Bool, true, false, List, [], ◌∷◌, ◌++◌, length, Option, None, Some, Result, refl, sym, ap, ◌∙◌, subst}
 use Rattle.std.specs.Prelude.{IsTrue, is_some, nat_lt, not}
@@ -88,11 +88,11 @@ module _ (accounts : Accounts) (ok : AreAccounts accounts) (me : ProcName) (call
   abbrev status : ProcessStatus
   status = status_of accounts me caller old new f result ready found
 
-  -- behind the room for a child and for an entry, a wrap needs a declared user
+  -- after the room for a child and for an entry, a wrap needs a declared user
   abbrev not_nobody : Option Errno
   not_nobody = unless (not (same p.user nobody)) EPERM
 
-  -- first it needs room for a child
+  -- a wrap first needs room for a child
   needs_child : (q : Path) → NeedsChild accounts f me p (Wrap q) (no_room accounts f p q orelse not_nobody)
   needs_child q = record { refuses = refl; reads = λ steps line t s. tt }
 
@@ -118,7 +118,7 @@ module _ (accounts : Accounts) (ok : AreAccounts accounts) (me : ProcName) (call
   with_child q revealed = find_room (roots_of (length accounts.users)) q (with_room revealed)
 
   module _ (long : nat_lt (length me) most_numbers ≡ true) (few : nat_lt p.born most_children ≡ true) where
-    -- then it needs room for an entry
+    -- a wrap then needs room for an entry
     needs_room : (q : Path) → NeedsRoom accounts f me p q (Wrap q) not_nobody
     needs_room q = record {
       refuses = λ i. (unless (few i) EAGAIN orelse unless (long i) EAGAIN) orelse no_room accounts f p q orelse not_nobody;
@@ -135,7 +135,7 @@ module _ (accounts : Accounts) (ok : AreAccounts accounts) (me : ProcName) (call
       abbrev room : Room
       room = the_room accounts ok (state old) f me t ready d m
 
-      -- the raw calls up to the making
+      -- the raw calls up to the make call
       abbrev before : List RawCall
       before = ((first ++ walk) ++ OwnLabel ∷ []) ++ MakeCategory ∷ []
 
@@ -152,7 +152,7 @@ module _ (accounts : Accounts) (ok : AreAccounts accounts) (me : ProcName) (call
       abbrev next : RawCall
       next = MakeContainer (container accounts ok (state old) f me t ready d) (directory_label accounts own job)
 
-      -- what is left of the program once it has a number
+      -- what is left of the program once the container has a number
       abbrev within : ℕ → Program
       within = granted.within accounts ok me caller old new f result ready found m named d
 
@@ -168,7 +168,7 @@ module _ (accounts : Accounts) (ok : AreAccounts accounts) (me : ProcName) (call
             refused_in_room accounts ok old new f me t ready m d (Wrap (m ∷ d)) result not_nobody (needs_room (m ∷ d))
             open_so_far absent roomy can is
 
-        -- it is refused, and so is the call
+        -- the raw call is refused, and so is the Unix call
         given_back : (denied : Denied) (errno : Errno) → check (state mid) t next ≡ Some denied
             → errno_for next denied ≡ Some errno → refused accounts f me p (Wrap (m ∷ d)) ≡ Some errno
             → Runs (ask_or_give_back (own, clearance) next within) mid new t result → Refined
@@ -254,7 +254,7 @@ module _ (accounts : Accounts) (ok : AreAccounts accounts) (me : ProcName) (call
       chain (with_room status) on
   wrapped (m ∷ d) right long few mid chain stays on = entered long few m (last_name m d right) d mid chain stays on
 
--- A wrap is the row of its call.
+-- The program of `wrap` refines its rule.
 pub wrap_refines : WrapRefines
 unfolding wrap_program
 wrap_refines accounts ok q right me caller old new f result ready found runs =

@@ -1,4 +1,4 @@
--- A write does what the flat rule of `write` says.
+-- The program of `write` refines its rule.
 use Rattle.std.proofs.Common.{ℕ, List, [], ◌∷◌, refl}
 use Rattle.histar_flat.specs.declared.calls.UnixCall.TheVariants as calls
 use Rattle.histar_flat.specs.Words.{Path, ProcName}
@@ -15,7 +15,7 @@ write_writes : (accounts : Accounts) (f : Flat) (me : ProcName) (p : Process) (q
 write_writes accounts f me p q bytes =
     record { reaches = record { refuses = refl; reads = λ s reply entries walk. walk }; changes = refl; answers = refl }
 
--- a write does what its flat rule says
+-- the program of `write` refines its rule
 pub write_refines : WriteRefines
 unfolding write_program
 write_refines accounts ok [] bytes me old new f t result ready run =

@@ -1,4 +1,4 @@
--- What the call of a process cannot do without asking the kernel, so that what it replies was asked.
+-- The questions that the call of a process must ask the kernel, so that its reply is based on what was asked.
 use Rattle.std.specs.Prelude.{◌≡◌, ℕ, ◌+◌, Bool, true, false, ◌&&◌, not, ◌⊎◌, List, [], ◌∷◌, ◌++◌, map, Option, None, Some, is_some, if◌then◌else◌}
 use Rattle.histar_flat.specs.declared.calls.UnixCall.{UnixCall}
 use Rattle.histar_flat.specs.declared.calls.UnixCall.TheVariants.{List as ListCall, Stat, Rmdir, Status, Kill, Whoami, Login, Wrap}
@@ -19,13 +19,13 @@ use Rattle.histar_syscall.specs.declared.trace.TraceEntry.{TraceEntry}
 use Rattle.histar_login.specs.Login.{place_of, password_of}
 use Rattle.histar_refinement.specs.Lines.{IsStatusSegment, IsDirectoryAt, IsObjectAt}
 
--- what may be asked of the kernel
+-- a question to the kernel
 pub data Question : Type 0 where
   -- the entries of the directory at a path
   EntriesOf : Path → Question
   -- the label of what is at a path
   LabelAt : Path → Question
-  -- what the process segment of a process shows
+  -- the status in the process segment of a process
   StatusOf : ProcName → Question
   -- the thread's own label
   OwnLabel : Question
@@ -55,7 +55,7 @@ label_asked q (Stats stat) = LabelAt q ∷ []
 label_asked q _ = []
 
 module _ (accounts : Accounts) where
-  -- the directories of which the way into a directory tests whether they may be read, from `/` on
+  -- the directories that the walk into a directory tests for reading, from `/` on
   abbrev pub tested : Flat → Process → Path → List Path
   tested f p [] = [] ∷ []
   tested f p (n ∷ d) = tested f p d ++ (if not (is_some (into accounts f p d)) && is_dir_at f (n ∷ d) then (n ∷ d) ∷ [] else [])
@@ -67,7 +67,7 @@ module _ (accounts : Accounts) where
       looked_at f p above
       ++ (if not (is_some (not_found f p above)) && is_some (f.processes (n ∷ above)) then (n ∷ above) ∷ [] else [])
 
-  -- the walk to a path is the way into the directory that it lies in; to `/` there is no walk
+  -- the walk to a path asks for the directories on the way; to `/` there is no walk
   abbrev pub walked : Flat → Process → Path → List Question
   walked f p [] = []
   walked f p (n ∷ d) = map EntriesOf (tested f p d)
@@ -82,7 +82,7 @@ module _ (accounts : Accounts) where
   walked_unless_full f p q (Refused EAGAIN) = []
   walked_unless_full f p q _ = walked f p q
 
-  -- what the call of a process, replied to so, is due to ask, in this order
+  -- the questions that the call of a process with this reply is expected to ask, in this order
   abbrev pub due : Flat → Process → UnixCall → Reply → List Question
   due f p (ListCall path) reply = map EntriesOf (tested f p path)
   due f p (Stat path) reply = walked f p path ++ label_asked path reply
@@ -109,7 +109,7 @@ module _ (accounts : Accounts) where
   AskAll s [] calls = calls ≡ []
   AskAll s (q ∷ more) calls = (call : RawCall) × (later : List RawCall) × Asks s q call × (calls ≡ call ∷ later) × AskAll s more later
 
-  -- among the entries of a call, replied to so, are raw calls that ask what is due, in this order; a process that doesn't run owes none
+  -- among the entries of a call with this reply are raw calls with the expected questions, in order; a process that doesn't run asks none
   abbrev pub HasReads : State → Flat → Option Process → UnixCall → Reply → List TraceEntry → Type 0
   HasReads s f None call reply entries = Unit {0}
   HasReads s f (Some p) call reply entries = (calls : List RawCall) × AskAll s (due f p call reply) calls × AreAmong calls entries

@@ -13,13 +13,13 @@ use Rattle.histar_login.specs.Start.{roots_of}
 use Rattle.histar_flat.specs.declared.calls.UnixCall.{UnixCall}
 use Rattle.histar_sim.specs.Simulation.{IsReady, FollowsRule}
 
--- Whoever runs the program as the thread of a process, in a state that represents a flat state, does what the flat rule of the call says.
+-- A thread of a process that runs the program, in a state that represents a flat state, does what the flat rule of the call says.
 abbrev pub Refines : Accounts → UnixCall → Program → Type 0
 Refines accounts call program =
     (me : ProcName) (old new : KernelModel) (f : Flat) (t : ℕ) (result : Result Reply Stopped)
     → IsReady accounts (state old) f me t → Runs program old new t result → FollowsRule accounts f me call old new t result
 
--- The same of a program that asks where its process is found, which is what the state shows.
+-- The same for a program that takes the caller, the process as it is found in the state.
 abbrev pub CallerRefines : Accounts → UnixCall → (ProcName → Caller → Program) → Type 0
 CallerRefines accounts call program =
     (me : ProcName) (caller : Caller) (old new : KernelModel) (f : Flat) (result : Result Reply Stopped)

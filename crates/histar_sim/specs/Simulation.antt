@@ -45,16 +45,16 @@ pub record EndsWithRead (s : State) (entries : List TraceEntry) (bytes : List �
   pub granted : last.denied ≡ None
   pub answers : raw_answer before last.thread last.call ≡ Some (answers.Bytes bytes)
 
--- the reply is that of a denial: EACCES of one by label, EPERM of one by range, EFBIG of bytes that are too many; no other has one
+-- the reply is that of a denial: EACCES if it is by label, EPERM if by range, EFBIG if there are too many bytes; no other has one
 abbrev pub IsReplyOfDenial : Reply → Option Denied → Type 0
 IsReplyOfDenial reply None = Unit {0}
 IsReplyOfDenial reply (Some denied) = option_map Refused (write_errno_of denied) ≡ Some reply
 
--- The entries of a line that was answered so, between the state before the line and the one after it. They are a run of the
+-- The entries of a line with this reply, between the state before the line and the one after it. They are a run of the
 -- kernel; each is of the line and of the thread that the process segment of the line's process names before it. Some is refused by
 -- comparing labels exactly where the reply is EACCES, and by range exactly where it is EPERM; at most one is refused, the reply is
--- that of the denial, and after it the thread is only given labels. What was read is what the last of them reads. A line that is answered `gone` has
--- none.
+-- that of the denial, and after it the thread is only given labels. If bytes were replied, the last entry reads them. A line with the
+-- reply `gone` has none.
 pub record IsLine (accounts : Accounts) (before : State) (line : ℕ) (process : ProcName) (reply : Reply)
     (entries : List TraceEntry) (after : State) : Type 0 where
   pub run : IsRun before entries after
@@ -66,7 +66,7 @@ pub record IsLine (accounts : Accounts) (before : State) (line : ℕ) (process :
   pub ends_with_read : (bytes : List ℕ) → reply ≡ Data bytes → EndsWithRead before entries bytes
   pub gone : reply ≡ Gone → entries ≡ []
 
--- The line is the row of its call: it is answered what the flat state says, it has the reads that the call cannot do without, and the
+-- The line refines its rule: its reply is what the flat state says, it has the reads that the call cannot do without, and the
 -- state after it represents the flat state after the call.
 pub record SimulatesLine (accounts : Accounts) (before : State) (f : Flat) (asked : CallLine)
     (entries : List TraceEntry) (after : State) : Type 0 where
@@ -74,7 +74,7 @@ pub record SimulatesLine (accounts : Accounts) (before : State) (f : Flat) (aske
   pub reads : HasReads accounts before f (running f asked.process) asked.call (reply_to accounts f asked.process asked.call) entries
   pub represents : Represents accounts after (flat_after accounts f asked.process asked.call)
 
--- the lines of a script, one after another, from a state that represents this flat state: each is the row of its call
+-- the lines of a script, one after another, from a state that represents this flat state: each refines its rule
 abbrev pub SimulatesLines : Accounts → State → Flat → List CallLine → List TraceEntry → State → Type 0
 SimulatesLines accounts s f [] entries end = (entries ≡ []) × (end ≡ s)
 SimulatesLines accounts s f (asked ∷ more) entries end =
@@ -103,7 +103,7 @@ IsBrokenOff reply s (e ∷ entries) end =
     (mid : State) × (check s e.thread e.call ≡ e.denied) × Leaves e.denied s e.thread e.call mid
     × MayBreakOff reply s e.denied entries × IsBrokenOff reply mid entries end
 
--- A call of a process has added these entries to the trace, on the line that was begun; they are the row of the call.
+-- A call of a process has added these entries to the trace, on the line that was begun; they refine the rule of the call.
 pub record IsAnswered (accounts : Accounts) (f : Flat) (me : ProcName) (call : UnixCall) (old new : KernelModel) : Type 0 where
   pub entries : List TraceEntry
   pub trace : new.trace ≡ old.trace ++ entries
@@ -133,7 +133,7 @@ AreFilesSmall f =
 abbrev pub IsFirstFree : Flat → Type 0
 IsFirstFree f = (p : Process) → f.processes [] ≡ Some p → p.chain ≡ []
 
--- Where a call of a process is made: the state represents this flat state, in which the process runs, process 0 is in no job and files are
+-- Where a process makes a call: the state represents this flat state, in which the process runs, process 0 is in no job and files are
 -- small enough, and the thread is the process's own.
 pub record IsReady (accounts : Accounts) (s : State) (f : Flat) (me : ProcName) (t : ℕ) : Type 0 where
   pub represents : Represents accounts s f

@@ -1,4 +1,4 @@
--- A raw call that comes as data answers what the call of its kind does.
+-- A raw call that comes as data answers what the call of its kind answers.
 use Rattle.std.proofs.Common.{◌≡◌, ℕ, Option, None, Some, refl, sym, ap}
 use Rattle.std.specs.Prelude.{option_map}
 use Rattle.histar_label.specs.Levels.{Levels}
@@ -20,7 +20,7 @@ label_answered : (there : Option Levels) (value : Answer) → option_map answers
 label_answered None value is = absurd cc
 label_answered (Some label) value is = (label, refl, cc)
 
--- so is an entry
+-- so is an entry that is answered
 entry_answered : (there : Option Entry) (value : Answer) → option_map answers.Entry there ≡ Some value
     → (entry : Entry) × (Some entry ≡ there) × (value ≡ answers.Entry entry)
 entry_answered None value is = absurd cc
@@ -65,6 +65,6 @@ as_data s t (Write d o keep bytes) answer is = refl
 as_data s t (Unlink d o) answer is = refl
 as_data s t (LabelOf d o) answer is = ap (option_map answers.Label) (sym is)
 
--- the two statements say the same
+-- the two definitions of answers agree
 pub answers_agree : AnswersAgree
 answers_agree = record { own_type = own_type; as_data = as_data }

@@ -9,7 +9,7 @@ use Rattle.histar_object.specs.declared.objects.Object.{Object}
 use Rattle.histar_object.specs.Objects.{no_objects, linking}
 use Rattle.histar_object.specs.State.{State, with_next, with_object, empty_state, root_object, boot_thread}
 
--- no objects, where the next one is 1 and the next category 2
+-- a state without objects, where the next object is 1 and the next category 2
 abbrev pub nothing_yet : State
 nothing_yet = record { objects = no_objects; next_object = 1; next_category = 2 }
 
@@ -17,7 +17,7 @@ nothing_yet = record { objects = no_objects; next_object = 1; next_category = 2 
 abbrev pub root_alone : Levels → Object Levels
 root_alone label = record { label = label; kind = Container set.empty }
 
--- at each number, by whether it is 1 and whether it is 2
+-- the object at each number, depending on whether it is 1 and whether it is 2
 linked_at : (one two : Bool)
     → (if two then Some boot_thread else (if one then option_map (linking 2)
     (if one then Some (root_alone (with_level (constant L1) 1 L0)) else None) else
@@ -28,7 +28,7 @@ linked_at true false = refl
 linked_at false true = refl
 linked_at false false = refl
 
--- the boot thread is linked in the root container
+-- linking the boot thread in the root container gives the empty kernel
 boot_linked : with_object (with_next nothing_yet (root_alone (with_level (constant L1) 1 L0))) 1 boot_thread ≡ empty_state
 boot_linked i = record { objects = λ q. linked_at (q == 1) (q == 2) i; next_object = 3; next_category = 2 }
 

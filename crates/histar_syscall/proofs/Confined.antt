@@ -1,4 +1,4 @@
--- However many raw calls confined threads make, what is visible stays.
+-- However many raw calls confined threads make, what is visible stays as it was.
 use Rattle.std.proofs.Common.{◌≡◌, ℕ, zero, suc, ◌<◌, ◌≤◌, List, [], ◌∷◌, length, Option, None, Some, arith, take, sym, ap, ◌∙◌, subst}
 use Rattle.std.specs.List.{All}
 use Rattle.std.proofs.lemmas.List.Elements.{All-head, All-tail, All-take}
@@ -15,7 +15,7 @@ use Rattle.histar_rules.specs.Visible.{visible, IsTaintedCaller, AreConfined}
 use Rattle.histar_rules.proofs.TaintedMoves.{Moved, stays, visible_stays, still_tainted, still_unowned}
 use Rattle.histar_rules.proofs.TaintedCalls.{granted_moves, later_category}
 
--- a call that was made, granted or refused: what is visible stays, and the next calls are confined too
+-- one call, granted or refused, leaves what is visible, and the calls after it are confined too
 pub record Steps (v : ℕ) (old new : State) : Type 0 where
   pub moved : (q : ℕ) → Moved v old.objects new.objects q
   pub sound : IsSound new
@@ -70,7 +70,7 @@ some_taken : (n : ℕ) (calls : List (ℕ × RawCall)) → 0 < length (take n ca
 some_taken zero calls some = some
 some_taken (suc n) calls some = omega arith
 
--- what confined threads do is not seen; where they do nothing, no kernel has to be sound
+-- the calls of confined threads leave what is visible; where there are no calls, the kernel need not be sound
 pub confinement : (v : ℕ) (old new : KernelModel) (calls : List (ℕ × RawCall))
     → (0 < length calls → IsSound (state old)) → AreConfined (state old) v calls → MadeAll old calls new
     → visible (state new) v ≡ visible (state old) v
@@ -88,7 +88,7 @@ confined_take v s calls n confined =
       callers = All-take (λ (asked : ℕ × RawCall). IsTaintedCaller s v asked.0) n calls confined.callers;
     }
 
--- nor is a beginning of what they do
+-- so does a beginning of them
 pub confinement_stopped : (v : ℕ) (old mid new : KernelModel) (calls : List (ℕ × RawCall)) (n : ℕ)
     → (0 < n → IsSound (state old)) → AreConfined (state old) v calls → MadeAll old (take n calls) mid
     → IsUnchanged mid new → visible (state new) v ≡ visible (state old) v
@@ -96,7 +96,7 @@ confinement_stopped v old mid new calls n sound confined made same =
     confinement v old new (take n calls) (λ some. sound (some_taken n calls some))
     (confined_take v (state old) calls n confined) (all_unchanged old mid new (take n calls) made same)
 
--- after a call that found the kernel sound, and those before it, the kernel was sound before the first
+-- if the kernel was sound at each call that was made, it was sound before the first
 pub sound_before : (old mid : KernelModel) (calls : List (ℕ × RawCall)) (n : ℕ) → (0 < n → IsSound (state old))
     → MadeAll old (take n calls) mid → IsSound (state mid) → IsSound (state old)
 unfolding MadeAll

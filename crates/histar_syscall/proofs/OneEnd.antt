@@ -19,7 +19,7 @@ use Rattle.histar_rules.proofs.Sound.{sound_changes}
 use Rattle.histar_syscall.specs.Laws.{RunsHaveOneEnd}
 use Rattle.histar_syscall.specs.Runs.{IsRun}
 
--- a cut leaves one object at each number, or none
+-- a cut determines the object at each number
 cut_at : (s one other : State) (d o : ℕ) → CutsOff s d o one → CutsOff s d o other
     → ((q : ℕ) → Reached s.objects o q ⊎ (Reached s.objects o q → ⊥)) → (q : ℕ) → one.objects q ≡ other.objects q
 cut_at s one other d o first second decided q = elim (decided q) [
@@ -30,7 +30,7 @@ cut_at s one other d o first second decided q = elim (decided q) [
   ]
 ]
 
--- so it leaves one state
+-- so it determines the state
 cut_once : (s one other : State) (t d o : ℕ) → IsSound s → check s t (Unlink d o) ≡ None → CutsOff s d o one → CutsOff s d o other → one ≡ other
 cut_once s one other t d o sound e first_cut second_cut =
     let link = first (no_link s t d o) _ e in
@@ -42,7 +42,7 @@ cut_once s one other t d o sound e first_cut second_cut =
       next_category = (first_cut.next_category ∙ sym second_cut.next_category) i;
     }
 
--- a granted call leaves one state
+-- a granted call determines the state that it leaves
 changes_once : (s one other : State) (t : ℕ) (call : RawCall) → IsSound s → check s t call ≡ None → Changes s t call one
     → Changes s t call other → one ≡ other
 changes_once s one other t MakeCategory sound e is was = is ∙ sym was
@@ -59,7 +59,7 @@ changes_once s one other t (Write d o keep bytes) sound e is was = is ∙ sym wa
 changes_once s one other t (Unlink d o) sound e is was = cut_once s one other t d o sound e is was
 changes_once s one other t (LabelOf d o) sound e is was = is ∙ sym was
 
--- and so does a call of any outcome, and the state that it leaves is sound
+-- so does a call of any outcome, and the state that it leaves is sound
 leaves_once : (s one other : State) (t : ℕ) (call : RawCall) (denied : Option Denied) → IsSound s
     → check s t call ≡ denied → Leaves denied s t call one → Leaves denied s t call other → (one ≡ other) × IsSound one
 leaves_once s one other t call None sound e is was = (changes_once s one other t call sound e is was, sound_changes s one t call sound e is)

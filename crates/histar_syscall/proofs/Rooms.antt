@@ -1,4 +1,4 @@
--- What a raw call leaves in the kernel.
+-- The kernel after a raw call.
 use Rattle.std.proofs.Common.{◌≡◌, ℕ, refl, sym, subst, Result, Ok, Err, List}
 use Rattle.std.specs.Result.{IsErrAnd}
 use Rattle.histar_container.specs.ObjectsModel.{ObjectsModel}
@@ -15,7 +15,7 @@ pub exits : {A : Type 0} (old new : KernelModel) (t : ℕ) (call : RawCall) (r :
 exits old new t call (Ok a) P h u = absurd h
 exits {A} old new t call (Err e) P h u = subst (λ (x : Refusal). Answered {A = A} old new t call (Err x) P) (sym h) u
 
--- a call that was decided on the objects, and whose entry the trace has
+-- a call is answered that was decided on the objects and recorded in the trace
 pub answered : {A : Type 0} (old : KernelModel) (kept : ObjectsModel) (trace : List TraceEntry) (t : ℕ) (call : RawCall)
     (r : Result A Refusal) (P : A → Type 0) → Decides old.kept kept t call r P
     → trace ≡ logged old.trace old.line t call r → Answered old (record { kept = kept; line = old.line; trace = trace }) t call r P

@@ -1,4 +1,4 @@
--- How raw calls of one thread are put together.
+-- Runs of raw calls of one thread, composed call by call.
 use Rattle.std.specs.Prelude.{Bool, false, ◌||◌}
 use Rattle.std.proofs.Common.{◌≡◌, ℕ, List, [], ◌∷◌, ◌++◌, Option, None, Some, refl, sym, ap, ◌∙◌, subst, append_assoc}
 use Rattle.std.proofs.lemmas.List.{append-nil}
@@ -21,7 +21,7 @@ abbrev pub refusal_of : RawCall → Option Denied → Option (RawCall × Denied)
 refusal_of call None = None
 refusal_of call (Some denied) = Some (call, denied)
 
--- why the refused call was refused
+-- the denial of the refused call, if there is one
 abbrev pub denied_of : Option (RawCall × Denied) → Option Denied
 denied_of None = None
 denied_of (Some r) = Some r.1
@@ -32,7 +32,7 @@ same_kernel k = record { state = refl; trace = refl; line = refl }
 pub still_same : (a b c : KernelModel) → IsUnchanged a b → IsUnchanged b c → IsUnchanged a c
 still_same a b c first second = record { state = second.state ∙ first.state; trace = second.trace ∙ first.trace; line = second.line ∙ first.line }
 
--- a raw call after nothing
+-- nothing and then a raw call is that call
 pub call_after : (a b c : KernelModel) (t : ℕ) (call : RawCall) (d : Option Denied) → IsUnchanged a b → Called b c t call d → Called a c t call d
 call_after a b c t call d same called = record {
   outcome = subst (λ (s : State). check s t call ≡ d) same.state called.outcome;
@@ -43,7 +43,7 @@ call_after a b c t call d same called = record {
   line = called.line ∙ same.line;
 }
 
--- nothing after a raw call
+-- a raw call and then nothing is that call
 pub call_before : (a b c : KernelModel) (t : ℕ) (call : RawCall) (d : Option Denied) → Called a b t call d → IsUnchanged b c → Called a c t call d
 call_before a b c t call d called same = record {
   outcome = called.outcome;
@@ -52,7 +52,7 @@ call_before a b c t call d called same = record {
   line = same.line ∙ called.line;
 }
 
--- a thread that made no call
+-- making no calls leaves the kernel as it is
 pub granted_none : (k : KernelModel) (t : ℕ) → Granted k k t []
 granted_none k t = (same_kernel k, refl)
 
@@ -61,7 +61,7 @@ module _ (t : ℕ) where
   last_call call None k = (same_kernel k, refl)
   last_call call (Some denied) k = (same_kernel k, refl)
 
-  -- one raw call more, behind calls that were all granted
+  -- one more raw call, after calls that were all granted
   pub made_more : (old mid new : KernelModel) (before : List RawCall) (call : RawCall) (d : Option Denied)
       → Granted old mid t before → Called mid new t call d → Made old new t (before ++ call ∷ []) (refusal_of call d)
   made_more old mid new [] call d granted called = (new, d, call_after old mid new t call d granted.0 called, last_call call d new)
@@ -76,7 +76,7 @@ module _ (t : ℕ) where
         ]) granted.3,
   )
 
-  -- a kernel that is as it was has made what it had made
+  -- a kernel that stays as it was has made the same calls
   pub made_unchanged : (old mid new : KernelModel) (calls : List RawCall) (refusal : Option (RawCall × Denied))
       → Made old mid t calls refusal → IsUnchanged mid new → Made old new t calls refusal
   made_unchanged old mid new [] refusal made same = (still_same old mid new made.0 same, made.1)
@@ -91,8 +91,8 @@ module _ (t : ℕ) where
         ]) made.3,
   )
 
-  -- The entries of raw calls that were made: a run of the kernel by this thread on this line, of which one has a property that
-  -- no granted call has exactly where the refused call has it.
+  -- The entries of raw calls that were made: a run of the kernel by this thread on this line. A property that no granted call has holds of
+  -- one of the entries exactly where it holds of the refused call.
   pub record HasRun (old new : KernelModel) (refusal : Option (RawCall × Denied)) : Type 0 where
     pub entries : List TraceEntry
     pub ran : Ran old new t entries
@@ -140,7 +140,7 @@ module _ (t : ℕ) where
             (run_one old new c denied (call_before old made.0 new t c (Some denied) called rest.0))
       ]) made.2 made.3
 
-  -- a raw call more that was granted
+  -- one more granted raw call
   pub granted_more : (old mid new : KernelModel) (before : List RawCall) (call : RawCall) → Granted old mid t before
       → Called mid new t call None → Granted old new t (before ++ call ∷ [])
   granted_more old mid new before call granted called = made_more old mid new before call None granted called

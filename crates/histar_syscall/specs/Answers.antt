@@ -1,4 +1,4 @@
--- What raw calls answer.
+-- The answers of raw calls.
 use Rattle.std.specs.Prelude.{◌≡◌, ℕ, Option, None, Some, option_map}
 use Rattle.histar_label.specs.Levels.{Levels}
 use Rattle.histar_object.specs.Objects.{label_there, clearance_there, bytes_in, entry_there}
@@ -16,8 +16,8 @@ own_labels None clearance = None
 own_labels (Some label) None = None
 own_labels (Some label) (Some clearance) = Some (answers.OwnLabel label clearance)
 
--- What a raw call that passes its checks answers, read off the state before it: a made category or object has the next
--- number, and a call that asks for something is answered what was there.
+-- The answer of a raw call that passes its checks, from the state before it: a new category or object gets the next number, and a call that
+-- asks for something gets what was there.
 abbrev pub raw_answer : State → ℕ → RawCall → Option Answer
 raw_answer s t MakeCategory = Some (answers.Category s.next_category)
 raw_answer s t OwnLabel = own_labels (label_there (s.objects t)) (clearance_there (s.objects t))
@@ -33,7 +33,7 @@ raw_answer s t (Write d o keep bytes) = Some answers.Done
 raw_answer s t (Unlink d o) = Some answers.Done
 raw_answer s t (LabelOf d o) = option_map answers.Label (label_there (s.objects o))
 
--- an answer of the call's own type, as a value of the one type that all raw calls answer
+-- an answer of the call's own type, as a value of the one type that holds the answers of all raw calls
 abbrev pub answer_value : (call : RawCall) → AnswerOf call → Answer
 answer_value MakeCategory category = answers.Category category
 answer_value OwnLabel own = answers.OwnLabel own.0 own.1

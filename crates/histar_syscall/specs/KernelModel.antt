@@ -1,4 +1,4 @@
--- What the contracts of the kernel cite.
+-- The model of a kernel, which the contracts of the kernel cite.
 use Rattle.std.specs.Prelude.{◌≡◌, ℕ, List, [], ◌∷◌, ◌++◌, Option, None, Some, Result, Ok, Err, ⊤, refl}
 use Rattle.std.specs.Borrow.{RattleType, Bor, MutBor, Fml, follows_so}
 use mathlib.Core.Option.{none}
@@ -14,7 +14,7 @@ use Rattle.histar_syscall.specs.declared.trace.TraceEntry.{TraceEntry}
 use Rattle.histar_syscall.specs.contracts.trace.TraceEntry as entry
 use Rattle.histar_rules.specs.Rules.{check, Leaves, AreBytesOf}
 
--- what a kernel keeps: its objects, the line that was begun last, and the trace of its calls
+-- the content of a kernel: its objects, the line that was begun last, and the trace of its calls
 pub record KernelModel : Type 0 where
   pub kept : ObjectsModel
   pub line : ℕ
@@ -31,7 +31,7 @@ coded_kernel_model =
 abbrev pub state : KernelModel → State
 state k = state_of k.kept
 
--- the kernel made this call and nothing else: its outcome, its state, and one entry of the trace on the line that was begun
+-- the kernel made this call and nothing else: its outcome, its state, and one more entry of the trace, on the line that was begun
 pub record Called (old new : KernelModel) (thread : ℕ) (call : RawCall) (denied : Option Denied) : Type 0 where
   pub outcome : check (state old) thread call ≡ denied
   pub state : Leaves denied (state old) thread call (state new)
@@ -44,22 +44,22 @@ pub record IsUnchanged (old new : KernelModel) : Type 0 where
   pub trace : new.trace ≡ old.trace
   pub line : new.line ≡ old.line
 
--- the call was made and has this answer, or it was made and denied, or memory ran out and nothing has changed
+-- the call was granted and has this answer, or it was denied, or memory ran out and nothing has changed
 abbrev pub Answered : {A : Type 0} → KernelModel → KernelModel → ℕ → RawCall → Result A Refusal → (A → Type 0) → Type 0
 Answered old new t call (Ok answer) IsRight = Called old new t call None × IsRight answer
 Answered old new t call (Err (refusals.Denied denied)) IsRight = Called old new t call (Some denied)
 Answered old new t call (Err refusals.OutOfMemory) IsRight = IsUnchanged old new
 
--- the trace after a call with this answer: one entry more, unless memory ran out
+-- the trace after a call with this answer: it has one more entry, unless memory ran out
 abbrev pub logged : {A : Type 0} → List TraceEntry → ℕ → ℕ → RawCall → Result A Refusal → List TraceEntry
 logged trace line t call (Ok answer) = trace ++ record { line = line; thread = t; call = call; denied = None } ∷ []
 logged trace line t call (Err (refusals.Denied denied)) = trace ++ record { line = line; thread = t; call = call; denied = Some denied } ∷ []
 logged trace line t call (Err refusals.OutOfMemory) = trace
 
--- a read was made that lends its bytes, and they are those of the segment
+-- a read was made, and it lends the bytes of the segment
 abbrev pub ReadsLent : KernelModel → ℕ → ℕ → ℕ → Result (Bor (List ℕ)) Refusal → KernelModel → Type 0
 ReadsLent old t container segment result new = Answered old new t (Read container segment) result (λ bytes. AreBytesOf old.kept segment bytes.now)
 
--- a kernel that lends what may only be looked at ends as the call left it
+-- a kernel whose call lends bytes ends as the call left it
 abbrev pub EndsAs : (R : RattleType) → MutBor R.Denot → (R.Denot → Type 0) → Fml
 EndsAs R kernel IsLeft = follows_so R R kernel.ghost_name none (λ _ _. ⊤) IsLeft

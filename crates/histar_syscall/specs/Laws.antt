@@ -13,8 +13,8 @@ use Rattle.histar_syscall.specs.Runs.{IsRun}
 abbrev pub RunsHaveOneEnd : Type 0
 RunsHaveOneEnd = (s one other : State) (entries : List TraceEntry) → IsSound s → IsRun s entries one → IsRun s entries other → one ≡ other
 
--- The two statements of what raw calls answer say the same: an answer as data is the value of one of the call's own type, and the
--- value of each answer of that type is the answer as data.
+-- The two definitions of the answers of raw calls agree: an answer as data is the value of an answer of the call's own type, and the value
+-- of each answer of that type is the answer as data.
 pub record AnswersAgree : Type 0 where
   pub own_type : (s : State) (t : ℕ) (call : RawCall) (value : Answer) → raw_answer s t call ≡ Some value
       → (answer : AnswerOf call) × IsAnswer s t call answer × (value ≡ answer_value call answer)

@@ -1,4 +1,4 @@
-//! The raw calls on containers, and on what they link.
+//! The raw calls on containers, and on the objects that they link.
 ghost use Rattle.histar_object.specs.Objects.{objects_of};
 ghost use Rattle.histar_container.specs.Tree.{AreTree};
 ghost use Rattle.histar_rules.specs.Rules.{Decides, IsNextNumber, IsLabelOf};
@@ -9,8 +9,8 @@ use histar_object::{Kind, Links, ObjId};
 use histar_rules::{HandedLabel, LabelledObjects, Refusal};
 use std::alloc::Global;
 
-/// The label of an object that the container links. Whoever may observe a container may learn the
-/// labels of all that it links, but not those of threads, which change.
+/// Returns the label of an object that the container links. A thread that may observe a container may learn
+/// the labels of all the objects that it links, but not those of threads, which change.
 pub fn label_of<S: LabelStore + Drop>(
     objects: &mut LabelledObjects<S>,
     thread: ObjId,
@@ -24,7 +24,7 @@ pub fn label_of<S: LabelStore + Drop>(
     objects.label_of(thread, container, object)
 }
 
-/// Makes a container in a container, and answers its number.
+/// Makes a container in a container, and returns its number.
 pub fn make_container<S: LabelStore + Drop>(
     objects: &mut LabelledObjects<S>,
     alloc: Global,
@@ -42,7 +42,7 @@ pub fn make_container<S: LabelStore + Drop>(
     Ok(number)
 }
 
-/// Takes an object that the container links away, with all that hangs below it, whatever its labels.
+/// Unlinks an object from a container, and removes it with all that hangs below it, whatever its labels.
 pub fn unlink<S: LabelStore + Drop>(
     objects: &mut LabelledObjects<S>,
     alloc: Global,

@@ -18,7 +18,7 @@ use histar_rules::{LabelledObjects, RawCall, Refusal};
 use histar_thread::{make_category, make_thread, own_label, set_clearance, set_label};
 use std::alloc::Global;
 
-/// Decides a raw call on the objects, and answers it where it is granted.
+/// Decides a raw call on the objects, and returns its answer where it is granted.
 pub(crate) fn decide<S: LabelStore + Drop>(
     objects: &mut LabelledObjects<S>,
     alloc: Global,
@@ -67,14 +67,14 @@ pub(crate) fn decide<S: LabelStore + Drop>(
     }
 }
 
-/// Answers that a call was done, where it was.
+/// Answers `Done`, where the call was granted.
 fn done(outcome: Result<(), Refusal>) -> Result<Answer, Refusal>
     ensures { MatchResult outcome (λ _. result ≡ Ok answers.Done) (λ refusal. result ≡ Err refusal) }
 {
     outcome.map(|()| Answer::Done)
 }
 
-/// Answers the number of an object, where it was made.
+/// Answers the number of the new object, where the call was granted.
 fn made(outcome: Result<ObjId, Refusal>) -> Result<Answer, Refusal>
     ensures { MatchResult outcome (λ number. result ≡ Ok (answers.Object number)) (λ refusal. result ≡ Err refusal) }
 {

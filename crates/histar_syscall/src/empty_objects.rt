@@ -26,7 +26,7 @@ pub fn empty_objects<S: LabelStore + Drop>(
     Ok(objects)
 }
 
-/// Makes a container that the owner of category 1 alone may modify, and that no container links.
+/// Adds a container that no container links, and that only the owner of category 1 may modify.
 fn push_root<S: LabelStore + Drop>(
     alloc: Global,
     objects: &mut LabelledObjects<S>,
@@ -41,7 +41,7 @@ fn push_root<S: LabelStore + Drop>(
     Ok(())
 }
 
-/// Makes the boot thread, which owns category 1, in the root container.
+/// Adds the boot thread, which owns category 1, to the root container.
 fn add_boot_thread<S: LabelStore + Drop>(
     alloc: Global,
     objects: &mut LabelledObjects<S>,
@@ -55,7 +55,7 @@ fn add_boot_thread<S: LabelStore + Drop>(
     Ok(())
 }
 
-/// Makes a label with one level at category 1, and another one at all others.
+/// Makes a label with one level at category 1, and another one at all other categories.
 fn first_label(alloc: Global, default: Level, level: Level) -> Result<Label, OutOfMemory>
     ensures { IfOk result (λ label. label ≡ with_level (constant default) 1 level) }
 {

@@ -25,19 +25,18 @@ use histar_thread::{make_category, make_thread, own_label, set_clearance, set_la
 use std::alloc::Global;
 use std::marker::Model;
 
-/// A labelled kernel over any store of labels: its objects, and the trace of all its calls with the
-/// line that was begun last. Each raw call makes room in the trace, is decided on the objects by the
-/// function of its kind, and is recorded with its outcome. A raw call that finds no memory leaves
-/// objects, links, counters and trace as they were: it makes its growths before its first change. Its
-/// store may keep a label that no object has.
+/// A labelled kernel over any store of labels: its objects, the trace of all its calls, and the line that was
+/// begun last. Each raw call makes room in the trace, is decided on the objects by the function of its kind,
+/// and is recorded with its outcome. A raw call that runs out of memory leaves objects, links, counters and
+/// trace as they were: it allocates before its first change. Its store may keep a label that no object has.
 ///
-/// Its objects are always a tree that hangs on the root container, so that nothing outlives the
-/// container that held it.
+/// Its objects are always a tree below the root container, so that no object outlives the container that held
+/// it.
 #[derive(Drop)]
 pub struct Kernel<S: LabelStore + Drop> {
     objects: LabelledObjects<S>,
     trace: Trace,
-    // The memory of calls that are handed none.
+    // The allocator of calls that are given none.
     alloc: Global,
 }
 
@@ -60,7 +59,7 @@ impl<S: LabelStore + Drop> Kernel<S> {
     ghost use Rattle.std.specs.Borrow.{sem};
     ghost use Rattle.histar_syscall.specs.contracts.kernel.Kernel.{the_row};
 
-    /// The empty kernel: the root container, and the boot thread in it, which owns category 1. No line
+    /// Makes the empty kernel: the root container, and in it the boot thread, which owns category 1. No line
     /// was begun, and no call was made.
     pub fn new(alloc: Global, store: S) -> Result<Self, OutOfMemory>
         ensures state { IfOk result (λ kernel. state kernel ≡ empty_state) }
@@ -75,21 +74,21 @@ impl<S: LabelStore + Drop> Kernel<S> {
         })
     }
 
-    /// Says on which line of a script the next calls stand.
+    /// Sets the line of the script that the trace records with the next calls.
     pub fn begin(&mut self, line: u32)
         ensures { self.new ≡ record self.old { line = line } }
     {
         self.trace.line = line;
     }
 
-    /// The calls so far, in their order.
+    /// Returns the calls so far, in their order.
     pub fn trace(&self) -> &[TraceEntry]
         ensures { result.now ≡ self.now.trace }
     {
         self.trace.entries.as_slice()
     }
 
-    /// The calls so far, moved out.
+    /// Moves out the calls so far.
     pub fn into_trace(self) -> Vec<TraceEntry>
         ensures { result.items ≡ self.trace }
     {
@@ -109,7 +108,7 @@ impl<S: LabelStore + Drop> Kernel<S> {
         self.trace.record(thread, call, answer)
     }
 
-    /// Makes a category. The thread owns it from then on, and may give anyone level 3 there.
+    /// Makes a category. The thread owns it from then on, and its clearance there is 3.
     pub fn make_category(&mut self, thread: ObjId) -> Result<Category, Refusal>
         ensures { Answered self.old self.new thread calls.MakeCategory result
             (λ category. category ≡ self.old.kept.next_category) }
@@ -119,7 +118,7 @@ impl<S: LabelStore + Drop> Kernel<S> {
         self.trace.record(thread, RawCall::MakeCategory, answer)
     }
 
-    /// The thread's own label and clearance.
+    /// Returns the thread's own label and clearance.
     pub fn own_label(&mut self, thread: ObjId) -> Result<(Label, Label), Refusal>
         ensures { Answered self.old self.new thread calls.OwnLabel result (AreLabelsOf self.old.kept thread) }
     {
@@ -138,8 +137,8 @@ impl<S: LabelStore + Drop> Kernel<S> {
         self.trace.record(thread, RawCall::SetLabel(label), answer)
     }
 
-    /// Gives the thread another clearance, which is above its own label, and above its old clearance
-    /// only where it owns.
+    /// Gives the thread another clearance, which is above its own label, and exceeds its old clearance only
+    /// where the thread owns.
     pub fn set_clearance(&mut self, thread: ObjId, clearance: Label) -> Result<(), Refusal>
         ensures { Answered self.old self.new thread (calls.SetClearance clearance) result (λ _. Unit {0}) }
     {
@@ -150,7 +149,7 @@ impl<S: LabelStore + Drop> Kernel<S> {
             .record(thread, RawCall::SetClearance(clearance), answer)
     }
 
-    /// Makes a segment in a container, and answers its number.
+    /// Makes a segment in a container, and returns its number.
     pub fn make_segment(
         &mut self,
         alloc: Global,
@@ -172,7 +171,7 @@ impl<S: LabelStore + Drop> Kernel<S> {
         )
     }
 
-    /// Makes a container in a container, and answers its number.
+    /// Makes a container in a container, and returns its number.
     pub fn make_container(
         &mut self,
         alloc: Global,
@@ -190,8 +189,8 @@ impl<S: LabelStore + Drop> Kernel<S> {
             .record(thread, RawCall::MakeContainer(container, label), answer)
     }
 
-    /// Makes a thread in a container, and answers its number. The new thread owns no more than its
-    /// maker, and is cleared for no more.
+    /// Makes a thread in a container, and returns its number. The new thread owns no more than its maker, and
+    /// its clearance is at most the maker's.
     pub fn make_thread(
         &mut self,
         thread: ObjId,
@@ -209,8 +208,8 @@ impl<S: LabelStore + Drop> Kernel<S> {
         self.trace.record(thread, call, answer)
     }
 
-    /// Makes a gate in a container, and answers its number. The gate gives its label to who enters it,
-    /// so its maker must own what the gate is to own.
+    /// Makes a gate in a container, and returns its number. The gate gives its label to each thread that
+    /// enters it, so its maker must own what the gate is to own.
     pub fn make_gate(
         &mut self,
         thread: ObjId,
@@ -236,8 +235,8 @@ impl<S: LabelStore + Drop> Kernel<S> {
         self.trace.record(thread, call, answer)
     }
 
-    /// Enters a gate that a container links: the thread gets the label and the clearance that it wants,
-    /// within what the gate and its own labels allow, and is answered the gate's entry.
+    /// Enters a gate that a container links, and returns its entry. The thread gets the label and the
+    /// clearance that it wants, within what the gate and its own labels allow.
     pub fn enter(
         &mut self,
         thread: ObjId,
@@ -266,8 +265,8 @@ impl<S: LabelStore + Drop> Kernel<S> {
         self.trace.record(thread, call, answer)
     }
 
-    /// The bytes of a segment that the container links, lent by the kernel, which is free again when they
-    /// are no longer used.
+    /// Lends the bytes of a segment that the container links. The kernel is free again when they are no
+    /// longer used.
     pub fn read(
         &mut self,
         thread: ObjId,
@@ -281,7 +280,7 @@ impl<S: LabelStore + Drop> Kernel<S> {
         Ok(self.bytes(segment))
     }
 
-    // Makes a read that answers no bytes: they are lent once it is recorded.
+    // Makes a read without its bytes: they are lent once it is recorded.
     fn make_read(&mut self, thread: ObjId, container: ObjId, segment: ObjId) -> Result<(), Refusal>
         ensures { Answered self.old self.new thread (calls.Read container segment) result (λ _. Unit {0}) }
     {
@@ -291,8 +290,8 @@ impl<S: LabelStore + Drop> Kernel<S> {
             .record(thread, RawCall::Read(container, segment), answer)
     }
 
-    /// The bytes of a segment, and none of anything else. This is no raw call, and leaves no entry: the
-    /// machine looks at its own table so, to find which thread makes a call.
+    /// Returns the bytes of a segment, and none for another object. This is no raw call, and leaves no entry:
+    /// with it the machine looks up in its own table which thread makes a call.
     pub fn bytes(&self, segment: ObjId) -> &[u8]
         ensures { result.now ≡ bytes_in (objects_of self.now.kept.objects segment) }
     {
@@ -302,28 +301,28 @@ impl<S: LabelStore + Drop> Kernel<S> {
         }
     }
 
-    /// The label of an object, if there is one. This is no raw call either.
+    /// Returns the label of an object, if there is one. This is no raw call either.
     pub fn label(&self, object: ObjId) -> Option<&Label>
         ensures { option_copied result ≡ label_there (objects_of self.now.kept.objects object) }
     {
         self.objects.label(object)
     }
 
-    /// The clearance of an object, if it is a thread or a gate. This is no raw call either.
+    /// Returns the clearance of an object, if it is a thread or a gate. This is no raw call either.
     pub fn clearance(&self, object: ObjId) -> Option<&Label>
         ensures { option_copied result ≡ clearance_there (objects_of self.now.kept.objects object) }
     {
         self.objects.clearance(object)
     }
 
-    /// The kind of an object, if there is one. This is no raw call either.
+    /// Returns the kind of an object, if there is one. This is no raw call either.
     pub fn kind(&self, object: ObjId) -> Option<ObjectKind>
         ensures { result ≡ kind_there (objects_of self.now.kept.objects object) }
     {
         self.objects.kind(object)
     }
 
-    /// The number that the next category gets: each category below it was made. This is no raw call
+    /// Returns the number that the next category gets: each category below it was made. This is no raw call
     /// either.
     pub fn next_category(&self) -> u64
         ensures { result ≡ self.now.kept.next_category }
@@ -345,7 +344,7 @@ impl<S: LabelStore + Drop> Kernel<S> {
         self.objects.is_thread(object)
     }
 
-    /// The same call, answered with a copy of the bytes, which stays while the kernel goes on.
+    /// Reads a segment, and returns a copy of its bytes, which stays while the kernel goes on.
     pub fn read_copy(
         &mut self,
         alloc: Global,
@@ -362,7 +361,7 @@ impl<S: LabelStore + Drop> Kernel<S> {
             .record(thread, RawCall::Read(container, segment), answer)
     }
 
-    /// Keeps at most so many bytes of a segment that the container links, and puts these behind them.
+    /// Keeps the first bytes of a segment that the container links, at most `keep`, and appends new ones.
     pub fn write(
         &mut self,
         alloc: Global,
@@ -391,7 +390,7 @@ impl<S: LabelStore + Drop> Kernel<S> {
         )
     }
 
-    /// Takes an object that the container links away, with all that hangs below it, its threads too.
+    /// Unlinks an object from a container, and removes it with all that hangs below it, its threads too.
     pub fn unlink(
         &mut self,
         alloc: Global,
@@ -407,7 +406,7 @@ impl<S: LabelStore + Drop> Kernel<S> {
             .record(thread, RawCall::Unlink(container, object), answer)
     }
 
-    /// The label of an object that the container links and that is no thread.
+    /// Returns the label of an object that the container links and that is no thread.
     pub fn label_of(
         &mut self,
         thread: ObjId,

@@ -1,4 +1,4 @@
-//! Raw calls as data: a session of many.
+//! Raw calls as data: a run of many calls.
 ghost use Rattle.std.specs.Prelude.{◌≡◌, ℕ, ◌<◌, OnOk, OnErr, length, take};
 ghost use Rattle.histar_rules.specs.Sound.{IsSound};
 ghost use Rattle.histar_rules.specs.Visible.{visible, AreConfined};
@@ -11,10 +11,9 @@ use histar_object::ObjId;
 use histar_rules::{RawCall, Refusal};
 use std::alloc::Global;
 
-/// Makes raw calls one after another, each by its thread, whether or not the ones before were refused.
-/// What came of them stands in the kernel's trace. Where memory runs out the calls so far stand, and
-/// the others, at least one, were not made. Calls of threads that a category confines leave all that is
-/// visible without its taint.
+/// Makes raw calls one after another, each by its thread, even if earlier ones were refused. The kernel's
+/// trace records their outcomes. Where memory runs out, the calls so far were made, and the others, at least
+/// one, were not. Calls of threads that a category confines leave all that is visible without its taint.
 pub fn run_raw<S: LabelStore + Drop>(
     alloc: Global,
     kernel: &mut Kernel<S>,

@@ -8,7 +8,7 @@ use histar_object::{Kind, ObjId};
 use histar_rules::{HandedLabel, LabelledObjects, Refusal};
 use std::alloc::Global;
 
-/// Makes a segment in a container, and answers its number.
+/// Makes a segment in a container, and returns its number.
 pub fn make_segment<S: LabelStore + Drop>(
     objects: &mut LabelledObjects<S>,
     alloc: Global,
@@ -28,7 +28,7 @@ pub fn make_segment<S: LabelStore + Drop>(
     Ok(number)
 }
 
-/// Checks a read of a segment that the container links, whose bytes are lent after it.
+/// Checks that a segment that the container links may be read. Its bytes are lent afterwards.
 pub fn check_read<S: LabelStore + Drop>(
     objects: &mut LabelledObjects<S>,
     thread: ObjId,
@@ -40,7 +40,7 @@ pub fn check_read<S: LabelStore + Drop>(
     Ok(objects.check_read(thread, container, segment)?)
 }
 
-/// Reads a segment that the container links, and answers a copy of its bytes.
+/// Reads a segment that the container links, and returns a copy of its bytes.
 pub fn read<S: LabelStore + Drop>(
     objects: &mut LabelledObjects<S>,
     alloc: Global,
@@ -54,7 +54,7 @@ pub fn read<S: LabelStore + Drop>(
     objects.read(alloc, thread, container, segment)
 }
 
-/// Keeps at most so many bytes of a segment that the container links, and puts these behind them.
+/// Keeps the first bytes of a segment that the container links, at most `keep`, and appends new ones.
 pub fn write<S: LabelStore + Drop>(
     objects: &mut LabelledObjects<S>,
     alloc: Global,

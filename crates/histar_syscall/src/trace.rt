@@ -7,7 +7,7 @@ use histar_object::ObjId;
 use histar_rules::{Denied, RawCall, Refusal};
 use std::alloc::{AllocError, Global};
 
-/// One raw call in the trace: on which line, by which thread, and why it was refused, if it was.
+/// One raw call in the trace: its line, its thread, and the reason of its denial, if it was denied.
 #[derive(Drop)]
 pub struct TraceEntry {
     pub line: u32,
@@ -16,8 +16,8 @@ pub struct TraceEntry {
     pub denied: Option<Denied>,
 }
 
-/// The one door to the trace: the entries of the calls so far, and the line of the next ones. A call
-/// makes room here before it is decided, and has its outcome recorded after.
+/// The trace, which changes only here: the entries of the calls so far, and the line of the next ones. A call
+/// makes room before it is decided, and records its outcome afterwards.
 #[derive(Drop)]
 pub(crate) struct Trace {
     pub(crate) line: u32,
@@ -45,8 +45,7 @@ impl Trace {
         self.entries.reserve(1)
     }
 
-    /// Writes the entry of a call with its outcome, which is handed on. A call that found no memory has
-    /// no entry.
+    /// Records a call with its outcome, and returns the outcome. A call that ran out of memory has no entry.
     // Inlined, so that the call is moved once, into its entry.
     #[inline(always)]
     pub(crate) fn record<A>(

@@ -1,4 +1,4 @@
-//! Classes that are read off labels, with their jobs, and of a label with a category more none.
+//! Classes that are read off labels, with their jobs; a label with one category more has none.
 use crate::processes::accounts;
 use histar_flat::FileMode;
 use histar_label::{Category, Label, Level};
@@ -6,12 +6,12 @@ use histar_layout::{Class, UserTable, class_of};
 use std::alloc::Global;
 use std::test::Fail;
 
-/// The two categories of the first user, who is number 1.
+/// The two categories of the first user, which has number 1.
 const READ: u64 = 4;
 
 const WRITE: u64 = 5;
 
-/// The mode of what has a label with these levels and else 1, and how many jobs it is for.
+/// Returns the mode of what has a label with these levels and else 1, and the number of its jobs.
 fn class_at(alloc: Global, levels: &[(u64, Level)]) -> Result<Option<(FileMode, usize)>, Fail> {
     let accounts = accounts(alloc)?;
     let users = UserTable::of(alloc, &accounts)?;
@@ -25,7 +25,7 @@ fn class_at(alloc: Global, levels: &[(u64, Level)]) -> Result<Option<(FileMode, 
     Ok(Some((class.stat(false).mode, jobs_of(&class))))
 }
 
-/// How many jobs a class is for.
+/// Returns the number of jobs that a class is for.
 fn jobs_of(class: &Class) -> usize {
     match class {
         Class::Scratch(_, chain) => chain.as_slice().len(),

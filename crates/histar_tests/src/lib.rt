@@ -1,4 +1,4 @@
-//! Sessions that cross crates: lists of raw calls on a kernel, call by call, and whole runs between a
+//! Tests that cross crates: lists of raw calls on a kernel, call by call, and whole runs between a
 //! source and a sink. There is nothing to run here but tests.
 #![tactic(auto)]
 

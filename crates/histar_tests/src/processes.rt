@@ -20,7 +20,7 @@ use std::test::Fail;
 
 /// What is expected of a process.
 struct Row {
-    /// The numbers of its name, of which the last stands first.
+    /// The numbers of its name, the last number first.
     numbers: &'static [u8],
     /// The categories of the jobs that it is in.
     chain: &'static [u64],
@@ -67,7 +67,7 @@ const AT_THE_END: &[Row] = &[
     },
 ];
 
-/// A session with one user, `root`.
+/// Returns accounts with one user, `root`.
 pub fn accounts(alloc: Global) -> Result<Accounts, Fail>
     ensures { IfOk result (λ accounts. HaveOwnNames accounts.users) }
 {
@@ -77,14 +77,14 @@ pub fn accounts(alloc: Global) -> Result<Accounts, Fail>
     Ok(accounts)
 }
 
-/// The user's name and password.
+/// Returns the user's name and password.
 fn root() -> Result<(Name, Password), Fail> {
     let name = read_user_name(b"root").ok_or("a name")?;
     let password = read_password(b"rr").ok_or("a password")?;
     Ok((name, password))
 }
 
-/// Checks that these are the processes that are expected.
+/// Checks that these are the expected processes.
 fn check_processes(rt: &impl Abort, processes: &[ProcessNode], rows: &[Row]) {
     assert_eq!(rt; processes.len(), rows.len());
     for (node, row) in processes.iter().zip(rows.iter()) {
@@ -113,7 +113,7 @@ fn is_life(life: &Life, expected: &Expected) -> bool {
     }
 }
 
-/// Has a child be born and exit, then has process 0 log in and begin a job.
+/// Makes a child be born and exit, then makes process 0 log in and begin a job.
 fn make_calls(
     alloc: Global,
     kernel: &mut Kernel<PlainStore>,

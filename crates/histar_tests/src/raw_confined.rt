@@ -1,4 +1,4 @@
-//! A session of threads that a category confines: they have it at 3, and no gate owns it. What they do
+//! A raw session of threads that a category confines: they have it at 3, and no gate owns it. What they do
 //! is granted below a container that has it at 3 too, and nowhere else.
 use crate::raw_sessions::{
     Asked, CLEARED_2, Expected, MODIFY, NO_ENTRY, OWNS_2, PLAIN, RANGE, Row, SECRET, accounts,

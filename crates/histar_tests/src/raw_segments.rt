@@ -1,4 +1,4 @@
-//! A session on segments: each way in which they are read, written and made, and each refusal.
+//! A raw session on segments: each way in which they are read, written and made, and each refusal.
 use crate::raw_sessions::{
     Asked, BAD_KIND, CLEARED_2, Expected, GUARDED, ListedLabel, MODIFY, NO_ENTRY, NO_THREAD,
     NOTHING, OBSERVE, OWNS_2, PLAIN, RANGE, Row, SECRET, TAINTED, TOO_BIG, UNMADE, accounts,

@@ -1,4 +1,4 @@
-//! Sessions of raw calls against tables that were written by hand from the rules of labels: a thread
+//! Raw sessions against tables that were written by hand from the rules of labels: a thread
 //! may observe what is below its own label with star read as above 3, and may modify what its label is
 //! below too.
 use histar_base::Bytes;
@@ -11,7 +11,7 @@ use std::process::Abort;
 /// A label as a table lists it: the levels at some categories, and the level everywhere else.
 pub(crate) type ListedLabel = (&'static [(u64, Level)], Level);
 
-/// A raw call. Containers and objects stand by their numbers, and bytes are a text, so many times over.
+/// A raw call. Containers and objects are given by their numbers, and bytes by a text and its repetitions.
 #[derive(Clone, Copy)]
 pub(crate) enum Asked {
     MakeCategory,
@@ -25,11 +25,11 @@ pub(crate) enum Asked {
     MakeThread(u64, ListedLabel, ListedLabel),
     /// In a container, with a label, a clearance and a mark.
     MakeGate(u64, ListedLabel, ListedLabel, u32),
-    /// Of a container and a gate: the wanted label, the wanted clearance and the shown label.
+    /// Of a container and a gate: the wanted label, the wanted clearance and the verify label.
     Enter(u64, u64, ListedLabel, ListedLabel, ListedLabel),
     /// Of a container and a segment.
     Read(u64, u64),
-    /// Of a container and a segment, keeping so many bytes.
+    /// Of a container and a segment, keeping this many bytes.
     Write(u64, u64, u32, &'static [u8], usize),
     /// Of a container and an object.
     Unlink(u64, u64),
@@ -42,7 +42,7 @@ pub(crate) enum Expected {
     Category(u64),
     Object(u64),
     Mark(u32),
-    /// A text, so many times over.
+    /// A text, and how often it is repeated.
     Bytes(&'static [u8], usize),
     OwnLabel(ListedLabel, ListedLabel),
     Refused(Denied),
@@ -69,7 +69,7 @@ pub(crate) const PLAIN: ListedLabel = (&[], Level::L1);
 
 pub(crate) const TAINTED: ListedLabel = (&[], Level::L2);
 
-/// What only the owner of category 2 may observe, or who is tainted so.
+/// What only the owner of category 2 may observe, or a thread that is tainted in it.
 pub(crate) const SECRET: ListedLabel = (&[(2, Level::L3)], Level::L1);
 
 /// What only the owner of category 3 may modify.
@@ -83,7 +83,7 @@ pub(crate) const CLEARED_2: ListedLabel = (&[(2, Level::L3)], Level::L2);
 /// Names a category that is never made.
 pub(crate) const UNMADE: ListedLabel = (&[(9, Level::L2)], Level::L1);
 
-/// The line, the thread, what it asks, and what it is answered.
+/// The line, the thread, the raw call, and its expected answer.
 pub(crate) type Row = (u32, u64, Asked, Expected);
 
 fn label(alloc: Global, listed: ListedLabel) -> Result<Label, OutOfMemory> {
@@ -95,7 +95,7 @@ fn label(alloc: Global, listed: ListedLabel) -> Result<Label, OutOfMemory> {
     Ok(label)
 }
 
-/// The label, as a raw call hands it over.
+/// Returns the label in the form in which a raw call takes it.
 fn handed(alloc: Global, listed: ListedLabel) -> Result<HandedLabel, OutOfMemory> {
     let label = label(alloc, listed)?;
     Ok(HandedLabel::new(alloc, label)?)
@@ -158,7 +158,7 @@ fn enter_call(
     Ok(RawCall::Enter(container, gate, wanted, clearance, shown))
 }
 
-/// The raw call as the kernel takes it.
+/// Returns the raw call in the form in which the kernel takes it.
 fn raw_call(alloc: Global, asked: Asked) -> Result<RawCall, OutOfMemory> {
     match asked {
         Asked::MakeCategory => Ok(RawCall::MakeCategory),
@@ -194,7 +194,7 @@ fn raw_call(alloc: Global, asked: Asked) -> Result<RawCall, OutOfMemory> {
     }
 }
 
-/// Whether the kernel answered what the table says.
+/// Checks that the kernel's answer is the one in the table.
 fn is_answer(alloc: Global, answer: &Answer, expected: Expected) -> Result<bool, OutOfMemory> {
     match (answer, expected) {
         (Answer::Done, Expected::Done) => Ok(true),
@@ -211,7 +211,7 @@ fn is_answer(alloc: Global, answer: &Answer, expected: Expected) -> Result<bool,
     }
 }
 
-/// Why the call is refused, if it is.
+/// Returns why the call is expected to be refused, if it is.
 fn denial(expected: Expected) -> Option<Denied> {
     match expected {
         Expected::Refused(denied) => Some(denied),
@@ -219,7 +219,7 @@ fn denial(expected: Expected) -> Option<Denied> {
     }
 }
 
-/// The trace has the rows, in their order, and nothing else, on the lines that were begun.
+/// Checks that the trace has the rows, in their order, and nothing else, on the lines that were begun.
 fn is_traced(rt: &impl Abort, trace: &[TraceEntry], rows: &[Row], is_begun: bool) {
     assert_eq!(rt; trace.len(), rows.len());
     for (entry, row) in trace.iter().zip(rows.iter()) {
@@ -230,7 +230,7 @@ fn is_traced(rt: &impl Abort, trace: &[TraceEntry], rows: &[Row], is_begun: bool
     }
 }
 
-/// All calls at once, whatever each of them answers.
+/// Makes all calls at once, whatever each of them answers.
 fn run_at_once<S: LabelStore + Drop>(
     rt: &impl Abort,
     alloc: Global,
@@ -247,7 +247,7 @@ fn run_at_once<S: LabelStore + Drop>(
     Ok(())
 }
 
-/// One call after another, each answered as the table says.
+/// Makes one call after another, and checks each answer against the table.
 fn run_by_call<S: LabelStore + Drop>(
     rt: &impl Abort,
     alloc: Global,
@@ -277,7 +277,7 @@ fn run_by_call<S: LabelStore + Drop>(
     Ok(())
 }
 
-/// The calls of a table on the empty kernel, all at once and then one by one, over two empty stores.
+/// Makes the calls of a table on the empty kernel, all at once and then one by one, over two empty stores.
 pub(crate) fn accounts<S: LabelStore + Drop>(
     rt: &impl Abort,
     alloc: Global,

@@ -12,7 +12,7 @@ const REPLIES: Options = Options {
     trace: false,
 };
 
-/// The first session: two users, and what each may do with the other's file.
+/// The first script: two users, and what each may do with the other's file.
 const SCRIPT: &[u8] = b"user root rr\n\
     user bob bb\n\
     0 create /a readable\n\
@@ -27,7 +27,7 @@ const SCRIPT: &[u8] = b"user root rr\n\
     0 create /a readable\n\
     0 create /b readable\n";
 
-/// What it is answered.
+/// The replies to the script.
 const TEXT: &[u8] = b"3 EACCES\n\
     4 ok\n\
     5 ok\n\

@@ -10,7 +10,7 @@ use std::alloc::{AllocError, Global};
 use std::process::Abort;
 use std::test::Fail;
 
-/// A process is born and logs in, writes, wraps a job that writes too, and takes all of that away.
+/// A process is born and logs in, writes, wraps a job that writes too, and removes all of that.
 const SCRIPT: &[u8] = b"user root rr\n\
     0 spawn\n\
     0 login root rr\n\
@@ -29,7 +29,7 @@ const SCRIPT: &[u8] = b"user root rr\n\
     0 unlink /d/f\n\
     0 rmdir /d\n";
 
-/// Has a machine do calls, and tells whether it stopped. From then on it answers nothing else, and makes
+/// Makes calls on a machine, and returns whether it stopped. From then on it answers nothing else, and makes
 /// no raw call.
 fn has_stopped(
     rt: &impl Abort,
@@ -55,7 +55,7 @@ fn has_stopped(
     has_stopped
 }
 
-/// A machine after the script, and whether it stopped.
+/// Returns a machine after the script, and whether it stopped.
 fn machine_after(
     rt: &impl Abort,
     alloc: Global,

@@ -1,4 +1,4 @@
--- What a thread owns once it made a category.
+-- The categories that a thread owns after it made one.
 use Rattle.std.proofs.Common.{◌≡◌, ℕ, ◌+◌, None, Some, true, refl, sym, ap, ◌∙◌}
 use Rattle.histar_label.specs.declared.levels.Level.TheVariants.{Star, L3}
 use Rattle.histar_label.specs.Levels.{Levels, with_level}
@@ -9,7 +9,7 @@ use Rattle.histar_rules.specs.Rights.{with_star_at, kind_with_three_at, with_cat
 use Rattle.histar_object.specs.State.{State, Found, with_own, with_next_category}
 use Rattle.histar_object.proofs.Changes.{put_changed}
 
--- a thread that owns a category more has these labels
+-- a thread that owns one more category has these labels
 kind_owned : (own : Levels) (k : Kind Levels) (label clearance : Levels) (c : ℕ) → Some label ≡ Some own
     → Some clearance ≡ kind_clearance k → kind_is_thread k ≡ true
     → thread_of (with_level label c Star) (with_level clearance c L3) ≡ record { label = with_level own c Star; kind = kind_with_three_at c k }
@@ -18,7 +18,7 @@ kind_owned own (Container links) label clearance c l k t = cc
 kind_owned own (Thread most) label clearance c l k t = cc
 kind_owned own (Gate most entry) label clearance c l k t = cc
 
--- so to give the thread these labels is to change it
+-- so giving the thread these labels changes it in this way
 owned_at : (objects : Objects Levels) (t : ℕ) (here : Found) (label clearance : Levels) (c : ℕ) → objects t ≡ here
     → Some label ≡ label_there here → Some clearance ≡ clearance_there here → is_thread here ≡ true
     → put objects t (thread_of (with_level label c Star) (with_level clearance c L3)) ≡ changed_at objects t (with_star_at c)
@@ -27,7 +27,7 @@ owned_at objects t (Some o) label clearance c at l k thread =
     ap (put objects t) (kind_owned o.label o.kind label clearance c l k thread)
     ∙ put_changed objects t (with_star_at c) o (sym at)
 
--- the state once a thread made a category
+-- the state after a thread made a category
 pub category_made : (s : State) (t : ℕ) (label clearance : Levels) → Some label ≡ label_there (s.objects t)
     → Some clearance ≡ clearance_there (s.objects t) → is_thread (s.objects t) ≡ true
     → with_next_category (with_own s t (with_level label s.next_category Star) (with_level clearance s.next_category L3)) ≡ with_category s t

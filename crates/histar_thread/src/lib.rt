@@ -1,4 +1,4 @@
-//! The raw calls by which threads get categories, learn and change their own labels, and make threads.
+//! The raw calls by which threads make categories, learn and change their own labels, and make threads.
 #![tactic(auto)]
 
 mod ranges;

@@ -4,7 +4,7 @@ ghost use Rattle.histar_label.specs.Levels.{is_below, is_below_join_raised};
 
 use histar_label::Label;
 
-/// Whether a clearance is above a thread's own label, and above its clearance only where it owns.
+/// Checks whether a clearance is above a thread's own label, and exceeds its clearance only where it owns.
 pub(crate) fn may_clear(own: &Label, own_clearance: &Label, clearance: &Label) -> bool
     ensures { result ≡ (is_below own.now clearance.now && is_below_join_raised clearance.now own_clearance.now own.now) }
 {

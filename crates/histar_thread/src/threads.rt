@@ -1,4 +1,4 @@
-//! The calls of a thread on itself, and the making of threads.
+//! The calls of a thread on itself, and the call that makes a thread.
 ghost use Rattle.std.specs.Prelude.{◌≡◌, ◌<◌, IfOk, Some};
 ghost use Rattle.histar_object.specs.Objects.{objects_of, thread_of};
 ghost use Rattle.histar_container.specs.ObjectsModel.{state_of};
@@ -10,7 +10,7 @@ use histar_label::{Category, Label, LabelStore, Level};
 use histar_object::{Kind, ObjId};
 use histar_rules::{Denied, HandedLabel, LabelledObjects, Refusal, in_range, require};
 
-/// The thread's own label and clearance.
+/// Returns the thread's own label and clearance.
 pub fn own_label<S: LabelStore + Drop>(
     objects: &LabelledObjects<S>,
     thread: ObjId,
@@ -25,7 +25,7 @@ pub fn own_label<S: LabelStore + Drop>(
     Ok((label, clearance))
 }
 
-/// The checks of the making of a category: where they pass, the thread's label and clearance.
+/// Checks that a category may be made, and returns the thread's label and clearance.
 fn check_make_category<S: LabelStore + Drop>(
     objects: &LabelledObjects<S>,
     thread: ObjId,
@@ -40,7 +40,7 @@ fn check_make_category<S: LabelStore + Drop>(
     Ok(own)
 }
 
-/// Makes a category. The thread owns it from then on, and may give anyone level 3 there.
+/// Makes a category. The thread owns it from then on, and its clearance there is 3.
 pub fn make_category<S: LabelStore + Drop>(
     objects: &mut LabelledObjects<S>,
     thread: ObjId,
@@ -57,7 +57,7 @@ pub fn make_category<S: LabelStore + Drop>(
     Ok(category)
 }
 
-/// The checks of a new label for the thread itself.
+/// Checks a new label for the thread itself.
 fn check_set_label<S: LabelStore + Drop>(
     objects: &LabelledObjects<S>,
     thread: ObjId,
@@ -75,8 +75,8 @@ fn check_set_label<S: LabelStore + Drop>(
     )
 }
 
-/// Gives the thread another label, which lies between its own label and its clearance: it may give
-/// up what it owns, and taint itself, but not the other way.
+/// Gives the thread another label, which lies between its own label and its clearance: it may give up what it
+/// owns, and taint itself, but not the other way.
 pub fn set_label<S: LabelStore + Drop>(
     objects: &mut LabelledObjects<S>,
     thread: ObjId,
@@ -90,7 +90,7 @@ pub fn set_label<S: LabelStore + Drop>(
     Ok(())
 }
 
-/// The checks of a new clearance for the thread itself.
+/// Checks a new clearance for the thread itself.
 fn check_set_clearance<S: LabelStore + Drop>(
     objects: &LabelledObjects<S>,
     thread: ObjId,
@@ -108,8 +108,8 @@ fn check_set_clearance<S: LabelStore + Drop>(
     )
 }
 
-/// Gives the thread another clearance, which is above its own label, and above its old clearance only
-/// where it owns.
+/// Gives the thread another clearance, which is above its own label, and exceeds its old clearance only where
+/// the thread owns.
 pub fn set_clearance<S: LabelStore + Drop>(
     objects: &mut LabelledObjects<S>,
     thread: ObjId,
@@ -123,8 +123,8 @@ pub fn set_clearance<S: LabelStore + Drop>(
     Ok(())
 }
 
-/// Makes a thread in a container, and answers its number. The new thread owns no more than its maker,
-/// and is cleared for no more.
+/// Makes a thread in a container, and returns its number. The new thread owns no more than its maker, and its
+/// clearance is at most the maker's.
 pub fn make_thread<S: LabelStore + Drop>(
     objects: &mut LabelledObjects<S>,
     thread: ObjId,

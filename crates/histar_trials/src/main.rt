@@ -1,8 +1,8 @@
-//! Runs the sessions that standard input lists, and prints what each answers: each script over every store of labels
-//! and through devices that move one byte a call, each raw session line by line and as one list of calls.
+//! Runs the scripts and raw sessions of standard input, and prints the replies of each: each script over all
+//! stores of labels and through devices that move one byte a call, each raw session line by line and at once.
 //!
-//! The gate runs it on the sessions of `examples/`, whose answers were written by hand. So each public call that may
-//! answer out of memory is seen to answer otherwise where memory is ample.
+//! The gate runs it on the scripts and raw sessions of `examples/`, whose replies were written by hand. It
+//! shows that each public call that may answer out of memory answers otherwise where memory is ample.
 #![tactic(auto)]
 
 mod devices;
@@ -28,7 +28,7 @@ fn run_trial(alloc: Global, trial: &Trial<'_>) -> Result<Vec<u8>, Fault> {
     }
 }
 
-/// Prints the title of a trial, and below it what it answers.
+/// Prints the title of a trial, and its answers below it.
 fn print_trial<W: Write>(alloc: Global, output: &mut W, trial: &Trial<'_>) -> Result<(), Fault> {
     let text = run_trial(alloc, trial)?;
     for part in [b"== ".as_slice(), trial.title, b"\n", text.as_slice()] {
@@ -37,7 +37,7 @@ fn print_trial<W: Write>(alloc: Global, output: &mut W, trial: &Trial<'_>) -> Re
     Ok(())
 }
 
-/// Runs all trials of standard input. What is no trial is reported, and ends the run.
+/// Runs all trials of standard input. Text that is no trial is reported, and ends the run.
 fn run_all<R: Input + Print + AllocGlobal>(rt: &R) -> Result<(), Fault> {
     let alloc = rt.alloc();
     let mut reader = Counted::new(rt.reader());

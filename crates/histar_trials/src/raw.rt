@@ -11,7 +11,7 @@ use histar_shell::Counted;
 use histar_syscall::{Kernel, TraceEntry, run_raw};
 use std::alloc::Global;
 
-/// Reads the raw calls of a session; other lines are passed over.
+/// Reads the raw calls of a session; other lines are skipped.
 fn read_calls(alloc: Global, session: &[u8]) -> Result<Vec<(ObjId, RawCall)>, Fault> {
     let mut calls = Vec::new(alloc);
     let mut rest = session;
@@ -49,7 +49,7 @@ fn shows(text: &[u8], trace: &[TraceEntry]) -> bool {
     rest.is_empty()
 }
 
-/// Checks that the list of all calls of a session, made at once, is granted and denied as these answers say.
+/// Checks that all calls of a session, made at once, are granted and denied as these answers say.
 fn is_so_at_once(alloc: Global, session: &[u8], text: &[u8]) -> Result<bool, Fault> {
     let calls = read_calls(alloc, session)?;
     let mut kernel = Kernel::new(alloc, InternStore::new(alloc, 256)?)?;

@@ -7,7 +7,7 @@ use histar_script::Fault;
 use histar_shell::{Counted, Options, run, run_with};
 use std::alloc::Global;
 
-/// What is printed where two runs of one session differ.
+/// The text that is printed where two runs of one script differ.
 pub const DIFFERS: &[u8] = b"differs\n";
 
 /// Adds the fault of a run to what it wrote, on a line of its own.

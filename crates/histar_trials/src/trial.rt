@@ -14,7 +14,7 @@ pub enum Kind {
     Raw,
 }
 
-/// A title, and the script or the session below it.
+/// A title, and the script or the raw session below it.
 #[derive(Clone, Copy)]
 pub struct Trial<'a> {
     pub title: &'a [u8],
@@ -22,7 +22,7 @@ pub struct Trial<'a> {
     pub body: &'a [u8],
 }
 
-/// What a title begins with.
+/// The beginning of a title.
 const MARK: &[u8] = b"== ";
 
 /// Reads the options of a run.
@@ -54,7 +54,7 @@ fn read_kind(title: &[u8]) -> Option<Kind> {
     }
 }
 
-/// Parts the lines before the next title from it.
+/// Splits a text into the lines before the next title and the rest.
 fn split_body(text: &[u8]) -> (&[u8], &[u8]) {
     if text.starts_with(MARK) {
         return (&[], text);
@@ -65,7 +65,7 @@ fn split_body(text: &[u8]) -> (&[u8], &[u8]) {
     }
 }
 
-/// Reads the first trial of a text, and returns it with the text behind it.
+/// Reads the first trial of a text, and returns it with the text after it.
 pub fn next_trial(text: &[u8]) -> Option<(Trial<'_>, &[u8])> {
     let rest = text.strip_prefix(MARK)?;
     let (title, lines) = split_at_first(rest, b'\n');

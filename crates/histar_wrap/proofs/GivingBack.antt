@@ -1,4 +1,4 @@
--- How the code that gives back what a thread took runs its parts.
+-- How the code that gives up what a thread took runs its parts.
 use Rattle.std.proofs.Common.{◌≡◌, ℕ, Option, None, Some, Result, Ok, Err, inl, refl, sym, ap, subst}
 use Rattle.histar_flat.specs.declared.replies.Errno.{Errno}
 use Rattle.histar_flat.specs.declared.replies.Reply.TheVariants as replies
@@ -19,7 +19,7 @@ use Rattle.histar_calls.proofs.Running.{asked, onward, then_part, part_fails}
 use Rattle.histar_wrap.specs.Scratch.{ask_or_give_back, give_back, gives_back_with, or_given_back, or_stops}
 use Rattle.histar_wrap.specs.Steps.{ask_or_stop, restore, stopping}
 
--- an ending with an errno comes of that errno
+-- a call that ends with an errno was denied with that errno
 of_errno : (o : Option Errno) (errno : Errno) → call_error_with o ≡ Refused errno → o ≡ Some errno
 of_errno None errno e = absurd cc
 of_errno (Some other) errno e = ap Some (ap errno_in e)
@@ -28,7 +28,7 @@ of_errno (Some other) errno e = ap Some (ap errno_in e)
     errno_in (Refused found) = found
     errno_in Stopped = other
 
--- an ending without one comes of none
+-- a call that ends without an errno was denied with none
 of_none : (o : Option Errno) → call_error_with o ≡ Stopped → o ≡ None
 of_none None e = refl
 of_none (Some errno) e = absurd cc
@@ -36,13 +36,13 @@ of_none (Some errno) e = absurd cc
 module _ (t : ℕ) (call : RawCall) (old new : KernelModel) where
   -- ---- a raw call that may not be refused
 
-  -- it was granted
+  -- the raw call was granted
   pub is_granted : (answer : AnswerOf call) → Called old new t call None → IsAnswer (state old) t call answer
       → RunsPart (ask_or_stop call) old new t (Ok answer)
   unfolding RunsPart
   is_granted answer called right = λ rest. asked t call (or_stops rest) old new (Ok answer) (called, right)
 
-  -- it was refused
+  -- the raw call was refused
   pub is_refused : {A : Type 0} (P : A → Type 0) (refusal : Refusal) → Answered {A = A} old new t call (Err refusal) P
       → RunsPart (ask_or_stop call) old new t (Err Stopped)
   unfolding RunsPart
@@ -52,13 +52,13 @@ module _ (t : ℕ) (call : RawCall) (old new : KernelModel) where
   module _ (own : Levels × Levels) where
     -- ---- a raw call at whose denial what was taken is given back
 
-    -- it was granted
+    -- the raw call was granted, and the program goes on
     pub goes_on : (answer : AnswerOf call) → Called old new t call None → IsAnswer (state old) t call answer
         → RunsPart (ask_or_give_back own call) old new t (Ok answer)
     unfolding RunsPart
     goes_on answer called right = λ rest. asked t call (or_given_back own (errno_for call) rest) old new (Ok answer) (called, right)
 
-    -- it was denied, and what follows is known by the errno
+    -- the raw call was denied, and the errno determines what follows
     to_give_back : (rest : AnswerOf call → Program) (denied : Denied) (o : Option Errno) → errno_for call denied ≡ o
         → Called old new t call (Some denied)
         → LeadsTo (ask_or_give_back own call rest) old (gives_back_with own o) new t
@@ -66,7 +66,7 @@ module _ (t : ℕ) (call : RawCall) (old new : KernelModel) where
         subst (λ (e : Option Errno). LeadsTo (ask_or_give_back own call rest) old (gives_back_with own e) new t) is
         (asked t call (or_given_back own (errno_for call) rest) old new (Err denied) called)
 
-    -- it was refused, and there is no errno to tell
+    -- the raw call was refused, and there is no errno to reply
     pub stops_there : {A : Type 0} (P : A → Type 0) (refusal : Refusal)
         → Answered {A = A} old new t call (Err refusal) P → call_error_of (errno_for call) refusal ≡ Stopped
         → RunsPart (ask_or_give_back own call) old new t (Err Stopped)
@@ -75,7 +75,7 @@ module _ (t : ℕ) (call : RawCall) (old new : KernelModel) where
         λ rest. (to_give_back rest denied None (of_none (errno_for call denied) is) called).begins new (same_kernel new)
     stops_there P refusals.OutOfMemory same is = λ rest. inl same
 
-    -- it was denied with this errno
+    -- the raw call was denied with this errno
     pub leads_back : {A : Type 0} (P : A → Type 0) (refusal : Refusal) (errno : Errno)
         → Answered {A = A} old new t call (Err refusal) P → call_error_of (errno_for call) refusal ≡ Refused errno
         → (rest : AnswerOf call → Program) → LeadsTo (ask_or_give_back own call rest) old (give_back own errno) new t
@@ -91,7 +91,7 @@ before_asking t call k = λ rest. inl (same_kernel k)
 -- ---- the thread's own label and clearance
 
 module _ (t : ℕ) (old new : KernelModel) where
-  -- the thread was given the label that is due
+  -- the thread was given the expected label
   pub label_given : (label due : Levels) → label ≡ due → (answer : Result (Unit {0}) Refusal)
       → Answered old new t (SetLabel label) answer (λ _. Unit {0}) → (result : Result (Unit {0}) CallError)
       → result ≡ stopping answer → RunsPart (ask_or_stop (SetLabel due)) old new t result
@@ -104,7 +104,7 @@ module _ (t : ℕ) (old new : KernelModel) where
       by (Ok done) given = is_granted t (SetLabel label) old new done given.0 tt
       by (Err refusal) given = is_refused t (SetLabel label) old new (λ _. Unit {0}) refusal given
 
-  -- and the clearance
+  -- the thread was given the expected clearance
   pub clearance_given : (clearance due : Levels) → clearance ≡ due → (answer : Result (Unit {0}) Refusal)
       → Answered old new t (SetClearance clearance) answer (λ _. Unit {0}) → (result : Result (Unit {0}) CallError)
       → result ≡ stopping answer → RunsPart (ask_or_stop (SetClearance due)) old new t result
@@ -127,13 +127,13 @@ module _ (t : ℕ) (old new : KernelModel) where
         → RunsPart (restore own) old new t (Err call_error)
     label_fails call_error first = part_fails t (ask_or_stop (SetLabel own.0)) old new after_label call_error first
 
-    -- it was
+    -- the label was given
     pub label_then : (mid : KernelModel) → RunsPart (ask_or_stop (SetLabel own.0)) old mid t (Ok tt)
         → (result : Result (Unit {0}) CallError) → RunsPart (ask_or_stop (SetClearance own.1)) mid new t result
         → RunsPart (restore own) old new t result
     label_then mid first result second = then_part t (ask_or_stop (SetLabel own.0)) old new after_label mid tt first result second
 
-    -- what was taken was given back, or that stopped the call
+    -- what was taken was given up, or that stopped the call
     pub gives_back : (A : Type 0) (part : Part A) (mid : KernelModel) (errno : Errno)
         → ((rest : A → Program) → LeadsTo (part rest) old (give_back own errno) mid t)
         → RunsPart (restore own) mid new t (Ok tt) → RunsPart part old new t (Err (Refused errno))

@@ -27,7 +27,7 @@ use Rattle.histar_wrap.specs.Laws.{WrapsReplyToRefusals}
 use Rattle.histar_wrap.specs.Scratch.{directory_label, gives_back_with, hold_job, kin_in, make_scratch}
 use Rattle.histar_wrap.specs.WrapCall.{wrap_program}
 
--- a denial has its reply once what was taken is given back
+-- a denial has its reply once what was taken is given up
 denial_has_reply : (own : Levels × Levels) (denied : Denied) → RepliesToDenial denied (gives_back_with own (errno_of denied))
 denial_has_reply own Observe = (refl, (λ _. (refl, (λ _. (refl, refl)), (λ _. refl))), (λ _. refl))
 denial_has_reply own Modify = (refl, (λ _. (refl, (λ _. (refl, refl)), (λ _. refl))), (λ _. refl))
@@ -44,7 +44,7 @@ module _ (own : Levels × Levels) (rest : Program) (obeys : RepliesToRefusals re
     abbrev listed : ℕ → ℕ → Program
     listed container listing = write_entries room.place (map.insert room.entries room.name (Directory container listing)) (λ _. rest)
 
-    -- the making of a scratch directory tells, where what comes after it does
+    -- making a scratch directory replies to its refusals, if what comes after it does
     scratch_replies : RepliesToRefusals (make_scratch own label room (λ _. rest))
     unfolding make_scratch
     scratch_replies = (
@@ -54,7 +54,7 @@ module _ (own : Levels × Levels) (rest : Program) (obeys : RepliesToRefusals re
       denial_has_reply own,
     )
 
-  -- and so does the holding of a job
+  -- holding a job replies to its refusals, if what comes after it does
   hold_replies : (job : ℕ) → RepliesToRefusals (hold_job own job (λ _. rest))
   unfolding hold_job
   hold_replies job =
@@ -74,7 +74,7 @@ module _ (accounts : Accounts) (roots : Roots) (name : ProcName) (me : Home) (pa
   abbrev scratched : ProcessStatus → Room → Levels × Levels → ℕ → Program
   scratched status room own job = make_scratch own (directory_label accounts own.0 job) room (λ _. born status own job)
 
-  -- and after there is room for a child
+  -- what comes after there is room for a child
   abbrev found : ProcessStatus → Program
   found status = find_room roots path (λ room. ask OwnLabel (λ own. ask MakeCategory (scratched status room own)))
 

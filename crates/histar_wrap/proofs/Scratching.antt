@@ -1,4 +1,4 @@
--- How the code that makes a scratch directory, and that of the holder of a job, run their parts.
+-- How the code that makes a scratch directory, and the code that holds a job, run their parts.
 use Rattle.std.proofs.Common.{◌≡◌, ℕ, [], Result, Ok, Err, subst}
 use Rattle.std.specs.FinMap as map
 use Rattle.histar_label.specs.declared.levels.Level.TheVariants.{Star, L3}
@@ -23,7 +23,7 @@ module _ (t : ℕ) (own : Levels × Levels) (label : Levels) (room : Room) (old 
   abbrev pub after_listing : ℕ → ℕ → Part (Unit {0})
   after_listing container listing = write_entries room.place (grown container listing)
 
-  -- and after the container
+  -- what comes after the container
   abbrev pub after_container : ℕ → Part (Unit {0})
   after_container container rest = ask (MakeSegment container label []) (λ listing. after_listing container listing rest)
 
@@ -39,7 +39,7 @@ module _ (t : ℕ) (own : Levels × Levels) (label : Levels) (room : Room) (old 
   module _ (mid : KernelModel) (container : ℕ)
       (first : RunsPart (ask_or_give_back own (MakeContainer room.place.container label)) old mid t (Ok container))
     where
-      -- one was
+      -- a container was made
       with_container : (result : Result (Unit {0}) CallError) → RunsPart (after_container container) mid new t result
           → RunsPart (make_scratch own label room) old new t result
       unfolding make_scratch
@@ -55,7 +55,7 @@ module _ (t : ℕ) (own : Levels × Levels) (label : Levels) (room : Room) (old 
           with_container (Err call_error)
           (part_fails t (ask (MakeSegment container label [])) mid new (after_listing container) call_error second)
 
-      -- one was, and the entry is made, or not
+      -- a directory segment was made, and the entry is made, or not
       pub with_listing : (late : KernelModel) (listing : ℕ)
           → RunsPart (ask (MakeSegment container label [])) mid late t (Ok listing)
           → (result : Result (Unit {0}) CallError)
@@ -66,7 +66,7 @@ module _ (t : ℕ) (own : Levels × Levels) (label : Levels) (room : Room) (old 
           result third)
 
 module _ (t : ℕ) (own : Levels × Levels) (job : ℕ) (old new : KernelModel) where
-  -- what comes after the label of who holds a job
+  -- what comes after the label of the thread that holds a job
   abbrev after_label : Unit {0} → Part (Unit {0})
   after_label done = ask (SetClearance (with_level own.1 job L3))
 
@@ -77,7 +77,7 @@ module _ (t : ℕ) (own : Levels × Levels) (job : ℕ) (old new : KernelModel) 
   unfolding hold_job
   hold_fails call_error first = part_fails t (ask (SetLabel (with_level own.0 job Star))) old new after_label call_error first
 
-  -- it was
+  -- the label was given
   pub hold_then : (mid : KernelModel) → RunsPart (ask (SetLabel (with_level own.0 job Star))) old mid t (Ok tt)
       → (result : Result (Unit {0}) CallError)
       → RunsPart (ask (SetClearance (with_level own.1 job L3))) mid new t result
@@ -85,7 +85,7 @@ module _ (t : ℕ) (own : Levels × Levels) (job : ℕ) (old new : KernelModel) 
   unfolding hold_job
   hold_then mid first result second = then_part t (ask (SetLabel (with_level own.0 job Star))) old new after_label mid tt first result second
 
--- a raw call with the label that is due
+-- a raw call with the expected label
 module _ (t : ℕ) (old new : KernelModel) (label due : Levels) (same : label ≡ due) (result : Result (Unit {0}) CallError) where
   pub label_so : RunsPart (ask (SetLabel label)) old new t result → RunsPart (ask (SetLabel due)) old new t result
   label_so runs = subst (λ (l : Levels). RunsPart {A = Unit {0}} (ask (SetLabel l)) old new t result) same runs

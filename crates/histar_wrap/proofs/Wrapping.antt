@@ -41,20 +41,20 @@ module _ (t : ℕ) (own : Levels × Levels) (label : Levels) (room : Room) (k : 
 
 module _ (accounts : Accounts) (own : Levels) (job user : ℕ) (jobs : List ℕ)
     (is : IsUserOf own (length accounts.users) user) (jobs_are : jobs ≡ jobs_with own job) where
-  -- the label of the scratch directory is what the thread's own label says
+  -- the label of the scratch directory is the one that the thread's own label determines
   pub directory_is : (label : Levels) → label ≡ scratch_label user jobs → label ≡ directory_label accounts own job
   directory_is label label_is = label_is ∙ (λ i. scratch_label (sym (user_is own (length accounts.users) user is) i) (jobs_are i))
 
-  -- and so is what the first process gets
+  -- the kin of the first process are those that the thread's own label determines
   pub kin_is : (owned : List ℕ) → owned ≡ owned_by accounts user false → record { owned = owned; jobs = jobs } ≡ kin_in accounts own job
   kin_is owned owned_is = λ i. record {
     owned = (owned_is ∙ ap (λ (u : ℕ). owned_by accounts u false) (sym (user_is own (length accounts.users) user is))) i;
     jobs = jobs_are i;
   }
 
--- the parts of the filling of a job, one after another
+-- the parts of filling a job, one after another
 module _ (t : ℕ) (me : Home) (status : ProcessStatus) (room : Room) (plan : JobPlan) (old : KernelModel) where
-  -- what comes behind the scratch directory
+  -- what comes after the scratch directory
   abbrev born : Part (Unit {0})
   born rest = birth me status plan.kin (λ _. hold_job plan.own plan.job rest)
 
@@ -95,23 +95,23 @@ module _ (accounts : Accounts) (roots : Roots) (name : ProcName) (me : Home) (pa
   abbrev pub after_filling : ProcessStatus → Program
   after_filling status = Answers (Child ((status.born + 1) ∷ name))
 
-  -- once the category is made
+  -- what is still to do once the category is made
   abbrev pub after_job : ProcessStatus → Room → Levels × Levels → ℕ → Program
   after_job status room own job = fill_job me status room (plan_for accounts own job) (λ (done : Unit {0}). after_filling status)
 
-  -- once the thread's labels are known
+  -- what is still to do once the thread's labels are known
   abbrev pub after_own : ProcessStatus → Room → Levels × Levels → Program
   after_own status room own = ask MakeCategory (after_job status room own)
 
-  -- once there is room for an entry
+  -- what is still to do once there is room for an entry
   abbrev pub after_room : ProcessStatus → Room → Program
   after_room status room = ask OwnLabel (after_own status room)
 
-  -- and once there is room for a child
+  -- what is still to do once there is room for a child
   abbrev pub after_status : ProcessStatus → Program
   after_status status = find_room roots path (after_room status)
 
-  -- at first all is left
+  -- at first the whole program is left
   pub begun : (t : ℕ) (old : KernelModel) → Leaves t (wrap_program accounts roots name me path) old (room_for_child name me after_status) old
   unfolding wrap_program
   begun t old = record { leads = λ new result on. on }

@@ -1,4 +1,4 @@
--- What the kernel's refusals come to in the program of a wrap.
+-- The replies to which the kernel's refusals lead in the program of a wrap.
 use Rattle.histar_flat.specs.Accounts.{Accounts}
 use Rattle.histar_flat.specs.Words.{Path, ProcName}
 use Rattle.histar_calls.specs.declared.roots.Home.{Home}

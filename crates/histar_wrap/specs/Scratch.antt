@@ -1,4 +1,4 @@
--- The scratch directory of a job, and who holds the job.
+-- The scratch directory of a job, and the thread that holds the job.
 use Rattle.std.specs.Prelude.{ℕ, false, List, [], ◌∷◌, ◌++◌, length, Option, None, Some, Result, Ok, Err}
 use Rattle.std.specs.FinMap as map
 use Rattle.histar_flat.specs.Accounts.{Accounts}
@@ -40,17 +40,17 @@ or_stops rest (Err denied) = Stops
 abbrev pub give_back : Levels × Levels → Errno → Program
 give_back own errno = Asks (SetLabel own.0) (or_stops (λ _. Asks (SetClearance own.1) (or_stops (λ _. Answers (Refused errno)))))
 
--- the same of a denial; one that has no errno stops the program
+-- the same for a denial; one that has no errno stops the program
 abbrev pub gives_back_with : Levels × Levels → Option Errno → Program
 gives_back_with own None = Stops
 gives_back_with own (Some errno) = give_back own errno
 
--- goes on with the answer of a raw call, or gives back what was taken and replies the errno of its denial
+-- goes on with the answer of a raw call, or gives up what was taken and replies the errno of its denial
 abbrev pub or_given_back : {A : Type 0} → Levels × Levels → (Denied → Option Errno) → (A → Program) → Result A Denied → Program
 or_given_back own errno rest (Ok answer) = rest answer
 or_given_back own errno rest (Err denied) = gives_back_with own (errno denied)
 
--- asks the kernel; at a denial what was taken is given back, and it is the reply
+-- asks the kernel; after a denial what was taken is given up, and the reply is the denial's errno
 abbrev pub ask_or_give_back : Levels × Levels → (call : RawCall) → Part (AnswerOf call)
 ask_or_give_back own call rest = Asks call (or_given_back own (errno_for call) rest)
 

@@ -1,4 +1,4 @@
--- The giving back of a wrap, in the steps of its code.
+-- How a wrap gives its category up, in the steps of its code.
 use Rattle.std.specs.Prelude.{Result, Ok, Err}
 use Rattle.histar_label.specs.Levels.{Levels}
 use Rattle.histar_rules.specs.declared.raw.RawCall.{RawCall}
@@ -22,7 +22,7 @@ restore own rest = do
   ask_or_stop (SetClearance own.1)
   rest tt
 
--- what was answered, or the end of the call without a reply
+-- the answer of a raw call, or the end of the call without a reply
 abbrev pub stopping : Result (Unit {0}) Refusal → Result (Unit {0}) CallError
 stopping (Ok done) = Ok done
 stopping (Err refusal) = Err Stopped

@@ -1,8 +1,8 @@
-//! What the kernel's refusals come to in the program of a wrap: the contract of a function that does
-//! nothing.
+//! The replies to which the kernel's refusals lead in the program of a wrap: the contract of a function that
+//! does nothing.
 ghost use Rattle.histar_wrap.specs.Laws.{WrapsReplyToRefusals};
 
-/// The program of a wrap replies to its refusals.
+/// States that the program of a wrap replies to its refusals.
 pub fn wraps_reply_to_refusals()
     ensures { WrapsReplyToRefusals }
 {}

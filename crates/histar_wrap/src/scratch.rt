@@ -1,4 +1,4 @@
-//! The scratch directory of a job, and who holds the job.
+//! The scratch directory of a job, and the thread that holds the job.
 ghost use Rattle.std.specs.Prelude.{◌<◌, ◌≡◌, IfOk};
 ghost use Rattle.std.specs.FinMap as map;
 ghost use Rattle.histar_rules.specs.declared.raw.RawCall.TheVariants as calls;
@@ -72,7 +72,7 @@ fn make_or_give_back<S: LabelStore + Drop>(
     Err(CallError::Refused(errno))
 }
 
-// The thread takes its own label and clearance again.
+// Gives the thread its own label and clearance again.
 fn restore<S: LabelStore + Drop>(
     kernel: &mut Kernel<S>,
     thread: ObjId,
@@ -85,7 +85,7 @@ fn restore<S: LabelStore + Drop>(
     stopping(kernel.set_clearance(thread, own_clearance.copy()?))
 }
 
-// What a raw call was answered that may not be refused: a refusal ends the call without a reply.
+// Returns the answer of a raw call that may not be refused: a refusal ends the call without a reply.
 fn stopping(answer: Result<(), Refusal>) -> Result<(), CallError>
     ensures { result ≡ stopping answer }
 {
@@ -95,8 +95,8 @@ fn stopping(answer: Result<(), Refusal>) -> Result<(), CallError>
     }
 }
 
-/// The thread takes its own label and clearance again, but owns the job's category and may have its
-/// secrets.
+/// Gives the thread its own label and clearance again, but the label owns the job's category, and the
+/// clearance has it at 3.
 pub fn hold_job<S: LabelStore + Drop>(
     kernel: &mut Kernel<S>,
     thread: ObjId,

@@ -21,29 +21,29 @@ use std::alloc::{AllocError, Global};
 /// What a job is made of, once its category is made.
 #[derive(Drop)]
 struct Plan {
-    /// The label of the thread that wraps, and its clearance.
+    /// The label and the clearance of the thread that wraps.
     own: Label,
     clearance: Label,
     job: Category,
     /// The label of the scratch directory.
     label: Label,
-    /// What the first process owns beside its own two categories.
+    /// The categories that the first process owns beside its own two.
     owned: Vec<Category>,
-    /// The jobs that it is in.
+    /// The jobs that the first process is in.
     jobs: Vec<Category>,
 }
 
 /// Makes a job: an empty scratch directory at this path, and the job's first process, a child of the
 /// caller. This is HiStar's `wrap` (OSDI 2006), by which a user runs a program that may read its files and
-/// leak nothing, as a virus scanner: the process reads by its user's categories but writes by none of
+/// leak nothing, such as a virus scanner: the process reads by its user's categories but writes by none of
 /// them, and what it makes is secret to the job. The caller holds the job, and so reads what the process
 /// leaves in the scratch directory.
 ///
 /// EAGAIN where the name has no room for one number more or 64 children were born already. Then it is
 /// refused as `mkdir` is: EEXIST for `/`, ENOENT, ENOTDIR and EACCES on the way, EEXIST where something
-/// stands there, ENOSPC at 64 entries, and EACCES where the directory may not be written. EPERM for
-/// nobody, whose categories no thread owns. Where the directory is denied, the thread gives the job's
-/// category back first; the call ends without a reply where memory runs out inside that.
+/// is there, ENOSPC at 64 entries, and EACCES where the directory may not be written. EPERM for
+/// nobody, whose categories no thread owns. Where the directory is denied, the thread first gives up the
+/// job's category; the call ends without a reply where memory runs out while it does.
 pub fn wrap<S: LabelStore + Drop>(
     alloc: Global,
     kernel: &mut Kernel<S>,
@@ -90,7 +90,7 @@ fn plan_job(
     })
 }
 
-/// Makes the scratch directory of a job and its first process, a child of the caller, and has the caller
+/// Makes the scratch directory of a job and its first process, a child of the caller, and lets the caller
 /// hold the job.
 fn fill_job<S: LabelStore + Drop>(
     alloc: Global,
@@ -126,7 +126,7 @@ fn fill_job<S: LabelStore + Drop>(
     hold_job(kernel, thread, &own, &clearance, job)
 }
 
-// The jobs that a thread of this label is in, and one more.
+// Returns the jobs that a thread of this label is in, and one more.
 fn jobs_with(alloc: Global, own: &Label, job: Category) -> Result<Vec<Category>, AllocError>
     ensures { IfOk result (λ jobs. jobs.items ≡ jobs_with own.now job) }
 {

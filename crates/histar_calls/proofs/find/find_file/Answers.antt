@@ -10,7 +10,7 @@ use Rattle.histar_calls.proofs.Directories.{no_names, first_of_names}
 use Rattle.histar_calls.proofs.Finding.{decides, decides_not, place_fails, look_fails, led}
 use Rattle.histar_calls.proofs.find.find_file.Goals as goal
 
--- the file that a segment in a directory is
+-- the file of a segment in a directory
 abbrev file_of : Place → ℕ → FoundFile
 file_of place segment = record { container = place.container; segment = segment }
 

@@ -4,7 +4,7 @@ use Rattle.histar_object.specs.Objects.{objects_of}
 use Rattle.histar_container.proofs.Gathering.{Gathers, unread}
 use Rattle.histar_container.proofs.removal.reached_from.Given as goal
 
--- of the list so much has been read, and it has what that links
+-- this much of the list has been read, and the list has the numbers that the read ones link
 abbrev pub invariant-loop-read : goal.invariant-loop-read
 invariant-loop-read g l = record {
   in_list : l.read ≤ length l.list.items;

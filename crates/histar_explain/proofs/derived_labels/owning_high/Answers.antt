@@ -6,7 +6,7 @@ use Rattle.histar_label.specs.Levels.{Levels, level_of, default_of, constant, wi
 use Rattle.histar_explain.specs.Tests.{high, owning_high}
 use Rattle.histar_explain.proofs.derived_labels.owning_high.Goals as goal
 
--- one category more is filled in last
+-- one more category is filled in last
 refilled_more : (f : ℕ → Level) (es : List (ℕ × Level)) (e : ℕ × Level) (L : Levels)
     → refilled f (es ++ e ∷ []) L ≡ with_level (refilled f es L) e.0 (f e.0)
 refilled_more f [] e L = refl

@@ -6,7 +6,7 @@ use Rattle.histar_layout.specs.Found.{entry_between}
 use Rattle.histar_layout.proofs.LookingUp.{all_left, leads_nowhere, found_here, left_behind, found_in_directory}
 use Rattle.histar_layout.proofs.lookup.look_up.Goals as goal
 
--- a name whose bytes were taken is the same as that of an entry where they are the same as the bytes that lie there
+-- comparing with the bytes that lie at an entry compares with its name
 same_test : (name wanted bytes : List ℕ) (start len end : ℕ) (result : Bool) → wanted ≡ name → end ≡ start + len + 18
     → result ≡ same wanted (slice_range bytes (start + 1) (start + 1 + len))
     → same name (entry_between bytes start end).0.0 ≡ result

@@ -6,7 +6,7 @@ use Rattle.histar_layout.proofs.MapLemmas.{by_bytes}
 use Rattle.histar_layout.proofs.Spans.{none_passed, one_passed, span_at_name, span_before, span_at_end}
 use Rattle.histar_layout.proofs.span.span_of.Goals as goal
 
--- a name compares as the bytes that were taken of it
+-- a name compares like its bytes
 compares : (text wanted name : List ℕ) (result o : Ordering) → wanted ≡ name → result ≡ by_bytes text wanted → result ≡ o → by_bytes text name ≡ o
 compares text wanted name result o is by was = ap (by_bytes text) (sym is) ∙ sym by ∙ was
 

@@ -5,7 +5,7 @@ use Rattle.histar_syscall.specs.KernelModel.{state}
 use Rattle.histar_readout.proofs.AddingProcesses.{AddsBirths}
 use Rattle.histar_readout.proofs.processes.+push_process.Given as goal
 
--- a process stands a level above its children
+-- a process is a level above its children
 abbrev pub decreases-push_process : goal.decreases-push_process
 decreases-push_process g l = most_numbers - length l.found.now.name
 

@@ -5,7 +5,7 @@ use Rattle.histar_syscall.specs.KernelModel.{state}
 use Rattle.histar_readout.proofs.Adding.{AddsEntries}
 use Rattle.histar_readout.proofs.tree.+tree.Given as goal
 
--- a directory stands a level above the trees of its entries
+-- a directory is a level above the trees of its entries
 abbrev pub decreases-push_below : goal.decreases-push_below
 decreases-push_below g l = 2 * (most_names - length l.path.now)
 

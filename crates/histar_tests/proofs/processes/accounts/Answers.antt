@@ -3,7 +3,7 @@ use Rattle.std.proofs.Common.{length, ap, ◌∙◌, arith}
 use Rattle.histar_flat.specs.Accounts.{Accounts, with_user}
 use Rattle.histar_tests.proofs.processes.accounts.Goals as goal
 
--- one user has a name alone
+-- a single user has a name of its own
 pub returns : goal.returns
 returns c =
     let few =

@@ -6,7 +6,7 @@ use Rattle.histar_label.specs.declared.intern_store.Comparison.{Comparison}
 use Rattle.histar_label.specs.InternStore.{IsRight}
 use Rattle.histar_label.proofs.intern_store.InternStore.new.Goals as goal
 
--- a fact of what is there holds where nothing is there
+-- a fact about a value holds where the value is missing
 of_none : (P : Comparison × Bool → Type 0) (o : Option (Comparison × Bool)) → o ≡ None → IfSome o P
 of_none P o none = subst (λ (p : Option (Comparison × Bool)). IfSome p P) (sym none) tt
 

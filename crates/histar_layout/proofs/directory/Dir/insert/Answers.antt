@@ -8,7 +8,7 @@ use Rattle.histar_layout.proofs.Spans.{entry_made}
 use Rattle.histar_layout.proofs.Spellings.{directory_spelled, is_spelled}
 use Rattle.histar_layout.proofs.directory.Dir.insert.Goals as goal
 
--- three pieces, one behind the other
+-- three pieces, one after the other
 pieces : (empty first second third front made rest last : List ℕ) → empty ≡ [] → first ≡ empty ++ front
     → second ≡ first ++ made → third ≡ second ++ last → last ≡ rest → third ≡ (front ++ made) ++ rest
 pieces empty first second third front made rest last a b c d e =

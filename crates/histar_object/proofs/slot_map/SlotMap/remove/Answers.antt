@@ -6,7 +6,7 @@ use Rattle.histar_object.proofs.Numbering.{in_place_within, found_in_place, foun
 use Rattle.histar_object.proofs.Numbering.{AreApart-emptied}
 use Rattle.histar_object.proofs.slot_map.SlotMap.remove.Goals as goal
 
--- what follows from a fact holds, where nothing is there
+-- a consequence of a fact holds, where a value is missing
 if_none : {A P Q : Type 0} (o : Option A) → (P → Q) → IfNone o P → IfNone o Q
 if_none None follows holds = follows holds
 if_none (Some x) follows holds = tt

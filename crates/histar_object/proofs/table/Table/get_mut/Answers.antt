@@ -7,7 +7,7 @@ use Rattle.slab.proofs.SlabLemmas.{Updates-with_value}
 use Rattle.histar_object.proofs.Placing.{slot_at, found_at, none_at, written, slab_len-with_value, IsPlaced-changed, objects-changed}
 use Rattle.histar_object.proofs.table.Table.get_mut.Goals as goal
 
--- what holds, holds where something is there
+-- a fact holds where a value is there
 on_some : {A P : Type 0} (o : Option A) → P → OnSome o P
 on_some None holds = tt
 on_some (Some x) holds = holds

@@ -20,7 +20,7 @@ invariant_of-self g c =
     (on_line c.args.line c.self.inside.kernel) c.make-outcome.new.kernel c.args.call c.settle-result.result
     c.self.invariant made
 
--- who is not found is answered `gone`
+-- for a process that is not found the answer is `gone`
 pub returns-in_default-clause-answers : goal.returns-in_default-clause-answers
 returns-in_default-clause-answers g c =
     let before : MachineModel =
@@ -39,7 +39,7 @@ pub returns-in_default-clause-means : goal.returns-in_default-clause-means
 returns-in_default-clause-means g c = line_follows calls_refine c.args.self.now c.args.self.now c.args.line c.args.process.now c.args.call (Ok Gone)
     c.each_call_is_right.ensures (returns-in_default-clause-answers g c)
 
--- who is found has the call made
+-- for a process that is found the call is made
 pub returns-clause-answers : goal.returns-clause-answers
 returns-clause-answers g c =
     let before : MachineModel =
