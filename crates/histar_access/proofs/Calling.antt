@@ -1,4 +1,4 @@
--- What a machine shows after calls.
+-- What a machine represents after calls.
 use Rattle.std.proofs.Common.{◌≡◌, ℕ, true, false, List, [], ◌∷◌, ◌++◌, Option, Ok, sym, ap, ◌∙◌, subst, append-nil, arith}
 use Rattle.std.proofs.lemmas.List.Elements.{filter-append}
 use Rattle.histar_flat.specs.declared.calls.CallLine.{CallLine}
@@ -11,19 +11,19 @@ use Rattle.histar_shell.specs.Machine.{MachineModel}
 use Rattle.histar_shell.specs.Meaning.{FollowsMeaning, Shows}
 use Rattle.histar_access.specs.Session.{ShowsAfter, calls_before, is_before}
 
--- after one call
+-- the machine represents the flat state after one call
 pub after_call : (old new : MachineModel) (line : ℕ) (process : ProcName) (call : UnixCall) (reply : Reply)
     → FollowsMeaning old new line process call (Ok reply)
     → ShowsAfter old new (record { line = line; process = process; call = call } ∷ [])
 after_call old new line process call reply means accounts f shows = (means accounts f shows).shows
 
--- the calls before a line, with one more behind them
+-- the calls before a line, with one more after them
 before_more : (at : Option ℕ) (calls : List CallLine) (c : CallLine) (more : List CallLine) → calls_before at (c ∷ []) ≡ more
     → calls_before at (calls ++ c ∷ []) ≡ calls_before at calls ++ more
 before_more at calls c more is = filter-append (λ (d : CallLine). is_before at d.line) calls (c ∷ [])
     ∙ ap (λ (l : List CallLine). calls_before at calls ++ l) is
 
--- one more that is made
+-- one more call was made
 pub made_more : (at : Option ℕ) (first mid new : MachineModel) (calls : List CallLine) (c : CallLine) → is_before at c.line ≡ true
     → ShowsAfter first mid (calls_before at calls) → ShowsAfter mid new (c ∷ [])
     → ShowsAfter first new (calls_before at (calls ++ c ∷ []))
@@ -33,7 +33,7 @@ made_more at first mid new calls c before earlier later accounts f shows =
     ∙ states_go_on accounts f (calls_before at calls) (c ∷ [])))
     (later accounts (flat_end accounts f (calls_before at calls)) (earlier accounts f shows))
 
--- one more that is not
+-- one more call is not made
 pub left_more : (at : Option ℕ) (first mid : MachineModel) (calls : List CallLine) (c : CallLine) → is_before at c.line ≡ false
     → ShowsAfter first mid (calls_before at calls) → ShowsAfter first mid (calls_before at (calls ++ c ∷ []))
 left_more at first mid calls c before earlier accounts f shows =

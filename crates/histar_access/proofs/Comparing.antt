@@ -1,4 +1,4 @@
--- What `diff` says, put together from what its parts say.
+-- The contract of `diff`, put together from those of its parts.
 use Rattle.std.proofs.Common.{◌≡◌, ℕ, true, false, List, [], ◌∷◌, length, Option, Some, None, Result, Ok, Err, refl, sym, ap, subst, ◌∙◌}
 use Rattle.std.proofs.Common.{arith, inl, inr}
 use Rattle.std.specs.Prelude.{◌↔◌, ◌==◌, Bool, IfSome, IsOk, MatchResult, is_ok}
@@ -32,14 +32,14 @@ use Rattle.histar_access.specs.RightsTable.{ShowsTable}
 use Rattle.histar_access.specs.Session.{IsMachineOf, calls_before, state_before}
 use Rattle.histar_access.proofs.Runs.{same_script}
 
--- what it answers
+-- the result of `diff`
 abbrev Answer : Type 0
 Answer = Result Bool Fault
 
 module _ (at : Option ℕ) where
   -- ---- tables
 
-  -- the table of a machine of a script
+  -- the table of a machine that ran a script is that of the text
   pub table_is : (text : List ℕ) (m : MachineModel) (t : Table) → IsMachineOf at text m → ShowsTable m t → IsTableOf at text t
   table_is text m t is shows = record {
     script = is.script;
@@ -48,18 +48,18 @@ module _ (at : Option ℕ) where
         (state_before at is.script) is.shows is.named;
   }
 
-  -- it is in order
+  -- the table of a text is in order
   pub table_rises : (text : List ℕ) (t : Table) → IsTableOf at text t → IsTable t
   table_rises text t is = shown_tables_rise is.script.accounts (calls_before at is.script.calls) t is.shows
 
   -- ---- a text that is no script
 
   module _ (a b : List ℕ) (w : Option (List ℕ)) where
-    -- want of memory before anything was written
+    -- the contract if memory runs out before anything was written
     pub no_memory : ComparesTexts at a b w w (Err OutOfMemory)
     no_memory = record { faults = tt; writes = inl (Keeps-refl w) }
 
-    -- a fault of the old one
+    -- the contract for a fault of the old text
     pub old_fault : (f : Fault) → Gives {A = ScriptModel} (Err f) (script_of a) → ComparesTexts at a b w w (Err f)
     old_fault (BadScript n) given = record { faults = ap (λ (r : Result ScriptModel Fault). both_read r (script_of b)) given; writes = Keeps-refl w }
     old_fault TooLong given = record { faults = ap (λ (r : Result ScriptModel Fault). both_read r (script_of b)) given; writes = Keeps-refl w }
@@ -67,7 +67,7 @@ module _ (at : Option ℕ) where
     old_fault ReadFailed given = absurd given
     old_fault WriteFailed given = absurd given
 
-    -- a fault of the new one, where the old one is a script
+    -- the contract for a fault of the new text, if the old one is a script
     pub new_fault : (old : ScriptModel) → script_of a ≡ Ok old → (f : Fault) → Gives {A = ScriptModel} (Err f) (script_of b)
         → ComparesTexts at a b w w (Err f)
     new_fault old is (BadScript n) given = record { faults = λ i. both_read (is i) (given i); writes = Keeps-refl w }
@@ -96,7 +96,7 @@ module _ (at : Option ℕ) where
       differences_are_changes old.accounts new.accounts (calls_before at old.calls) (calls_before at new.calls) c.before c.after ds c.is_before.shows
       c.is_after.shows c.exact
 
-  -- the lines were written
+  -- the lines of the differences were written
   pub changes_written : {a b : List ℕ} {ds : List Difference} {old new : Option (List ℕ)} → AreCompared a b ds → (none : Bool)
       → (none ≡ true) ↔ (ds ≡ [])
       → Appends old new (differences_text ds) → ComparesTexts at a b old new (Ok none)
@@ -122,7 +122,7 @@ module _ (at : Option ℕ) where
     written = front;
   }
 
-  -- or a beginning of them
+  -- a beginning of the lines was written
   pub changes_begun : {a b : List ℕ} {ds : List Difference} {old new : Option (List ℕ)} → AreCompared a b ds → (f : Fault) → IsOutputFault f
       → AppendsFront old new (differences_text ds) → ComparesTexts at a b old new (Err f)
   changes_begun c (BadScript n) h front = absurd h
@@ -139,7 +139,7 @@ module _ (at : Option ℕ) where
   stops_at_old input.OutOfMemory left rest later w takes = inl (inl (record { takes_old = takes; keeps_new = refl }), Keeps-refl w)
   stops_at_old input.ReadFailed left rest later w takes = (inl (record { takes_old = takes; keeps_new = refl }), Keeps-refl w)
 
-  -- and an error of the new one
+  -- an error of the new input stops the reading
   pub stops_at_new : (e : InputError) (left rest : Inputs) (v : Option (List ℕ)) (taken : List ℕ) → TakesAll left.0 rest.0 taken
       → TakesSome left.1 rest.1
       → ComparesInputs at left rest v v (Err (input_fault e))
@@ -147,7 +147,7 @@ module _ (at : Option ℕ) where
       (inr (record { old_taken = taken; takes_old = all; takes_new = some }), Keeps-refl v)
   stops_at_new input.ReadFailed left rest v taken all some = (inr (record { old_taken = taken; takes_old = all; takes_new = some }), Keeps-refl v)
 
-  -- what was taken is compared
+  -- what was taken was compared
   pub compares_taken : (left rest : Inputs) (old new : Option (List ℕ)) (result : Answer) → ComparesTaken at left rest old new result
       → is_read_failed result ≡ false
       → ComparesInputs at left rest old new result
@@ -158,7 +158,7 @@ module _ (at : Option ℕ) where
   compares_taken left rest old new (Err ReadFailed) h reads = absurd (false≢true (sym reads))
   compares_taken left rest old new (Err WriteFailed) h reads = h
 
-  -- the texts of the whole inputs are compared as what was taken of them
+  -- the texts of the whole inputs compare as what was taken of them
   same_texts : {c d : List ℕ} → (a b : List ℕ) (old new : Option (List ℕ)) (result : Answer) → scripts_of c d ≡ scripts_of a b
       → ComparesTexts at c d old new result → ComparesTexts at a b old new result
   same_texts a b old new result same compares = record {
@@ -182,7 +182,7 @@ module _ (at : Option ℕ) where
   stopped_known (Some x) None old new result runs h = tt
   stopped_known (Some x) (Some y) old new result runs h = runs x y h.1
 
-  -- known inputs were compared
+  -- if the inputs are known, they were compared
   pub inputs_known : (a b : Option (List ℕ)) (rest : Inputs) (old new : Option (List ℕ)) (result : Answer)
       → ComparesInputs at (a, b) rest old new result
       → IfSome a (λ x. IfSome b (λ y. ComparesTexts at x y old new result))
@@ -198,7 +198,7 @@ module _ (at : Option ℕ) where
 
 -- ---- no changes
 
--- no change is listed exactly where the list has no length
+-- no change is listed exactly if the list has length 0
 pub none_listed : (cs : List Difference) (none : Bool) → none ≡ (length cs == 0) → (none ≡ true) ↔ (cs ≡ [])
 none_listed [] none is = (λ _. refl, λ _. is)
 none_listed (c ∷ cs) none is = (
@@ -217,13 +217,13 @@ pub old_fails : (e : InputError) (a b c : ℕ) → CountsFailure a b (fails_to_r
 old_fails input.OutOfMemory a b c counts = (true, counts, refl)
 old_fails input.ReadFailed a b c counts = (true, counts, refl)
 
--- or of the new one
+-- a failed read of the new source
 pub new_fails : (e : InputError) (a b c d : ℕ) → CountsFailure a b false → CountsFailure c d (fails_to_read {A = Unit {0}} (Err e))
     → CountsOneFailure a b c d (is_read_failed {A = Bool} (Err (input_fault e)))
 new_fails input.OutOfMemory a b c d kept counts = (false, kept, counts)
 new_fails input.ReadFailed a b c d kept counts = (false, kept, counts)
 
--- or of none
+-- no failed read
 pub none_fails : (a b c d : ℕ) (failed : Bool) → CountsFailure a b false → CountsFailure c d false → failed ≡ false → CountsOneFailure a b c d failed
 none_fails a b c d true kept held none = absurd (false≢true (sym none))
 none_fails a b c d false kept held none = (true, kept, held)

@@ -1,4 +1,4 @@
--- Going down a tree once finds at each path what its directory gives.
+-- One descent through a tree computes at each path what its directory gives.
 use Rattle.std.specs.Prelude.{◌≡◌, ℕ, zero, suc, Bool, true, false, cond, T, List, [], ◌∷◌, ◌++◌, length, map, take, drop, Option, Some, None, refl}
 use Rattle.std.specs.List.{cons_option, flat_map}
 use Rattle.std.proofs.Common.{arith, ap, inl, inr, sym, ◌∙◌, subst, append-nil, append_assoc}
@@ -16,12 +16,12 @@ use Rattle.histar_flat.proofs.Finding.{first, second, find_first, find_later}
 use Rattle.histar_readout.specs.FlatTree.{nodes_in, walked}
 use Rattle.histar_access.specs.Rows.{last_or, rows_from}
 
--- the last of a list that ends so
+-- the last element of a list with one more
 last_of_more : {A : Type 0} (x y : A) (l : List A) → last_or x (l ++ y ∷ []) ≡ y
 last_of_more x y [] = refl
 last_of_more x y (z ∷ l) = last_of_more z y l
 
--- the first of a list that begins so
+-- the beginning of a list with one more element
 front_of : {A : Type 0} (l front : List A) (x : A) (n : ℕ) → length front ≡ n → take (suc n) l ≡ front ++ x ∷ [] → take n l ≡ front
 front_of l front x n fits is =
     ap (λ k. take k l) (sym fits)
@@ -30,21 +30,21 @@ front_of l front x n fits is =
     ∙ take-append_seam front (x ∷ [] ++ drop (suc n) l)
 
 module _ {A : Type 0} (f : Flat) (start : A) (below : Path × Node → A → A) (value : Path → Node → A) where
-  -- what is found where this may stand; where nothing does, what is found above `/`
+  -- the value at a path with this node, or the value above `/` if it has none
   abbrev pub found_at : Path → Option Node → A
   found_at d None = start
   found_at d (Some node) = value d node
 
-  -- what is found at the directory of a path
+  -- the value at the directory of a path
   abbrev pub found_above : Path → A
   found_above [] = start
   found_above (n ∷ d) = found_at d (get f.files d)
 
-  -- what is found at a path is what its directory gives
+  -- the value at a path is what its directory gives
   abbrev pub IsGiven : Type 0
   IsGiven = (q : Path) (node : Node) → get f.files q ≡ Some node → below (q, node) (found_above q) ≡ value q node
 
-  -- what is found at the directories above a path, from `/` on
+  -- the values at the directories above a path, from `/` on
   abbrev way_to : Path → List A
   way_to [] = []
   way_to (n ∷ d) = way_to d ++ found_at d (get f.files d) ∷ []
@@ -64,18 +64,18 @@ module _ {A : Type 0} (f : Flat) (start : A) (below : Path × Node → A → A) 
   abbrev values : List (Path × Node) → List A
   values = map (λ (e : Path × Node). value e.0 e.1)
 
-  -- The fold over some entries finds what is at each, and leaves the way to a path as it was.
+  -- The fold over some entries computes the value at each, and leaves the way to a path as it was.
   record Finds (q : Path) (es rest : List (Path × Node)) (way : List A) : Type 0 where
     end : List A
     kept : take (length q) end ≡ way_to q
     is : rows way (es ++ rest) ≡ values es ++ rows end rest
 
-  -- each is an entry of the directory
+  -- these are entries of the directory
   abbrev AreThere : Path → List (Name × Node) → Type 0
   AreThere q [] = Unit {0}
   AreThere q (c ∷ cs) = (get f.files (c.0 ∷ q) ≡ Some c.1) × AreThere q cs
 
-  -- with an entry before others, where this holds
+  -- an entry in front of others is one of the directory, if the test holds
   abbrev AreThereWith : Path → Name → Node → List (Path × Node) → Bool → Type 0
   AreThereWith q n x es b = AreThere q (cons_option (cond b (Some (n, x)) None) (nodes_in q es))
 
@@ -103,7 +103,7 @@ module _ {A : Type 0} (f : Flat) (start : A) (below : Path × Node → A → A) 
     abbrev way_into : Path → Node → List A
     way_into q node = way_to q ++ value q node ∷ []
 
-    -- what is found behind the entries of a directory
+    -- the values computed after the entries of a directory
     record FindsBelow (q : Path) (node : Node) (es rest : List (Path × Node)) (way : List A) : Type 0 where
       end : List A
       kept : take (suc (length q)) end ≡ way_into q node
@@ -113,7 +113,7 @@ module _ {A : Type 0} (f : Flat) (start : A) (below : Path × Node → A → A) 
     Walks levels = (q : Path) (node : Node) → get f.files q ≡ Some node → (way : List A) → take (length q) way ≡ way_to q →
         (rest : List (Path × Node)) → Finds q (walked levels f.files.entries q node) rest way
 
-    -- entry by entry
+    -- the values at the entries of a directory, one by one
     walk_entries : (levels : ℕ) → Walks levels → (q : Path) (node : Node) → get f.files q ≡ Some node → (cs : List (Name × Node)) → AreThere q cs
         → (way : List A) → take (suc (length q)) way ≡ way_into q node → (rest : List (Path × Node))
         → FindsBelow q node (flat_map (λ (c : Name × Node). walked levels f.files.entries (c.0 ∷ q) c.1) cs) rest way
@@ -133,7 +133,7 @@ module _ {A : Type 0} (f : Flat) (start : A) (below : Path × Node → A → A) 
               ∙ ap (λ (l : List A). l ++ rows more.end rest) (sym (map-append (λ (e : Path × Node). value e.0 e.1) walk others));
         }
 
-    -- what stands at a path and below it
+    -- the values at a path and below it
     walks_find : (levels : ℕ) → Walks levels
     walks_find zero q node at way kept rest = record { end = way; kept = kept; is = refl }
     walks_find (suc levels) q node at way kept rest =
@@ -160,7 +160,7 @@ module _ {A : Type 0} (f : Flat) (start : A) (below : Path × Node → A → A) 
           is = λ i. row_is i ∷ there.is i;
         }
 
-    -- from `/` on
+    -- the values from `/` on
     pub descent : (levels : ℕ) (slash : Node) → get f.files [] ≡ Some slash
         → rows [] (walked levels f.files.entries [] slash) ≡ values (walked levels f.files.entries [] slash)
     descent levels slash at =

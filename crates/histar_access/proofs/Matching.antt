@@ -45,7 +45,7 @@ module _ (accounts : Accounts) (s : State) where
     pub is : label_there (s.objects (object_of node.target)) ≡ Some label
     pub of_class : IsClassLabel accounts node.class label
 
-  -- each has
+  -- each object of these nodes has such a label
   abbrev pub AreLabelled : List TreeNode → Type 0
   AreLabelled [] = Unit {0}
   AreLabelled (node ∷ tree) = IsLabelled node × AreLabelled tree
@@ -90,7 +90,7 @@ with_label (Some o) label e =
     (kind_bare o.kind, ap (λ (k : Levels). Some (record { label = k; kind = kind_bare o.kind })) (same_Some o.label label e))
 
 module _ (accounts : Accounts) (s : State) (f : Flat) (l : ObjectsMatch accounts s f) (ok : AreAccounts accounts) where
-  -- a node of the tree and what the flat state has there: the same is shown, and labels allow each process what the flat rules do
+  -- a node of the tree matches the node of the flat state: `stat` shows the same, and labels allow each process what the flat rules do
   pub record IsMatch (node : TreeNode) (e : Path × Node) : Type 0 where
     pub path : node.path ≡ e.0
     pub stat : node_stat node ≡ (flat_line e).stat
@@ -99,14 +99,14 @@ module _ (accounts : Accounts) (s : State) (f : Flat) (l : ObjectsMatch accounts
     pub modified : (v : Visitor accounts s f l)
         → modifies (s.objects v.thread) (s.objects (object_of node.target)) ≡ may_write accounts v.process e.1.class
 
-  -- one by one
+  -- the nodes match one by one
   abbrev pub AreMatched : List TreeNode → List (Path × Node) → Type 0
   AreMatched [] [] = Unit {0}
   AreMatched [] (e ∷ es) = ⊥
   AreMatched (node ∷ tree) [] = ⊥
   AreMatched (node ∷ tree) (e ∷ es) = IsMatch node e × AreMatched tree es
 
-  -- the label of a node is that of the class that the flat state has
+  -- the label of a node is that of the class in the flat state
   labelled_so : (node : TreeNode) (q : Path) (there : Node) (at : get f.files q ≡ Some there) → node.class ≡ numbered_class l.category there.class
       → IsLabelled accounts s node
       → (g : Guard) × (class_guard accounts there.class ≡ Some g)
@@ -161,7 +161,7 @@ module _ (accounts : Accounts) (s : State) (f : Flat) (l : ObjectsMatch accounts
       rest_lines [] = []
       rest_lines (y ∷ ys) = ys
 
-  -- a tree that shows what the flat state has matches it
+  -- a tree that shows the nodes of the flat state matches them
   pub tree_matched : (tree : List TreeNode) → AreLabelled accounts s tree → map (tree_entry s) tree ≡ map (flat_entry l.category) f.files.entries
       → map (line_at s) tree ≡ map flat_line f.files.entries
       → AreMatched tree f.files.entries

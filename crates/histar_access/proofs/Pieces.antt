@@ -6,7 +6,7 @@ use Rattle.histar_io.specs.Writing.{AppendsFront}
 use Rattle.histar_shell.proofs.AnswerLemmas.{front_after}
 
 module _ (whole : List ℕ) where
-  -- The text was written but for what is left of it.
+  -- The text was written except for this rest of it.
   pub record IsBegun (old new : Option (List ℕ)) (left : List ℕ) : Type 0 where
     pub text : List ℕ
     pub parts : whole ≡ text ++ left
@@ -16,7 +16,7 @@ module _ (whole : List ℕ) where
   pub none_yet : (w : Option (List ℕ)) → IsBegun w w whole
   none_yet w = record { text = []; parts = refl; written = Appends-nil w }
 
-  -- one piece more
+  -- one more piece was written
   pub piece_more : {old mid new : Option (List ℕ)} {left : List ℕ} → (piece rest : List ℕ) → left ≡ piece ++ rest → IsBegun old mid left
       → Appends mid new piece
       → IsBegun old new rest
@@ -26,7 +26,7 @@ module _ (whole : List ℕ) where
     written = Appends-trans old mid new begun.text piece begun.written more;
   }
 
-  -- a beginning of one
+  -- a beginning of one more piece was written
   pub piece_begun : {old mid new : Option (List ℕ)} {left piece : List ℕ} → (rest : List ℕ) → left ≡ piece ++ rest → IsBegun old mid left
       → AppendsFront mid new piece
       → AppendsFront old new whole
@@ -34,11 +34,11 @@ module _ (whole : List ℕ) where
       subst (AppendsFront old new) (sym (begun.parts ∙ ap (λ (t : List ℕ). begun.text ++ t) is))
       (front_after old mid new begun.text piece rest begun.written front)
 
-  -- what was written is a beginning
+  -- what was written is a beginning of the text
   pub front_begun : (old new : Option (List ℕ)) (left : List ℕ) → IsBegun old new left → AppendsFront old new whole
   front_begun old new left begun = (left, record { front = begun.text; parts = begun.parts; appended = begun.written })
 
-  -- at the end it is all
+  -- at the end the whole text was written
   pub all_begun : (old new : Option (List ℕ)) (left : List ℕ) → left ≡ [] → IsBegun old new left → Appends old new whole
   all_begun old new left none begun =
       subst (Appends old new) (sym (begun.parts ∙ ap (λ (t : List ℕ). begun.text ++ t) none ∙ append-nil begun.text)) begun.written

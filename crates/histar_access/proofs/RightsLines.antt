@@ -23,7 +23,7 @@ use Rattle.histar_access.proofs.ShownTables.{machine_table, runners_found}
 use Rattle.histar_access.proofs.Writing.{next_row}
 
 module _ (s : State) (visitors : List Cell) (tree : List TreeNode) where
-  -- the rights at the nodes
+  -- the rows of rights at the nodes of a tree
   abbrev pub all_rights : List (List Cell) → List TreeNode → List (Path × List Rights)
   all_rights way left = map rights_line (lines_from s visitors way left)
 
@@ -31,11 +31,11 @@ module _ (s : State) (visitors : List Cell) (tree : List TreeNode) where
   pub record AreLines (way : List (List Cell)) (left : List TreeNode) (lines : List TableLine) : Type 0 where
     pub are : all_rights [] tree ≡ by_path lines ++ all_rights way left
 
-  -- none is there yet
+  -- there are no lines at first
   pub no_lines : AreLines [] tree []
   no_lines = record { are = refl }
 
-  -- one line more
+  -- there is one more line
   pub line_more : {way : List (List Cell)} {left rest : List TreeNode} {lines : List TableLine} → (node : TreeNode) (line : TableLine)
       → left ≡ node ∷ rest
       → line_rights line ≡ rights_line (line_of_node node (next_row s visitors tree way node)) → AreLines way left lines
@@ -49,12 +49,12 @@ module _ (s : State) (visitors : List Cell) (tree : List TreeNode) where
             ∙ ap (λ l. l ++ later) (sym (map-append line_rights lines (line ∷ [])));
       }
 
-  -- the same lines and the same way
+  -- the lines are the same if the rows on the way are
   pub same_lines : {way own : List (List Cell)} {left : List TreeNode} {lines listed : List TableLine} → own ≡ way → listed ≡ lines
       → AreLines way left lines → AreLines own left listed
   same_lines {left = left} same_way same are = record { are = are.are ∙ (λ i. by_path (sym same i) ++ all_rights (sym same_way i) left) }
 
-  -- at the end it is all
+  -- at the end there are all lines
   pub all_lines : (way : List (List Cell)) (left : List TreeNode) (lines : List TableLine) → left ≡ [] → AreLines way left lines
       → by_path lines ≡ all_rights [] tree
   all_lines way left lines none are = sym (are.are ∙ ap (λ l. by_path lines ++ all_rights way l) none ∙ append-nil (by_path lines))

@@ -1,4 +1,4 @@
--- The last of some rows, and what is made of items so far.
+-- The last of some rows, and lists that are made item by item.
 use Rattle.std.proofs.Common.{◌≡◌, ℕ, zero, suc, ◌+◌, ◌-◌, ◌<◌, List, [], ◌∷◌, ◌++◌, Option, Some, take, length, get_or, arith, sym, ap, ◌∙◌}
 use Rattle.std.specs.Prelude.{map, slice_get}
 use Rattle.std.specs.Global.{Vec}
@@ -21,24 +21,24 @@ last_at x (y ∷ []) (suc n) row long is = absurd (omega arith)
 last_at x (y ∷ z ∷ rows) zero row long is = absurd (omega arith)
 last_at x (y ∷ z ∷ rows) (suc n) row long is = last_at y.items (z ∷ rows) n row (omega arith) is
 
--- the last of some rows, where there is one
+-- the last of some rows, if there is one
 pub last_found : (x : List Cell) (rows : List (Vec Cell)) (row : Vec Cell) → Some row ≡ slice_get rows (length rows - 1)
     → last_or x (map cells_of rows) ≡ row.items
 last_found x [] row is = absurd (none-some row (sym is))
 last_found x (y ∷ rows) row is = last_at x (y ∷ rows) (length rows) row (omega arith) (ap (slice_get (y ∷ rows)) (omega arith) ∙ sym is)
 
--- one item more
+-- the items so far with one more
 pub kept_more : {X Y : Type 0} (h : X → Option Y) (xs : List X) (i : ℕ) (x : X) → i < length xs → x ≡ get_or xs i x
     → filter_map h (take (i + 1) xs) ≡ filter_map h (take i xs) ++ cons_option (h x) []
 kept_more h xs i x within is =
     ap (filter_map h) (take_more xs i x within) ∙ filter_map-append h (take i xs) (get_or xs i x ∷ [])
     ∙ ap (λ y. filter_map h (take i xs) ++ cons_option (h y) []) (sym is)
 
--- the way to a node, as it is kept
+-- the rows on the way to a node, as they are kept
 pub kept_way : (ways kept : List (Vec Cell)) (n : ℕ) → kept ≡ take n ways → map cells_of kept ≡ take n (map cells_of ways)
 kept_way ways kept n is = ap (map cells_of) is ∙ sym (take-map cells_of n ways)
 
--- and with a row more
+-- the rows on the way with one more
 pub way_more : (ways kept new : List (Vec Cell)) (n : ℕ) (row : Vec Cell) (cells : List Cell) → kept ≡ take n ways → new ≡ kept ++ row ∷ []
     → row.items ≡ cells → map cells_of new ≡ take n (map cells_of ways) ++ cells ∷ []
 way_more ways kept new n row cells is pushed same = ap (map cells_of) pushed ∙ map-append cells_of kept (row ∷ [])

@@ -1,4 +1,4 @@
--- The processes that run, with their users, are those of the flat state.
+-- The running processes that are found, with their users, are those of the flat state.
 use Rattle.std.specs.Prelude.{◌≡◌, ℕ, zero, suc, List, [], ◌∷◌, ◌++◌, map, Option, None, Some, refl}
 use Rattle.std.specs.List.{cons_option, filter_map, flat_map, range_with_len}
 use Rattle.std.proofs.Common.{ap, sym, ◌∙◌}
@@ -15,7 +15,7 @@ use Rattle.histar_diff.specs.Shown.{runner}
 use Rattle.histar_readout.specs.ProcessLines.{ProcessLine, flat_life, flat_processes, with_children}
 use Rattle.histar_access.specs.RightsTable.{runner_by}
 
--- a shown process and its user, where it runs
+-- a shown process and its user, if it runs
 abbrev pub line_runner : ProcessLine → Option Runner
 line_runner line = runner_by line.name line.life
 
@@ -32,13 +32,13 @@ module _ (f : Flat) (category : Categories) where
       ∙ (λ i. each (n ∷ me) i ++ children_run levels each me ns i)
       ∙ sym (map-append runner (running_from levels f (n ∷ me)) (flat_map (λ k. running_from levels f (k ∷ me)) ns))
 
-  -- a process before others
+  -- a running process in front of others
   put_first : (me : ProcName) (p : Process) (exited : Option ℕ) (rest : List Runner)
       → cons_option (runner_by me (flat_life category p exited)) rest ≡ map runner (itself me (elim exited [ None ↦ Some p | Some n ↦ None ])) ++ rest
   put_first me p None rest = refl
   put_first me p (Some n) rest = refl
 
-  -- those of the shown processes that run are those that run, each with its user
+  -- the shown processes that run are the running processes, each with its user
   pub runners_listed : (levels : ℕ) → AreRunners levels
   runners_listed zero me = refl
   runners_listed (suc levels) me = by (f.processes me) (runners_listed levels)

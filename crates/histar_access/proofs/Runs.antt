@@ -1,4 +1,4 @@
--- What `access` says, put together from what its parts say.
+-- The contract of `access`, put together from those of its parts.
 use Rattle.std.proofs.Common.{◌≡◌, ℕ, ◌<◌, true, false, ltb, List, ◌++◌, length, Option, Some, None, Result, Ok, Err, refl, sym, ap, subst}
 use Rattle.std.proofs.Common.{◌∙◌, arith, rules, tests, append-nil, inl, inr}
 use Rattle.std.specs.Prelude.{IfErr, IfSome, MatchResult, OnErr, OnOk, is_ok}
@@ -25,11 +25,11 @@ use Rattle.histar_shell.specs.Outcome.{AgreesWith, IsFaultAt}
 use Rattle.histar_access.specs.Session.{AccessText, BeginsToWrite, IsMachineOf, ShowsAfter, WritesAtFault, WritesTable, calls_before, state_before}
 use Rattle.histar_access.specs.Shown.{AppendsTable, BeginsTable, IsShown}
 
--- what it answers
+-- the result of `access`
 abbrev Answer : Type 0
 Answer = Result (Unit {0}) Fault
 
--- no read failed where the fault is one of the output
+-- no read failed if the fault is one of the output
 pub no_read_failed : (f : Fault) → IsOutputFault f → is_read_failed {A = Unit {0}} (Err f) ≡ false
 no_read_failed (BadScript n) fault = refl
 no_read_failed TooLong fault = refl
@@ -37,7 +37,7 @@ no_read_failed OutOfMemory fault = refl
 no_read_failed ReadFailed fault = absurd fault
 no_read_failed WriteFailed fault = refl
 
--- what writing answers says that no read failed
+-- the result of writing is not that a read failed
 pub no_read_fails : (r : Answer) → IfErr r IsOutputFault → is_read_failed r ≡ false
 no_read_fails (Ok done) h = refl
 no_read_fails (Err f) h = no_read_failed f h
@@ -57,7 +57,7 @@ writes_none OutOfMemory read given = refl
 writes_none ReadFailed read given = refl
 writes_none WriteFailed read given = absurd given
 
--- and of the sink
+-- the sink is as the contract says
 pub sink_after : {W : Type 0} (old new : W) (r : Answer) → IfErr r IsOutputFault → IfErr r (LeavesSink old new)
 sink_after old new (Ok done) h = tt
 sink_after old new (Err f) h = sink_called old new f h
@@ -65,7 +65,7 @@ sink_after old new (Err f) h = sink_called old new f h
 module _ (at : Option ℕ) where
   -- ---- a text that is a script or none
 
-  -- what reading the script answers is the fault in it, or out of memory
+  -- the fault of reading the script is the one in the text, or out of memory
   script_fault_agrees : (f : Fault) (read : Result ScriptModel Fault) → Gives (Err f) read → IsFaultAt read f
   script_fault_agrees (BadScript n) read given = given
   script_fault_agrees TooLong read given = given
@@ -73,7 +73,7 @@ module _ (at : Option ℕ) where
   script_fault_agrees ReadFailed read given = absurd given
   script_fault_agrees WriteFailed read given = absurd given
 
-  -- and nothing was written then
+  -- nothing was written at that fault
   script_fault_writes : (f : Fault) (w : Option (List ℕ)) (read : Result ScriptModel Fault) → Gives (Err f) read → WritesAtFault at w w read f
   script_fault_writes (BadScript n) w read given = Keeps-refl w
   script_fault_writes TooLong w read given = Keeps-refl w
@@ -81,7 +81,7 @@ module _ (at : Option ℕ) where
   script_fault_writes ReadFailed w read given = absurd given
   script_fault_writes WriteFailed w read given = absurd given
 
-  -- a text in which reading finds a fault
+  -- the contract for a text with a fault
   pub faulty_text : (text : List ℕ) (w : Option (List ℕ)) (f : Fault) → Gives (Err f) (script_of text) → AccessText at text w w (Err f)
   faulty_text text w f given = record {
     faults = script_fault_agrees f (script_of text) given;
@@ -89,7 +89,7 @@ module _ (at : Option ℕ) where
         (script_of text) given;
   }
 
-  -- a text for which memory ran out before anything was written
+  -- the contract for a text if memory ran out before anything was written
   pub unwritten_text : (text : List ℕ) (w : Option (List ℕ)) → AccessText at text w w (Err OutOfMemory)
   unwritten_text text w = record { faults = tt; writes = inl (Keeps-refl w) }
 
@@ -106,7 +106,7 @@ module _ (at : Option ℕ) where
   }
 
   module _ (text : List ℕ) (end : MachineModel) (is : IsMachineOf at text end) where
-    -- so it represents some flat state
+    -- such a machine represents some flat state
     pub is_shown : IsShown end
     is_shown = (is.script.accounts, state_before at is.script, is.shows, is.named)
 
@@ -125,7 +125,7 @@ module _ (at : Option ℕ) where
           (state_before at is.script) is.shows is.named;
     }
 
-    -- or a beginning of it
+    -- a beginning of the text of its table was written
     pub begun_text : (old new : Option (List ℕ)) (f : Fault) → IsOutputFault f → BeginsTable end old new → AccessText at text old new (Err f)
     begun_text old new (BadScript n) h b = absurd h
     begun_text old new TooLong h b = absurd h
@@ -133,7 +133,7 @@ module _ (at : Option ℕ) where
     begun_text old new ReadFailed h b = absurd h
     begun_text old new WriteFailed h b = record { faults = ap is_ok is.is_read; writes = begins old new b }
 
-    -- so it is, whatever writing answers
+    -- the contract holds, whatever the result of writing is
     pub text_run : {old new : Option (List ℕ)} → (r : Answer) → OnOk r (AppendsTable end old new) → OnErr r (BeginsTable end old new)
         → IfErr r IsOutputFault
         → AccessText at text old new r
@@ -148,7 +148,7 @@ module _ (at : Option ℕ) where
   stops_reading input.OutOfMemory left rest w takes = inl (record { takes = takes; keeps = Keeps-refl w })
   stops_reading input.ReadFailed left rest w takes = record { takes = takes; keeps = Keeps-refl w }
 
-  -- what was taken is run
+  -- what was taken was run
   pub runs_taken : (left rest old new : Option (List ℕ)) (taken text : List ℕ) (result : Answer) → TakesAll left rest taken → text ≡ taken
       → AccessText at text old new result → is_read_failed result ≡ false → RunsInput (AccessText at) left rest old new result
   runs_taken left rest old new taken text result takes same runs no_read_failed =
@@ -172,7 +172,7 @@ module _ (at : Option ℕ) where
   long_is : (text : List ℕ) → most_script_bytes < length text → script_of text ≡ Err TooLong
   long_is text lt = let e : ltb most_script_bytes (length text) ≡ true = search (rules, tests) in rw e refl
 
-  -- what was taken says what the whole input says
+  -- what was taken is the script of the whole input
   pub same_script : (input : List ℕ) (rest : Option (List ℕ)) (taken : List ℕ) → TakesAll (Some input) rest taken → script_of taken ≡ script_of input
   same_script input None taken takes = absurd takes.consumed
   same_script input (Some rest) taken takes =
@@ -190,19 +190,19 @@ module _ (at : Option ℕ) where
         (WritesAtFault at old new read)) same runs.writes;
   }
 
-  -- a known input that was taken was run
+  -- if a known input was taken, it was run
   taken_known : (left rest old new : Option (List ℕ)) (result : Answer) → RunsTaken (AccessText at) left rest old new result
       → IfSome left (λ input. AccessText at input old new result)
   taken_known None rest old new result h = tt
   taken_known (Some input) rest old new result h = same_run input h.taken old new result (same_script input rest h.taken h.takes) h.runs
 
-  -- a known input of which some was taken was run as far as that
+  -- if a known input was taken in part, it was run as far as that
   stopped_known : (left rest old new : Option (List ℕ)) (result : Answer) → ((input : List ℕ) → Keeps old new → AccessText at input old new result)
       → StopsReading left rest old new → IfSome left (λ input. AccessText at input old new result)
   stopped_known None rest old new result runs h = tt
   stopped_known (Some input) rest old new result runs h = runs input h.keeps
 
-  -- a known input was run
+  -- if the input is known, it was run
   pub input_known : (left rest old new : Option (List ℕ)) (result : Answer) → RunsInput (AccessText at) left rest old new result
       → IfSome left (λ input. AccessText at input old new result)
   input_known left rest old new (Ok done) h = taken_known left rest old new (Ok done) h

@@ -47,7 +47,7 @@ module _ (accounts : Accounts) (s : State) where
     below ← all_of (λ name at. same_processes levels name at i) me (children_of s home.segment node.born)
     Some (node ∷ below)
 
-  -- the processes of a session are those of its users with no passwords
+  -- the processes with these accounts are those with the same users without passwords
   pub processes_unproved : (roots : Roots) (processes : List ProcessNode) → AreProcessesOf (without_passwords accounts) s roots processes
       → AreProcessesOf accounts s roots processes
   unfolding AreProcessesOf
@@ -58,7 +58,7 @@ module _ (accounts : Accounts) (s : State) where
   unfolding AreProcessesOf
   processes_proved roots processes are = same_processes (levels_at []) [] roots.home ∙ are
 
-  -- a state has one list of processes at most
+  -- a state has at most one list of processes
   pub one_list : (roots : Roots) (a b : List ProcessNode) → AreProcessesOf accounts s roots a → AreProcessesOf accounts s roots b → a ≡ b
   unfolding AreProcessesOf
   one_list roots a b at bt = same_some a b (sym at ∙ bt)

@@ -1,4 +1,4 @@
--- The lines that are read off a machine that represents a flat state are the table of that.
+-- The lines that are computed from a machine are the table of the flat state that it represents.
 use Rattle.std.specs.Prelude.{◌≡◌, ℕ, suc, ◌≤◌, true, List, [], ◌∷◌, length, map, Option, None, Some, refl}
 use Rattle.std.specs.List.{filter_map}
 use Rattle.std.proofs.Common.{ap, sym, ◌∙◌, subst, arith}
@@ -63,7 +63,7 @@ module _ (accounts : Accounts) (s : State) (f : Flat) (l : ObjectsMatch accounts
       by n d None e is = absurd (cc)
       by n d (Some there) e is = parent_is_dir accounts s f l n d there e
 
-  -- each process finds at a path what its directory gives
+  -- the rights of each process at a path are those that its directory gives
   module _ (small : HaveFewBytes f) (ok : AreAccounts accounts) (vs : List (Visitor accounts s f l)) where
     above_is : (q : Path) (v : Visitor accounts s f l)
         → found_above f (start accounts s f l ok vs) (flat_below accounts s f l ok vs)
@@ -85,7 +85,7 @@ module _ (accounts : Accounts) (s : State) (f : Flat) (l : ObjectsMatch accounts
         (ap (λ r. rights_below r (may_read accounts v.process node.class) (may_write accounts v.process node.class)) (above_is q v)
         ∙ sym (directories_give_rights accounts f are_tree small v.name v.process q node at)) i
 
-    -- so the lines of a tree that matches are those of the table
+    -- the lines of a tree that matches are those of the table
     lines_are : (shallow : (q : Path) → is_there f q ≡ true → length q ≤ most_names) (tree : List TreeNode)
         → AreMatched accounts s f l ok tree f.files.entries → map (named_of accounts s f l) vs ≡ running_in f
         → lines_from s (map (start_cell accounts s f l) vs) [] tree ≡ access_table accounts f
@@ -138,14 +138,14 @@ module _ (accounts : Accounts) (m : MachineModel) (f : Flat) (shows : Shows acco
       (tree_unproved accounts s m.roots has_tree.tree
       (subst (λ (roots : Roots). IsTreeOf accounts s roots has_tree.tree) (sym shows.roots) has_tree.is_tree))
 
-  -- so the machine has a tree
+  -- the machine has a tree
   pub tree_there : HasTree m
   tree_there = (has_tree.tree, tree_here)
 
   has_processes : HasProcessesOf accounts s f l.category
   has_processes = flat_states_have_their_processes accounts s f shows.represents named
 
-  -- and processes
+  -- the machine has processes
   pub processes_there : HasProcesses m
   processes_there = (
     has_processes.processes,
@@ -158,7 +158,7 @@ module _ (accounts : Accounts) (m : MachineModel) (f : Flat) (shows : Shows acco
   abbrev names : List ProcessNode → List ProcName
   names processes = map (λ (node : ProcessNode). node.name) processes
 
-  -- the cells of the processes that are found
+  -- facts about the cells of the processes that are found
   module _ (processes : List ProcessNode) (are : AreProcessesOf m.users s m.roots processes) where
     same : processes ≡ has_processes.processes
     same = one_list accounts s (roots_of (length accounts.users)) processes has_processes.processes
@@ -181,7 +181,7 @@ module _ (accounts : Accounts) (m : MachineModel) (f : Flat) (shows : Shows acco
         ∙ filter_map_map (named_by accounts s f l) (λ (line : ProcessLine). line.name) (flat_processes l.category (process_levels []) f [])
         ∙ running_listed f l.category (process_levels []) []
 
-    -- those of them that run, with their users, are those of the flat state
+    -- the running ones among these processes, with their users, are those of the flat state
     pub runners_found : filter_map runner_of processes ≡ map runner (running_in f)
     unfolding running_in
     runners_found =

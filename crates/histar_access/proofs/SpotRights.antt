@@ -1,4 +1,4 @@
--- The rights that are found on the way to a path are those of the flat state that is represented.
+-- The rights that are computed on the way to a path are those of the flat state that the machine represents.
 use Rattle.std.specs.Prelude.{◌≡◌, ℕ, false, is_some, [], ◌∷◌, length, Option, None, Some, MatchOption, option_and_then, option_map, refl}
 use Rattle.std.proofs.Common.{ap, inl, sym, ◌∙◌, subst}
 use Rattle.std.proofs.lemmas.Bool.{true≢false}
@@ -59,7 +59,7 @@ module _ (accounts : Accounts) (s : State) where
   abbrev roots : Roots
   roots = roots_of (length accounts.users)
 
-  -- a spot of a directory is where the directory segments list that
+  -- the spot of a directory is where the directory segments list it
   directory_reached : (start : Cell) (q : Path) (spot : Spot) → Reaches s roots start q spot → (c g : ℕ) → spot.target ≡ targets.Directory c g
       → IsDirectoryAt accounts s q c g
   directory_reached start [] spot is c g at =
@@ -81,7 +81,7 @@ module _ (accounts : Accounts) (s : State) where
       )
 
   module _ (f : Flat) (l : ObjectsMatch accounts s f) where
-    -- what leads to what stands at a path has its number
+    -- an object that is reached at a path has the number of the path's node
     number_led : (q : Path) (class : Class) (content : Content) (target : Target)
         → target_for l.naming.number (q, record { class = class; content = content }) ≡ Some target
         → l.naming.number (address_of q) ≡ Some (object_of target)
@@ -92,7 +92,7 @@ module _ (accounts : Accounts) (s : State) where
         let to = led_to_file (l.naming.number (address_of q)) target leads in
         to.2 ∙ ap (λ (t : Target). Some (object_of t)) to.1
 
-    -- so does a spot where something stands
+    -- the object of a spot has the number of the path's node
     number_reached : (start : Cell) (q : Path) (spot : Spot) → Reaches s roots start q spot → (node : Node) → get f.files q ≡ Some node
         → l.naming.number (address_of q) ≡ Some (object_of spot.target)
     number_reached start [] spot is node at =
@@ -115,7 +115,7 @@ module _ (accounts : Accounts) (s : State) where
       abbrev cell : Rights → Cell
       cell r = record { process = v.name; thread = v.thread; rights = r }
 
-      -- what the directory of a path gives are the rights there
+      -- the rights that the directory of a path gives are the rights there
       given_there : (q : Path) (node : Node) → get f.files q ≡ Some node → (o : ℕ) → l.naming.number (address_of q) ≡ Some o
           → cell_below s o (cell (rights_above accounts f v.name v.process q)) ≡ cell (rights_at accounts f v.name v.process q node)
       given_there q node at o numbered =
@@ -124,7 +124,7 @@ module _ (accounts : Accounts) (s : State) where
           (λ i. cell (rights_below (rights_above accounts f v.name v.process q) (observed i) (modified i)))
           ∙ ap cell (sym (directories_give_rights accounts f (are_tree accounts s f l) small v.name v.process q node at))
 
-      -- so are those of its spot
+      -- the rights of a spot are the rights at its path
       rights_reached : (q : Path) (spot : Spot) → Reaches s roots (start_cell accounts s f l v) q spot → (node : Node) → get f.files q ≡ Some node
           → spot.cell ≡ cell (rights_at accounts f v.name v.process q node)
       rights_reached [] spot is node at =
@@ -143,7 +143,7 @@ module _ (accounts : Accounts) (s : State) where
               given above e ∙ ap (λ (o : Option Node). cell (rights_or accounts f v.name v.process d o)) (sym e) in
               ap (λ (x : Spot). x.cell) is.4 ∙ ap (cell_below s (object_of is.1)) from ∙ given_there (n ∷ d) node at (object_of is.1) numbered
 
-    -- the process of a name that is found to run
+    -- the running process of a name is found with this cell
     record FoundAs (me : ProcName) (found : Cell) : Type 0 where
       visitor : Visitor accounts s f l
       name : visitor.name ≡ me
@@ -162,20 +162,20 @@ module _ (accounts : Accounts) (s : State) where
               cell = same_Some (visitor me caller) found h;
             }
 
--- ---- of a machine
+-- ---- on a machine
 
--- what was found in a machine's own kernel
+-- the facts hold of what was found in a machine's own kernel
 pub found_there : (m : MachineModel) (q : Path) (kernel : KernelModel) (at : Roots) (names : Path) (start : Cell) (found : Option Spot)
     → kernel ≡ m.kernel → at ≡ m.roots → names ≡ q → FindsSpot (state kernel) at start names found → FindsSpot (state m.kernel) m.roots start q found
 found_there m q kernel at names start found same_kernel same_roots same_names is =
     subst (λ (x : KernelModel × Roots × Path). FindsSpot (state x.0) x.1 start x.2 found) (λ i. (same_kernel i, same_roots i, same_names i)) is
 
--- where nothing stands there are no rights
+-- at a path with nothing there are no rights
 none_there : (accounts : Accounts) (f : Flat) (q : Path) (me : ProcName) (process : Option Process)
     → no_rights ≡ rights_if accounts f q me None process
 none_there accounts f q me process = refl
 
--- nor are there any of who doesn't run
+-- a process that doesn't run has no rights
 none_runs : (accounts : Accounts) (f : Flat) (q : Path) (me : ProcName) (node : Option Node) → no_rights ≡ rights_if accounts f q me node None
 none_runs accounts f q me None = refl
 none_runs accounts f q me (Some node) = refl
@@ -184,7 +184,7 @@ module _ (m : MachineModel) (q : Path) (me : ProcName) where
   abbrev s : State
   s = state m.kernel
 
-  -- who isn't found doesn't run
+  -- a process that isn't found doesn't run
   pub not_running : visitor_at s m.roots me ≡ None → AreRightsOf m q me no_rights
   not_running none accounts f shows =
       let l = shows.represents.matched in
@@ -203,7 +203,7 @@ module _ (m : MachineModel) (q : Path) (me : ProcName) where
       not_some (Some p) e = absurd (true≢false e)
 
   module _ (start : Cell) (found : visitor_at s m.roots me ≡ Some start) where
-    -- at a path that leads nowhere nothing stands
+    -- a path that leads nowhere has nothing
     pub nowhere : FindsSpot s m.roots start q None → AreRightsOf m q me no_rights
     unfolding FindsSpot
     nowhere none accounts f shows =
@@ -216,7 +216,7 @@ module _ (m : MachineModel) (q : Path) (me : ProcName) where
         by accounts f None e resolved lost = refl
         by accounts f (Some node) e resolved lost = absurd (lost resolved.target resolved.leads)
 
-    -- at one that leads somewhere the rights are those of its spot
+    -- the rights at a path that leads somewhere are those of its spot
     pub spot_rights : (spot : Spot) → FindsSpot s m.roots start q (Some spot) → AreRightsOf m q me spot.cell.rights
     unfolding FindsSpot
     spot_rights spot reached accounts f shows = by (get f.files q) refl (flat_states_are_resolved accounts s f shows.represents q)

@@ -31,17 +31,17 @@ module _ (s : State) (above : Target) (name : Name) (container listing : ℕ) (i
   abbrev Listed : Type 0
   Listed = (dir : Entries) × IsDirectory bytes dir
 
-  -- what the other leads to lists, its segment does
+  -- a name that a directory lists is listed in its segment
   in_segment : (target : Target) → Lists s above name target → (dir : Entries) × IsDirectory bytes dir × (map.get dir name ≡ Some target)
   in_segment target lists =
       let here = subst (λ (t : Target). Lists s t name target) is lists in
       (here.0, subst (λ (b : List ℕ). IsDirectory b here.0) (sym read) here.1, here.2)
 
-  -- nor does a segment that holds no directory
+  -- a segment that holds no directory lists nothing
   pub none_unlisted : (fault : NotADirectory) → IsLookedUp bytes name (Err fault) → FindsEntry s above name None
   none_unlisted fault none target lists = let here = in_segment target lists in none here.0 here.1
 
-  -- the entry of a directory
+  -- the entry that a directory lists is found
   pub entry_found : (found : Option Target) → IsLookedUp bytes name (Ok found) → FindsEntry s above name found
   entry_found None looked = λ target lists.
       let here = in_segment target lists in
@@ -53,7 +53,7 @@ module _ (s : State) (above : Target) (name : Name) (container listing : ℕ) (i
 -- ---- one name after another
 
 module _ (s : State) (roots : Roots) where
-  -- a path leads on to what its last name is listed with
+  -- a path leads to the object with which its last name is listed
   led_on : (name : Name) (d : Path) (above target : Target) → LeadsTo s roots d above → Lists s above name target → LeadsTo s roots (name ∷ d) target
   led_on name d (File file) target leads lists = absurd lists
   led_on name d (Directory container listing) target leads lists = (container, listing, lists.0, leads, lists.1, lists.2)
@@ -65,7 +65,7 @@ module _ (s : State) (roots : Roots) where
       subst (LeadsTo s roots (name ∷ d)) (sym (ap (λ (x : Spot). x.target) is.4))
       (led_on name d is.0.target is.1 (leads_there start d is.0 is.2) is.3)
 
-  -- what leads on is listed where the path above leads
+  -- a path that leads on is listed where the path above leads
   listed_on : (name : Name) (d : Path) (above target : Target) → LeadsTo s roots d above → LeadsTo s roots (name ∷ d) target
       → Lists s above name target
   listed_on name d above target leads led =
@@ -76,7 +76,7 @@ module _ (s : State) (roots : Roots) where
 abbrev pub names_above : Path → Path
 names_above q = take (length q - 1) (drop 1 q)
 
--- a path has its last name before the names above
+-- a path is its last name and the names above
 parts : (q : Path) (name : Name) → 1 ≤ length q → name ≡ get_or q 0 name → name ∷ names_above q ≡ q
 parts [] name some first = absurd (omega arith)
 parts (n ∷ d) name some first =
@@ -106,7 +106,7 @@ module _ (s : State) (roots : Roots) (start : Cell) (q : Path) where
         (subst (LeadsNowhere s roots) (parts q name some first) (λ target led. none (Directory led.0 led.1) led.3))
 
     module _ (directory : Spot) (reached : FindsSpot s roots start above (Some directory)) where
-      -- so does one whose last name isn't listed
+      -- a path whose last name isn't listed leads nowhere
       pub nowhere_listed : FindsEntry s directory.target name None → (found : Option Spot) → found ≡ None → FindsSpot s roots start q found
       unfolding FindsSpot
       nowhere_listed none found is =
@@ -115,7 +115,7 @@ module _ (s : State) (roots : Roots) (start : Cell) (q : Path) where
           (λ target led. none target
           (listed_on s roots name above directory.target target (leads_there s roots start above directory reached) led)))
 
-      -- a path leads on to where its last name is listed
+      -- a path leads to where its last name is listed
       pub spot_found : (target : Target) → Lists s directory.target name target → (spot : Spot) → spot ≡ spot_below s directory.cell target
           → FindsSpot s roots start q (Some spot)
       unfolding FindsSpot

@@ -1,4 +1,4 @@
--- What is written of a table, from what its parts say.
+-- The text of a table, from the contracts of its parts.
 use Rattle.std.proofs.Common.{ℕ, List, [], Option, ap, subst, refl}
 use Rattle.std.specs.Io.KnownBytes.{Appends}
 use Rattle.std.proofs.KnownBytes.{Appends-nil}

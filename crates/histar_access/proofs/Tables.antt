@@ -1,4 +1,4 @@
--- The lines that are read off a machine are the table of the flat state that it represents.
+-- The lines that are computed from a machine are the table of the flat state that it represents.
 use Rattle.std.specs.Prelude.{◌≡◌, List, [], ◌∷◌, ◌++◌, length, map, take, refl}
 use Rattle.std.proofs.Common.{ap, sym, ◌∙◌}
 use Rattle.std.proofs.lemmas.List.{map-append, take-map}
@@ -21,12 +21,12 @@ use Rattle.histar_access.specs.Rows.{last_or, rows_from}
 use Rattle.histar_access.proofs.Matching.{AreMatched, IsMatch}
 use Rattle.histar_access.proofs.Visiting.{Visitor, named_of}
 
--- what functions make one after the other
+-- mapping two functions one after the other is mapping their composition
 pub map_twice : {A B C : Type 0} (g : B → C) (h : A → B) (xs : List A) → map g (map h xs) ≡ map (λ x. g (h x)) xs
 map_twice g h [] = refl
 map_twice g h (x ∷ xs) = ap (λ (l : List _). g (h x) ∷ l) (map_twice g h xs)
 
--- the last of what a function makes
+-- the last of a mapped list is the image of the last
 last_made : {A B : Type 0} (g : A → B) (x : A) (xs : List A) → last_or (g x) (map g xs) ≡ g (last_or x xs)
 last_made g x [] = refl
 last_made g x (y ∷ ys) = last_made g y ys
@@ -45,11 +45,11 @@ module _ (accounts : Accounts) (s : State) (f : Flat) (l : ObjectsMatch accounts
   abbrev pub start : Row
   start v = above_root
 
-  -- what a directory gives, by the flat rules
+  -- the row that a directory gives, by the flat rules
   abbrev pub flat_below : Path × Node → Row → Row
   flat_below e r v = rights_below (r v) (may_read accounts v.process e.1.class) (may_write accounts v.process e.1.class)
 
-  -- a row as it is shown
+  -- the named rights of a row, as they are shown
   abbrev pub shown_row : Row → List NamedRights
   shown_row r = map (λ (v : Visitor accounts s f l). record { process = v.name; rights = r v }) vs
 
@@ -62,7 +62,7 @@ module _ (accounts : Accounts) (s : State) (f : Flat) (l : ObjectsMatch accounts
   zipped (e ∷ es) [] = []
   zipped (e ∷ es) (r ∷ rs) = flat_row_line e r ∷ zipped es rs
 
-  -- the cells below those of a row
+  -- the cells below those of a row are the cells of the row below
   row_made : (node : TreeNode) (e : Path × Node) → IsMatch accounts s f l ok node e → (r : Row)
       → row_below s (object_of node.target) (cells r) ≡ cells (flat_below e r)
   row_made node e match r =

@@ -1,4 +1,4 @@
--- The processes that are found to run are those of the flat state, each with its thread.
+-- The running processes that are found are those of the flat state, each with its thread.
 use Rattle.std.specs.Prelude.{◌≡◌, ℕ, zero, suc, false, List, [], ◌∷◌, ◌++◌, length, map, Option, None, Some, is_some, option_map, refl}
 use Rattle.std.specs.List.{cons_option, filter_map, flat_map, range_with_len}
 use Rattle.std.proofs.Common.{ap, sym, ◌∙◌}
@@ -23,13 +23,13 @@ use Rattle.histar_rights.specs.Running.{Named, and_children, itself, running_fro
 use Rattle.histar_readout.specs.ProcessLines.{ProcessLine, flat_processes, with_children}
 use Rattle.histar_access.specs.declared.cells.Cell.{Cell}
 
--- what a function makes of what another makes
+-- mapping a function and then filtering is filtering by their composition
 pub filter_map_map : {A B C : Type 0} (g : B → Option C) (h : A → B) (xs : List A) → filter_map g (map h xs) ≡ filter_map (λ x. g (h x)) xs
 filter_map_map g h [] = refl
 filter_map_map g h (x ∷ xs) = ap (cons_option (g (h x))) (filter_map_map g h xs)
 
 module _ (accounts : Accounts) (s : State) (f : Flat) (l : ObjectsMatch accounts s f) where
-  -- a process that runs, with its thread
+  -- a running process, with its thread
   pub record Visitor : Type 0 where
     pub name : ProcName
     pub process : Process
@@ -44,11 +44,11 @@ module _ (accounts : Accounts) (s : State) (f : Flat) (l : ObjectsMatch accounts
   abbrev pub start_cell : Visitor → Cell
   start_cell v = record { process = v.name; thread = v.thread; rights = above_root }
 
-  -- its name and what it is
+  -- a visitor's name and process
   abbrev pub named_of : Visitor → Named
   named_of v = (v.name, v.process)
 
-  -- the process of a name, as it is found
+  -- the visitor of a name, given what is found for the name
   visitor_by : (me : ProcName) (o : Option Caller) → caller_at s first me ≡ o → Option Visitor
   visitor_by me None e = None
   visitor_by me (Some caller) e =
@@ -60,11 +60,11 @@ module _ (accounts : Accounts) (s : State) (f : Flat) (l : ObjectsMatch accounts
   visitors [] = []
   visitors (me ∷ names) = cons_option (visitor_by me (caller_at s first me) refl) (visitors names)
 
-  -- a process of a name, where it runs
+  -- the process of a name, if it runs
   abbrev pub named_by : ProcName → Option Named
   named_by me = option_map (λ p. (me, p)) (running f me)
 
-  -- a process of a name as a cell
+  -- the process of a name as a cell, if it runs
   abbrev pub cell_by : ProcName → Option Cell
   cell_by me = option_map (λ (caller : Caller). record { process = me; thread = caller.thread; rights = above_root }) (caller_at s first me)
 
@@ -88,7 +88,7 @@ module _ (accounts : Accounts) (s : State) (f : Flat) (l : ObjectsMatch accounts
   pub runs_there : (me : ProcName) (p : Process) → f.processes me ≡ Some p → p.exited ≡ None → running f me ≡ Some p
   runs_there me p here none = ap if_running here ∙ ap (λ (o : Option ℕ). elim o [ None ↦ Some p | Some n ↦ None ]) none
 
-  -- and so are the processes that run
+  -- a process that isn't there doesn't run
   none_runs : (o : Option Process) → is_some o ≡ false → o ≡ None
   none_runs None e = refl
   none_runs (Some p) e = absurd (true≢false e)
@@ -112,7 +112,7 @@ module _ (accounts : Accounts) (s : State) (f : Flat) (l : ObjectsMatch accounts
 -- ---- the processes of a flat state
 
 module _ (f : Flat) (category : Categories) where
-  -- a shown process, where it runs
+  -- a shown process, if it runs
   abbrev pub named_line : ProcessLine → Option Named
   named_line line = option_map (λ p. (line.name, p)) (running f line.name)
 
@@ -130,7 +130,7 @@ module _ (f : Flat) (category : Categories) where
   put_before me None rest = refl
   put_before me (Some p) rest = refl
 
-  -- those of the shown processes that run are those that run
+  -- the shown processes that run are the running processes
   pub running_listed : (levels : ℕ) → IsListed levels
   running_listed zero me = refl
   running_listed (suc levels) me = by (f.processes me) refl (running_listed levels)

@@ -1,4 +1,4 @@
--- The lines of a tree, as they are written one after another.
+-- The lines of a tree, written one after another.
 use Rattle.std.proofs.Common.{◌≡◌, ℕ, ◌+◌, ◌<◌, ◌≤◌, List, [], ◌∷◌, ◌++◌, Option, drop, take, length, get_or, sym, ap, ◌∙◌, subst, refl}
 use Rattle.std.proofs.Common.{append-nil, append_assoc, arith}
 use Rattle.std.specs.Prelude.{map}
@@ -16,7 +16,7 @@ use Rattle.histar_access.specs.declared.cells.Cell.{Cell}
 use Rattle.histar_access.specs.Cells.{line_of_node, lines_from, row_below, shown, shown_text}
 use Rattle.histar_access.specs.Rows.{last_or}
 
--- the texts of cells are those of what is shown of them
+-- the texts of cells are those of their named rights
 pub texts_shown : (row : List Cell) → flat_map shown_text row ≡ flat_map cell_text (map shown row)
 texts_shown [] = refl
 texts_shown (c ∷ row) = ap (λ (t : List ℕ). shown_text c ++ t) (texts_shown row)
@@ -44,7 +44,7 @@ module _ (s : State) (visitors : List Cell) (tree : List TreeNode) where
   abbrev pub next_row : List (List Cell) → TreeNode → List Cell
   next_row way node = row_below s (object_of node.target) (last_or visitors (take (length node.path) way))
 
-  -- one line more
+  -- one more line was written
   pub written_more : (old mid new : Option (List ℕ)) (way : List (List Cell)) (left rest : List TreeNode) (node : TreeNode) (line : List ℕ)
       → left ≡ node ∷ rest → IsWritten old mid way left
       → line ≡ access_line_text (line_of_node node (next_row way node)) → Appends mid new line → IsWritten old new
@@ -59,7 +59,7 @@ module _ (s : State) (visitors : List Cell) (tree : List TreeNode) where
         written = Appends-trans old mid new before.text line before.written more;
       }
 
-  -- a beginning of one
+  -- a beginning of one more line was written
   pub begun_more : (old mid new : Option (List ℕ)) (way : List (List Cell)) (left rest : List TreeNode) (node : TreeNode) (line : List ℕ)
       → left ≡ node ∷ rest → IsWritten old mid way left
       → line ≡ access_line_text (line_of_node node (next_row way node)) → AppendsFront mid new line → AppendsFront old new whole
@@ -70,13 +70,13 @@ module _ (s : State) (visitors : List Cell) (tree : List TreeNode) where
       ∙ ap (λ (t : List ℕ). before.text ++ (t ++ later)) (sym is) in
       subst (AppendsFront old new) (sym parts) (front_after old mid new before.text line later before.written front)
 
-  -- what was written is a beginning
+  -- what was written is a beginning of the table
   pub front_written : (old new : Option (List ℕ)) (way : List (List Cell)) (left : List TreeNode) → IsWritten old new way left
       → AppendsFront old new whole
   front_written old new way left is =
       (access_text (lines_from s visitors way left), record { front = is.text; parts = is.parts; appended = is.written })
 
-  -- at the end it is all
+  -- at the end the whole table was written
   pub all_written : (old new : Option (List ℕ)) (way : List (List Cell)) (left : List TreeNode) → left ≡ [] → IsWritten old new way left
       → Appends old new whole
   all_written old new way left none is =

@@ -16,33 +16,33 @@ use Rattle.histar_readout.specs.TreeLines.{node_stat}
 use Rattle.histar_access.specs.declared.cells.Cell.{Cell}
 use Rattle.histar_access.specs.Rows.{last_or}
 
--- a process that runs, with the rights that each one has above `/`
+-- the cell of a running process, with the rights that each process has above `/`
 abbrev pub visitor : ProcName → Caller → Cell
 visitor me caller = record { process = me; thread = caller.thread; rights = above_root }
 
--- the process of a name, where it is found to run
+-- the cell of the process of this name, if it runs
 abbrev pub visitor_at : State → Roots → ProcName → Option Cell
 visitor_at s roots me = option_map (visitor me) (caller_at s roots.home me)
 
--- a process, where it is found to run
+-- the cell of a process, if it runs
 abbrev pub visitor_of : State → Roots → ProcessNode → Option Cell
 visitor_of s roots node = visitor_at s roots node.name
 
--- those of these processes that run
+-- the cells of the running ones of these processes
 abbrev pub visitors_among : State → Roots → List ProcessNode → List Cell
 visitors_among s roots processes = filter_map (visitor_of s roots) processes
 
--- the rights at what lies in the directory of a cell, by what the labels of the thread and of this object allow
+-- the cell at an entry of a directory, by the cell at the directory and what the labels of the thread and of this object allow
 abbrev pub cell_below : State → ℕ → Cell → Cell
 cell_below s object c = record c {
   rights = rights_below c.rights (observes (s.objects c.thread) (s.objects object)) (modifies (s.objects c.thread) (s.objects object));
 }
 
--- the same of each process
+-- the same for each process
 abbrev pub row_below : State → ℕ → List Cell → List Cell
 row_below s object above = map (cell_below s object) above
 
--- the process and its rights, which are shown
+-- the process with its rights
 abbrev pub shown : Cell → NamedRights
 shown c = record { process = c.process; rights = c.rights }
 
@@ -50,16 +50,16 @@ shown c = record { process = c.process; rights = c.rights }
 abbrev pub cell_rights : Cell → Rights
 cell_rights c = c.rights
 
--- the text of a process and its rights
+-- the text of a process with its rights
 abbrev pub shown_text : Cell → List ℕ
 shown_text c = cell_text (shown c)
 
--- what is shown of a file or a directory, and the rights there
+-- what `stat` shows of a file or a directory, and the rights there
 abbrev pub line_of_node : TreeNode → List Cell → AccessLine
 line_of_node node row = record { path = node.path; stat = node_stat node; cells = map shown row }
 
--- The lines of files and directories, each after that of its directory: from the rights on the way to the one before them, of which
--- those at the directories above are kept.
+-- The lines of files and directories, each after that of its directory, computed from the rights on the way to the node before: those at
+-- the directories above the node are kept.
 abbrev pub lines_from : State → List Cell → List (List Cell) → List TreeNode → List AccessLine
 lines_from s visitors way [] = []
 lines_from s visitors way (node ∷ tree) =

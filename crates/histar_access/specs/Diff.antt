@@ -1,4 +1,4 @@
--- What `diff` answers and writes, by the inputs of which the two scripts are read.
+-- The result of `diff` and what it writes, by the inputs from which the two scripts are read.
 use Rattle.std.specs.Prelude.{◌≡◌, ◌↔◌, ℕ, ◌⊎◌, Bool, true, not, ◌&&◌, List, [], Option, Result, Ok, Err, IsOk, MatchResult}
 use Rattle.std.specs.Io.KnownBytes.{Appends, Keeps}
 use Rattle.histar_io.specs.Device.{CountsFailure}
@@ -28,7 +28,7 @@ both_read (Ok old) (Ok new) = Ok (old, new)
 both_read (Ok old) (Err fault) = Err fault
 both_read (Err fault) new = Err fault
 
--- the scripts that two texts are
+-- the scripts in two texts
 abbrev pub scripts_of : List ℕ → List ℕ → Result Scripts Fault
 scripts_of old new = both_read (script_of old) (script_of new)
 
@@ -38,7 +38,7 @@ AreChangesOf at scripts cs = AreChanges scripts.0.accounts (state_before at scri
 
 -- ---- what is written
 
--- both are scripts, the lines of exactly the changes were written, and the answer is true exactly where there is none
+-- both are scripts, the lines of exactly the changes were written, and the result is true exactly if there is none
 pub record WritesChanges (at : Option ℕ) (old new : Option (List ℕ)) (read : Result Scripts Fault) (none : Bool) : Type 0 where
   pub scripts : Scripts
   pub are_read : read ≡ Ok scripts
@@ -55,20 +55,20 @@ pub record BeginsChanges (at : Option ℕ) (old new : Option (List ℕ)) (read :
   pub are_changes : AreChangesOf at scripts changes
   pub written : AppendsFront old new (differences_text changes)
 
--- At a failed write a beginning of the lines was written, where memory runs out that or nothing, at the other faults nothing.
+-- At a failed write a beginning of the lines was written, if memory runs out that or nothing, at other faults nothing.
 abbrev pub ChangesAtFault : Option ℕ → Option (List ℕ) → Option (List ℕ) → Result Scripts Fault → Fault → Type 0
 ChangesAtFault at old new read OutOfMemory = Keeps old new ⊎ BeginsChanges at old new read
 ChangesAtFault at old new read WriteFailed = BeginsChanges at old new read
 ChangesAtFault at old new read fault = Keeps old new
 
--- The fault of a script is answered as what it is. The others are no faults of a script, and a write fails only after two right ones.
+-- The fault of a script is returned as it is. The others are no faults of a script, and a write fails only after two right ones.
 abbrev pub IsFaultOf : Result Scripts Fault → Fault → Type 0
 IsFaultOf read OutOfMemory = Unit {0}
 IsFaultOf read ReadFailed = Unit {0}
 IsFaultOf read WriteFailed = IsOk read
 IsFaultOf read fault = read ≡ Err fault
 
--- The texts were read as scripts: the first fault of the two is answered, or exactly the lines of the changes between them were written.
+-- The texts were read as scripts: the first fault of the two is returned, or exactly the lines of the changes between them were written.
 pub record ComparesTexts (at : Option ℕ) (a b : List ℕ) (old new : Option (List ℕ)) (result : Result Bool Fault) : Type 0 where
   pub faults : MatchResult result (λ _. IsOk (scripts_of a b)) (IsFaultOf (scripts_of a b))
   pub writes : MatchResult result (WritesChanges at old new (scripts_of a b)) (ChangesAtFault at old new (scripts_of a b))
@@ -79,7 +79,7 @@ pub record ComparesTexts (at : Option ℕ) (a b : List ℕ) (old new : Option (L
 abbrev pub Inputs : Type 0
 Inputs = Option (List ℕ) × Option (List ℕ)
 
--- Both inputs were taken, the old one and then the new one, and the texts that they are were compared.
+-- Both inputs were taken, the old one and then the new one, and their texts were compared.
 pub record ComparesTaken (at : Option ℕ) (left rest : Inputs) (old new : Option (List ℕ)) (result : Result Bool Fault) : Type 0 where
   pub old_taken : List ℕ
   pub takes_old : TakesAll left.0 rest.0 old_taken
@@ -102,13 +102,13 @@ pub record StopsAtNew (left rest : Inputs) : Type 0 where
 abbrev pub StopsAtInput : Inputs → Inputs → Option (List ℕ) → Option (List ℕ) → Type 0
 StopsAtInput left rest old new = (StopsAtOld left rest ⊎ StopsAtNew left rest) × Keeps old new
 
--- Both inputs are taken and compared, but reading stops at a failed read, and where memory runs out may have done so.
+-- Both inputs are taken and compared, but reading stops at a failed read, and may have stopped if memory runs out.
 abbrev pub ComparesInputs : Option ℕ → Inputs → Inputs → Option (List ℕ) → Option (List ℕ) → Result Bool Fault → Type 0
 ComparesInputs at left rest old new (Err OutOfMemory) = StopsAtInput left rest old new ⊎ ComparesTaken at left rest old new (Err OutOfMemory)
 ComparesInputs at left rest old new (Err ReadFailed) = StopsAtInput left rest old new
 ComparesInputs at left rest old new result = ComparesTaken at left rest old new result
 
--- The old source counted one failed call more, or else the new one did, where a read failed; and else neither did.
+-- If a read failed, the old source counted one more failed call, or else the new one did; if none failed, neither did.
 abbrev pub CountsOneFailure : ℕ → ℕ → ℕ → ℕ → Bool → Type 0
 CountsOneFailure old old_after new new_after has_failed =
     (is_old : Bool) × CountsFailure old old_after (has_failed && is_old) × CountsFailure new new_after (has_failed && not is_old)
@@ -121,7 +121,7 @@ pub record IsTableOf (at : Option ℕ) (text : List ℕ) (t : Table) : Type 0 wh
   pub is_read : script_of text ≡ Ok script
   pub shows : ShowsRights script.accounts (state_before at script) t
 
--- the text was read as a script, and this is the table of it, or its fault is the answer
+-- the text was read as a script, and this is its table, or its fault is the result
 abbrev pub ReadsTable : Option ℕ → List ℕ → Result Table Fault → Type 0
 ReadsTable at text (Ok t) = IsTableOf at text t
 ReadsTable at text (Err fault) = Gives {A = ScriptModel} (Err fault) (script_of text)

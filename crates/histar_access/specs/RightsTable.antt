@@ -16,12 +16,12 @@ use Rattle.histar_flat.specs.Words.{ProcName}
 use Rattle.histar_shell.specs.Machine.{MachineModel}
 use Rattle.histar_shell.specs.Meaning.{Shows}
 
--- a process of this life, and its user, where it runs
+-- a process of this life, with its user, if it runs
 abbrev pub runner_by : ProcName → Life → Option Runner
 runner_by me (Running user held) = Some (record { process = me; user = user })
 runner_by me (Exited number) = None
 
--- a process and its user, where it runs
+-- a process with its user, if it runs
 abbrev pub runner_of : ProcessNode → Option Runner
 runner_of node = runner_by node.name node.life
 
@@ -29,6 +29,6 @@ runner_of node = runner_by node.name node.life
 abbrev pub line_rights : TableLine → Path × List Rights
 line_rights line = (line.path, line.rights.items)
 
--- Whatever flat state the machine represents, the table shows the rights of that.
+-- For every flat state that the machine represents, the table shows its rights.
 abbrev pub ShowsTable : MachineModel → Table → Type 0
 ShowsTable m t = (accounts : Accounts) (f : Flat) → Shows accounts m f → HaveShownNames f → ShowsRights accounts f t

@@ -22,24 +22,24 @@ IsShown m = (accounts : Accounts) × (f : Flat) × Shows accounts m f × HaveSho
 abbrev pub AreProcessesIn : MachineModel → List ProcessNode → Type 0
 AreProcessesIn m processes = AreProcessesOf m.users (state m.kernel) m.roots processes
 
--- they list processes
+-- the objects of a machine's kernel list some processes
 abbrev pub HasProcesses : MachineModel → Type 0
 HasProcesses m = (processes : List ProcessNode) × AreProcessesIn m processes
 
--- those of these processes of a machine that run
+-- the cells of the running ones of these processes of a machine
 abbrev pub visitors_in : MachineModel → List ProcessNode → List Cell
 visitors_in m processes = visitors_among (state m.kernel) m.roots processes
 
--- those of the processes of a machine that run
+-- these are the cells of the running processes of a machine
 abbrev pub AreVisitors : MachineModel → List Cell → Type 0
 AreVisitors m visitors = (processes : List ProcessNode) × AreProcessesIn m processes × (visitors ≡ visitors_in m processes)
 
--- Whatever flat state the machine represents, the text of its table was written.
+-- For every flat state that the machine represents, the text of its table was written.
 abbrev pub AppendsTable : MachineModel → Option (List ℕ) → Option (List ℕ) → Type 0
 AppendsTable m old new = (accounts : Accounts) (f : Flat) → Shows accounts m f → HaveShownNames f → Appends old new
     (access_text (access_table accounts f))
 
--- a beginning of it was written
+-- a beginning of the text of its table was written
 abbrev pub BeginsTable : MachineModel → Option (List ℕ) → Option (List ℕ) → Type 0
 BeginsTable m old new = (accounts : Accounts) (f : Flat) → Shows accounts m f → HaveShownNames f → AppendsFront old new
     (access_text (access_table accounts f))

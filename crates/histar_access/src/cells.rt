@@ -23,7 +23,7 @@ pub struct Cell {
 }
 
 impl Cell {
-    /// Returns the rights of the process at what lies in the directory of this cell.
+    /// Returns the rights of the process at an entry of the directory of this cell.
     pub(crate) fn below<S: LabelStore + Drop>(&self, kernel: &Kernel<S>, object: ObjId) -> Cell
         ensures { result ≡ cell_below (state kernel.now) object self.now }
     {
@@ -67,7 +67,7 @@ fn modifies<S: LabelStore + Drop>(kernel: &Kernel<S>, thread: ObjId, object: Obj
     own.below(label) && label.below_raised(own)
 }
 
-/// Returns the rights of processes at what lies in a directory, by those at the directory.
+/// Returns the rights of processes at an entry of a directory, given those at the directory.
 pub fn row_below<S: LabelStore + Drop>(
     alloc: Global,
     kernel: &Kernel<S>,

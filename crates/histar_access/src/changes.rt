@@ -14,12 +14,12 @@ use histar_io::{Sink, Source, read_input, write_bytes};
 use histar_script::Fault;
 use std::alloc::Global;
 
-/// Reads two scripts, runs each on a machine of its own, and writes what changed from the old one to
-/// the new one: a line for each path and process whose rights differ. It answers whether nothing did.
-/// With a line number the calls on lines before that one are run of each, and else all.
+/// Reads two scripts, runs each on a machine of its own, and writes what changed from the old one to the new
+/// one: a line for each path and process whose rights differ. It returns whether nothing changed. With a line
+/// number it runs the calls of each on the lines before that one, and else all.
 ///
-/// Both scripts are read whole before the first call of either, and both tables are there before the
-/// first line is written. It doesn't flush the sink.
+/// Both scripts are read whole before the first call of either, and both tables are computed before the first
+/// line is written. It doesn't flush the sink.
 pub fn diff<R: Source, Q: Source, W: Sink>(
     alloc: Global,
     old_script: &mut R,
@@ -27,23 +27,21 @@ pub fn diff<R: Source, Q: Source, W: Sink>(
     writer: &mut W,
     at: Option<u32>,
 ) -> Result<bool, Fault>
-    // After a bad script, one that is too long and a failed read the sink is as it was.
+    // After a bad script, one that is too long or a failed read, the sink is as it was.
     ensures nothing { IfErr result (LeavesSink writer.old writer.new) }
 
-    // A device has failed exactly where its fault is the answer; of the sources one alone.
+    // A device has failed exactly if its fault is returned; of the sources only one has.
     ensures reads { CountsOneFailure (R.failures old_script.old) (R.failures old_script.new)
         (Q.failures new_script.old) (Q.failures new_script.new) (is_read_failed result) }
     ensures writes { CountsFailure (W.failures writer.old) (W.failures writer.new) (is_write_failed result) }
 
-    // Whatever the sources tell, bytes of both were taken, of each to its end but never more than
-    // 1,048,577: the first fault of the scripts that they are is answered, or exactly the lines of the
-    // changes between their flat states are written.
+    // Some bytes of each source were read, to its end but never more than 1,048,577: the first fault of their
+    // scripts is returned, or exactly the lines of the changes between their flat states are written.
     ensures runs { ComparesInputs at
         (R.left old_script.old, Q.left new_script.old) (R.left old_script.new, Q.left new_script.new)
         (W.written writer.old) (W.written writer.new) result }
 
-    // So where both inputs are known, these are the changes from the script of the old one to that of
-    // the new one.
+    // If both inputs are known, these are the changes from the script of the old one to that of the new one.
     ensures known { IfSome (R.left old_script.old) (λ a. IfSome (Q.left new_script.old) (λ b.
         ComparesTexts at a b (W.written writer.old) (W.written writer.new) result)) }
 {
@@ -52,7 +50,7 @@ pub fn diff<R: Source, Q: Source, W: Sink>(
     compare_texts(alloc, old.as_slice(), new.as_slice(), writer, at)
 }
 
-/// Writes what changed between the scripts that two texts are.
+/// Writes what changed between the scripts in two texts.
 fn compare_texts<W: Sink>(
     alloc: Global,
     old: &[u8],
@@ -74,7 +72,7 @@ fn compare_texts<W: Sink>(
     Ok(lines.is_empty())
 }
 
-/// Returns the table of the script that a text is, before a line where one is given.
+/// Returns the table of the script in a text, before a line if one is given.
 fn table_before(alloc: Global, text: &[u8], at: Option<u32>) -> Result<Table, Fault>
     ensures { ReadsTable at text.now result }
 {

@@ -1,5 +1,5 @@
-//! Who may do what in a machine: the rights of each process that runs at each path, read off the labels
-//! of the kernel's own objects.
+//! Who may do what in a machine: the rights of each running process at each path, computed from the labels of
+//! the kernel's own objects.
 #![tactic(auto)]
 
 mod cells;

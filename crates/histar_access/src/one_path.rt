@@ -13,18 +13,18 @@ use histar_rights::Rights;
 use histar_shell::Machine;
 use histar_syscall::Kernel;
 
-/// Where a path leads, and the rights of a process there.
+/// What is at a path, and the rights of a process there.
 #[derive(Clone, Copy)]
 struct Spot {
     target: Target,
     cell: Cell,
 }
 
-/// Returns the rights of a process at a path of a machine: none where nothing is at the path, or the
-/// process doesn't run.
+/// Returns the rights of a process at a path of a machine: none if nothing is at the path, or the process
+/// doesn't run.
 ///
-/// It goes down the one path, whose directories are read in place, and looks the one process up. So
-/// it takes no memory, and costs the same in a large session.
+/// It goes down the one path, reads its directories in place, and looks up the one process. It takes no
+/// memory, and costs the same in a machine with many files.
 pub fn rights_of<S: LabelStore + Drop>(
     machine: &Machine<S>,
     path: &Path,
@@ -41,8 +41,8 @@ pub fn rights_of<S: LabelStore + Drop>(
     }
 }
 
-/// Returns where the path of these names leads, of which the last stands first, and the rights of a
-/// process there, by those above `/`.
+/// Returns where the path of these names leads, of which the last comes first, and the rights of a process
+/// there, given its rights above `/`.
 fn spot_at<S: LabelStore + Drop>(
     kernel: &Kernel<S>,
     roots: &Roots,
@@ -60,7 +60,7 @@ fn spot_at<S: LabelStore + Drop>(
     Some(spot_below(kernel, &directory.cell, target))
 }
 
-/// Returns where an entry leads, with the rights there, by those of this cell at its directory.
+/// Returns where an entry leads, with the rights there, given the cell of its directory.
 fn spot_below<S: LabelStore + Drop>(kernel: &Kernel<S>, above: &Cell, target: Target) -> Spot
     ensures { result ≡ spot_below (state kernel.now) above.now target }
 {
@@ -70,7 +70,7 @@ fn spot_below<S: LabelStore + Drop>(kernel: &Kernel<S>, above: &Cell, target: Ta
     }
 }
 
-/// Returns where the entry of this name leads, if what the other leads to lists it.
+/// Returns where the entry of this name leads, if the directory has it.
 fn entry_at<S: LabelStore + Drop>(kernel: &Kernel<S>, above: &Target, name: &Name) -> Option<Target>
     ensures { FindsEntry (state kernel.now) above.now name.now result }
 {

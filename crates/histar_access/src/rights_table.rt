@@ -17,8 +17,8 @@ use histar_rights::Rights;
 use histar_shell::Machine;
 use std::alloc::{AllocError, Global};
 
-/// Returns who may do what in a machine: the processes that run, with their users, and their rights
-/// at each path. It goes down the tree once, as `write_table` does.
+/// Returns who may do what in a machine: the running processes with their users, and their rights at each
+/// path. It goes down the tree once, as `write_table` does.
 pub fn table_of<S: LabelStore + Drop>(
     alloc: Global,
     machine: &Machine<S>,
@@ -37,7 +37,7 @@ pub fn table_of<S: LabelStore + Drop>(
     })
 }
 
-/// Returns those of these processes that run, each with its user.
+/// Returns the processes that run, each with its user.
 fn runners_among(alloc: Global, processes: &[ProcessNode]) -> Result<Vec<Runner>, AllocError>
     ensures { IfOk result (λ runners. runners.items ≡ filter_map runner_of processes.now) }
 {
@@ -50,7 +50,7 @@ fn runners_among(alloc: Global, processes: &[ProcessNode]) -> Result<Vec<Runner>
     Ok(runners)
 }
 
-/// Returns a process with its user, where it runs.
+/// Returns a process with its user, if it runs.
 fn runner_of(process: &ProcessNode) -> Option<Runner>
     ensures { result ≡ runner_of process.now }
 {
@@ -63,7 +63,7 @@ fn runner_of(process: &ProcessNode) -> Option<Runner>
     }
 }
 
-/// Returns the rights at the files and directories of a machine, each by those at its directory.
+/// Returns the rights at the files and directories of a machine, each computed from those at its directory.
 fn table_lines<S: LabelStore + Drop>(
     alloc: Global,
     machine: &Machine<S>,

@@ -17,8 +17,8 @@ use std::alloc::Global;
 const REMEMBERED_ANSWERS: usize = 256;
 
 /// Reads a script, runs it on a machine of its own, and writes who may do what then: a line for each file and
-/// directory, with the rights of each process that runs. With a line number the calls on lines before that
-/// one are run, and else all.
+/// directory, with the rights of each running process. With a line number it runs the calls on the lines
+/// before that one, and else all.
 ///
 /// The whole script is read and checked before the first call. It doesn't flush the sink.
 pub fn access<R: Source, W: Sink>(
@@ -27,19 +27,19 @@ pub fn access<R: Source, W: Sink>(
     writer: &mut W,
     at: Option<u32>,
 ) -> Result<(), Fault>
-    // After a bad script, one that is too long and a failed read the sink is as it was.
+    // After a bad script, one that is too long or a failed read, the sink is as it was.
     ensures nothing { IfErr result (LeavesSink writer.old writer.new) }
 
-    // A device has failed exactly where its fault is the answer.
+    // A device has failed exactly if its fault is returned.
     ensures reads { CountsFailure (R.failures reader.old) (R.failures reader.new) (is_read_failed result) }
     ensures writes { CountsFailure (W.failures writer.old) (W.failures writer.new) (is_write_failed result) }
 
-    // Whatever the source tells, bytes of it were taken, to its end but never more than 1,048,577: the fault of the script that
-    // they are is answered, or exactly the text of the table of the flat state after its calls is written.
+    // Some bytes of the source were read, to its end but never more than 1,048,577: the fault of their script
+    // is returned, or exactly the text of the table of the flat state after its calls is written.
     ensures runs { RunsInput (AccessText at) (R.left reader.old) (R.left reader.new)
         (W.written writer.old) (W.written writer.new) result }
 
-    // So where the input is known, this is the table of the script of the whole input.
+    // If the input is known, this is the table of the script of the whole input.
     ensures known { IfSome (R.left reader.old) (λ input.
         AccessText at input (W.written writer.old) (W.written writer.new) result) }
 {
@@ -47,7 +47,7 @@ pub fn access<R: Source, W: Sink>(
     access_text(alloc, input.as_slice(), writer, at)
 }
 
-/// Writes who may do what after the calls of the script that a text is.
+/// Writes who may do what after the calls of the script in a text.
 fn access_text<W: Sink>(
     alloc: Global,
     text: &[u8],
@@ -63,8 +63,7 @@ fn access_text<W: Sink>(
     write_table(alloc, &machine, writer)
 }
 
-/// Runs the script that a text is on a machine of its own, up to a line where one is given, and returns the
-/// machine.
+/// Runs the script in a text on a machine of its own, up to a line if one is given, and returns the machine.
 pub fn machine_before(
     alloc: Global,
     text: &[u8],
@@ -84,7 +83,7 @@ pub fn machine_before(
     Ok(machine)
 }
 
-/// Has the machine do the calls on the lines before one, in their order, or all.
+/// Makes the calls on the lines before the given one, in their order, or all calls.
 fn make_calls<S: LabelStore + Drop>(
     alloc: Global,
     machine: &mut Machine<S>,
@@ -101,7 +100,7 @@ fn make_calls<S: LabelStore + Drop>(
     Ok(())
 }
 
-/// Has the machine do one call.
+/// Makes one call on the machine.
 fn make_call<S: LabelStore + Drop>(
     alloc: Global,
     machine: &mut Machine<S>,
@@ -118,7 +117,7 @@ fn make_call<S: LabelStore + Drop>(
     Ok(())
 }
 
-/// Checks whether a line comes before one, where it is given.
+/// Checks whether a line comes before the given one, if one is given.
 fn is_before(at: Option<u32>, line: u32) -> bool
     ensures { result ≡ is_before at line }
 {

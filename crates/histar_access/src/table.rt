@@ -22,11 +22,11 @@ use histar_script::Fault;
 use histar_shell::{Machine, push_path, push_stat};
 use std::alloc::{AllocError, Global};
 
-/// Writes a line for each file and directory of a machine, by rising paths, with the rights of each process
-/// that runs.
+/// Writes a line for each file and directory of a machine, by rising paths, with the rights of each running
+/// process.
 ///
-/// The tree is gone down once: the rights at a path are those that its directory gives, narrowed by one test of
-/// each label, so that there are at most two comparisons for each path and process.
+/// It goes down the tree once: the rights at a path are those that its directory gives, narrowed by one test
+/// of each label, with at most two comparisons for each path and process.
 pub fn write_table<S: LabelStore + Drop, W: Sink>(
     alloc: Global,
     machine: &Machine<S>,
@@ -58,7 +58,7 @@ pub(crate) fn processes<S: LabelStore + Drop>(
     }
 }
 
-/// Returns those of these processes that run, each with its thread.
+/// Returns the processes that run, each with its thread.
 pub(crate) fn visitors_among<S: LabelStore + Drop>(
     alloc: Global,
     machine: &Machine<S>,
@@ -75,7 +75,7 @@ pub(crate) fn visitors_among<S: LabelStore + Drop>(
     Ok(visitors)
 }
 
-/// Returns the process of a name with its thread, where it runs.
+/// Returns the process of a name with its thread, if it runs.
 pub(crate) fn visitor_at<S: LabelStore + Drop>(
     machine: &Machine<S>,
     process: &ProcName,
@@ -117,7 +117,7 @@ fn write_lines<S: LabelStore + Drop, W: Sink>(
     Ok(())
 }
 
-/// Returns the last of these rows; where there is none, the processes as they are above `/`.
+/// Returns the last of these rows, or the processes as they are above `/` if there is none.
 pub(crate) fn last_row<'a>(way: &'a [Vec<Cell>], visitors: &'a [Cell]) -> &'a [Cell]
     ensures { result.now ≡ last_or visitors.now (map (λ row. row.items) way.now) }
 {

@@ -1,4 +1,4 @@
-//! Bytes with an owner.
+//! Byte strings that own their memory.
 ghost use Rattle.std.specs.Prelude.{◌≡◌, ◌↔◌, [], length, IsTrue, IfOk};
 
 use std::alloc::{AllocError, Global};
@@ -19,7 +19,7 @@ impl Model for Bytes {
 }
 
 impl Bytes {
-    /// No bytes, and no memory taken.
+    /// Returns no bytes, and takes no memory.
     pub fn new(alloc: Global) -> Self
         ensures { result ≡ [] }
     {
@@ -28,14 +28,14 @@ impl Bytes {
         }
     }
 
-    /// The bytes of a vector, which is moved and not copied.
+    /// Returns the bytes of a vector, which is moved and not copied.
     pub fn from_vec(content: Vec<u8>) -> Self
         ensures { result ≡ content.items }
     {
         Bytes { content }
     }
 
-    /// A copy of lent bytes.
+    /// Returns a copy of borrowed bytes.
     pub fn copy_of(alloc: Global, source: &[u8]) -> Result<Bytes, AllocError>
         ensures { IfOk result (λ b. b ≡ source.now) }
     {
@@ -61,14 +61,14 @@ impl Bytes {
         self.content.is_empty()
     }
 
-    /// A second value with the same bytes.
+    /// Returns a copy of these bytes.
     pub fn copy(&self, alloc: Global) -> Result<Bytes, AllocError>
         ensures { IfOk result (λ b. b ≡ self.now) }
     {
         Bytes::copy_of(alloc, self.as_slice())
     }
 
-    /// The vector that holds the bytes.
+    /// Returns the vector that holds the bytes.
     pub fn into_vec(self) -> Vec<u8>
         ensures { result.items ≡ self }
     {

@@ -1,4 +1,4 @@
-//! What the Unix side and the kernel side share: owned bytes, and the words for refusals.
+//! What the Unix side and the kernel side share: owned bytes, and names for refusals.
 #![tactic(auto)]
 
 mod bytes;

@@ -1,4 +1,4 @@
-//! Where FILE is read from, and where a task writes what it prints.
+//! Files and standard output: where FILE is read from, and where a task writes.
 
 use histar_script::Fault;
 use histar_shell::Counted;
@@ -23,7 +23,7 @@ impl<F: Read, I: Read> Read for Script<F, I> {
     }
 }
 
-/// Opens a FILE, which is standard input where it is `-`.
+/// Opens a FILE; `-` is standard input.
 pub fn open<R: Files + Input>(
     rt: &R,
     path: &str,
@@ -44,10 +44,12 @@ pub fn output<R: Print>(rt: &R, alloc: Global) -> Result<Output<'_, R>, Fault> {
     Ok(Counted::new(buffer))
 }
 
-/// Flushes the output, which a task doesn't do, and returns what the task answered, or else the fault of a failed flush.
+/// Flushes the output, which a task doesn't do, and returns the task's result, or else the fault of a failed
+/// flush.
 ///
-/// It is flushed after a fault too, but not after a failed write: what that left in the buffer is dropped, as is what a
-/// failed flush leaves. The buffer itself tries a write again that a signal interrupted, as std's does, and no other.
+/// It flushes after a fault too, but not after a failed write: what is left in the buffer then is dropped, as
+/// after a failed flush. The buffer itself tries a write again that a signal interrupted, as std's does, and
+/// no other.
 pub fn finish<T: Drop, R: Print>(
     done: Result<T, Fault>,
     output: Output<'_, R>,

@@ -1,4 +1,4 @@
-//! The program: `histar run FILE` runs a script and prints the replies; `histar --help` lists the subcommands.
+//! The program: `histar run FILE` runs a script and prints the replies; `histar --help` lists subcommands.
 #![tactic(auto)]
 
 mod files;
@@ -27,7 +27,7 @@ fn report<R: Eprint>(rt: &R, fault: &Fault) -> u8 {
     status(fault)
 }
 
-/// The words of the command line, the program's own name first.
+/// Returns the words of the command line, the program's own name first.
 fn command_line<R: Env + AllocGlobal>(rt: &R) -> io::Result<Vec<String>> {
     let words = env::args(rt)?;
     let words = words.collect::<Vec<String>>(rt.alloc())?;
@@ -37,11 +37,11 @@ fn command_line<R: Env + AllocGlobal>(rt: &R) -> io::Result<Vec<String>> {
 /// A word of the command line that can't be read.
 #[derive(Drop)]
 enum BadWord {
-    /// The job is no name of a process.
+    /// The job is not the name of a process.
     Job,
-    /// The line is no number of a line.
+    /// The line is not a line number.
     Line,
-    /// The path is none.
+    /// The path is not a path.
     Path,
 }
 
@@ -61,7 +61,7 @@ fn read_job(word: &str) -> Result<ProcName, BadWord> {
     read_process(word.as_bytes()).ok_or(BadWord::Job)
 }
 
-/// Does a task. It does nothing, and opens no file, where a word of it can't be read.
+/// Does a task. It does nothing, and opens no file, if a word of the task can't be read.
 fn perform<R: Files + Input + Print>(
     rt: &R,
     alloc: Global,
@@ -95,10 +95,10 @@ fn refuse_word<R: Eprint>(rt: &R, word: &BadWord) -> u8 {
     REFUSED
 }
 
-/// Writes what `clap` answers in place of a task, and returns the status.
+/// Writes `clap`'s answer in place of a task, and returns the status.
 ///
-/// Help and the version go to standard output, with status 0, or with the fault of a failed write. A refusal goes to
-/// standard error, with the status of a refused command line.
+/// Help and the version go to standard output, with status 0, or with the fault of a failed write. A refusal
+/// goes to standard error, with the status of a refused command line.
 fn explain<R: Print + Eprint>(rt: &R, error: &clap::Error) -> u8 {
     if error.print(rt).is_err() && !error.use_stderr() {
         return report(rt, &Fault::WriteFailed);
@@ -118,7 +118,7 @@ fn obey<R: Files + Input + Print + Eprint>(rt: &R, alloc: Global, words: &[&str]
     }
 }
 
-/// Reports why the command line can't be read, and returns its status. A word that is not UTF-8 can't be read.
+/// Reports why the command line can't be read, and returns its status. A word has to be UTF-8.
 fn refuse<R: Eprint>(rt: &R, error: &io::Error) -> u8 {
     let why = if error.kind() == io::ErrorKind::InvalidData {
         "an argument is not UTF-8"

@@ -1,20 +1,20 @@
-//! What the program ends with.
+//! The exit statuses of the program.
 ghost use Rattle.std.specs.Prelude.{◌≡◌};
 ghost use Rattle.histar_cli.specs.Status.{outcome_status, status_of};
 
 use histar_script::Fault;
 
-/// What a task came to that was done.
+/// The outcome of a task that was done.
 #[derive(Clone, Copy)]
 pub enum Outcome {
     Done,
-    /// What was asked is not so.
+    /// The answer to the question is no.
     NotSo,
-    /// A script was looked at, and it is bad.
+    /// The script is bad.
     BadScript,
 }
 
-/// Returns the exit status of a task that was done: 0, 5 where what was asked is not so, and 1 where a script is bad.
+/// Returns the exit status of a task that was done: 0, or 5 if the answer is no, or 1 if a script is bad.
 pub fn outcome_status(outcome: Outcome) -> u8
     ensures { result ≡ outcome_status outcome }
 {

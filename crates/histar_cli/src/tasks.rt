@@ -1,4 +1,4 @@
-//! What the program does for each subcommand.
+//! The tasks of the program, one for each subcommand.
 
 use crate::files::{finish, open, output};
 use crate::status::Outcome;
@@ -41,13 +41,14 @@ pub fn run_file<R: Files + Input + Print>(
     } else if flags.explain {
         explain_script(alloc, &mut reader, &mut writer, options)
     } else {
-        // The program ends soon, so it takes no time to free the trace.
+        // The program ends soon; it takes no time to free the trace.
         run(alloc, &mut reader, &mut writer, options).map(|trace| forget(trace))
     };
     finish(done.map(|_| Outcome::Done), writer)
 }
 
-/// Runs the raw session in a file, and prints what its calls are answered, and if it is asked for why some were denied.
+/// Runs the raw session in a file, and prints the replies to its calls, and the reasons of denials if asked
+/// for.
 pub fn run_raw_file<R: Files + Input + Print>(
     rt: &R,
     alloc: Global,
@@ -64,7 +65,7 @@ pub fn run_raw_file<R: Files + Input + Print>(
     finish(done.map(|_| Outcome::Done), writer)
 }
 
-/// Prints what differs for outsiders where the script in a file is run without a job.
+/// Prints what differs for outsiders when the script in a file is run without a job.
 pub fn check_file<R: Files + Input + Print>(
     rt: &R,
     alloc: Global,
@@ -95,7 +96,7 @@ fn compared(
     Ok((line.into_bytes(), verdict))
 }
 
-/// Prints what differs for outsiders where the script in a file is run without each job that it starts.
+/// Prints what differs for outsiders when the script in a file is run without each job that it starts.
 pub fn check_each_job<R: Files + Input + Print>(
     rt: &R,
     alloc: Global,
@@ -123,7 +124,7 @@ fn print_text<R: Print>(rt: &R, text: &[u8]) -> Result<(), Fault> {
     output.flush().map_err(|_| Fault::WriteFailed)
 }
 
-/// Returns the outcome of a task that says whether something is so.
+/// Returns the outcome of a task that answers a question.
 fn is_so(holds: bool) -> Outcome {
     if holds { Outcome::Done } else { Outcome::NotSo }
 }
@@ -156,7 +157,8 @@ pub fn diff_files<R: Files + Input + Print>(
     finish(done.map(|holds| is_so(holds)), writer)
 }
 
-/// Prints on whom it depends what is at a path after the calls of the script in a file, or before a line.
+/// Prints which processes have to be trusted with a path after the calls of the script in a file, or before a
+/// line.
 pub fn trust_file<R: Files + Input + Print>(
     rt: &R,
     alloc: Global,
@@ -170,7 +172,7 @@ pub fn trust_file<R: Files + Input + Print>(
     finish(done.map(|_| Outcome::Done), writer)
 }
 
-/// Prints why the script in a file is bad, where it is, or the session of raw calls, if it is one.
+/// Prints why the script in a file is bad, if it is, or the same of the raw session in it.
 pub fn lint_file<R: Files + Input + Print>(
     rt: &R,
     alloc: Global,
@@ -218,7 +220,7 @@ pub fn report_file<R: Files + Input + Print>(
     finish(done.map(|_| Outcome::Done), writer)
 }
 
-/// Compares the replies to the scripts in files with those that they expect, and prints what is found.
+/// Compares the replies to the scripts in files with those that they expect, and prints the results.
 pub fn test_files<R: Files + Input + Print>(
     rt: &R,
     alloc: Global,
@@ -230,7 +232,7 @@ pub fn test_files<R: Files + Input + Print>(
     finish(done.map(|holds| is_so(holds)), writer)
 }
 
-/// Reads scripts, each with the name of its file.
+/// Reads files, each with its name.
 fn read_files<R: Files + Input>(
     rt: &R,
     alloc: Global,

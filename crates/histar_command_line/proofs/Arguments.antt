@@ -1,4 +1,4 @@
--- A command to which arguments are added, one after another.
+-- Adding the arguments of a form to a command, one after another.
 use Rattle.std.proofs.Common.{◌≡◌, false, List, [], ◌∷◌, ◌++◌, sym, ap, ap₂, ◌∙◌}
 use Rattle.std.specs.Prelude.{fold, map, ◌||◌}
 use Rattle.std.proofs.lemmas.List.Sums.{fold-append}
@@ -10,12 +10,12 @@ use Rattle.clap.specs.Words.{AddsArg, App, app_of, rule_of, with_rule}
 use Rattle.histar_command_line.specs.declared.forms.Argument.{Argument}
 use Rattle.histar_command_line.specs.Forms.{argument_rule}
 
--- the command is this one with these arguments of a form, and has no global one
+-- the command is this one with these arguments of a form, and has no global argument
 pub record Has (command : Command) (bare : App) (arguments : List Argument) : Type 0 where
   pub app : app_of command ≡ fold with_rule bare (map argument_rule arguments)
   pub local : (out-Command command).has_globals ≡ false
 
--- one argument more
+-- the command has one more argument
 pub has_more : (old new : Command) (arg : Arg) (bare : App) (arguments : List Argument) (argument : Argument)
     → Has old bare arguments → AddsArg old arg new → rule_of arg ≡ argument_rule argument → arg.global ≡ false
     → Has new bare (arguments ++ argument ∷ [])

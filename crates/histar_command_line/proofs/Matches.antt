@@ -8,7 +8,7 @@ use Rattle.clap.specs.Words.{Row, Text, is_simple, subcommand_rows, subcommand_r
 use Rattle.clap.proofs.OnLiterals.{clap_on_literals}
 use Rattle.histar_command_line.specs.Forms.{histar_app}
 
--- a pair that is there is known by its parts
+-- a pair that is there is determined by its parts
 pub both_parts : (o : Option (Text × List Row)) (name : Text) (rows : List Row) → option_map (λ p. p.0) o ≡ Some name
     → option_map (λ p. p.1) o ≡ Some rows → o ≡ Some (name, rows)
 both_parts None name rows p q = absurd cc
@@ -17,12 +17,12 @@ both_parts (Some x) name rows p q =
     let second : x.1 ≡ rows = cc in
     ap (λ (n : Text). Some (n, x.1)) first ∙ ap (λ (r : List Row). Some (name, r)) second
 
--- the command line is of the plain kind of which `clap` says the matches exactly
+-- the command line is of the plain kind whose matches `clap` states exactly
 pub histar_is_simple : is_simple histar_app ≡ true
 unfolding clap_on_literals
 histar_is_simple = refl
 
--- the name that stands in the rows of the subcommand is that of the subcommand
+-- the name in the subcommand's rows is that of the subcommand
 pub name_is : (m : ArgMatches) → option_map (λ p. p.0) (subcommand_rows_of m) ≡ subcommand_name_of m
 name_is m =
     elim (out-ArgMatches m).subcommand as (λ o. option_map (λ (p : Text × List Row). p.0) (subcommand_rows o)

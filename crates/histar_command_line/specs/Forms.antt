@@ -1,4 +1,4 @@
--- The command line as `clap` reads it, by the forms of the subcommands.
+-- The rules of the command line for `clap`, by the forms of the subcommands.
 use Rattle.std.specs.Prelude.{true, false, List, [], ◌∷◌, Some, codes, fold, map}
 use Rattle.clap.specs.Lexer.{usize_max}
 use Rattle.clap.specs.Words.{App, Rule, Text, new_app, new_rule, with_rule, with_subcommand}
@@ -7,27 +7,27 @@ use Rattle.histar_command_line.specs.declared.forms.Argument.{Argument}
 use Rattle.histar_command_line.specs.declared.forms.Argument.TheVariants.{Flag, Word, Unless, Words, Valued}
 use Rattle.histar_command_line.specs.declared.forms.Form.{Form}
 
--- a flag of this name
+-- the rule of a flag of this name
 abbrev pub flag_rule : Text → Rule
 flag_rule name = record (new_rule name) { long = Some name; action = Some SetTrue }
 
--- a word of this name, which has to be there
+-- the rule of a required word of this name
 abbrev pub word_rule : Text → Rule
 word_rule name = record (new_rule name) { required = true }
 
--- a word of this name, which another rule requires
+-- the rule of a word of this name that another rule requires
 abbrev pub unless_rule : Text → Rule
 unless_rule name = record (new_rule name) { is_free = false }
 
--- one word of this name or more
+-- the rule of one or more words of this name
 abbrev pub words_rule : Text → Rule
 words_rule name = record (new_rule name) { required = true; range = Some (record { start_inclusive = 1; end_inclusive = usize_max }) }
 
--- a word of this name behind a flag
+-- the rule of a word of this name after a flag
 abbrev pub option_rule : Text → Text → Rule
 option_rule name flag = record (new_rule name) { long = Some flag; action = Some Set }
 
--- an argument of a form
+-- the rule of an argument
 abbrev pub argument_rule : Argument → Rule
 argument_rule (Flag name help) = flag_rule name.now
 argument_rule (Word name help) = word_rule name.now
@@ -35,11 +35,11 @@ argument_rule (Unless name flag help) = unless_rule name.now
 argument_rule (Words name help) = words_rule name.now
 argument_rule (Valued name flag help) = option_rule name.now flag.now
 
--- a subcommand of a form
+-- the rules of a subcommand
 abbrev pub form_app : Form → App
 form_app form = fold with_rule (new_app form.name.now) (map argument_rule form.arguments.now)
 
--- the program, which has a version, and shows its help where no word is given
+-- the program, which has a version, and shows its help if no word is given
 abbrev pub named_app : App
 named_app = let app = new_app (codes "histar") in record app { top = record app.top { has_version = true; arg_required_else_help = true } }
 

@@ -1,4 +1,4 @@
--- What the words of a command line ask for.
+-- The task of a command line, by its words.
 use Rattle.std.specs.Prelude.{◌≡◌, Bool, true, false, List, codes, map, Option, None, Some, option_map}
 use Rattle.std.specs.Str.{bytes_eq}
 use Rattle.clap.specs.Words.{Row, Text, all_of, first_of}
@@ -15,7 +15,7 @@ is_given (Some text) = bytes_eq text (codes "true")
 abbrev pub is_set : Text → List Row → Bool
 is_set name rows = is_given (first_of name rows)
 
--- the subcommand of a task
+-- the name of the subcommand of a task
 abbrev pub subcommand : Task → Text
 subcommand (Run file flags) = codes "run"
 subcommand (Raw file explain) = codes "raw"
@@ -28,7 +28,7 @@ subcommand (Lint file is_raw) = codes "lint"
 subcommand (Report file) = codes "report"
 subcommand (Test files) = codes "test"
 
--- the flags of a comparison
+-- the flags of a comparison are those that were given
 abbrev pub HasFlags : CheckFlags → List Row → Type 0
 HasFlags flags rows = (flags.why ≡ is_set (codes "why") rows) × (flags.exit_code ≡ is_set (codes "exit-code") rows)
 

@@ -11,11 +11,11 @@ use std::alloc::{AllocError, Global};
 /// The version of the program.
 pub const VERSION: &str = "0.1.0";
 
-/// What the program is for.
+/// The purpose of the program, in its help.
 const ABOUT: &str =
     "Runs sessions of Unix calls on a labelled kernel, which grants and refuses by comparing labels alone";
 
-/// What is at the end of the program's help.
+/// The end of the program's help.
 const AFTER_HELP: &str = "Example:
   histar run --tree --trace examples/first.histar
 

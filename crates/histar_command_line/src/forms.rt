@@ -6,15 +6,15 @@ ghost use Rattle.histar_command_line.specs.Forms.{report_app, test_app, trust_ap
 /// An argument of a subcommand.
 #[derive(Clone, Copy)]
 pub enum Argument<'a> {
-    /// A flag `--NAME`: its name, and what it asks for.
+    /// A flag `--NAME`: its name, and its help.
     Flag(&'a str, &'a str),
-    /// A word that has to be there: its name, and what it is.
+    /// A required word: its name, and its help.
     Word(&'a str, &'a str),
-    /// A word that has to be there unless a flag is: its name, the name of the flag, and what it is.
+    /// A word that is required unless a flag is given: its name, the name of the flag, and its help.
     Unless(&'a str, &'a str, &'a str),
-    /// One word or more: their name, and what they are.
+    /// One or more words: their name, and their help.
     Words(&'a str, &'a str),
-    /// A word behind a flag: its name, the name of the flag, and what it is.
+    /// A word after a flag: its name, the name of the flag, and its help.
     Valued(&'a str, &'a str, &'a str),
 }
 
@@ -22,17 +22,17 @@ pub enum Argument<'a> {
 #[derive(Clone, Copy)]
 pub struct Form<'a> {
     pub name: &'a str,
-    /// What it does, in one line.
+    /// What the subcommand does, in one line.
     pub about: &'a str,
-    /// What is at the end of its help: what its output means, and an example.
+    /// The end of its help: what its output means, and an example.
     pub after_help: &'a str,
     pub arguments: &'a [Argument<'a>],
 }
 
-/// What the FILE of most subcommands is.
+/// The help of FILE, in most subcommands.
 const SCRIPT: &str = "The script: users, groups, and calls of processes";
 
-/// Where the calls end, for subcommands that look at a state in the midst of a script.
+/// The help of the flag that stops a run before a line.
 const AT: &str = "Stop before the call on this line";
 
 /// Returns `run [--tree] [--trace] [--explain] [--calls] FILE`.

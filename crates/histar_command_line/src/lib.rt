@@ -1,4 +1,4 @@
-//! The command line: what the program is asked to do, by the words that it is called with.
+//! The command line: reads the task of the program from the words that it is called with.
 //!
 //! `forms` has each subcommand with its arguments and its help. `clap` reads the words and writes the help.
 #![tactic(auto)]

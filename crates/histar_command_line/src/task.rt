@@ -1,4 +1,4 @@
-//! What the command line asks for.
+//! The task that the command line names.
 ghost use Rattle.std.specs.Prelude.{◌≡◌, IfOk, IfSome, map};
 ghost use Rattle.clap.specs.Words.{app_of, first_value, found_of, rows_of, subcommand_of, subcommand_rows_of};
 ghost use Rattle.histar_command_line.specs.Forms.{histar_app};
@@ -9,7 +9,7 @@ use clap::error::ErrorKind;
 use clap::{ArgMatches, Command, Error};
 use std::alloc::{AllocError, Global};
 
-/// What a run is asked for beside the replies.
+/// What a run prints besides the replies.
 #[derive(Clone, Copy)]
 pub struct RunFlags {
     pub tree: bool,
@@ -20,7 +20,7 @@ pub struct RunFlags {
     pub calls: bool,
 }
 
-/// What a comparison is asked for beside the verdict.
+/// What a comparison prints besides the verdict.
 #[derive(Clone, Copy)]
 pub struct CheckFlags {
     /// What each run prints where they differ.
@@ -34,19 +34,21 @@ pub struct CheckFlags {
 pub enum Task<'a> {
     /// Run the script in this file, and print what is asked for beside the replies.
     Run(&'a str, RunFlags),
-    /// Run the session of raw calls in this file, and explain why calls were denied, if that is asked for.
+    /// Run the raw session in this file, and explain why calls were denied, if that is asked for.
     Raw(&'a str, bool),
     /// Compare the script in a file with the one without a job: first the job, then the file.
     Check(&'a str, &'a str, CheckFlags),
-    /// Compare the script in this file with the one without each job that it starts.
+    /// Compare the script in this file with the ones without each of the jobs that it starts.
     CheckAll(&'a str, CheckFlags),
     /// Print who may do what after the script in this file, or before the line of this number.
     Access(&'a str, Option<&'a str>),
-    /// Print whose rights differ after an old script and a new one, or before the line of this number in both.
+    /// Print whose rights differ after an old script and a new one, or before the line of this number in
+    /// both.
     Diff(&'a str, &'a str, Option<&'a str>),
-    /// Print on whom it depends what is at a path after a script, or before the line of this number: first the path, then the file.
+    /// Print which processes have to be trusted with a path after a script, or before the line of this
+    /// number: first the path, then the file.
     Trust(&'a str, &'a str, Option<&'a str>),
-    /// Print why the script in this file is bad, where it is; or the session of raw calls, if it is one.
+    /// Print why the script in this file is bad, if it is; or the same of the raw session in it.
     Lint(&'a str, bool),
     /// Print the session of the script in this file as a page.
     Report(&'a str),
@@ -93,7 +95,7 @@ fn task_of<'a>(matches: &ArgMatches<'a>) -> Option<Task<'a>>
     state_task_of(matches)
 }
 
-/// Returns the task of the words and flags of `check`. With `--all` its one word is the file.
+/// Returns the task of `check` with these words and flags. With `--all` its one word is the file.
 fn check_task_of<'a>(check: &ArgMatches<'a>) -> Option<Task<'a>>
     ensures { IfSome result (λ task. IsCheckOf task (rows_of (found_of check.now))) }
 {
@@ -108,7 +110,7 @@ fn check_task_of<'a>(check: &ArgMatches<'a>) -> Option<Task<'a>>
     }
 }
 
-/// Returns the task of a subcommand that was matched which looks at a state.
+/// Returns the task of a matched subcommand that looks at a state.
 fn state_task_of<'a>(matches: &ArgMatches<'a>) -> Option<Task<'a>>
     ensures { IfSome result (λ task. IsTaskOf task (subcommand_rows_of matches.now)) }
 {
@@ -132,7 +134,7 @@ fn state_task_of<'a>(matches: &ArgMatches<'a>) -> Option<Task<'a>>
     text_task_of(matches)
 }
 
-/// Returns the task of a subcommand that was matched which looks at a script alone, or shows all of a session.
+/// Returns the task of a matched subcommand that checks a text, or shows the whole session of a script.
 fn text_task_of<'a>(matches: &ArgMatches<'a>) -> Option<Task<'a>>
     ensures { IfSome result (λ task. IsTaskOf task (subcommand_rows_of matches.now)) }
 {
@@ -160,7 +162,7 @@ fn test_task_of<'a>(alloc: Global, matches: &ArgMatches<'a>) -> Result<Option<Ta
     Ok(Some(Task::Test(files)))
 }
 
-/// Returns the task that was matched, and none where the words don't fit together.
+/// Returns the task that was matched, or `None` if the words don't fit together.
 fn matched_task<'a>(alloc: Global, matches: &ArgMatches<'a>) -> Result<Option<Task<'a>>, AllocError>
     ensures { IfOk result (λ found. IfSome found (λ task. IsTaskOf task (subcommand_rows_of matches.now))) }
 {
@@ -191,7 +193,7 @@ fn task_by<'a>(
 
 /// Returns the task that the words name, the program's own name first.
 ///
-/// An error is `clap`'s own: a wish for help or for the version, a refused command line, or want of
+/// An error is `clap`'s own: help or the version, if the words ask for it, a refused command line, or out of
 /// memory.
 pub fn read_words<'a>(alloc: Global, words: &'a [&'a str]) -> Result<Task<'a>, Error>
     ensures { IfOk result (λ task. IsTaskOf task (subcommand_of histar_app (map (λ word. word.now) words.entry.now))) }

@@ -1,4 +1,4 @@
--- Differences of tables as changes between flat states, and what it means that there is none.
+-- Differences of tables are changes between flat states, and what follows if there is none.
 use Rattle.std.specs.Prelude.{◌≡◌, ℕ, ◌+◌, ◌&&◌, Bool, true, false, is_some, cond, if◌then◌else◌, List, [], ◌∷◌, map, Option, None, Some, option_map}
 use Rattle.std.specs.Prelude.{refl}
 use Rattle.std.proofs.Common.{ap, sym, ◌∙◌, subst}
@@ -36,11 +36,11 @@ use Rattle.histar_diff.proofs.ShownTables.{pair_cmp_exact, pair_cmp_total, same_
 abbrev user_at : Option Placed → Option Name
 user_at o = option_map (λ (at : Placed). at.user) o
 
--- the user of a process
+-- the optional user of an optional process
 abbrev user_of : Option Process → Option Name
 user_of o = option_map (λ (p : Process). p.user) o
 
--- the user that is found beside a process is its own
+-- the user that a table has for a process is the process's own
 users_found : (p : ProcName) (i : ℕ) (ns : List Named) → user_at (find process_cmp p (by_process i (map runner ns))) ≡ user_of (find process_cmp p ns)
 users_found p i [] = refl
 users_found p i (n ∷ ns) = by (eq_by_cmp process_cmp p n.0) (users_found p (i + 1) ns)
@@ -51,7 +51,7 @@ users_found p i (n ∷ ns) = by (eq_by_cmp process_cmp p n.0) (users_found p (i 
     by true later = refl
     by false later = later
 
--- so a table has the users of the processes that run
+-- a table has the users of the running processes
 users_shown : (accounts : Accounts) (calls : List CallLine) (t : Table) → ShowsRights accounts (flat_end accounts (boot accounts) calls) t
     → (p : ProcName) → user_at (process_in t p) ≡ user_of (running (flat_end accounts (boot accounts) calls) p)
 users_shown accounts calls t shows p =
@@ -95,7 +95,7 @@ module _ (accounts : Accounts) (f : Flat) (later : Accounts) (g : Flat) (q : Pat
   unchanged x y None (Some d) a b m n false e none = absurd (none-some (change accounts f later g q p d.user) none)
   unchanged x y (Some c) (Some d) a b m n false e none = absurd (none-some (change accounts f later g q p d.user) none)
 
-  -- where nothing has changed the rights are the same
+  -- if nothing has changed, the rights are the same
   pub same_where_none : AreChanges accounts f later g [] → rights_of accounts f q p ≡ rights_of later g q p
   same_where_none none =
       unchanged _ _ (running f p) (running g p) (rights_of accounts f q p) (rights_of later g q p) refl refl
@@ -127,7 +127,7 @@ module _ (accounts : Accounts) (f : Flat) (later : Accounts) (g : Flat) (q : Pat
   a_change x y None (Some d) a b m n false e differ = refl
   a_change x y (Some c) (Some d) a b m n false e differ = refl
 
--- a pair is a change exactly where its rights differ
+-- a pair is a change exactly if its rights differ
 pub changes_are_listed : ChangesAreListed
 changes_are_listed accounts f later g cs are q p =
     let a = rights_of accounts f q p in
@@ -146,7 +146,7 @@ changes_are_one_list accounts f later g cs ds a b =
     (same_entries pair_cmp pair_cmp_total pair_cmp_exact (by_pair cs) (by_pair ds) a.rising b.rising (λ k. a.each k.0 k.1 ∙ sym (b.each k.0 k.1)))
     ∙ without_pairs ds
 
--- the rights after calls are what is answered
+-- the rights after calls are the answers to the four questions
 rights_answer : (accounts : Accounts) (calls : List CallLine) (me : ProcName) (q : Path) (node : Option Node) (process : Option Process)
     → get (flat_end accounts (boot accounts) calls).files q ≡ node → running (flat_end accounts (boot accounts) calls) me ≡ process
     → AnswersAre accounts calls me q (rights_if accounts (flat_end accounts (boot accounts) calls) q me node process) node process
@@ -155,14 +155,14 @@ rights_answer accounts calls me q None (Some p) at runs = refl
 rights_answer accounts calls me q (Some node) None at runs = refl
 rights_answer accounts calls me q (Some node) (Some p) at runs = λ number. letters_are_replies accounts calls me p runs q node at number
 
--- so are those at a path for a process, whether it runs and something stands there or not
+-- the rights at a path are the answers too, for any process and any path
 pub rights_answered : (accounts : Accounts) (calls : List CallLine) (me : ProcName) (q : Path)
     → IsAnsweredBy accounts calls me q (rights_of accounts (flat_end accounts (boot accounts) calls) q me)
 rights_answered accounts calls me q =
     let f = flat_end accounts (boot accounts) calls in
     rights_answer accounts calls me q (get f.files q) (running f me) refl refl
 
--- where nothing has changed nobody is answered otherwise
+-- if nothing has changed, no process has another answer
 pub nobody_is_answered_otherwise : NobodyIsAnsweredOtherwise
 nobody_is_answered_otherwise accounts later calls more none me q =
     let f = flat_end accounts (boot accounts) calls in

@@ -1,4 +1,4 @@
--- Two sorted lists joined are sorted, and what is found in them is what is found in each.
+-- Two sorted lists joined are sorted, and a key is found in the join as in both lists.
 use Rattle.std.specs.Prelude.{◌≡◌, Bool, true, false, cond, T, List, [], ◌∷◌, Option, None, Some, refl}
 use Rattle.std.proofs.Common.{ap, sym, ◌∙◌, subst}
 use Rattle.std.specs.declared.cmp.Ordering.{Ordering}
@@ -10,7 +10,7 @@ use Rattle.std.specs.FinMap.{IsAntisymmetric, find, is_sorted}
 use Rattle.histar_flat.proofs.Finding.{both, equal, find_below, first, less, second}
 use Rattle.histar_diff.specs.Joining.{Joined, OnlyOld, OnlyNew, InBoth, joined, joined_from}
 
--- what is found in a joined list, by what is found in each
+-- what is found in a joined list, given what is found in each list
 abbrev pub found : {A B : Type 0} → Option A → Option B → Option (Joined A B)
 found None None = None
 found None (Some b) = Some (OnlyNew b)
@@ -22,18 +22,18 @@ module _ {K : Type 0} (R : K → K → Ordering) (total : IsTotalOrder R) (exact
   abbrev IsBelow : {X : Type 0} → K → List (K × X) → Type 0
   IsBelow z es = T (below_all R z es)
 
-  -- less is a test for less
+  -- an order of less passes the test for less
   is_less : (z k : K) → R z k ≡ Less → T (is_lt (R z k))
   is_less z k e = subst (λ o. T (is_lt o)) (sym e) tt
 
-  -- what is less than a lesser key is less
+  -- a key less than a lesser key is less than all that is above
   below_less : {X : Type 0} (z k : K) (es : List (K × X)) → R z k ≡ Less → IsBelow k es → IsBelow z es
   below_less z k [] e h = tt
   below_less z k (d ∷ es) e h =
       both (is_lt (R z d.0)) _ (is_less z d.0 (total.trans z k d.0 e (less (R k d.0) (first (is_lt (R k d.0)) (below_all R k es) h))))
       (below_less z k es e (second (is_lt (R k d.0)) (below_all R k es) h))
 
-  -- the key in front of a sorted list is less than what is behind it
+  -- the key in front of a sorted list is less than all others
   pub behind : {X : Type 0} (e : K × X) (es : List (K × X)) → T (is_sorted R (e ∷ es)) → IsBelow e.0 es
   behind e es s = first (below_all R e.0 es) (is_sorted R es) s
 
@@ -43,7 +43,7 @@ module _ {K : Type 0} (R : K → K → Ordering) (total : IsTotalOrder R) (exact
   turned : (x y : K) → R x y ≡ Greater → R y x ≡ Less
   turned x y e = total.antisymm y x ∙ ap ordering_reverse e
 
-  -- a key is not found where what ties with it is less than all
+  -- a key is not found if one that ties with it is less than all
   missed : {X : Type 0} (q k : K) (es : List (K × X)) → eq_by_cmp R q k ≡ true → IsBelow k es → find R q es ≡ None
   missed q k es t h = find_below total exact q es (subst (λ z. IsBelow z es) (sym (exact q k (equal (R q k) t))) h)
 
@@ -65,7 +65,7 @@ module _ {K : Type 0} (R : K → K → Ordering) (total : IsTotalOrder R) (exact
         by Equal later = both (is_lt (R z x.0)) _ low (rest ys (second (is_lt (R z y.0)) (below_all R z ys) k))
         by Greater later = both (is_lt (R z y.0)) _ (first (is_lt (R z y.0)) (below_all R z ys) k) later
 
-    -- what is less than all of both is less than all joined
+    -- a key less than all of both lists is less than all of the join
     below_joined : (z : K) (xs : List (K × A)) (ys : List (K × B)) → IsBelow z xs → IsBelow z ys → IsBelow z (joined R xs ys)
     below_joined z [] ys h k = below_new z ys k
     below_joined z (x ∷ xs) ys h k =
@@ -114,7 +114,7 @@ module _ {K : Type 0} (R : K → K → Ordering) (total : IsTotalOrder R) (exact
         by false later = later
 
     module _ (q : K) (x : K × A) (xs : List (K × A)) (s : T (is_sorted R (x ∷ xs))) where
-      -- a key is found in both lists
+      -- a key is found in the join as in both lists
       abbrev FoundIn : List (K × B) → Type 0
       FoundIn ys = find R q (joined R xs ys) ≡ found (find R q xs) (find R q ys)
 
@@ -155,7 +155,7 @@ module _ {K : Type 0} (R : K → K → Ordering) (total : IsTotalOrder R) (exact
               found_last (eq_by_cmp R q y.0) y ys refl
               (both (is_lt (R y.0 x.0)) _ (is_less y.0 x.0 back) (below_less y.0 x.0 xs back (behind x xs s))) later
 
-    -- what is found in two sorted lists joined is what is found in each
+    -- a key is found in two sorted lists joined as in each
     pub find_joined : (q : K) (xs : List (K × A)) (ys : List (K × B)) → T (is_sorted R xs) → T (is_sorted R ys) → find R q (joined R xs ys)
         ≡ found (find R q xs) (find R q ys)
     find_joined q [] ys s t = find_new q ys

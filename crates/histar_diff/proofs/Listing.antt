@@ -1,4 +1,4 @@
--- The differences at each path are exactly the differences of two tables.
+-- The differences that are listed at each path are exactly the differences of two tables.
 use Rattle.std.specs.Prelude.{◌≡◌, ℕ, Bool, true, false, cond, T, List, [], ◌∷◌, ◌++◌, map, Option, None, Some, option_map, unwrap_or, refl}
 use Rattle.std.specs.Prelude.{if◌then◌else◌}
 use Rattle.std.specs.List.{cons_option, flat_map}
@@ -25,21 +25,21 @@ use Rattle.histar_diff.specs.Differences.{AreDifferences, Pair, by_pair, newer_u
 use Rattle.histar_diff.proofs.Steps.{process_cmp_exact, process_cmp_total}
 use Rattle.histar_diff.proofs.Joins.{behind, find_joined, found, rest_of, sorted_joined}
 
--- processes that are joined, and lines that are
+-- joined processes, and joined lines
 abbrev Processes : Type 0
 Processes = List (ProcName × Joined Placed Placed)
 
 abbrev Lines : Type 0
 Lines = List (Path × Joined (List Rights) (List Rights))
 
--- where the first things don't tie, both don't
+-- if the first things don't tie, the pairs don't
 apart : (o other : Ordering) → is_eq o ≡ false → is_eq (ordering_then o other) ≡ false
 apart Less other e = refl
 apart Equal other e = absurd cc
 apart Greater other e = refl
 
 module _ (q : Path) (a b : List Rights) where
-  -- the difference of a process at this path, and what it is where the rights differ
+  -- the difference of a process at this path, if the rights differ
   abbrev at : ProcName × Joined Placed Placed → Option Difference
   at e = column_difference q a b (column e)
 
@@ -56,7 +56,7 @@ module _ (q : Path) (a b : List Rights) where
   abbrev entries : Processes → List (Pair × Difference)
   entries js = by_pair (line js)
 
-  -- these, and one more where the rights differ
+  -- these entries, and one more if the rights differ
   abbrev more : Bool → ProcName × Joined Placed Placed → Processes → List (Pair × Difference)
   more same e js = by_pair (cons_option (if same then None else Some (there e)) (line js))
 
@@ -87,7 +87,7 @@ module _ (q : Path) (a b : List Rights) where
       by false later = both (below_all pair_cmp (q, e.0) (entries js ++ rest)) _
           (below_entries e.0 js (behind process_cmp process_cmp_total process_cmp_exact e js s) rest (h e.0)) later
 
-  -- what is less than the path is less than all entries
+  -- a path less than this one is less than all entries
   above_entries : (z : Path) (p : ProcName) → path_cmp z q ≡ Less → (js : Processes) (rest : List (Pair × Difference))
       → T (below_all pair_cmp (z, p) rest)
       → T (below_all pair_cmp (z, p) (entries js ++ rest))
@@ -98,7 +98,7 @@ module _ (q : Path) (a b : List Rights) where
       by true later = later
       by false later = both (is_lt (pair_cmp (z, p) (q, d.0))) _ (subst (λ o. T (is_lt (ordering_then o (process_cmp p d.0)))) (sym e) tt) later
 
-  -- another path is found behind
+  -- another path is found in the rest
   find_other : (z : Path) (p : ProcName) → eq_by_cmp path_cmp z q ≡ false → (js : Processes) (rest : List (Pair × Difference))
       → find pair_cmp (z, p) (entries js ++ rest) ≡ find pair_cmp (z, p) rest
   find_other z p e [] rest = refl
@@ -110,12 +110,12 @@ module _ (q : Path) (a b : List Rights) where
       by false later = ap (λ t. cond t (Some (there d)) (find pair_cmp (z, p) (entries js ++ rest))) (apart (path_cmp z q) (process_cmp p d.0) e)
           ∙ later
 
-  -- the difference of a process, where it is found
+  -- the difference of a process, if it is found
   abbrev at_found : ProcName → Option (Joined Placed Placed) → Option Difference
   at_found p None = None
   at_found p (Some j) = at (p, j)
 
-  -- this path is found by its processes
+  -- an entry of this path is found by its process
   find_entries : (p : ProcName) (js : Processes) → T (is_sorted process_cmp js) → (rest : List (Pair × Difference)) → find pair_cmp (q, p) rest ≡ None
       → find pair_cmp (q, p) (entries js ++ rest) ≡ at_found p (find process_cmp p js)
   find_entries p [] s rest none = none
@@ -123,7 +123,7 @@ module _ (q : Path) (a b : List Rights) where
       by (same_at e) refl (eq_by_cmp process_cmp p e.0) refl
       (find_entries p js (rest_of process_cmp process_cmp_total process_cmp_exact e js s) rest none)
     where
-      -- the process is this one
+      -- the process that ties is this one
       same_process : eq_by_cmp process_cmp p e.0 ≡ true → p ≡ e.0
       same_process t = process_cmp_exact p e.0 (equal (process_cmp p e.0) t)
 
@@ -147,12 +147,12 @@ module _ (q : Path) (a b : List Rights) where
           ∙ sym (ap (λ k. at (k, e.1)) (same_process t) ∙ it false m)
       by false m false t later = ap (λ b. cond b (Some (there e)) (find pair_cmp (q, p) (entries js ++ rest))) (first_test ∙ t) ∙ later
 
--- lists of differences one behind the other
+-- the entries of two lists of differences in a row are those of each
 by_pair_both : (xs ys : List Difference) → by_pair (xs ++ ys) ≡ by_pair xs ++ by_pair ys
 by_pair_both [] ys = refl
 by_pair_both (d ∷ xs) ys = ap (λ es. ((d.path, d.process), d) ∷ es) (by_pair_both xs ys)
 
--- the difference of a process at a path, where both are found
+-- the difference of a process at a path, if both are found
 abbrev reached : Path → ProcName → Option (Joined (List Rights) (List Rights)) → Option (Joined Placed Placed) → Option Difference
 reached q p None j = None
 reached q p (Some l) j = at_found q (unwrap_or (old_of l) []) (unwrap_or (new_of l) []) p j
@@ -211,13 +211,13 @@ module _ (js : Processes) (rising : T (is_sorted process_cmp js)) where
           ∙ ap (λ k. at_found k a b p (find process_cmp p js)) (sym here)
       by false t later = find_other l.0 (unwrap_or (old_of l.1) []) (unwrap_or (new_of l.1) []) q p t js (rows ls) ∙ later
 
--- where a table lacks a path, there are no rights
+-- a table without a path has no rights there
 no_line : (place : Option ℕ) → rights_at [] place ≡ no_rights
 no_line None = refl
 no_line (Some n) = refl
 
 module _ (q : Path) (p : ProcName) where
-  -- the difference by what is found of the path and of the process in each table
+  -- the difference, by the path and the process as found in each table
   abbrev expected : Option (List Rights) → Option (List Rights) → Option Placed → Option Placed → Option Difference
   expected a b c d =
       let before = rights_at (unwrap_or a []) (option_map (λ (at : Placed). at.place) c) in

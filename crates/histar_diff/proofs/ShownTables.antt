@@ -1,4 +1,4 @@
--- Tables that show the rights of a flat state: they are in order, and what is found in them are the rights of the state.
+-- Tables that show the rights of a flat state are in order, and a lookup in them gives the rights of the state.
 use Rattle.std.specs.Prelude.{◌≡◌, ℕ, ◌+◌, ◌&&◌, Bool, true, false, cond, if◌then◌else◌, T, List, [], ◌∷◌, ◌++◌, length, map, Option, None, Some}
 use Rattle.std.specs.Prelude.{option_map, unwrap_or, refl}
 use Rattle.std.proofs.Common.{ap, sym, ◌∙◌, subst, append_assoc}
@@ -57,7 +57,7 @@ abbrev place_of : Option Placed → Option ℕ
 place_of o = option_map (λ (at : Placed). at.place) o
 
 module _ (F : Named → Rights) (p : ProcName) where
-  -- the rights of the process, where it is found
+  -- the rights of the process, if it is found
   abbrev of_found : Option Process → Rights
   of_found None = no_rights
   of_found (Some process) = F (p, process)
@@ -84,7 +84,7 @@ module _ (F : Named → Rights) (p : ProcName) where
 -- ---- paths
 
 module _ (accounts : Accounts) (f : Flat) (ns : List Named) where
-  -- the rights of processes at a path where this stands
+  -- the rights of processes at a path with this node
   abbrev rights_there : Path → Node → List Rights
   rights_there q node = map (λ (n : Named). rights_by_calls accounts f n.0 n.1 q node) ns
 
@@ -112,7 +112,7 @@ module _ (accounts : Accounts) (f : Flat) (ns : List Named) where
       both (below_all path_cmp e.0 (map there es)) _ (below_there e.0 es (first (below_all path_cmp e.0 es) (is_sorted path_cmp es) h))
       (there_rise es (second (below_all path_cmp e.0 es) (is_sorted path_cmp es) h))
 
-  -- what is found at a path are the rights there
+  -- the rights found at a path are the rights there
   find_there : (q : Path) (es : List (Path × Node)) → find path_cmp q (map there es) ≡ option_map (rights_there q) (find path_cmp q es)
   find_there q [] = refl
   find_there q (e ∷ es) = by (eq_by_cmp path_cmp q e.0) refl (find_there q es)
@@ -148,7 +148,7 @@ module _ (accounts : Accounts) (f : Flat) (q : Path) (p : ProcName) where
   if_there place ns (Some x) None h = h x
   if_there place ns (Some x) (Some process) h = h x
 
--- the rights in such a table are those of the state
+-- the rights in such a table are those of the flat state
 pub tables_show_rights : TablesShowRights
 tables_show_rights accounts calls t shows q p =
     let f = flat_end accounts (boot accounts) calls in
@@ -166,7 +166,7 @@ tables_show_rights accounts calls t shows q p =
 pub pair_cmp_total : IsTotalOrder pair_cmp
 pair_cmp_total = then_total (by_image (λ (k : Pair). k.0) path_cmp path_cmp_total) (by_image (λ (k : Pair). k.1) process_cmp process_cmp_total)
 
--- two pairs tie only where they are equal
+-- two pairs tie only if they are equal
 pub pair_cmp_exact : IsAntisymmetric pair_cmp
 pair_cmp_exact a b e = by (path_cmp a.0 b.0) refl e
   where
@@ -187,7 +187,7 @@ differences_are_one_list old new ds es a b =
     (same_entries pair_cmp pair_cmp_total pair_cmp_exact (by_pair ds) (by_pair es) a.rising b.rising (λ k. a.each k.0 k.1 ∙ sym (b.each k.0 k.1)))
     ∙ without_pairs es
 
--- equal tests are of equal things
+-- bits that are found equal are equal
 same_bit : (a b : Bool) → beq a b ≡ true → a ≡ b
 same_bit true true e = refl
 same_bit true false e = absurd cc
@@ -217,13 +217,13 @@ unlisted old new q p (Some c) None a b m n false e none = absurd (none-some (dif
 unlisted old new q p None (Some d) a b m n false e none = absurd (none-some (difference old new q p d.user) none)
 unlisted old new q p (Some c) (Some d) a b m n false e none = absurd (none-some (difference old new q p d.user) none)
 
--- where no difference is listed, each process has the same rights at each path in both tables
+-- if no difference is listed, each process has the same rights at each path in both tables
 pub none_is_the_same : NoneIsTheSame
 none_is_the_same old new none q p =
     unlisted old new q p (process_in old p) (process_in new p) (rights_in old q p) (rights_in new q p) refl refl
     (same_rights (rights_in old q p) (rights_in new q p)) refl (none.each q p)
 
--- where no difference is listed, nobody's rights have changed
+-- if no difference is listed, no process's rights have changed
 pub nothing_has_changed : NothingHasChanged
 nothing_has_changed accounts later calls more old new a b none q p =
     sym (tables_show_rights accounts calls old a q p) ∙ none_is_the_same old new none q p ∙ tables_show_rights later more new b q p

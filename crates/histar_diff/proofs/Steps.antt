@@ -1,4 +1,4 @@
--- One step through two lists of entries that are joined.
+-- One step of joining two lists of entries.
 use Rattle.std.specs.Prelude.{◌≡◌, ℕ, suc, ◌+◌, ◌-◌, ◌<◌, ◌≤◌, cond, List, [], ◌∷◌, ◌++◌, length, map, Option, None, Some, unwrap_or, refl}
 use Rattle.std.specs.List.{flat_map}
 use Rattle.std.proofs.Common.{arith, ap, sym, ◌∙◌, subst}
@@ -22,7 +22,7 @@ use Rattle.histar_diff.specs.Tables.{Placed, by_path, by_process}
 use Rattle.histar_diff.specs.Columns.{column, columns_from, leading, past_process, place_at}
 use Rattle.histar_diff.specs.Lines.{joined_differences, line_differences, lines_differences}
 
--- things are ordered as what a function makes of them
+-- an order of the images under a function is an order
 pub by_image : {A B : Type 0} (h : A → B) (R : B → B → Ordering) → IsTotalOrder R → IsTotalOrder (λ x y. R (h x) (h y))
 by_image h R o = record
     { antisymm = λ x y. o.antisymm (h x) (h y); trans = λ x y z. o.trans (h x) (h y) (h z); congr = λ x y z. o.congr (h x) (h y) (h z) }
@@ -31,13 +31,13 @@ by_image h R o = record
 pub process_cmp_total : IsTotalOrder process_cmp
 process_cmp_total = by_image from_root (slice_cmp nat_cmp) (lists_total nat_cmp_total)
 
--- two names tie only where they are equal
+-- two names tie only if they are equal
 pub process_cmp_exact : IsAntisymmetric process_cmp
 process_cmp_exact a b e = sym (from_root_twice a) ∙ ap from_root (slice_cmp-IsAntisymmetric nat_cmp-IsAntisymmetric (from_root a) (from_root b) e)
     ∙ from_root_twice b
 
 module _ {K A B : Type 0} (R : K → K → Ordering) (total : IsTotalOrder R) where
-  -- two lists joined begin with their least key, and what stands there in each
+  -- two lists joined begin with their least key, and the values of both at this key
   pub record IsStep (k : K) (xs : List (K × A)) (ys : List (K × B)) : Type 0 where
     pub value : Joined A B
     pub is : joined R xs ys ≡ (k, value) ∷ joined R (past_key R k xs) (past_key R k ys)
@@ -127,7 +127,7 @@ module _ {K A B : Type 0} (R : K → K → Ordering) (total : IsTotalOrder R) wh
   step k (x ∷ xs) (y ∷ ys) e = subst (λ k. IsStep k (x ∷ xs) (y ∷ ys)) (same_Some (by_order (R x.0 y.0) x.0 x.0 y.0) k e)
       (of_both x xs y ys (R x.0 y.0) refl)
 
-  -- where no key is the least, nothing is joined
+  -- if there is no least key, the join is empty
   pub joined_nothing : (xs : List (K × A)) (ys : List (K × B)) → lower R xs ys ≡ None → joined R xs ys ≡ []
   joined_nothing [] [] e = refl
   joined_nothing [] (y ∷ ys) e = absurd (none-some y.0 (sym e))
@@ -136,7 +136,7 @@ module _ {K A B : Type 0} (R : K → K → Ordering) (total : IsTotalOrder R) wh
 
 -- ---- lines
 
--- the differences of two lists of lines are those at their first path, and then those of the lines behind it
+-- the differences of two lists of lines are those at their first path, and then those of the lines after it
 pub lines_step : (columns : List Column) (q : Path) (old new old_rest new_rest : List TableLine) → lower path_cmp (by_path old) (by_path new) ≡ Some q
     → by_path old_rest ≡ past_key path_cmp q (by_path old) → by_path new_rest ≡ past_key path_cmp q (by_path new)
     → lines_differences columns old new
@@ -148,7 +148,7 @@ lines_step columns q old new old_rest new_rest e o n =
     ∙ (λ i. line_differences columns q (unwrap_or (s.old i) []) (unwrap_or (s.new i) []) ++ flat_map (joined_differences columns)
     (joined path_cmp (sym o i) (sym n i)))
 
--- nothing is left where no path is the first
+-- if there is no first path, there are no differences
 pub lines_end : (columns : List Column) (old new : List TableLine) → lower path_cmp (by_path old) (by_path new) ≡ None
     → lines_differences columns old new ≡ []
 lines_end columns old new e = ap (flat_map (joined_differences columns)) (joined_nothing path_cmp path_cmp_total (by_path old) (by_path new) e)
@@ -157,7 +157,7 @@ as_many : (lines : List TableLine) → length (by_path lines) ≡ length lines
 as_many [] = refl
 as_many (l ∷ lines) = ap suc (as_many lines)
 
--- there are fewer lines behind the first path
+-- there are fewer lines after the first path
 pub fewer_lines : (q : Path) (old new old_rest new_rest : List TableLine) → lower path_cmp (by_path old) (by_path new) ≡ Some q
     → by_path old_rest ≡ past_key path_cmp q (by_path old) → by_path new_rest ≡ past_key path_cmp q (by_path new)
     → length old_rest + length new_rest < length old + length new
@@ -170,11 +170,11 @@ fewer_lines q old new old_rest new_rest e o n =
 
 -- ---- processes
 
--- a column of this process
+-- the column of this process
 abbrev pub column_of : Runner → Option ℕ → Option ℕ → Column
 column_of r before after = record { process = r.process; user = r.user; before = before; after = after }
 
--- the columns of two lists are that of their first process, and then those of the processes behind it
+-- the columns of two lists are that of their first process, and then those of the processes after it
 pub record IsColumnStep (r : Runner) (n m : ℕ) (xs ys : List Runner) : Type 0 where
   pub is : columns_from (n - length xs) xs (m - length ys) ys
       ≡ column_of r (place_at (n - length xs) r.process xs) (place_at (m - length ys) r.process ys)
@@ -184,19 +184,19 @@ pub record IsColumnStep (r : Runner) (n m : ℕ) (xs ys : List Runner) : Type 0 
   pub new_shorter : length (past_process r.process ys) ≤ length ys
   pub shorter : length (past_process r.process xs) + length (past_process r.process ys) < length xs + length ys
 
--- the place of the process that a list begins with
+-- the place of a list's first process
 placed : (i : ℕ) (r : Runner) (rs : List Runner) → place_at i r.process (r ∷ rs) ≡ Some i
 placed i r rs = λ j. cond (is_eq (tied_itself process_cmp_total r.process j)) (Some i) None
 
--- what is behind it
+-- the list after its first process
 passed : (r : Runner) (rs : List Runner) → past_process r.process (r ∷ rs) ≡ rs
 passed r rs = λ j. cond (is_eq (tied_itself process_cmp_total r.process j)) rs (r ∷ rs)
 
--- the place behind one within a list
+-- the place after one within a list
 next_place : (n m : ℕ) → suc m ≤ n → (n - suc m) + 1 ≡ n - m
 next_place n m h = omega arith
 
--- the columns behind these lists, by their lengths
+-- the columns after these lists, by their lengths
 abbrev columns_at : ℕ → ℕ → List Runner → List Runner → List Column
 columns_at n m xs ys = columns_from (n - length xs) xs (m - length ys) ys
 
@@ -240,7 +240,7 @@ module _ (n m : ℕ) (x : Runner) (xs : List Runner) (y : Runner) (ys : List Run
   abbrev right : List (ProcName × Joined Placed Placed)
   right = (y.process, OnlyNew (record { place = j0; user = y.user })) ∷ joined process_cmp (by_process i0 (x ∷ xs)) (by_process (j0 + 1) ys)
 
-  -- the columns, once the order of the first two processes is known
+  -- the columns, given the order of the first two processes
   ordered : (o : Ordering) → process_cmp x.process y.process ≡ o → columns_at n m (x ∷ xs) (y ∷ ys)
       ≡ by_order o (column_of x (Some i0) None ∷ columns_from (i0 + 1) xs j0 (y ∷ ys))
       (column_of y (Some i0) (Some j0) ∷ columns_from (i0 + 1) xs (j0 + 1) ys)
@@ -307,7 +307,7 @@ columns_step n m r (x ∷ xs) (y ∷ ys) e h k =
     subst (λ r. IsColumnStep r n m (x ∷ xs) (y ∷ ys)) (same_Some (by_order (process_cmp x.process y.process) x y y) r e)
     (both_columns n m x xs y ys h k (process_cmp x.process y.process) refl)
 
--- nothing is left where no process is the first
+-- if there is no first process, there are no columns
 pub columns_end : (i j : ℕ) (xs ys : List Runner) → leading xs ys ≡ None → columns_from i xs j ys ≡ []
 columns_end i j [] [] e = refl
 columns_end i j [] (y ∷ ys) e = absurd (none-some y (sym e))

@@ -9,7 +9,7 @@ use Rattle.histar_diff.specs.declared.columns.Column.{Column}
 use Rattle.histar_diff.specs.Joining.{Joined, OnlyOld, OnlyNew, InBoth, old_of, new_of, joined}
 use Rattle.histar_diff.specs.Tables.{Placed, by_process}
 
--- the user in the new table, or in the old one where the new one lacks the process
+-- the user in the new table, or in the old one if the new one lacks the process
 abbrev pub user_of : Joined Placed Placed → Name
 user_of (OnlyOld a) = a.user
 user_of (OnlyNew b) = b.user
@@ -24,7 +24,7 @@ column e = record {
   after = option_map (λ (at : Placed). at.place) (new_of e.1);
 }
 
--- the processes of two lists from these places on
+-- the columns of the processes of two lists, from these places on
 abbrev pub columns_from : ℕ → List Runner → ℕ → List Runner → List Column
 columns_from i old j new = map column (joined process_cmp (by_process i old) (by_process j new))
 
@@ -35,12 +35,12 @@ leading [] (y ∷ ys) = Some y
 leading (x ∷ xs) [] = Some x
 leading (x ∷ xs) (y ∷ ys) = Some (by_order (process_cmp x.process y.process) x y y)
 
--- the place of a process, if the list begins with it
+-- this place, if the list begins with the process
 abbrev pub place_at : ℕ → ProcName → List Runner → Option ℕ
 place_at i p [] = None
 place_at i p (r ∷ rs) = if eq_by_cmp process_cmp p r.process then Some i else None
 
--- the list behind a process, if it begins with it
+-- the list after a process, if it begins with it
 abbrev pub past_process : ProcName → List Runner → List Runner
 past_process p [] = []
 past_process p (r ∷ rs) = if eq_by_cmp process_cmp p r.process then rs else r ∷ rs

@@ -19,29 +19,29 @@ Pair = Path × ProcName
 abbrev pub pair_cmp : Pair → Pair → Ordering
 pair_cmp a b = ordering_then (path_cmp a.0 b.0) (process_cmp a.1 b.1)
 
--- the user of the new place, or of the old one where there is no new one
+-- the user of the new place, or of the old one if there is no new one
 abbrev pub newer_user : Option Placed → Option Placed → Option Name
 newer_user old (Some at) = Some at.user
 newer_user old None = option_map (λ (at : Placed). at.user) old
 
--- the user of a process in the new table, or in the old one where the new one lacks it
+-- the user of a process in the new table, or in the old one if the new one lacks it
 abbrev pub user_in : Table → Table → ProcName → Option Name
 user_in old new p = newer_user (process_in old p) (process_in new p)
 
--- the rights of a process of this user at a path, in two tables
+-- the difference of the rights of a process of this user at a path, in two tables
 abbrev pub difference : Table → Table → Path → ProcName → Name → Difference
 difference old new q p user = record { path = q; process = p; user = user; before = rights_in old q p; after = rights_in new q p }
 
--- the rights of a process at a path in two tables, where they differ
+-- the difference of the rights of a process at a path in two tables, if they differ
 abbrev pub difference_in : Table → Table → Path → ProcName → Option Difference
 difference_in old new q p = if same_rights (rights_in old q p) (rights_in new q p) then None else option_map (difference old new q p)
     (user_in old new p)
 
--- differences by their paths and processes
+-- differences with their paths and processes as keys
 abbrev pub by_pair : List Difference → List (Pair × Difference)
 by_pair ds = map (λ d. ((d.path, d.process), d)) ds
 
--- These are exactly the differences of two tables: their pairs rise, so that none stands twice, and each pair is found where its rights
+-- These are exactly the differences of two tables: their pairs rise, each at most once, and each pair is found exactly if its rights
 -- differ, with its user and with its rights in both tables.
 pub record AreDifferences (old new : Table) (ds : List Difference) : Type 0 where
   pub rising : T (is_sorted pair_cmp (by_pair ds))

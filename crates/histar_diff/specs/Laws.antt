@@ -1,4 +1,4 @@
--- What differences come to.
+-- What differences mean.
 use Rattle.std.specs.Prelude.{◌≡◌, ◌≢◌, ◌↔◌, true, is_some, List, []}
 use Rattle.std.specs.FinMap.{find}
 use Rattle.histar_flat.specs.declared.calls.CallLine.{CallLine}
@@ -13,13 +13,13 @@ use Rattle.histar_diff.specs.Shown.{ShowsRights, rights_of}
 use Rattle.histar_diff.specs.Changes.{AreChanges, IsAnsweredAlike}
 use Rattle.histar_diff.specs.Tables.{IsTable, rights_in}
 
--- a pair of a path and a process is listed exactly where its rights differ
+-- a pair of a path and a process is listed exactly if its rights differ
 abbrev pub DifferencesAreListed : Type 0
 DifferencesAreListed =
     (old new : Table) (ds : List Difference) → AreDifferences old new ds
     → (q : Path) (p : ProcName) → (is_some (find pair_cmp (q, p) (by_pair ds)) ≡ true) ↔ (rights_in old q p ≢ rights_in new q p)
 
--- where no difference is listed, each process has the same rights at each path in both tables
+-- if no difference is listed, each process has the same rights at each path in both tables
 abbrev pub NoneIsTheSame : Type 0
 NoneIsTheSame = (old new : Table) → AreDifferences old new [] → (q : Path) (p : ProcName) → rights_in old q p ≡ rights_in new q p
 
@@ -39,7 +39,7 @@ TablesShowRights =
     (accounts : Accounts) (calls : List CallLine) (t : Table) → ShowsRights accounts (flat_end accounts (boot accounts) calls) t
     → (q : Path) (p : ProcName) → rights_in t q p ≡ rights_of accounts (flat_end accounts (boot accounts) calls) q p
 
--- where no difference is listed of two tables that show the rights after the calls of scripts, nobody's rights have changed
+-- if no difference is listed of two tables that show the rights after the calls of scripts, no process's rights have changed
 abbrev pub NothingHasChanged : Type 0
 NothingHasChanged =
     (accounts later : Accounts) (calls more : List CallLine) (old new : Table)
@@ -56,7 +56,7 @@ DifferencesAreChanges =
     → AreDifferences old new ds
     → AreChanges accounts (flat_end accounts (boot accounts) calls) later (flat_end later (boot later) more) ds
 
--- a pair of a path and a process has changed exactly where its rights differ
+-- a pair of a path and a process is a change exactly if its rights differ
 abbrev pub ChangesAreListed : Type 0
 ChangesAreListed =
     (accounts : Accounts) (f : Flat) (later : Accounts) (g : Flat) (cs : List Difference) → AreChanges accounts f later g cs
@@ -68,7 +68,7 @@ ChangesAreOneList =
     (accounts : Accounts) (f : Flat) (later : Accounts) (g : Flat) (cs ds : List Difference)
     → AreChanges accounts f later g cs → AreChanges accounts f later g ds → cs ≡ ds
 
--- where nothing has changed after the calls of two scripts, each process is answered alike at each path
+-- if nothing has changed after the calls of two scripts, each process has the same answers at each path
 abbrev pub NobodyIsAnsweredOtherwise : Type 0
 NobodyIsAnsweredOtherwise =
     (accounts later : Accounts) (calls more : List CallLine)

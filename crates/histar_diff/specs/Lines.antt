@@ -11,11 +11,11 @@ use Rattle.histar_diff.specs.declared.differences.Difference.{Difference}
 use Rattle.histar_diff.specs.Joining.{Joined, joined, new_of, old_of}
 use Rattle.histar_diff.specs.Tables.{by_path, rights_at}
 
--- the same rights
+-- two rights are the same
 abbrev pub same_rights : Rights → Rights → Bool
 same_rights a b = beq a.stat b.stat && beq a.read b.read && beq a.write b.write && beq a.remove b.remove
 
--- the difference of the rights of a process at a path, where they differ
+-- the difference of the rights of a process at a path, if they differ
 abbrev pub column_difference : Path → List Rights → List Rights → Column → Option Difference
 column_difference q old new c =
     let before = rights_at old c.before in

@@ -22,12 +22,12 @@ runner c = record { process = c.0; user = c.1.user }
 abbrev pub rights_line : AccessLine → Path × List Rights
 rights_line l = (l.path, map (λ (c : Cell). c.rights) l.cells)
 
--- the table has the processes that run and their users, and the paths and rights that are printed of the state
+-- the table has the running processes with their users, and the paths and rights that `access` prints of the state
 pub record ShowsRights (accounts : Accounts) (f : Flat) (t : Table) : Type 0 where
   pub processes : t.processes.items ≡ map runner (running_in f)
   pub lines : by_path t.lines.items ≡ map rights_line (access_table accounts f)
 
--- the rights of a process, if it runs, at a path, if something stands there; else none
+-- the rights of a process, if it runs, at a path, if it has a node; else none
 abbrev pub rights_if : Accounts → Flat → Path → ProcName → Option Node → Option Process → Rights
 rights_if accounts f q p (Some node) (Some process) = rights_at accounts f p process q node
 rights_if accounts f q p _ _ = no_rights

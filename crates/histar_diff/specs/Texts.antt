@@ -1,4 +1,4 @@
--- How differences are written.
+-- The text of a difference.
 use Rattle.std.specs.Prelude.{ℕ, List, ◌++◌, codes}
 use Rattle.std.specs.List.{flat_map}
 use Rattle.histar_flat.specs.Texts.{path_text, process_text}
@@ -6,7 +6,7 @@ use Rattle.histar_rights.specs.declared.rights.Rights.{Rights}
 use Rattle.histar_rights.specs.Rights.{rights_text}
 use Rattle.histar_diff.specs.declared.differences.Difference.{Difference}
 
--- the rights before and after, each behind a space, and a line end
+-- the rights before and after, each after a space, and a line end
 abbrev pub change_text : Rights → Rights → List ℕ
 change_text before after = codes " " ++ rights_text before ++ codes " " ++ rights_text after ++ codes "\n"
 

@@ -1,4 +1,4 @@
-//! The processes of two tables.
+//! The processes of two tables, side by side.
 ghost use Rattle.std.specs.Prelude.{◌≡◌, ◌-◌, ◌≤◌, IfOk, length};
 ghost use Rattle.histar_rights.specs.Running.{process_cmp};
 ghost use Rattle.histar_diff.specs.Columns.{columns_from, leading as leading_process, past_process, place_at};
@@ -47,7 +47,7 @@ fn compare(a: &ProcName, b: &ProcName) -> Ordering
     a.numbers().iter().rev().cmp(b.numbers().iter().rev())
 }
 
-/// Returns the process that comes first in two lists, as the new one has it.
+/// Returns the process that comes first in two lists, with the new list's user if both have it.
 fn leading(old: &[Runner], new: &[Runner]) -> Option<Runner>
     ensures { result ≡ leading_process old.now new.now }
 {
@@ -65,7 +65,7 @@ fn leading(old: &[Runner], new: &[Runner]) -> Option<Runner>
     }
 }
 
-/// Returns the place of a process, if the list begins with it.
+/// Returns this place if the list begins with the process, and else `None`.
 fn place(place: usize, rest: &[Runner], process: &ProcName) -> Option<usize>
     ensures { result ≡ place_at place process.now rest.now }
 {
@@ -75,7 +75,7 @@ fn place(place: usize, rest: &[Runner], process: &ProcName) -> Option<usize>
     }
 }
 
-/// Returns the list behind a process, if it begins with it.
+/// Returns the list after a process, if the list begins with it, and else the same list.
 fn after<'a>(rest: &'a [Runner], process: &ProcName) -> &'a [Runner]
     ensures { result.now ≡ past_process process.now rest.now }
 {

@@ -16,7 +16,7 @@ use std::alloc::{AllocError, Global};
 pub struct Difference {
     pub path: Path,
     pub process: ProcName,
-    /// Its user in the new table, or in the old one where the new one lacks the process.
+    /// Its user in the new table, or in the old one if the new one lacks the process.
     pub user: Name,
     /// Its rights in the old table.
     pub before: Rights,
@@ -84,7 +84,7 @@ fn push_differences(
     Ok(())
 }
 
-/// Returns the difference of the rights of a process at a path, where they differ.
+/// Returns the difference of the rights of a process at a path, if they differ.
 fn column_difference(
     path: Path,
     before: &[Rights],
@@ -107,7 +107,7 @@ fn column_difference(
     })
 }
 
-/// Returns the rights at a place of these, and none where there is no place.
+/// Returns the rights at this place of the list, and none without a place.
 fn rights_at_place(rights: &[Rights], place: Option<usize>) -> Rights
     ensures { result ≡ rights_at_place rights.now place }
 {
@@ -144,7 +144,7 @@ mod tests {
         })
     }
 
-    /// In the new table bob is gone, who read the notes, and a process of carol reads a letter.
+    /// Tests a new table in which bob, who read the notes, is gone, and a process of carol reads a letter.
     #[test]
     fn lists_what_changed(rt: HostRuntime) -> Result<(), Fail> {
         let alloc = rt.alloc();

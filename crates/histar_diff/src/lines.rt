@@ -1,4 +1,4 @@
-//! The lines of tables.
+//! The lines of two tables, side by side.
 ghost use Rattle.std.specs.Prelude.{◌≡◌, [], unwrap_or};
 ghost use Rattle.histar_flat.specs.PathOrder.{path_cmp};
 ghost use Rattle.histar_diff.specs.Joining.{at_key, lower, past_key};
@@ -27,7 +27,7 @@ pub(crate) fn lower_path(old: &[TableLine], new: &[TableLine]) -> Option<Path>
     }
 }
 
-/// Returns the rights at a path, if the lines begin with it, and else none.
+/// Returns the rights at a path, if the lines begin with that path, and else no rights.
 pub(crate) fn rights_at<'a>(rest: &'a [TableLine], path: &Path) -> &'a [Rights]
     ensures { result.now ≡ unwrap_or (at_key path_cmp path.now (by_path rest.now)) [] }
 {
@@ -37,7 +37,7 @@ pub(crate) fn rights_at<'a>(rest: &'a [TableLine], path: &Path) -> &'a [Rights]
     }
 }
 
-/// Returns the lines behind a path, if they begin with it.
+/// Returns the lines after a path, if they begin with it, and else the same lines.
 pub(crate) fn after<'a>(rest: &'a [TableLine], path: &Path) -> &'a [TableLine]
     ensures { by_path result.now ≡ past_key path_cmp path.now (by_path rest.now) }
 {

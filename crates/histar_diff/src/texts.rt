@@ -23,7 +23,7 @@ pub fn push_difference(line: &mut Vec<u8>, difference: &Difference) -> Result<()
     push_change(line, difference.before, difference.after)
 }
 
-/// Adds the rights in the old and in the new table, each behind a space, and a line end.
+/// Adds the rights in the old and in the new table, each after a space, and a line end.
 fn push_change(line: &mut Vec<u8>, before: Rights, after: Rights) -> Result<(), AllocError>
     ensures { OnOk result (line.new.items ≡ line.old.items ++ change_text before after) }
 {
@@ -55,7 +55,7 @@ fn push_process(line: &mut Vec<u8>, process: &ProcName) -> Result<(), AllocError
     Ok(())
 }
 
-/// Adds the names of a path, of which the last stands first, each after a slash.
+/// Adds the names of a path, of which the last comes first, each after a slash.
 fn push_names(line: &mut Vec<u8>, names: &[Name]) -> Result<(), AllocError>
     ensures { OnOk result (line.new.items ≡ line.old.items ++ names_text names.now) }
 {

@@ -1,4 +1,4 @@
--- States that show the same at each path, whatever bytes their files hold, look alike to who may not read what differs.
+-- States that agree at each path but for the bytes of files look alike to a process that may not read those bytes.
 use Rattle.std.specs.Prelude.{◌≡◌, true, not, ◌∷◌, [], option_map, refl}
 use Rattle.histar_base.specs.Refusals.{◌orelse◌, unless}
 use Rattle.histar_flat.specs.declared.replies.Errno.TheVariants.{ENOENT, ENOTDIR, EISDIR, EACCES}
@@ -13,7 +13,7 @@ use Rattle.histar_flat.proofs.CommonNeeds.{no_file}
 use Rattle.histar_flat.proofs.Entries.{shown, same_entries_shown}
 use Rattle.histar_flat.proofs.LooksAlike.{LooksAlike, found_alike, test_alike}
 
--- two states that show the same at each path, whatever bytes their files hold
+-- two states agree at each path, but for the bytes of files
 abbrev pub ShowAlike : Flat → Flat → Type 0
 ShowAlike f g = (r : Path) → option_map shown (get f.files r) ≡ option_map shown (get g.files r)
 
@@ -40,7 +40,7 @@ module _ (accounts : Accounts) (f g : Flat) (alike : ShowAlike f g) (p : Process
       unless (is_below_root r) EISDIR orelse walk_alike r i orelse unless (there_alike r i) ENOENT
       orelse unless (test_alike (λ s. not s.1) (get f.files r) (get g.files r) (alike r) i) EISDIR
 
-  -- They look alike, where bytes that the process may read are the same.
+  -- Two such states look alike, if bytes that the process may read are the same.
   pub looks_alike : f.processes ≡ g.processes → ((r : Path) → reads accounts f p r ≡ true → bytes_at f r ≡ bytes_at g r)
       → (q : Path) → LooksAlike true accounts f g p q
   looks_alike processes same_bytes q = record {

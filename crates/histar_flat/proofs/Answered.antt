@@ -1,4 +1,4 @@
--- What a reply says that is neither a refusal nor `gone`.
+-- What follows from a reply that is neither a refusal nor `gone`.
 use Rattle.std.specs.Prelude.{◌≡◌, ◌≢◌, Option, Some, None, refl}
 use Rattle.std.proofs.Common.{ap, ◌∙◌}
 use Rattle.histar_flat.specs.declared.calls.UnixCall.{UnixCall}
@@ -29,11 +29,11 @@ module _ (accounts : Accounts) (f : Flat) (me : ProcName) (call : UnixCall) (rep
   by_process None runs said = absurd (not_gone said)
   by_process (Some p) runs said = by_refusal p runs (refused accounts f me p call) refl said
 
-  -- so it is where the reply is neither
+  -- a call has an answer if the reply is neither
   pub is_answered : reply_to accounts f me call ≡ reply → IsAnswered accounts f me call reply
   is_answered said = by_process (running f me) refl said
 
--- and then the state after the call is the changed one
+-- the state after such a call is the changed one
 pub changed_after : (accounts : Accounts) (f : Flat) (me : ProcName) (call : UnixCall) (reply : Reply)
     (is : IsAnswered accounts f me call reply) → flat_after accounts f me call ≡ changed accounts f me is.process call
 changed_after accounts f me call reply is =

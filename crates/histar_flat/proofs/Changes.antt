@@ -1,4 +1,4 @@
--- What a call does to the state: each call is nothing or one of nine changes, with what its tests say.
+-- What a call does to the state: each call does nothing or makes one of nine changes, with the facts that its tests establish.
 use Rattle.std.specs.Prelude.{◌≡◌, ◌≢◌, ℕ, Bool, true, false, not, if◌then◌else◌, ◌&&◌, List, [], ◌∷◌, length, nat_lt, Option, Some, None, is_some}
 use Rattle.std.specs.Prelude.{refl}
 use Rattle.std.proofs.Common.{ap, sym, ◌∙◌, subst, inl, inr}
@@ -28,7 +28,7 @@ use Rattle.histar_flat.proofs.Warrants.{nothing_there, warranted}
 use Rattle.histar_flat.proofs.FileLemmas.{same_name_found}
 use Rattle.histar_flat.proofs.Refusals.{one_passes, two_pass, three_pass}
 
--- only a process of a job makes what is of the job
+-- only a process in a job makes what is of the job
 made_in_job : (accounts : Accounts) (p : Process) (mode : Mode) (job : ProcName)
     → carries job (class_or_open (class_made accounts p mode)) ≡ true → has p.chain job ≡ true
 made_in_job accounts p mode job h = by p.chain h
@@ -76,11 +76,11 @@ rename_tests accounts f me p n k d h =
       tests.2,
     )
 
--- where nothing stands is another name
+-- a path with nothing has another name
 pub another_name : (f : Flat) (n k : Name) (d : Path) → is_there f (n ∷ d) ≡ true → get f.files (k ∷ d) ≡ None → n ≢ k
 another_name f n k d there free e = true≢false (sym there ∙ ap (λ x. is_there f (x ∷ d)) e ∙ ap (λ o. is_some_and o (λ n. true)) free)
 
--- What is owed for each change by a call of the process p, whose name is me, so that P holds after the call.
+-- What has to be shown of each change by a call of the process p, whose name is me, so that P holds after the call.
 pub record EachChange (accounts : Accounts) (f : Flat) (me : ProcName) (p : Process) (call : UnixCall) (P : Flat → Type 0) : Type 0 where
   pub stays : P f
   pub makes : (n : Name) (d : Path) (x : Node) → into accounts f p d ≡ None → get f.files (n ∷ d) ≡ None → writes accounts f p d ≡ true
@@ -114,7 +114,7 @@ module _ (accounts : Accounts) (f : Flat) (me : ProcName) (p : Process) (P : Fla
     | inr e ↦ absurd (true≢false (sym h ∙ e.0))
   ]
 
-  -- Each effect that has a warrant is one of these.
+  -- Each effect that is warranted is one of these changes.
   by_effect : (q : Path) → path_of call ≡ q → (effect : Effect) → (rule call).effect ≡ effect
       → Warrant accounts f me p q effect → P (apply accounts f me p q effect)
   by_effect q named Nothing is may = each.stays
@@ -137,7 +137,7 @@ module _ (accounts : Accounts) (f : Flat) (me : ProcName) (p : Process) (P : Fla
   by_effect [] named Wraps is may = absurd (true≢false (sym may.0))
   by_effect (n ∷ d) named Wraps is may = each.wraps n d is may.1 may.2 may.3 (not-true (same p.user nobody) may.4)
 
-  -- Each call does one of these.
+  -- Each call makes one of these changes.
   pub by_change : P (flat_by accounts f me (Some p) call)
   by_change = or_stays P f (changed accounts f me p call) (refused accounts f me p call) each.stays
       (λ passes. by_effect (path_of call) refl (rule call).effect refl (warranted accounts f me p call passes))

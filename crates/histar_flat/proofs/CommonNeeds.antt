@@ -10,7 +10,7 @@ use Rattle.histar_flat.specs.Classes.{Process}
 use Rattle.histar_flat.specs.FlatState.{Flat}
 use Rattle.histar_flat.specs.Needs.{room, file, entry, unmet}
 
--- of a new entry, a file and an entry
+-- the first refusal of a new entry, a file and an entry
 abbrev pub no_room : Accounts → Flat → Process → Path → Option Errno
 no_room accounts f p q = unmet accounts f [] p q room
 
@@ -20,6 +20,6 @@ no_file accounts f p q = unmet accounts f [] p q file
 abbrev pub no_entry : Accounts → Flat → Process → Path → Option Errno
 no_entry accounts f p q = unmet accounts f [] p q entry
 
--- of a child more
+-- the first refusal of one more child
 abbrev pub no_child : ProcName → Process → Option Errno
 no_child me p = unless (nat_lt p.born most_children) EAGAIN orelse unless (nat_lt (length me) most_numbers) EAGAIN

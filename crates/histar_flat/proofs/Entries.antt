@@ -1,4 +1,4 @@
--- The entries of a directory depend on paths and on what is a directory alone.
+-- The entries of a directory depend only on paths and on which of them are directories.
 use Rattle.std.specs.Prelude.{◌≡◌, Bool, true, false, ◌&&◌, cond, T, List, [], ◌∷◌, map, Option, Some, None, option_map, refl}
 use Rattle.std.specs.List.{filter_map}
 use Rattle.std.proofs.Common.{ap, sym, ◌∙◌, subst, inl, inr}
@@ -13,7 +13,7 @@ use Rattle.histar_flat.specs.Classes.{Class}
 use Rattle.histar_flat.specs.FlatState.{Node, Flat, Entry, is_dir, entry_in, entries_in}
 use Rattle.histar_flat.proofs.FileLemmas.{same_path_found}
 
--- what a file or directory shows beside its bytes: its class, and whether it is a directory
+-- what `stat` can show of a file or directory: its class, and whether it is a directory
 abbrev pub shown : Node → Class × Bool
 shown n = (n.class, is_dir n)
 
@@ -21,7 +21,7 @@ abbrev Shown : Type 0
 Shown = Path × (Class × Bool)
 
 module _ {Y : Type 0} (revealed : Node → Y) where
-  -- each path with what is told of what stands there
+  -- each path with what is revealed of the node there
   abbrev pub all_revealed : List (Path × Node) → List (Path × Y)
   all_revealed = map (λ e. (e.0, revealed e.1))
 
@@ -34,7 +34,7 @@ module _ {Y : Type 0} (revealed : Node → Y) where
   sorted_revealed [] = refl
   sorted_revealed (e ∷ es) = λ i. below_revealed e.0 es i && sorted_revealed es i
 
-  -- what is told of a path is told of what stands there
+  -- what is revealed of a path is revealed of the node there
   pub find_revealed : (q : Path) (es : List (Path × Node)) → find path_cmp q (all_revealed es) ≡ option_map revealed (find path_cmp q es)
   find_revealed q [] = refl
   find_revealed q (e ∷ es) = by (eq_by_cmp path_cmp q e.0) (find_revealed q es)
@@ -45,7 +45,7 @@ module _ {Y : Type 0} (revealed : Node → Y) where
       by true h = refl
       by false h = h
 
-  -- maps of which the same is told at each path are told alike
+  -- maps that reveal the same at each path reveal the same list
   pub same_revealed : (m n : Files Node) → ((q : Path) → option_map revealed (get m q) ≡ option_map revealed (get n q))
       → all_revealed m.entries ≡ all_revealed n.entries
   same_revealed m n h =

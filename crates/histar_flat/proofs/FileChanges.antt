@@ -1,4 +1,4 @@
--- What removals and renames leave, and who takes private files away.
+-- What removals and renames leave, and which processes can remove private files.
 use Rattle.std.specs.Prelude.{◌≡◌, ◌≢◌, Bool, true, false, not, cond, ◌∷◌, Some, None, refl}
 use Rattle.std.proofs.Common.{ap, sym, ◌∙◌, subst, inl, inr}
 use Rattle.std.proofs.lemmas.Bool.{true≢false, cases_Bool}
@@ -26,7 +26,7 @@ use Rattle.histar_flat.proofs.Trees.{nothing_below}
 done : (accounts : Accounts) (f : Flat) (me : ProcName) (call : UnixCall) → reply_to accounts f me call ≡ Done → IsAnswered accounts f me call Done
 done accounts f me call said = is_answered accounts f me call Done (λ e. cc) (λ errno e. cc) said
 
--- what is left below no path is what is not below it
+-- after a removal each path has what it had, unless it was removed
 left_without : (f : Flat) (q r : Path) → get (without_below f q).files r ≡ cond (under_path q r) None (get f.files r)
 left_without f q r = get-keep f.files (λ t. not (under_path q t)) r ∙ by (under_path q r)
   where
@@ -34,7 +34,7 @@ left_without f q r = get-keep f.files (λ t. not (under_path q t)) r ∙ by (und
     by true = refl
     by false = refl
 
--- a removal takes exactly what stands at its path and below it
+-- a removal takes exactly what is at its path and below it
 pub removals_take_what_is_below : RemovalsTakeWhatIsBelow
 removals_take_what_is_below accounts f me call q (inl e) said r =
     let is = done accounts f me (Unlink q) (ap (reply_to accounts f me) (sym e) ∙ said) in
@@ -85,7 +85,7 @@ renames_keep_what_is_there accounts f tree me n k d said r node = (
     kept true e = absurd (none-some node e)
     kept false e = e
 
--- no call of another user's process takes a private file away, or changes it, unless it may write a directory that leads to it
+-- no call of another user's process removes or changes a private file, unless it may write a directory on the way to the file
 pub writers_take_private_files : WritersTakePrivateFiles
 writers_take_private_files f tree q owner bytes at accounts me p call runs other none =
     by_line accounts f me call (λ g. get g.files q ≡ Some (private_file owner bytes)) at (λ x runs_x. changes x (same_process x runs_x))
@@ -93,7 +93,7 @@ writers_take_private_files f tree q owner bytes at accounts me p call runs other
     same_process : (x : Process) → running f me ≡ Some x → p ≡ x
     same_process x runs_x = let e : Some p ≡ Some x = sym runs ∙ runs_x in cc
 
-    -- what may be written does not lead to the file
+    -- a directory that may be written is not on the way to the file
     not_above : (n : Name) (d : Path) → writes accounts f p d ≡ true → under_path (n ∷ d) q ≡ false
     not_above n d w = elim (cases_Bool (under_path (n ∷ d) q)) [
       | inl u ↦ absurd (true≢false (sym w ∙ none n d u))

@@ -10,7 +10,7 @@ use Rattle.histar_flat.specs.PathOrder.{path_cmp, same, same_path}
 use Rattle.histar_flat.specs.PathOrderLaws.{path_cmp_exact, path_cmp_ties, path_cmp_total}
 use Rattle.histar_flat.specs.Files.{Files, get, insert, keep}
 
--- what a test has found: it is true at equal things, or false at different ones
+-- what a test for equality has found: it is true and the things are equal, or false and they differ
 abbrev pub Found : {A : Type 0} → Bool → A → A → Type 0
 Found answer x y = ((answer ≡ true) × (x ≡ y)) ⊎ ((answer ≡ false) × (x ≢ y))
 
@@ -18,11 +18,11 @@ found : {A : Type 0} (answer : Bool) (x y : A) → (answer ≡ true → x ≡ y)
 found true x y d = inl (refl, d.0 refl)
 found false x y d = inr (refl, λ e. absurd (true≢false (sym (d.1 e))))
 
--- the test of names tells equal names from different ones
+-- the test of names decides equality
 pub same_name_found : (m n : List ℕ) → Found (same m n) m n
 same_name_found m n = found (same m n) m n (bytes_decides m n)
 
--- the test of paths tells equal paths from different ones
+-- the test of paths decides equality
 pub same_path_found : (q r : Path) → Found (same_path q r) q r
 same_path_found q r = found (same_path q r) q r (pointwise_decides bytes_decides q r)
 
@@ -39,7 +39,7 @@ module _ {X : Type 0} where
   pub get-insert : (m : Files X) (k : Path) (x : X) (q : Path) → get (insert m k x) q ≡ cond (same_path q k) (Some x) (get m q)
   get-insert m k x q = find-put path_cmp path_cmp_total q k x m.entries ∙ ap (λ b. cond b (Some x) (get m q)) (ties q k)
 
-  -- a change at another path leaves what stands at this one
+  -- a change at another path leaves what is at this one
   pub get_other : (m : Files X) (k : Path) (x : X) (q : Path) → q ≢ k → get (insert m k x) q ≡ get m q
   get_other m k x q n = elim (same_path_found q k) [
     | inl e ↦ absurd (n e.1)
@@ -50,7 +50,7 @@ module _ {X : Type 0} where
   pub get_new : (m : Files X) (k : Path) (x : X) → get (insert m k x) k ≡ Some x
   get_new m k x = get-insert m k x k ∙ ap (λ b. cond b (Some x) (get m k)) ((pointwise_decides bytes_decides k k).1 refl)
 
-  -- what stands at a path that passes the test is left
+  -- what is at a path that passes the test is kept
   pub get-keep : (m : Files X) (test : Path → Bool) (q : Path) → get (keep m test) q ≡ cond (test q) (get m q) None
   get-keep m test q = find-where_key path_cmp test q (λ x e. ap test (sym (path_cmp_exact q x e))) m.entries
 

@@ -27,19 +27,19 @@ pub both : (a b : Bool) → T a → T b → T (a && b)
 both true b p q = q
 both false b p q = p
 
--- a test for less
+-- an ordering that passes the test for less is less
 pub less : (o : Ordering) → T (is_lt o) → o ≡ Less
 less Less p = refl
 less Equal p = absurd p
 less Greater p = absurd p
 
--- the same of the test's value
+-- an ordering whose test for less is true is less
 pub is_less : (o : Ordering) → is_lt o ≡ true → o ≡ Less
 is_less Less e = refl
 is_less Equal e = absurd cc
 is_less Greater e = absurd cc
 
--- a test for ties
+-- an ordering that passes the test for equal is equal
 pub equal : (o : Ordering) → is_eq o ≡ true → o ≡ Equal
 equal Less e = absurd cc
 equal Equal e = refl
@@ -58,7 +58,7 @@ module _ {K X : Type 0} {R : K → K → Ordering} (total : IsTotalOrder R) (exa
   pub find_first : (k : K) (v : X) (es : List (K × X)) → find R k ((k, v) ∷ es) ≡ Some v
   find_first k v es = ap (λ o. cond (is_eq o) (Some v) (find R k es)) (tied_itself total k)
 
-  -- another key is found behind it
+  -- another key is found after the first entry
   pub find_behind : (q k : K) (v : X) (es : List (K × X)) → q ≢ k → find R q ((k, v) ∷ es) ≡ find R q es
   find_behind q k v es other = ap (λ b. cond b (Some v) (find R q es)) (untied exact q k other)
 
@@ -69,17 +69,17 @@ module _ {K X : Type 0} {R : K → K → Ordering} (total : IsTotalOrder R) (exa
       ap (λ o. cond (is_eq o) (Some e.1) (find R q es)) (less (R q e.0) (first _ (below_all R q es) h))
       ∙ find_below q es (second (is_lt (R q e.0)) _ h)
 
-  -- what is found behind the first entry is found
+  -- what is found after the first entry is found
   pub find_later : (k : K) (v : X) (es : List (K × X)) (q : K) (x : X) → T (below_all R k es) → find R q es ≡ Some x → find R q ((k, v) ∷ es) ≡ Some x
   find_later k v es q x below is = find_behind q k v es (λ same. none-some x (sym (ap (λ p. find R p es) same ∙ find_below k es below) ∙ is)) ∙ is
 
--- lists that go on alike are ordered as their ends
+-- lists with a common start are ordered as their ends
 pub ends_decide : {A : Type 0} (R : A → A → Ordering) → IsTotalOrder R → (d xs ys : List A)
     → slice_cmp R (reverse_onto xs d) (reverse_onto ys d) ≡ slice_cmp R xs ys
 ends_decide R total [] xs ys = refl
 ends_decide R total (n ∷ d) xs ys = ends_decide R total d (n ∷ xs) (n ∷ ys) ∙ ap (λ o. ordering_then o (slice_cmp R xs ys)) (tied_itself total n)
 
--- where the rest ties, the first things decide
+-- if the rest ties, the first things decide
 one_by_one : (o : Ordering) → ordering_then o Equal ≡ o
 one_by_one Less = refl
 one_by_one Equal = refl

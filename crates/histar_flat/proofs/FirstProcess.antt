@@ -19,18 +19,18 @@ use Rattle.histar_flat.specs.Meaning.{boot, first_process, flat_end}
 use Rattle.histar_flat.proofs.Laws.{not_running_is_gone}
 use Rattle.histar_flat.proofs.Changes.{EachChange, by_line}
 
--- an effect that neither makes a process nor ends the one whose it is
+-- the effect neither makes a process nor ends the calling one
 abbrev pub keeps : Effect → Bool
 keeps Spawns = false
 keeps (Exits n) = false
 keeps Wraps = false
 keeps _ = true
 
--- a call that neither makes a process nor ends the one that makes it
+-- the call neither makes a process nor ends the calling one
 abbrev pub keeps_processes : UnixCall → Bool
 keeps_processes call = keeps (rule call).effect
 
--- all calls of a script are such
+-- all calls of a script are such calls
 abbrev pub all_keep_processes : List CallLine → Bool
 all_keep_processes calls = list_all (λ (c : CallLine). keeps_processes c.call) calls
 
@@ -46,7 +46,7 @@ pub record IsAlone (f : Flat) : Type 0 where
   pub plain : IsPlain first
   pub others : (n : ℕ) (q : ProcName) → f.processes (n ∷ q) ≡ None
 
--- so it is at the start
+-- process 0 is alone at the start
 pub alone_at_start : (accounts : Accounts) → IsAlone (boot accounts)
 alone_at_start accounts = record {
   first = first_process;
@@ -59,7 +59,7 @@ alone_at_start accounts = record {
 pub first_runs : (f : Flat) (h : IsAlone f) → running f [] ≡ Some h.first
 first_runs f h = ap if_running h.is_first ∙ ap (λ (x : Option ℕ). elim x [ None ↦ Some h.first | Some n ↦ None ]) h.plain.runs
 
--- no other does
+-- no other process runs
 pub others_are_still : (f : Flat) → IsAlone f → (n : ℕ) (q : ProcName) → running f (n ∷ q) ≡ None
 others_are_still f h n q = ap if_running (h.others n q)
 
@@ -94,7 +94,7 @@ module _ (accounts : Accounts) where
       gone true o e = refl
       gone false o e = e
 
-  -- such a call keeps it so
+  -- process 0 stays alone after such a call
   pub alone_after : (f : Flat) → IsAlone f → (me : ProcName) (call : UnixCall) → keeps_processes call ≡ true → IsAlone (flat_after accounts f me call)
   alone_after f h (n ∷ q) call keeps = subst IsAlone (sym (not_running_is_gone accounts f (n ∷ q) call (others_are_still f h n q)).1) h
   alone_after f h [] call keeps = by_line accounts f [] call IsAlone h (λ p runs.
@@ -102,7 +102,7 @@ module _ (accounts : Accounts) where
       let one : h.first ≡ p = cc in
       alone_changes f h p call (subst IsPlain one h.plain) keeps)
 
-  -- and so do all calls of a script of such calls
+  -- process 0 stays alone after all calls of a script of such calls
   pub alone_at_end : (f : Flat) → IsAlone f → (calls : List CallLine) → all_keep_processes calls ≡ true → IsAlone (flat_end accounts f calls)
   alone_at_end f h [] keep = h
   alone_at_end f h (c ∷ calls) keep =

@@ -1,4 +1,4 @@
--- Names of processes are given once: a name that was given stays so, and all names that are there were given.
+-- Names of processes are given once: a name that was given stays given, and all names that are there were given.
 use Rattle.std.specs.Prelude.{◌≡◌, ◌≤◌, ◌+◌, ℕ, Bool, true, false, ◌||◌, ◌&&◌, not, cond, nat_le, List, [], ◌∷◌, ◌++◌, Option, Some, None, refl}
 use Rattle.std.proofs.Common.{ap, ◌⊎◌, inl, inr, sym, ◌∙◌, arith}
 use Rattle.std.proofs.lemmas.Bool.{true≢false, and_parts, leb-true, le-leb, or_cases, cases_Bool}
@@ -29,7 +29,7 @@ Processes = ProcName → Option Process
 abbrev StillGiven : Processes → Processes → Type 0
 StillGiven old new = (name : ProcName) → is_given old name ≡ true → is_given new name ≡ true
 
--- so it is where each number that was given to a child of a given process was given
+-- names stay given if each number that a given process has given stays given
 still_given : (old new : Processes)
     → ((q : ProcName) (n : ℕ) → is_given old q ≡ true → was_given (old q) n ≡ true → was_given (new q) n ≡ true)
     → StillGiven old new
@@ -45,7 +45,7 @@ more_given p q n more h =
     let enough = leb-true n p.born parts.1 in
     (λ i. parts.0 i && nat_le n q.born) ∙ le-leb n q.born (omega arith)
 
--- names that are gone were given
+-- a number stays given when the process that gave it is removed
 gone_was_given : (b : Bool) (o : Option Process) (n : ℕ) → was_given o n ≡ true → was_given (cond b None o) n ≡ true
 gone_was_given true o n h = refl
 gone_was_given false o n h = h
@@ -82,7 +82,7 @@ module _ (f : Flat) (me : ProcName) (p : Process) (here : f.processes me ≡ Som
     | inr t ↦ ap (λ b. was_given (cond b (Some q) (f.processes name)) n) t.0 ∙ h
   ])
 
-  -- a birth
+  -- the state after a birth
   abbrev born_with : Process → Process → Flat
   born_with q child = with_process (with_process f me q) (next_child me p) child
 
@@ -116,14 +116,14 @@ module _ (f : Flat) (me : ProcName) (p : Process) (here : f.processes me ≡ Som
         (record { user = p.user; chain = inner_chain me p; held = []; exited = None; born = 0 }) (omega arith);
   }
 
--- A name that was given stays so.
+-- A name that was given stays given.
 pub given_stays : (accounts : Accounts) (f : Flat) (me : ProcName) (call : UnixCall)
     → StillGiven f.processes (flat_after accounts f me call).processes
 given_stays accounts f me call =
     by_line accounts f me call (λ g. StillGiven f.processes g.processes) (λ name h. h)
     (λ p runs. still_changes f me p (runs_is_there (f.processes me) p runs) accounts call)
 
--- whoever has a longer list of jobs has the last one, or one of the others
+-- a process with one job more has the last one, or one of the others
 pub longer_has : (jobs : List ProcName) (last job : ProcName) → has (jobs ++ last ∷ []) job ≡ true → (has jobs job ≡ true) ⊎ (job ≡ last)
 longer_has [] last job h = elim (same_name_found job last) [
   | inl t ↦ inr t.1
@@ -138,7 +138,7 @@ longer_has (first ∷ jobs) last job h = elim (cases_Bool (same job first)) [
 ]
 
 module _ (f : Flat) (given : NamesAreGiven f) where
-  -- something new, or written
+  -- names stay given when a file or directory is made or written
   pub given_put : (q : Path) (x : Node)
       → ((job : ProcName) → carries job x.class ≡ true → is_given f.processes job ≡ true)
       → NamesAreGiven (with_node f q x.class x.content)
@@ -154,7 +154,7 @@ module _ (f : Flat) (given : NamesAreGiven f) where
     ];
   }
 
-  -- processes change: each is as it was, or all that it names is given
+  -- names stay given when each process is as it was, or names only what is given
   given_processes : (new : Processes) → StillGiven f.processes new
       → ((q : ProcName) (y : Process) → new q ≡ Some y
       → (f.processes q ≡ Some y)
@@ -173,7 +173,7 @@ module _ (f : Flat) (given : NamesAreGiven f) where
   }
 
 module _ (f : Flat) (given : NamesAreGiven f) (tree : IsTree f) (me : ProcName) (p : Process) (here : f.processes me ≡ Some p) where
-  -- what knows no more than p and the new child
+  -- a process knows no job but those of p and the new child
   abbrev KnowsNoMore : Process → Type 0
   KnowsNoMore y = (job : ProcName) → knows y job ≡ true → (knows p job ≡ true) ⊎ (job ≡ next_child me p)
 
@@ -222,7 +222,7 @@ module _ (f : Flat) (given : NamesAreGiven f) (tree : IsTree f) (me : ProcName) 
       named job (inl k) = still job (given.of_known_jobs me p job here k)
       named job (inr e) = ap (is_given (born_with f me p here q child).processes) e ∙ next_given
 
-  -- the same name has another process, which knows no more
+  -- names stay given when a process is replaced by one that knows no more
   given_instead : (q : Process) → p.born ≤ q.born → ((job : ProcName) → knows q job ≡ true → knows p job ≡ true) → NamesAreGiven (with_process f me q)
   given_instead q more known = given_processes f given (with_process f me q).processes still (λ name y e. elim (same_name_found me name) [
     | inl t ↦ inr (
@@ -309,14 +309,14 @@ module _ (f : Flat) (given : NamesAreGiven f) (tree : IsTree f) (me : ProcName) 
         | inr v ↦ inr v
       ]
 
--- so does each line
+-- each line leaves names that were given
 pub given_after : (accounts : Accounts) (f : Flat) (me : ProcName) (call : UnixCall) → IsTree f → NamesAreGiven f
     → NamesAreGiven (flat_after accounts f me call)
 given_after accounts f me call tree given =
     by_line accounts f me call NamesAreGiven given
     (λ p runs. given_changes f given tree me p (runs_is_there (f.processes me) p runs) accounts call)
 
--- and so do all lines
+-- all lines leave names that were given
 given_at_end : (accounts : Accounts) (f : Flat) → IsTree f → NamesAreGiven f → (calls : List CallLine) → NamesAreGiven (flat_end accounts f calls)
 given_at_end accounts f tree given [] = given
 given_at_end accounts f tree given (c ∷ calls) =

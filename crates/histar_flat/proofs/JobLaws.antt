@@ -30,7 +30,7 @@ use Rattle.histar_flat.proofs.Laws.{not_running_is_gone}
 
 -- ---- files
 
--- what is in all lists is in this one
+-- if all jobs of a process are among these, each of them is
 in_all : (jobs chain : List ProcName) (job : ProcName) → list_all (has jobs) chain ≡ true → has chain job ≡ true → has jobs job ≡ true
 in_all jobs [] job all known = absurd (true≢false (sym known))
 in_all jobs (k ∷ chain) job all known =
@@ -40,7 +40,7 @@ in_all jobs (k ∷ chain) job all known =
       | inr e ↦ in_all jobs chain job parts.1 (sym (ap (λ b. b || has chain job) e.0) ∙ known)
     ]
 
--- who is in a job is not free of jobs
+-- a process in a job is not in no job
 not_free : (chain : List ProcName) (job : ProcName) → has chain job ≡ true
     → (let free : Bool = elim chain [ [] ↦ true | k ∷ ks ↦ false ] in free) ≡ false
 not_free [] job known = absurd (true≢false (sym known))
@@ -50,7 +50,7 @@ module _ (accounts : Accounts) (p : Process) (job : ProcName) (inside : has p.ch
   busy : is_free p ≡ false
   busy = not_free p.chain job inside
 
-  -- what it may write is of the job
+  -- what a process in the job may write is of the job
   pub writes_of_job : (class : Class) → may_write accounts p class ≡ true → carries job class ≡ true
   writes_of_job (Private owner) w = absurd (true≢false (sym (and_parts (same p.user owner) (is_free p) w).1 ∙ busy))
   writes_of_job (Readable owner) w = absurd (true≢false (sym (and_parts (same p.user owner) (is_free p) w).1 ∙ busy))
@@ -59,7 +59,7 @@ module _ (accounts : Accounts) (p : Process) (job : ProcName) (inside : has p.ch
       in_all jobs p.chain job (and_parts (same p.user owner && list_all (knows p) jobs) (list_all (has jobs) p.chain) w).1 inside
   writes_of_job (Grouped group) w = absurd (true≢false (sym (and_parts (is_member accounts p.user group) (is_free p) w).1 ∙ busy))
 
-  -- so what it may write stands in a scratch directory
+  -- what a process in the job may write lies in a scratch directory
   written_lies : (f : Flat) (q : Path) → writes accounts f p q ≡ true → lies_in_scratch f job q ≡ true
   written_lies f [] w = by (get f.files []) w
     where
@@ -72,7 +72,7 @@ module _ (accounts : Accounts) (p : Process) (job : ProcName) (inside : has p.ch
       by None e = absurd (true≢false (sym e))
       by (Some n) e = writes_of_job n.class e
 
--- what lies below a path of a scratch directory lies in it too
+-- what lies below a path in a scratch directory lies in it too
 lies_below : (f : Flat) (job : ProcName) (d q : Path) → lies_in_scratch f job d ≡ true → under_path d q ≡ true → lies_in_scratch f job q ≡ true
 lies_below f job d [] lies under = elim (same_path_found d []) [
   | inl e ↦ subst (λ r. lies_in_scratch f job r ≡ true) e.1 lies
@@ -86,7 +86,7 @@ lies_below f job d (n ∷ q) lies under = elim (same_path_found d (n ∷ q)) [
       ∙ or-true (is_some_and (get f.files (n ∷ q)) (λ x. carries job x.class))
 ]
 
--- what is in a scratch directory lies there
+-- an entry of a scratch directory lies in it
 lies_in : (f : Flat) (job : ProcName) (n : Name) (d : Path) → lies_in_scratch f job d ≡ true → lies_in_scratch f job (n ∷ d) ≡ true
 lies_in f job n d lies =
     ap (λ b. is_some_and (get f.files (n ∷ d)) (λ x. carries job x.class) || b) lies
@@ -98,7 +98,7 @@ module _ (accounts : Accounts) (f : Flat) (tree : IsTree f) (job : ProcName) (q 
   IsKept g = get g.files q ≡ get f.files q
 
   module _ (me : ProcName) (p : Process) (inside : has p.chain job ≡ true) where
-    -- it is not in what the process may write
+    -- the path is no entry of a directory that the process may write
     apart : (n : Name) (d : Path) → writes accounts f p d ≡ true → q ≢ n ∷ d
     apart n d w e = true≢false (sym (lies_in f job n d (written_lies accounts p job inside f d w)) ∙ ap (lies_in_scratch f job) (sym e) ∙ outside)
 
@@ -133,14 +133,14 @@ module _ (accounts : Accounts) (f : Flat) (tree : IsTree f) (job : ProcName) (q 
   kept_by_job me call inside =
       by_line accounts f me call IsKept refl (λ p runs. inside_changes me p (sym (ap (λ r. is_some_and r (λ p. has p.chain job)) runs) ∙ inside) call)
 
--- and so does one of a process that doesn't run
+-- a call of a process in the job, or of one that doesn't run, leaves the path as it is
 kept_by_one : (accounts : Accounts) (f : Flat) → IsTree f → (job : ProcName) (me : ProcName) (call : UnixCall)
     → (running f me ≡ None) ⊎ (runs_in f me job ≡ true)
     → (q : Path) → lies_in_scratch f job q ≡ false → get (flat_after accounts f me call).files q ≡ get f.files q
 kept_by_one accounts f tree job me call (inl gone) q outside = ap (λ (g : Flat). get g.files q) (not_running_is_gone accounts f me call gone).1
 kept_by_one accounts f tree job me call (inr inside) q outside = kept_by_job accounts f tree job q outside me call inside
 
--- then the path lies outside as before
+-- after such a call the path lies outside the scratch directories as before
 still_outside : (accounts : Accounts) (f : Flat) → IsTree f → (job : ProcName) (me : ProcName) (call : UnixCall)
     → (running f me ≡ None) ⊎ (runs_in f me job ≡ true)
     → (q : Path) → lies_in_scratch f job q ≡ false → lies_in_scratch (flat_after accounts f me call) job q ≡ false
@@ -170,14 +170,14 @@ jobs_stay_inside accounts f tree job (c ∷ calls) own q outside =
 -- ---- processes
 
 module _ (me other : ProcName) (apart : under_process me other ≡ false) where
-  -- who is not below a process is not the process
+  -- a process that is not below another is not that process
   another : same me other ≡ false
   another = elim (same_name_found me other) [
     | inl e ↦ absurd (true≢false (sym (under_itself nat_eq same_name_found me) ∙ ap (under_process me) e.1 ∙ apart))
     | inr e ↦ e.0
   ]
 
-  -- nor a child of it
+  -- a process that is not below another is not its child either
   no_child_of : (n : ℕ) → same (n ∷ me) other ≡ false
   no_child_of n = elim (same_name_found (n ∷ me) other) [
     | inl e ↦
@@ -186,7 +186,7 @@ module _ (me other : ProcName) (apart : under_process me other ≡ false) where
     | inr e ↦ e.0
   ]
 
--- who is below a child is below its parent
+-- a process below a child is below its parent
 below_parent : (n : ℕ) (me other : ProcName) → under_process (n ∷ me) other ≡ true → under_process me other ≡ true
 below_parent n me [] under = elim (same_name_found (n ∷ me) []) [
   | inl e ↦ absurd cc
@@ -205,11 +205,11 @@ module _ (f : Flat) (me : ProcName) (p : Process) (other : ProcName) (apart : un
   with_other : (q : Process) → (with_process f me q).processes other ≡ f.processes other
   with_other q = ap (λ b. cond b (Some q) (f.processes other)) (another me other apart)
 
-  -- and so does a birth
+  -- a birth leaves the other as it is
   born_other : (q child : Process) (n : ℕ) → (with_process (with_process f me q) (n ∷ me) child).processes other ≡ f.processes other
   born_other q child n = ap (λ b. cond b (Some child) ((with_process f me q).processes other)) (no_child_of me other apart n) ∙ with_other q
 
-  -- and a kill
+  -- a kill leaves the other as it is
   not_killed : (n : ℕ) → cond (under_process (n ∷ me) other) None (f.processes other) ≡ f.processes other
   not_killed n = elim (cases_Bool (under_process (n ∷ me) other)) [
     | inl under ↦ absurd (true≢false (sym (below_parent n me other under) ∙ apart))
@@ -242,7 +242,7 @@ calls_change_their_own_tree accounts f me call other apart =
 
 -- ---- what is read
 
--- who runs has not exited
+-- a process that runs has not exited
 not_exited : (p : Process) → if_running (Some p) ≡ Some p → p.exited ≡ None
 not_exited p runs = by p.exited refl
   where
@@ -259,7 +259,7 @@ module _ (accounts : Accounts) (f : Flat) (me : ProcName) (p : Process) where
   abbrev freed : Flat
   freed = with_process f me (out_of_jobs p)
 
-  -- what is not of jobs is read as out of jobs
+  -- a class of no job is read the same out of jobs
   read_alike : (class : Class) → is_scratch class ≡ false → may_read accounts p class ≡ may_read accounts (out_of_jobs p) class
   read_alike (Scratch owner jobs) is = absurd (true≢false is)
   read_alike class is = refl
@@ -290,7 +290,7 @@ module _ (accounts : Accounts) (f : Flat) (me : ProcName) (p : Process) where
       (into_alike d parts.1 i orelse unless (is_there f (n ∷ d)) ENOENT orelse unless (is_file_at f (n ∷ d)) EISDIR)
       orelse unless (reads_alike (n ∷ d) parts.0 i) EACCES
 
--- Outside all scratch directories a process in jobs is answered what it were answered in none.
+-- Outside all scratch directories a process in jobs gets the reply that it would get in none.
 pub jobs_read_as_their_user : JobsReadAsTheirUser
 jobs_read_as_their_user accounts f me p q runs outside =
     let there = runs_is_there (f.processes me) p runs in

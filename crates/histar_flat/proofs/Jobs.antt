@@ -1,4 +1,4 @@
--- Who is nobody, or no declared user, has no job.
+-- A process of nobody, or of a user that is not declared, has no job.
 use Rattle.std.specs.Prelude.{◌≡◌, ◌+◌, Bool, true, false, cond, List, [], ◌∷◌, ◌++◌, Some, None, is_some, refl}
 use Rattle.std.proofs.Common.{ap, ◌⊎◌, inl, inr, sym, ◌∙◌, subst}
 use Rattle.std.proofs.lemmas.Bool.{true≢false}
@@ -21,11 +21,11 @@ record IsPlaced (accounts : Accounts) (p : Process) : Type 0 where
   nobodys : p.user ≡ nobody → HasNoJob p
   declared : (p.user ≡ nobody) ⊎ (is_some (user_named accounts.users p.user) ≡ true)
 
--- so is each process that is there
+-- each process that is there is nobody's, with no job, or a declared user's
 abbrev ArePlaced : Accounts → Flat → Type 0
 ArePlaced accounts f = (q : ProcName) (p : Process) → f.processes q ≡ Some p → IsPlaced accounts p
 
--- a process of no job
+-- the list of jobs of a process in no job is empty
 in_no_job : (p : Process) → is_free p ≡ true → p.chain ≡ []
 in_no_job p h = by p.chain h
   where
@@ -87,7 +87,7 @@ module _ (accounts : Accounts) where
       subst (IsPlaced accounts) one (record { nobodys = λ h. record { in_none = refl; holds_none = refl }; declared = inl refl })
   placed_at_start (n ∷ q) p e = let gone : None ≡ Some p = e in absurd (cc)
 
--- Who is nobody, and who is no declared user, has no job.
+-- A process of nobody, or of a user that is not declared, has no job.
 pub nobody_has_a_job : NobodyHasAJob
 nobody_has_a_job = record {
   nobodys = λ accounts calls me p e nobodys. (placed_at_end accounts (boot accounts) (placed_at_start accounts) calls me p e).nobodys nobodys;

@@ -16,12 +16,12 @@ module _ (accounts : Accounts) where
       → (reply_to accounts f me call ≡ Gone) × (flat_after accounts f me call ≡ f)
   not_running_is_gone f me call h = (ap (λ r. reply_by accounts f me r call) h, ap (λ r. flat_by accounts f me r call) h)
 
-  -- The replies are one a call line, in the order of the lines.
+  -- There is one reply for each call line, in the order of the lines.
   pub replies_in_order : (f : Flat) (calls : List CallLine) → map (λ (a : RepliedCall). a.call) (answered_from accounts f calls) ≡ calls
   replies_in_order f [] = refl
   replies_in_order f (c ∷ calls) = ap (λ (l : List CallLine). c ∷ l) (replies_in_order (flat_after accounts f c.process c.call) calls)
 
-  -- The reply to a line depends on the lines before it alone: later lines are answered from the state that these leave.
+  -- The reply to a line depends only on the lines before it: later lines are answered from the state that these leave.
   pub replies_go_on : (f : Flat) (first later : List CallLine)
       → answered_from accounts f (first ++ later)
       ≡ answered_from accounts f first ++ answered_from accounts (flat_end accounts f first) later
@@ -30,12 +30,12 @@ module _ (accounts : Accounts) where
       ap (λ (l : List RepliedCall). record { call = c; reply = reply_to accounts f c.process c.call } ∷ l)
       (replies_go_on (flat_after accounts f c.process c.call) first later)
 
-  -- So do the states.
+  -- The state after later lines is the one from the state that the first lines leave.
   pub states_go_on : (f : Flat) (first later : List CallLine)
       → flat_end accounts f (first ++ later) ≡ flat_end accounts (flat_end accounts f first) later
   states_go_on f [] later = refl
   states_go_on f (c ∷ first) later = states_go_on (flat_after accounts f c.process c.call) first later
 
-  -- A script means one reply a call line, in the order of the lines.
+  -- A script means one reply for each call line, in the order of the lines.
   pub one_reply_a_line : (calls : List CallLine) → map (λ (a : RepliedCall). a.call) (meaning accounts calls) ≡ calls
   one_reply_a_line calls = replies_in_order (boot accounts) calls

@@ -1,4 +1,4 @@
--- A listing shows what stands in its directory, by rising names.
+-- A listing shows the entries of its directory, by rising names.
 use Rattle.std.specs.Prelude.{◌≡◌, ◌≢◌, cond, T, List, [], ◌∷◌, Some, None, option_map, refl}
 use Rattle.std.specs.List.{filter_map, cons_option}
 use Rattle.std.proofs.Common.{ap, sym, ◌∙◌, subst, inl, inr}
@@ -26,11 +26,11 @@ antisymmetric : IsAntisymmetric by_bytes
 antisymmetric = slice_cmp-IsAntisymmetric nat_cmp-IsAntisymmetric
 
 module _ (d : Path) where
-  -- the entries of the directory among some
+  -- the entries of the directory in a list of paths
   abbrev listed : List (Path × Node) → List Entry
   listed = filter_map (entry_in d)
 
-  -- an entry of the directory is none of another one, nor of another name
+  -- an entry of the directory is no entry of another directory, nor one of another name
   not_above : (n m : Name) (above : Path) → d ≢ above → n ∷ d ≢ m ∷ above
   not_above n m above other e = let same : d ≡ above = cc in other same
 
@@ -40,11 +40,11 @@ module _ (d : Path) where
   not_root : (n : Name) → n ∷ d ≢ []
   not_root n e = cc
 
-  -- what a name is found as among the entries, and what its path is found as
+  -- the name is found among the entries exactly as its path is found
   abbrev Agrees : Name → List Entry → List (Path × Node) → Type 0
   Agrees n entries es = find by_bytes n entries ≡ option_map is_dir (find path_cmp (n ∷ d) es)
 
-  -- an entry of the directory, before others
+  -- an entry put in front of such a list keeps that
   find_one : (n m : Name) (there : Node) (es : List (Path × Node)) → Agrees n (listed es) es
       → Agrees n ((m, is_dir there) ∷ listed es) ((m ∷ d, there) ∷ es)
   find_one n m there es rest = elim (same_name_found n m) [
@@ -69,7 +69,7 @@ module _ (d : Path) where
             ∙ rest ∙ sym (ap (option_map is_dir) (find_behind path_cmp_total path_cmp_exact (n ∷ d) (m ∷ above) there es (not_above n m above t.1)))
       ]
 
-  -- what is below all paths is below the names of the directory
+  -- an entry below all paths is below all names of the directory
   below_listed : (n : Name) (es : List (Path × Node)) → T (below_all path_cmp (n ∷ d) es) → T (below_all by_bytes n (listed es))
   below_listed n [] h = tt
   below_listed n (e ∷ es) h = step e.0 e.1 (first (is_lt (path_cmp (n ∷ d) e.0)) _ h) (below_listed n es (second (is_lt (path_cmp (n ∷ d) e.0)) _ h))
@@ -104,7 +104,7 @@ module _ (d : Path) where
 same_entries : (a b : List Entry) → Entries a ≡ Entries b → a ≡ b
 same_entries a b e = cc
 
--- a listing shows what stands there
+-- a listing shows the entries of its directory
 pub listings_show_what_is_there : ListingsShowWhatIsThere
 listings_show_what_is_there accounts f me d entries said =
     let is = is_answered accounts f me (ListCall d) (Entries entries) (λ e. cc) (λ (errno : Errno) e. cc) said in

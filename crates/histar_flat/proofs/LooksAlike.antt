@@ -1,4 +1,4 @@
--- Two states that show a process the same, at the path and the process that a call names: the call is refused and answered alike.
+-- Two states that look alike to a process, at the path and the process that a call names: the call is refused and answered alike.
 use Rattle.std.specs.Prelude.{◌≡◌, Bool, true, false, not, ◌&&◌, ◌||◌, ◌==◌, [], ◌∷◌, List, ℕ, length, nat_lt, nat_le, Option, Some, None, is_some}
 use Rattle.std.specs.Prelude.{option_map, refl}
 use Rattle.std.proofs.Common.{ap}
@@ -26,7 +26,7 @@ use Rattle.histar_flat.proofs.Entries.{shown}
 use Rattle.histar_flat.specs.RuleLaws.{Met, MayLook, IsOrdered, MayReveal}
 use Rattle.histar_flat.proofs.Warrants.{met, ordered, may_be_revealed}
 
--- What two states owe a process at a path: the same walk; behind it the same class and kind, and in a directory the same entries; the
+-- Two states look alike to a process at a path: the same walk; after it the same class and kind, and in a directory the same entries; the
 -- same bytes of what it may read; and in a wide view its entries, and the same of each process that is found.
 pub record LooksAlike (wide : Bool) (accounts : Accounts) (f g : Flat) (p : Process) (q : Path) : Type 0 where
   pub way : walk accounts f p q ≡ walk accounts g p q
@@ -41,18 +41,18 @@ pub record LooksAlike (wide : Bool) (accounts : Accounts) (f g : Flat) (p : Proc
   pub found : wide ≡ true → (name : ProcName) → not_found f p name ≡ not_found g p name
   pub life : wide ≡ true → (name : ProcName) → not_found f p name ≡ None → life_reply (f.processes name) ≡ life_reply (g.processes name)
 
--- the need looks at no entries of a directory that is reached, and at no process
+-- the need tests no entries of a directory that is reached, and no process
 abbrev pub is_narrow : Need → Bool
 is_narrow (a then b) = is_narrow a && is_narrow b
 is_narrow (IsEmpty or e) = false
 is_narrow (Found name) = false
 is_narrow _ = true
 
--- a need that a view takes in
+-- the need is within the view
 abbrev is_in_view : Bool → Need → Bool
 is_in_view wide need = wide || is_narrow need
 
--- a test of what is shown
+-- a test of what `stat` shows passes alike
 pub test_alike : (test : Class × Bool → Bool) (a b : Option Node) → option_map shown a ≡ option_map shown b
     → is_some_and a (λ n. test (shown n)) ≡ is_some_and b (λ n. test (shown n))
 test_alike test None None h = refl
@@ -60,7 +60,7 @@ test_alike test None (Some n) h = absurd (cc)
 test_alike test (Some m) None h = absurd (cc)
 test_alike test (Some m) (Some n) h = let e : shown m ≡ shown n = cc in ap test e
 
--- what is shown of a file or a directory
+-- the reply of `stat` is alike
 stat_alike : (a b : Option Node) → option_map shown a ≡ option_map shown b → stat_reply a ≡ stat_reply b
 stat_alike None None h = refl
 stat_alike None (Some n) h = absurd (cc)
@@ -69,14 +69,14 @@ stat_alike (Some m) (Some n) h =
     let e : shown m ≡ shown n = cc in
     ap (λ (s : Class × Bool). replies.Stats (record { is_directory = s.1; owner = class_owner s.0; mode = class_mode s.0 })) e
 
--- where the processes are the same they are found alike
+-- with the same processes, each is found alike
 pub found_alike : (f g : Flat) (p : Process) → f.processes ≡ g.processes → (q : ProcName) → not_found f p q ≡ not_found g p q
 found_alike f g p processes [] = refl
 found_alike f g p processes (n ∷ above) = λ i.
     found_alike f g p processes above i orelse unless (is_some (processes i (n ∷ above))) ESRCH
     orelse unless (is_some_and (processes i (n ∷ above)) (sees p)) EACCES
 
--- what comes later counts only where nothing is lacking before
+-- what comes later counts only if nothing before refuses
 pub later_alike : {E : Type 0} (a b x y : Option E) → a ≡ b → (a ≡ None → x ≡ y) → (a orelse x) ≡ (b orelse y)
 later_alike None None x y e h = h refl
 later_alike None (Some c) x y e h = absurd (cc)
@@ -87,18 +87,18 @@ both_in_view : (wide : Bool) (a b : Need) → is_in_view wide (a then b) ≡ tru
 both_in_view true a b h = (refl, refl)
 both_in_view false a b h = and_parts (is_narrow a) (is_narrow b) h
 
--- what only a wide view has in view
+-- a need that only a wide view has is in a wide view
 is_wide : (wide : Bool) → (wide || false) ≡ true → wide ≡ true
 is_wide true h = refl
 is_wide false h = h
 
 module _ (accounts : Accounts) (f g : Flat) (me : ProcName) (p : Process) (q : Path) (wide : Bool) (alike : LooksAlike wide accounts f g p q) where
-  -- tests of what is at the path
+  -- a test of what is at the path passes alike
   at_path : (test : Class × Bool → Bool) → walk accounts f p q ≡ None
       → is_some_and (get f.files q) (λ n. test (shown n)) ≡ is_some_and (get g.files q) (λ n. test (shown n))
   at_path test walked = test_alike test (get f.files q) (get g.files q) (alike.here walked)
 
-  -- a test that looks at what may be seen passes alike
+  -- a test that looks only at what may be seen passes alike
   passes_alike : (test : Test) (e : Errno) → MayLook accounts f me p q test → is_in_view wide (test or e) ≡ true
       → passes accounts f me p q test ≡ passes accounts g me p q test
   passes_alike Exists e seen view = at_path (λ s. true) seen
@@ -116,7 +116,7 @@ module _ (accounts : Accounts) (f g : Flat) (me : ProcName) (p : Process) (q : P
   passes_alike (Fits new) e seen view = ap (λ (bytes : List ℕ). nat_le (length (new bytes)) most_bytes) (alike.bytes seen.0 seen.1)
   passes_alike _ e seen view = refl
 
-  -- needs that are looked at in their turn are met alike
+  -- needs whose tests are in order are met alike
   pub unmet_alike : (Known : Type 0) → Known → (need : Need) → IsOrdered accounts f me p q Known need
       → is_in_view wide need ≡ true → unmet accounts f me p q need ≡ unmet accounts g me p q need
   unmet_alike Known known (a then b) seen view =
@@ -129,7 +129,7 @@ module _ (accounts : Accounts) (f g : Flat) (me : ProcName) (p : Process) (q : P
   unmet_alike Known known (Found name) seen view = alike.found (is_wide wide view) name
   unmet_alike Known known _ seen view = refl
 
-  -- and each answer that may be revealed is given alike
+  -- each answer that may be revealed is given alike
   pub given_alike : wide ≡ true → (answer : ReplyForm) → MayReveal accounts f me p q answer → reply_with f me p q answer ≡ reply_with g me p q answer
   given_alike is Bytes may = ap replies.Data (alike.bytes may.0 may.1)
   given_alike is Listing may = ap replies.Entries (alike.entries is may.0 may.1)
@@ -139,16 +139,16 @@ module _ (accounts : Accounts) (f g : Flat) (me : ProcName) (p : Process) (q : P
 
 module _ (accounts : Accounts) (f g : Flat) (me : ProcName) (p : Process) (call : UnixCall)
     (alike : LooksAlike true accounts f g p (path_of call)) where
-  -- So a call is refused alike,
+  -- A call is refused alike in both states.
   pub refused_alike : refused accounts f me p call ≡ refused accounts g me p call
   refused_alike = unmet_alike accounts f g me p (path_of call) true alike (Unit {0}) tt (rule call).needs (ordered accounts f me p call) refl
 
-  -- answered alike,
+  -- A call that is not refused is answered alike in both states.
   pub answer_alike : refused accounts f me p call ≡ None → answer f me p call ≡ answer g me p call
   answer_alike passes = given_alike accounts f g me p (path_of call) true alike refl (rule call).answer
       (may_be_revealed accounts f me p call passes)
 
-  -- and has the same reply.
+  -- A call has the same reply in both states.
   pub reply_alike : reply_by accounts f me (Some p) call ≡ reply_by accounts g me (Some p) call
   reply_alike = by (refused accounts f me p call) (refused accounts g me p call) refused_alike answer_alike
     where

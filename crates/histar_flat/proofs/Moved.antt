@@ -8,7 +8,7 @@ use Rattle.histar_flat.specs.FlatState.{moved}
 use Rattle.histar_flat.proofs.FileLemmas.{same_path_found}
 use Rattle.histar_flat.proofs.Under.{under_is_longer}
 
--- what doesn't lie below what was renamed leads where it led
+-- a path that doesn't lie below what was renamed leads where it led
 pub moved_aside : (old new r : Path) → under_path old r ≡ false → moved old new r ≡ r
 moved_aside old new [] out = refl
 moved_aside old new (n ∷ d) out = elim (same_path_found old (n ∷ d)) [
@@ -18,12 +18,12 @@ moved_aside old new (n ∷ d) out = elim (same_path_found old (n ∷ d)) [
       ap (λ t. cond t new (n ∷ moved old new d)) e.0 ∙ ap (λ (l : Path). n ∷ l) (moved_aside old new d above)
 ]
 
--- nothing leads elsewhere once `/` is called otherwise
+-- no path leads elsewhere once `/` is renamed
 pub moved_root : (new r : Path) → moved [] new r ≡ r
 moved_root new [] = refl
 moved_root new (n ∷ d) = ap (λ (l : Path). n ∷ l) (moved_root new d)
 
--- what lies below it has the new name in that place
+-- a path below what was renamed has the new name in its place
 pub moved_below : (old : Path) (name : Name) (r : Path) → 0 < length old → under_path old r ≡ true
     → moved old (name ∷ parent old) r ≡ slice_set r (length r - length old) name
 moved_below [] name r some h = absurd (omega (arith, some))

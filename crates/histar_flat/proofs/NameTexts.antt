@@ -1,4 +1,4 @@
--- The bytes of a name are a text.
+-- The bytes of a name are UTF-8.
 use Rattle.std.proofs.Common.{ℕ, ◌<◌, ◌&&◌, List, [], ◌∷◌, length, IsTrue, not, arith}
 use Rattle.std.specs.Prelude.{nat_le, nat_lt}
 use Rattle.std.specs.List.{All, list_all}
@@ -21,7 +21,7 @@ bytes_are_ascii (b ∷ bs) h =
     let parts = both_pass (is_name_byte b) (list_all is_name_byte bs) h in
     All-cons (λ c. c < 128) b bs (name_byte_is_ascii b parts.0) (bytes_are_ascii bs parts.1)
 
--- so a name is a text
+-- a name is UTF-8
 pub name_is_text : (bs : List ℕ) → IsTrue (is_name bs) → IsUtf8 bs
 unfolding is_name
 name_is_text bs h =

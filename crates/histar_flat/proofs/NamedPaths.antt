@@ -10,12 +10,12 @@ pub both_pass : (a b : Bool) → IsTrue (a && b) → IsTrue a × IsTrue b
 both_pass true b h = (refl, h)
 both_pass false b h = absurd cc
 
--- and together where each passes
+-- two tests that pass each pass together
 pub pass_both : (a b : Bool) → IsTrue a → IsTrue b → IsTrue (a && b)
 pass_both true b h k = k
 pass_both false b h k = absurd cc
 
--- a path has no more names than can be named
+-- a path has at most eight names
 pub path_is_short : (q : Path) → IsTrue (is_path q) → length q ≤ most_names
 path_is_short q right = by (nat_le (length q) most_names) refl (both_pass (nat_le (length q) most_names) (list_all is_name q) right).0
   where
@@ -23,11 +23,11 @@ path_is_short q right = by (nat_le (length q) most_names) refl (both_pass (nat_l
     by true e h = grind (arith, nat_tests, e)
     by false e h = absurd cc
 
--- and each of them is a name
+-- each name of a path is a name
 pub path_is_named : (q : Path) → IsTrue (is_path q) → IsTrue (list_all is_name q)
 path_is_named q right = (both_pass (nat_le (length q) most_names) (list_all is_name q) right).1
 
--- so many names are a path
+-- at most eight names are a path
 pub path_from_names : (q : Path) → length q ≤ most_names → IsTrue (list_all is_name q) → IsTrue (is_path q)
 path_from_names q short named = pass_both (nat_le (length q) most_names) (list_all is_name q) (by (nat_le (length q) most_names) refl) named
   where
@@ -35,7 +35,7 @@ path_from_names q short named = pass_both (nat_le (length q) most_names) (list_a
     by true e = refl
     by false e = absurd (grind (arith, nat_tests, e))
 
--- a name in the place of another
+-- a path stays one when a name is put in the place of another
 pub named_set : (q : Path) (i : ℕ) (name : List ℕ) → IsTrue (is_name name) → IsTrue (list_all is_name q)
     → IsTrue (list_all is_name (slice_set q i name))
 named_set [] i name right named = named

@@ -1,4 +1,4 @@
--- Numbers are read from the texts that they are written as, and from no others.
+-- Numbers are read from the texts in which they are written, and from no others.
 use Rattle.std.proofs.Common.{◌≡◌, ℕ, zero, suc, ◌+◌, ◌%◌, ◌^◌, ◌<◌, ◌≤◌, Bool, true, false, cond, ltb, leb, ◌&&◌, List, [], ◌∷◌, ◌++◌, Option, Some}
 use Rattle.std.proofs.Common.{None, Result, Ok, Err, refl, sym, ap, subst, ◌∙◌, arith}
 use Rattle.std.specs.List.{list_all}
@@ -23,11 +23,11 @@ use Rattle.histar_flat.specs.Words.{BeginsPlainly, number_of, is_child_number, m
 abbrev pub is_digit : ℕ → Bool
 is_digit b = leb 48 b && leb b 57
 
--- a byte between 0 and 9 is one
+-- a byte from 0 to 9 is a digit
 is_a_digit : (b : ℕ) → 48 ≤ b → b ≤ 57 → is_digit b ≡ true
 is_a_digit b low high = rw (le-leb 48 b low, le-leb b 57 high) refl
 
--- what is written of a number are digits
+-- the text of a number consists of digits
 pub decimal_digits : (n : ℕ) → n < 2 ^ 64 → list_all is_digit (decimal n) ≡ true
 decimal_digits n small = decimal_by_steps (λ m ds. list_all is_digit ds ≡ true) one more n small
   where
@@ -37,14 +37,14 @@ decimal_digits n small = decimal_by_steps (λ m ds. list_all is_digit ds ≡ tru
     more : (m : ℕ) (ds : List ℕ) → 10 ≤ m → list_all is_digit ds ≡ true → list_all is_digit (ds ++ (48 + m % 10) ∷ []) ≡ true
     more m ds l h = list_all-append is_digit ds ((48 + m % 10) ∷ []) ∙ rw (h, is_a_digit (48 + m % 10) (omega arith) (omega arith)) refl
 
--- a number that is written begins with its first digit, which is 0 for 0 alone
+-- the text of a number begins with its first digit, which is 0 for 0 alone
 decimal_begins : (n : ℕ) → n < 2 ^ 64 → BeginsPlainly (decimal n)
 decimal_begins zero small = let e = decimal_digit 0 (omega arith) in rw e (λ h. absurd (omega arith), λ h. refl)
 decimal_begins (suc n) small = let first = first_decimal (suc n) (omega arith) small in (λ h. absurd (omega arith), λ h. absurd (omega arith))
 
 -- ---- numbers that pass a test
 
--- a number that is read is written so, and passes
+-- a text that is read as a number is the text of that number, which passes the test
 pub number_takes : (test : ℕ → Bool) (text : List ℕ) (n : ℕ) → number_of test text ≡ Some n → (text ≡ decimal n) × (test n ≡ true)
 unfolding number_of
 number_takes test text n e =
@@ -53,7 +53,7 @@ number_takes test text n e =
     let p = and_parts (test m) (bytes_eq text (decimal m)) g.0 in
     ((bytes_eq-Decides text (decimal m)).0 p.1 ∙ ap decimal g.1, ap test (sym g.1) ∙ p.0)
 
--- and the other way
+-- the text of a number that passes the test is read as that number
 pub number_again : (test : ℕ → Bool) (n : ℕ) → n < 2 ^ 64 → test n ≡ true → number_of test (decimal n) ≡ Some n
 unfolding number_of
 number_again test n small passes =
@@ -84,7 +84,7 @@ narrowed narrow wide text wider = let m : ℕ = digits_value 10 text in by (narr
 
 -- ---- the numbers of 64 bits
 
--- the number that the bytes are, if it has 64 bits
+-- the number that the bytes spell, if it has 64 bits
 abbrev pub number_of_64_bits : List ℕ → Option ℕ
 number_of_64_bits = number_of (λ n. ltb n (2 ^ 64))
 
@@ -96,11 +96,11 @@ no_number text none = by (number_of_64_bits text) refl
     by None e = e
     by (Some n) e = let is = number_takes (λ n. ltb n (2 ^ 64)) text n e in absurd (none n (ltb-true n (2 ^ 64) is.1) is.0)
 
--- one that begins with a plus, or with a zero before other digits, is none
+-- a text that begins with a plus, or with a zero before other digits, is no number
 pub none_unless_plain : (text : List ℕ) → (BeginsPlainly text → ⊥) → number_of_64_bits text ≡ None
 none_unless_plain text h = no_number text (λ n small is. h (subst BeginsPlainly (sym is) (decimal_begins n small)))
 
--- nor is one that is no text
+-- bytes that are not UTF-8 are no number
 pub none_unless_text : (text : List ℕ) → (IsUtf8 text → ⊥) → number_of_64_bits text ≡ None
 none_unless_text text h = no_number text (λ n small is. h (subst IsUtf8 (sym is) (IsUtf8-from_ascii (decimal n) (IsAscii-decimal n small))))
 
@@ -108,7 +108,7 @@ none_unless_text text h = no_number text (λ n small is. h (subst IsUtf8 (sym is
 digits_model : IsNumeralModel (AllDigits 10) (digits_value 10)
 digits_model = record { to = λ ds h. h; from = λ ds h. h; same = λ ds h. refl }
 
--- on others `parse` answers the number
+-- on other texts `parse` returns the number
 pub parsed : {E : Type 0} (text : List ℕ) (r : Result ℕ E) → BeginsPlainly text → ParsesUnsigned 64 10 text r
     → result_ok r ≡ number_of_64_bits text
 parsed {E} text (Ok x) plain h =
@@ -122,7 +122,7 @@ parsed {E} text (Err e) plain h = sym (no_number text (λ n small is. let read =
 
 -- ---- numbers up to a greatest one, statuses and numbers of children
 
--- a number up to one of 64 bits is read among those of 64 bits
+-- a number up to a greatest one of 64 bits is read among those of 64 bits
 pub number_within : (greatest : ℕ) (text : List ℕ) → greatest < 2 ^ 64
     → number_of (λ n. leb n greatest) text ≡ if_passes (λ n. leb n greatest) (number_of_64_bits text)
 number_within greatest text fits =
@@ -133,6 +133,6 @@ pub child_number_within : (text : List ℕ)
     → number_of is_child_number text ≡ if_passes is_child_number (number_of (λ n. leb n most_children) text)
 child_number_within text = narrowed is_child_number (λ n. leb n most_children) text (λ n h. (and_parts (leb 1 n) (leb n most_children) h).1)
 
--- a child's number is small
+-- a child's number is one of 64 bits
 pub child_number_small : (n : ℕ) → is_child_number n ≡ true → n < 2 ^ 64
 child_number_small n h = let most = leb-true n most_children (and_parts (leb 1 n) (leb n most_children) h).1 in omega (arith, most)

@@ -1,4 +1,4 @@
--- A list fits in an array that is filled up.
+-- Padded arrays: the list in front, and items that are put in.
 use Rattle.std.proofs.Common.{◌≡◌, ℕ, zero, suc, ◌+◌, ◌-◌, ◌≤◌, ◌<◌, List, [], ◌∷◌, ◌++◌, length, take, drop, replicate, slice_set, refl, sym, ap}
 use Rattle.std.proofs.Common.{◌∙◌, arith, length-append}
 use Rattle.std.proofs.lemmas.List.{length-replicate, length-drop, take_at, take-replicate, set-append_left, length-set}
@@ -6,7 +6,7 @@ use Rattle.std.proofs.Math.Seq.{take-set-lt}
 use Rattle.histar_flat.specs.Padding.{padded, IsPadded}
 use Rattle.histar_flat.specs.PaddingLaws.{length-kept}
 
--- the list stands at the front
+-- the list is at the front of its padded array
 pub take-padded : {A : Type 0} (places : ℕ) (fill : A) (items : List A) → take (length items) (padded places fill items) ≡ items
 unfolding padded
 take-padded places fill items = take_at items (replicate (places - length items) fill) (length items) refl
@@ -22,7 +22,7 @@ length-padded {A} places fill items short =
           (places - length items) fill,
     )
 
--- an array that is filled up is padded
+-- a padded array is one that holds its list
 pub padded_fits : {A : Type 0} (places : ℕ) (fill : A) (items : List A) → length items ≤ places
     → IsPadded places fill (padded places fill items) (length items)
 padded_fits places fill items short = record {
@@ -31,20 +31,20 @@ padded_fits places fill items short = record {
   filled = ap (padded places fill) (take-padded places fill items);
 }
 
--- an item in the place of the one in front
+-- an item replaces the first one
 fronted : {A : Type 0} (item : A) (front rest : List A) → length front ≡ 1 → slice_set (front ++ rest) 0 item ≡ item ∷ rest
 fronted item [] rest one = absurd (omega (arith, one))
 fronted item (x ∷ []) rest one = refl
 fronted item (x ∷ y ∷ xs) rest one = absurd (omega (arith, one))
 
--- one more item in one more place
+-- one more item takes one more place
 padded_more : {A : Type 0} (places : ℕ) (fill item : A) (items : List A) → padded (suc places) fill (item ∷ items) ≡ item ∷ padded places fill items
 unfolding padded
 padded_more {A} places fill item items =
     let left : suc places - suc (length items) ≡ places - length items = omega arith in
     ap (λ n. item ∷ items ++ replicate n fill) left
 
--- one place less of an array without items
+-- the unused places are the same with one place less
 take_unused : {A : Type 0} (places : ℕ) (fill : A) → take places (padded (suc places) fill []) ≡ padded places fill []
 unfolding padded
 take_unused places fill =
@@ -52,7 +52,7 @@ take_unused places fill =
     let rest : places - 0 ≡ places = omega arith in
     rw (whole, rest) (take-replicate places (suc places) fill (omega arith))
 
--- one place less is filled up
+-- a padded array with one place less is padded
 take_less : {A : Type 0} (places : ℕ) (fill : A) (items : List A) → length items ≤ places
     → take places (padded (suc places) fill items) ≡ padded places fill items
 take_less places fill [] short = take_unused places fill
@@ -61,7 +61,7 @@ take_less (suc places) fill (x ∷ xs) short =
     ap (take (suc places)) (padded_more (suc places) fill x xs)
     ∙ ap (λ l. x ∷ l) (take_less places fill xs (omega arith)) ∙ sym (padded_more places fill x xs)
 
--- the last place comes to the front and takes an item
+-- the last place is moved to the front and takes an item
 front_made : {A : Type 0} (places : ℕ) (fill item : A) (items : List A) (len : ℕ) → IsPadded (suc places) fill items len → len ≤ places
     → slice_set (drop (length items - 1) items ++ take (length items - 1) items) 0 item ≡ padded (suc places) fill (item ∷ take len items)
 front_made places fill item items len is room =
@@ -73,12 +73,12 @@ front_made places fill item items len is room =
     rw last (fronted item (drop places items) (take places items) one ∙ ap (λ l. item ∷ l) front
     ∙ sym (padded_more places fill item (take len items)))
 
--- with it there is one item more
+-- the front then has one item more
 one_more : {A : Type 0} (places : ℕ) (fill item : A) (items : List A) (len : ℕ) → IsPadded (suc places) fill items len
     → length (item ∷ take len items) ≡ len + 1
 one_more places fill item items len is = omega (arith, length-kept (suc places) fill items len is)
 
--- so the array is filled up
+-- a padded array stays padded when an item is put in front
 pub padded_front : {A : Type 0} (places : ℕ) (fill item : A) (items : List A) (len : ℕ) → IsPadded (suc places) fill items len → len ≤ places
     → IsPadded (suc places) fill (slice_set (drop (length items - 1) items ++ take (length items - 1) items) 0 item) (len + 1)
 padded_front places fill item items len is room =
@@ -86,7 +86,7 @@ padded_front places fill item items len is room =
     let made = front_made places fill item items len is room in
     rw (made, ← more) (padded_fits (suc places) fill (item ∷ take len items) (omega (arith, more)))
 
--- and holds the item and then those before
+-- it then holds the item and those before
 pub take_front : {A : Type 0} (places : ℕ) (fill item : A) (items : List A) (len : ℕ) → IsPadded (suc places) fill items len → len ≤ places
     → take (len + 1) (slice_set (drop (length items - 1) items ++ take (length items - 1) items) 0 item) ≡ item ∷ take len items
 take_front places fill item items len is room =
@@ -94,7 +94,7 @@ take_front places fill item items len is room =
     let made = front_made places fill item items len is room in
     rw (made, ← more) (take-padded (suc places) fill (item ∷ take len items))
 
--- an item in the place of another
+-- a padded array stays padded when an item replaces another
 pub padded_set : {A : Type 0} (places : ℕ) (fill item : A) (items : List A) (len i : ℕ) → IsPadded places fill items len
     → i < len → IsPadded places fill (slice_set items i item) len
 unfolding padded

@@ -3,7 +3,7 @@ use Rattle.std.proofs.Common.{◌≡◌, ℕ, zero, suc, ◌-◌, ◌<◌, Bool,
 use Rattle.std.proofs.lemmas.Option.{cond_some}
 use Rattle.histar_flat.specs.Words.{Name, Path, is_name, slash, split_at_first, name_of, path_from}
 
--- what is no name leads to no path
+-- a word that is no name leads to no path
 pub no_name : (most : ℕ) (directory : Path) (bs : List ℕ) → name_of (split_at_first slash bs).0 ≡ None → path_from most directory bs ≡ None
 unfolding path_from
 no_name zero directory bs none = refl
@@ -23,7 +23,7 @@ last_name (suc most) directory bs name some is end =
     let named = cond_some (is_name (split_at_first slash bs).0) (split_at_first slash bs).0 name is in
     rw (named.0, end, named.1) refl
 
--- a name with a slash after it is that of a directory
+-- a name with a slash after it is a directory's, and the path goes on from there
 pub next_name : (most : ℕ) (directory : Path) (bs rest : List ℕ) (name : Name) → 0 < most
     → name_of (split_at_first slash bs).0 ≡ Some name → (split_at_first slash bs).1 ≡ Some rest
     → path_from most directory bs ≡ path_from (most - 1) (name ∷ directory) rest

@@ -1,4 +1,4 @@
--- A private file and the processes of others: one call.
+-- A private file and one call of another user's process.
 use Rattle.std.specs.Prelude.{◌≡◌, ◌≢◌, ℕ, true, false, not, ◌&&◌, cond, List, ◌∷◌, length, nat_le, Some, None, refl}
 use Rattle.std.proofs.Common.{ap, sym, ◌∙◌, inl, inr}
 use Rattle.std.proofs.lemmas.Bool.{true≢false, cases_Bool}
@@ -21,7 +21,7 @@ use Rattle.histar_flat.proofs.Renaming.{stays, get_renamed}
 use Rattle.histar_flat.proofs.Changes.{EachChange, by_line}
 use Rattle.histar_flat.proofs.Trees.{nothing_below}
 
--- what is written may be written
+-- a file that a call writes may be written
 pub written_is_writable : (accounts : Accounts) (f : Flat) (me : ProcName) (p : Process) (r : Path) (bytes : List ℕ)
     → refused accounts f me p (Write r bytes) ≡ None → writes accounts f p r ≡ true
 written_is_writable accounts f me p r bytes h =
@@ -30,16 +30,16 @@ written_is_writable accounts f me p r bytes h =
     (passes_later (no_file accounts f p r) (unless (writes accounts f p r) EACCES orelse short) h))
 
 module _ (f : Flat) (q : Path) (owner : Name) (bytes : List ℕ) (h : get f.files q ≡ Some (private_file owner bytes)) where
-  -- where nothing stands is elsewhere
+  -- a path with nothing is another one
   pub elsewhere : (r : Path) → get f.files r ≡ None → q ≢ r
   elsewhere r free e = let gone : Some (private_file owner bytes) ≡ None = sym h ∙ ap (get f.files) e ∙ free in absurd (cc)
 
   module _ (accounts : Accounts) where
-    -- nor write it
+    -- a process of another user may not write the file
     private_is_unwritten : (p : Process) → same p.user owner ≡ false → writes accounts f p q ≡ false
     private_is_unwritten p other = ap (λ o. is_some_and o (λ n. may_write accounts p n.class)) h ∙ ap (λ b. b && is_free p) other
 
-    -- so what it writes is elsewhere
+    -- what such a process may write is another path
     pub written_elsewhere : (p : Process) (r : Path) → same p.user owner ≡ false → writes accounts f p r ≡ true → q ≢ r
     written_elsewhere p r other w e = true≢false (sym w ∙ ap (writes accounts f p) (sym e) ∙ private_is_unwritten p other)
 
@@ -67,7 +67,7 @@ module _ (f : Flat) (q : Path) (owner : Name) (bytes : List ℕ) (h : get f.file
       wraps = λ n d is walked free w named. get_other f.files (n ∷ d) _ q (elsewhere (n ∷ d) free) ∙ h;
     }
 
-  -- In a tree a call of a process that is not the owner's leaves a private file as it is, unless it takes it away or renames it.
+  -- In a tree a call of a process that is not the owner's leaves a private file as it is, unless it removes or renames it.
   pub private_file_stays : IsTree f → (accounts : Accounts) (me : ProcName) (call : UnixCall)
       → runs_for f me owner ≡ false → takes_away call q ≡ false
       → get (flat_after accounts f me call).files q ≡ Some (private_file owner bytes)

@@ -1,4 +1,4 @@
--- Kills take a child and all below it, exits end one process alone, and who is gone stays gone.
+-- Kills take a child and all below it, exits end one process alone, and a process that is gone stays gone.
 use Rattle.std.specs.Prelude.{◌≡◌, ℕ, ◌+◌, Bool, true, false, cond, [], ◌∷◌, ◌++◌, Some, None, refl}
 use Rattle.std.proofs.Common.{ap, inl, inr, sym, ◌∙◌}
 use Rattle.std.proofs.lemmas.Bool.{true≢false}
@@ -38,7 +38,7 @@ kills_take_their_tree accounts f me name done =
       takes_its_tree f name (flat_after accounts f me (Kill name)) (changed_after accounts f me (Kill name) Done is),
     )
 
--- with this status, the process has exited alone
+-- a process that is given a status has exited alone
 exits_alone : (f : Flat) (me : ProcName) (p : Process) (status : ℕ) (after : Flat) → f.processes me ≡ Some p
     → after ≡ with_process f me (record p { exited = Some status }) → ExitsAlone f me status after
 exits_alone f me p status after here e = record {
@@ -57,14 +57,14 @@ exits_alone f me p status after here e = record {
   files = ap (λ (g : Flat). g.files) e;
 }
 
--- An exit that is done is that of its process alone.
+-- An exit that is done ends its process alone.
 pub exits_leave_children : ExitsLeaveChildren
 exits_leave_children accounts f me status done =
     let is = is_answered accounts f me (Exit status) Done (λ e. cc) (λ e d. cc) done in
     exits_alone f me is.process status (flat_after accounts f me (Exit status))
     (runs_is_there (f.processes me) is.process is.runs) (changed_after accounts f me (Exit status) Done is)
 
--- ---- who is gone
+-- ---- processes that are gone
 
 -- A process that doesn't run is answered `gone`, and changes nothing.
 pub gone_change_nothing : GoneChangeNothing
@@ -76,14 +76,14 @@ module _ (accounts : Accounts) (f : Flat) (me : ProcName) (given : is_given f.pr
   IsGone g = running g me ≡ None
 
   module _ (caller : ProcName) (p : Process) (runs : running f caller ≡ Some p) where
-    -- who is gone doesn't call
+    -- a caller is not the process that is gone
     another : same caller me ≡ false
     another = elim (same_name_found caller me) [
       | inl i ↦ let both : Some p ≡ None = sym runs ∙ ap (running f) i.1 ∙ gone in absurd (cc)
       | inr i ↦ i.0
     ]
 
-    -- nor is who is gone the next child
+    -- the next child is not the process that is gone
     unborn : same (next_child caller p) me ≡ false
     unborn = elim (same_name_found (next_child caller p) me) [
       | inl i ↦
@@ -92,15 +92,15 @@ module _ (accounts : Accounts) (f : Flat) (me : ProcName) (given : is_given f.pr
       | inr i ↦ i.0
     ]
 
-    -- a change of the caller leaves it gone
+    -- a change of the caller leaves the process gone
     gone_with : (q : Process) → IsGone (with_process f caller q)
     gone_with q = ap (λ b. if_running (cond b (Some q) (f.processes me))) another ∙ gone
 
-    -- and so does a birth
+    -- a birth leaves the process gone
     gone_at_birth : (q child : Process) → IsGone (with_process (with_process f caller q) (next_child caller p) child)
     gone_at_birth q child = ap (λ b. if_running (cond b (Some child) ((with_process f caller q).processes me))) unborn ∙ gone_with q
 
-    -- and a kill
+    -- a kill leaves the process gone
     gone_without : (b : Bool) → if_running (cond b None (f.processes me)) ≡ None
     gone_without true = refl
     gone_without false = gone
@@ -121,11 +121,11 @@ module _ (accounts : Accounts) (f : Flat) (me : ProcName) (given : is_given f.pr
           (record { user = p.user; chain = inner_chain caller p; held = []; exited = None; born = 0 });
     }
 
-  -- a line leaves it gone
+  -- a line leaves the process gone
   gone_after : (caller : ProcName) (call : UnixCall) → IsGone (flat_after accounts f caller call)
   gone_after caller call = by_line accounts f caller call IsGone gone (λ p runs. gone_changes caller p runs call)
 
--- Who doesn't run, and whose name was given, never runs again.
+-- A process that doesn't run, and whose name was given, never runs again.
 pub gone_stay_gone : GoneStayGone
 gone_stay_gone accounts f me [] given gone = gone
 gone_stay_gone accounts f me (c ∷ calls) given gone =

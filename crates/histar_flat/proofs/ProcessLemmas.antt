@@ -2,7 +2,7 @@
 use Rattle.std.proofs.Common.{◌≡◌, ℕ, zero, suc, ◌-◌, ◌<◌, List, ◌∷◌, Option, Some, None, refl, sym, ap, ◌∙◌, arith}
 use Rattle.histar_flat.specs.Words.{ProcName, dot, split_at_first, number_of, is_child_number, process_from}
 
--- what a number that is read, and what follows it, lead to
+-- the process that a number, if it is read, and what follows it lead to
 abbrev pub next_from : ℕ → ProcName → Option ℕ → Option (List ℕ) → Option ProcName
 next_from most above number after = elim number [ None ↦ None | Some n ↦ process_from most (n ∷ above) after ]
 
@@ -13,14 +13,14 @@ pub from_first : (most : ℕ) (above : ProcName) (bs : List ℕ)
 unfolding process_from
 from_first most above bs = refl
 
--- what is no child's number leads to no process
+-- a word that is no child's number leads to no process
 pub no_number : (most : ℕ) (above : ProcName) (bs : List ℕ) → number_of is_child_number (split_at_first dot bs).0 ≡ None
     → process_from most above (Some bs) ≡ None
 unfolding process_from
 no_number zero above bs none = refl
 no_number (suc most) above bs none = from_first most above bs ∙ ap (λ number. next_from most above number (split_at_first dot bs).1) none
 
--- a number leads to a child, and from there on
+-- a number leads to a child, and the name is read on from there
 pub next_number : (most : ℕ) (above : ProcName) (bs : List ℕ) (n : ℕ) → 0 < most
     → number_of is_child_number (split_at_first dot bs).0 ≡ Some n
     → process_from most above (Some bs) ≡ process_from (most - 1) (n ∷ above) (split_at_first dot bs).1
@@ -31,13 +31,13 @@ next_number (suc most) above bs n some is =
     ∙ ap (λ number. next_from most above number (split_at_first dot bs).1) is
     ∙ ap (λ k. process_from k (n ∷ above) (split_at_first dot bs).1) (sym left)
 
--- no number leads on from a process
+-- a name that ends leads to the process reached
 pub no_more : (most : ℕ) (above : ProcName) → process_from most above None ≡ Some above
 unfolding process_from
 no_more zero above = refl
 no_more (suc most) above = refl
 
--- no name has one more number than the most
+-- a name with too many numbers leads to no process
 pub too_many : (above : ProcName) (bs : List ℕ) → process_from 0 above (Some bs) ≡ None
 unfolding process_from
 too_many above bs = refl

@@ -1,4 +1,4 @@
--- What stands at each path once an entry has another name.
+-- What is at each path once an entry has another name.
 use Rattle.std.specs.Prelude.{◌≡◌, ◌≢◌, Bool, true, false, ◌||◌, ◌&&◌, not, cond, List, [], ◌∷◌, map, Option, Some, None, refl}
 use Rattle.std.specs.List.{list_all}
 use Rattle.std.proofs.Common.{ap, ◌⊎◌, inl, inr, sym, ◌∙◌, subst}
@@ -37,7 +37,7 @@ disjoint n k d (y ∷ x) ne u = elim (same_path_found (n ∷ d) (y ∷ x)) [
       ∙ disjoint n k d x ne v
 ]
 
--- a path that isn't below `old` stays
+-- a path that isn't below `old` leads where it led
 pub stays : (old new r : Path) → under_path old r ≡ false → moved old new r ≡ r
 stays old new [] u = refl
 stays old new (x ∷ e) u =
@@ -48,7 +48,7 @@ module _ (n k : Name) (d : Path) (ne : n ≢ k) where
   abbrev there : Path → Path
   there = moved (n ∷ d) (k ∷ d)
 
-  -- what is below `old` goes below `new`
+  -- a path below `old` leads below `new`
   goes : (r : Path) → under_path (n ∷ d) r ≡ true → under_path (k ∷ d) (there r) ≡ true
   goes [] u = absurd (true≢false (sym u))
   goes (x ∷ e) u = elim (same_path_found (n ∷ d) (x ∷ e)) [
@@ -58,7 +58,7 @@ module _ (n k : Name) (d : Path) (ne : n ≢ k) where
         ap (λ b. under_path (k ∷ d) (cond b (k ∷ d) (x ∷ there e))) t.0 ∙ under_child same same_path_found (k ∷ d) (there e) x (goes e v)
   ]
 
-  -- and comes back
+  -- a path below `old` comes back by the opposite rename
   back : (r : Path) → under_path (n ∷ d) r ≡ true → moved (k ∷ d) (n ∷ d) (there r) ≡ r
   back [] u = absurd (true≢false (sym u))
   back (x ∷ e) u = elim (same_path_found (n ∷ d) (x ∷ e)) [
@@ -74,7 +74,7 @@ module _ (n k : Name) (d : Path) (ne : n ≢ k) where
         ∙ ap (λ (z : Path). x ∷ z) (back e v)
   ]
 
-  -- nothing ends below `old`
+  -- no path leads below `old`
   pub leaves : (r : Path) → under_path (n ∷ d) (there r) ≡ false
   leaves r = elim (cases_Bool (under_path (n ∷ d) r)) [
     | inl u ↦ disjoint k n d (there r) (λ e. ne (sym e)) (goes r u)
@@ -91,7 +91,7 @@ module _ (n k : Name) (d : Path) (ne : n ≢ k) where
   abbrev to : Path → Path
   to = moved (n ∷ d) (k ∷ d)
 
-  -- the path that ends at q, where there is one
+  -- the path that leads to q, if there is one
   abbrev from : Path → Path
   from = moved (k ∷ d) (n ∷ d)
 

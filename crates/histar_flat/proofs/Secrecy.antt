@@ -1,4 +1,4 @@
--- No reply to others tells what a file holds that is its owner's alone, or a group's: one call, and a whole run.
+-- No reply to others reveals the bytes of a private file or of a group's file: for one call, and for a whole run.
 use Rattle.std.specs.Prelude.{◌≡◌, ◌+◌, ℕ, Bool, true, false, not, cond, List, [], ◌∷◌, ◌++◌, map, Option, Some, None, option_map, refl}
 use Rattle.std.proofs.Common.{ap, sym, ◌∙◌, subst, inl, inr}
 use Rattle.std.proofs.lemmas.Bool.{true≢false, and_parts, not-true}
@@ -31,7 +31,7 @@ use Rattle.histar_flat.proofs.Warrants.{warranted}
 use Rattle.histar_flat.proofs.LooksAlike.{LooksAlike, refused_alike, reply_alike}
 use Rattle.histar_flat.proofs.Alike.{ShowAlike, looks_alike}
 
--- a file or a directory without the bytes that are secret
+-- the content of a file or a directory, without the bytes if they are secret
 abbrev pub veiled_content : Bool → Content → Content
 veiled_content hides Dir = Dir
 veiled_content hides (File bytes) = File (cond hides [] bytes)
@@ -39,18 +39,18 @@ veiled_content hides (File bytes) = File (cond hides [] bytes)
 abbrev pub veiled : (Class → Bool) → Node → Node
 veiled secret n = record { class = n.class; content = veiled_content (secret n.class) n.content }
 
--- two states that differ in secret bytes alone
+-- two states that differ only in secret bytes
 pub record IsAlikeBut (secret : Class → Bool) (f g : Flat) : Type 0 where
   pub files : (r : Path) → option_map (veiled secret) (get f.files r) ≡ option_map (veiled secret) (get g.files r)
   pub processes : f.processes ≡ g.processes
 
--- who is none of these readers may read nothing that is secret, and write nothing
+-- a process that is none of these readers may neither read nor write what is secret
 pub record AreKept (accounts : Accounts) (secret : Class → Bool) (readers : Process → Bool) : Type 0 where
   pub unread : (p : Process) (class : Class) → readers p ≡ false → may_read accounts p class ≡ true → not (secret class) ≡ true
   pub unwritten : (p : Process) (class : Class) → readers p ≡ false → may_write accounts p class ≡ true → not (secret class) ≡ true
 
 module _ (accounts : Accounts) (secret : Class → Bool) (readers : Process → Bool) (kept : AreKept accounts secret readers) where
-  -- the veil leaves the class and the kind
+  -- the veil keeps the class and the kind
   shown_through : (n : Node) → shown (veiled secret n) ≡ shown n
   shown_through n = by n.content
     where
@@ -60,12 +60,12 @@ module _ (accounts : Accounts) (secret : Class → Bool) (readers : Process → 
       by Dir = refl
       by (File bytes) = refl
 
-  -- what stands there shows as much through the veil
+  -- the veil keeps what `stat` shows
   option_shown_through : (o : Option Node) → option_map shown (option_map (veiled secret) o) ≡ option_map shown o
   option_shown_through None = refl
   option_shown_through (Some n) = ap Some (shown_through n)
 
-  -- the veil leaves bytes that are not secret
+  -- the veil keeps bytes that are not secret
   bytes_through : (o : Option Node) → is_some_and o (λ n. not (secret n.class)) ≡ true → bytes_of (option_map (veiled secret) o) ≡ bytes_of o
   bytes_through None h = refl
   bytes_through (Some n) h = by n.content
@@ -76,20 +76,20 @@ module _ (accounts : Accounts) (secret : Class → Bool) (readers : Process → 
       by Dir = refl
       by (File bytes) = ap (λ b. cond b [] bytes) (not-true (secret n.class) h)
 
-  -- a test that follows from another
+  -- a node that passes a test passes one that follows from it
   test_follows : (test later : Node → Bool) → ((n : Node) → test n ≡ true → later n ≡ true) → (o : Option Node)
       → is_some_and o test ≡ true → is_some_and o later ≡ true
   test_follows test later follows None h = absurd (true≢false (sym h))
   test_follows test later follows (Some n) h = follows n h
 
-  -- the same class
+  -- the two nodes have the same class
   class_alike : (a b : Option Node) → option_map (veiled secret) a ≡ option_map (veiled secret) b → class_of a ≡ class_of b
   class_alike None None h = refl
   class_alike None (Some n) h = absurd (cc)
   class_alike (Some m) None h = absurd (cc)
   class_alike (Some m) (Some n) h = let e : veiled secret m ≡ veiled secret n = cc in ap (λ x. x.class) e
 
-  -- what a test leaves is told alike
+  -- choices by the same test stay alike
   chosen_alike : {X : Type 0} (revealed : X → Node) (b : Bool) (x y u v : Option X)
       → option_map revealed x ≡ option_map revealed u → option_map revealed y ≡ option_map revealed v
       → option_map revealed (cond b x y) ≡ option_map revealed (cond b u v)
@@ -113,7 +113,7 @@ module _ (accounts : Accounts) (secret : Class → Bool) (readers : Process → 
         test (Some m) None e = absurd (cc)
         test (Some m) (Some n) e = let v : veiled secret m ≡ veiled secret n = cc in ap (λ x. not (secret x.class)) v
 
-    -- the same, or as much the same, at a path
+    -- states stay alike when the same node is put at a path
     put_alike : (r : Path) (x y : Node) → x ≡ y → (q : Path)
         → option_map (veiled secret) (get (insert f.files r x) q)
         ≡ option_map (veiled secret) (get (insert g.files r y) q)
@@ -131,7 +131,7 @@ module _ (accounts : Accounts) (secret : Class → Bool) (readers : Process → 
         ∙ chosen_alike (veiled secret) (not (under_path r q)) (get f.files q) None (get g.files q) None (alike.files q) refl
         ∙ ap (option_map (veiled secret)) (sym (get-keep g.files (λ t. not (under_path r t)) q))
 
-    -- a rename moves both alike
+    -- states stay alike when a rename is done in both
     renamed_alike : (old new q : Path)
         → option_map (veiled secret) (get (with_renamed f old new).files q)
         ≡ option_map (veiled secret) (get (with_renamed g old new).files q)
@@ -173,7 +173,7 @@ module _ (accounts : Accounts) (secret : Class → Bool) (readers : Process → 
         processes = alike.processes;
       }
 
-      -- an effect of another user's process leaves them alike
+      -- an effect of another user's process leaves the states alike
       applied_alike : (q : Path) (effect : Effect) → Warrant accounts f me p q effect
           → IsAlikeBut secret (apply accounts f me p q effect) (apply accounts g me p q effect)
       applied_alike q Nothing may = alike
@@ -209,7 +209,7 @@ module _ (accounts : Accounts) (secret : Class → Bool) (readers : Process → 
           by None i = refl
           by (Some p) i = reply_alike accounts f g me p call (both_look_alike me p i (path_of call))
 
-      -- It leaves states that differ in these bytes alone.
+      -- It leaves states that differ only in these bytes.
       pub flat_after_alike : IsAlikeBut secret (flat_after accounts f me call) (flat_after accounts g me call)
       flat_after_alike =
           subst
@@ -224,7 +224,7 @@ module _ (accounts : Accounts) (secret : Class → Bool) (readers : Process → 
 
 -- while none of these users is there
 module _ (accounts : Accounts) (secret : Class → Bool) (users : Name → Bool) (kept : AreKept accounts secret (λ p. users p.user)) where
-  -- a process of another user is of none of these, whether it runs or not
+  -- a process of another user is of none of these users, whether it runs or not
   other_is_away : (p : Process) → users p.user ≡ false → is_some_and (if_running (Some p)) (λ r. users r.user) ≡ false
   other_is_away p h = by p.exited
     where
@@ -273,7 +273,7 @@ module _ (accounts : Accounts) (secret : Class → Bool) (users : Name → Bool)
       by_line accounts f me call (AreAway users) away (λ p runs.
       away_changes f me p call away (sym (ap (λ r. is_some_and r (λ p. users p.user)) runs) ∙ away me) quiet)
 
-  -- while no process is of one of these users, the replies are the same in two states that differ in secret bytes alone
+  -- while no process is of one of these users, the replies are the same in two states that differ only in secret bytes
   all_replies_alike : (f g : Flat) → IsAlikeBut secret f g → AreAway users f → (calls : List CallLine)
       → has_no_login_of users calls ≡ true → answered_from accounts f calls ≡ answered_from accounts g calls
   all_replies_alike f g alike away [] h = refl
@@ -286,7 +286,7 @@ module _ (accounts : Accounts) (secret : Class → Bool) (users : Name → Bool)
       (stays_away f c.process c.call away quiet) calls parts.1 in
       λ i. record { call = c; reply = here i } ∷ rest i
 
--- whatever bytes stand in a file that is secret, the states differ in secret bytes alone
+-- two states with different bytes in a secret file differ only in secret bytes
 pub other_bytes_alike : (secret : Class → Bool) (f : Flat) (q : Path) (class : Class) (bytes other : List ℕ)
     → secret class ≡ true → get f.files q ≡ Some (record { class = class; content = File bytes })
     → IsAlikeBut secret f (with_bytes f q other)
@@ -306,7 +306,7 @@ other_bytes_alike secret f q class bytes other hides h = record {
     is_veiled : (b : List ℕ) → veiled secret (record { class = class; content = File b }) ≡ record { class = class; content = File [] }
     is_veiled b = ap (λ t. record { class = class; content = File (cond t [] b) }) hides
 
--- a name is itself
+-- a name is the same as itself
 same_self : (name : Name) → same name name ≡ true
 same_self name = elim (same_name_found name name) [
   | inl e ↦ e.0
@@ -318,7 +318,7 @@ abbrev is_private_of : Name → Class → Bool
 is_private_of owner (Private o) = same o owner
 is_private_of owner _ = false
 
--- what is for its owner alone is kept from others
+-- a private class is kept from processes of other users
 private_is_kept : (accounts : Accounts) (owner : Name) → AreKept accounts (is_private_of owner) (λ p. same p.user owner)
 private_is_kept accounts owner = record { unread = unread; unwritten = unwritten }
   where
@@ -344,7 +344,7 @@ abbrev is_class_of_group : Name → Class → Bool
 is_class_of_group group (Grouped g) = same g group
 is_class_of_group group _ = false
 
--- what is a group's is kept from who is no member
+-- a group's class is kept from processes of users that are no members
 group_is_kept : (accounts : Accounts) (group : Name) → AreKept accounts (is_class_of_group group) (λ p. is_member accounts p.user group)
 group_is_kept accounts group = record { unread = unread; unwritten = unwritten }
   where
@@ -367,19 +367,19 @@ group_is_kept accounts group = record { unread = unread; unwritten = unwritten }
     unwritten p (Scratch o jobs) other h = refl
     unwritten p (Grouped g) other h = unread p (Grouped g) other (and_parts (is_member accounts p.user g) (is_free p) h).0
 
--- no reply tells others what a private file holds, until its owner logs in
+-- no reply reveals the bytes of a private file to others, until its owner logs in
 pub private_bytes_are_hidden : PrivateBytesAreHidden
 private_bytes_are_hidden owner accounts f q bytes other calls h away quiet =
     all_replies_alike accounts (is_private_of owner) (λ name. same name owner) (private_is_kept accounts owner) f (with_bytes f q other)
     (other_bytes_alike (is_private_of owner) f q (Private owner) bytes other (same_self owner) h) away calls quiet
 
--- no reply tells who is no member what a file of a group holds
+-- no reply to a process of a user that is no member reveals the bytes of a group's file
 pub group_bytes_are_hidden : GroupBytesAreHidden
 group_bytes_are_hidden group accounts f q bytes other me call h outside =
     reply_to_alike accounts (is_class_of_group group) (λ p. is_member accounts p.user group) (group_is_kept accounts group) f (with_bytes f q other)
     (other_bytes_alike (is_class_of_group group) f q (Grouped group) bytes other (same_self group) h) me call outside
 
--- and none does until a member logs in
+-- no reply reveals the bytes of a group's file, until a member logs in
 pub group_bytes_stay_hidden : GroupBytesStayHidden
 group_bytes_stay_hidden group accounts f q bytes other calls h away quiet =
     all_replies_alike accounts (is_class_of_group group) (λ name. is_member accounts name group)

@@ -1,4 +1,4 @@
--- Texts that are parted at their first separator: where the part before it ends, and texts that lack it.
+-- Texts that are split at their first separator: where the part before it ends, and texts that lack it.
 use Rattle.std.proofs.Common.{rules, ◌≡◌, ℕ, zero, suc, ◌<◌, Bool, true, false, not, eqb, List, [], ◌∷◌, ◌++◌, length, take, drop, Some, None, refl}
 use Rattle.std.proofs.Common.{arith}
 use Rattle.std.specs.List.{list_all}
@@ -10,7 +10,7 @@ use Rattle.histar_flat.specs.Words.{split_at_first}
 pub head_fails : (a b : ℕ) (bs : List ℕ) (k : ℕ) → 0 < k → Nowhere (Passes (is_byte a) (b ∷ bs)) 0 k → eqb b a ≡ false
 head_fails a b bs k lt none = false_from_ne_true (eqb b a) (λ h. none 0 (omega arith) lt h)
 
--- the byte stands nowhere in the rest
+-- the byte is nowhere in the rest
 pub tail_nowhere : (a b : ℕ) (bs : List ℕ) (k : ℕ) → Nowhere (Passes (is_byte a) (b ∷ bs)) 0 (suc k) → Nowhere (Passes (is_byte a) bs) 0 k
 tail_nowhere a b bs k none i low high h = none (suc i) (omega arith) (omega arith) h
 
@@ -34,7 +34,7 @@ split_whole a (b ∷ bs) none =
 abbrev pub lacks : ℕ → List ℕ → Bool
 lacks separator text = list_all (λ b. not (eqb b separator)) text
 
--- bytes that are no separator end at the separator after them
+-- bytes without a separator end at the separator after them
 pub split_before : (a : ℕ) (text rest : List ℕ) → lacks a text ≡ true → split_at_first a (text ++ a ∷ rest) ≡ (text, Some rest)
 unfolding split_at_first
 split_before a [] rest h = rw (same a) refl
@@ -45,7 +45,7 @@ split_before a (b ∷ bs) rest h =
     let p = and_parts (not (eqb b a)) (lacks a bs) h in
     rw (not-true (eqb b a) p.0, split_before a bs rest p.1) refl
 
--- bytes that are no separator are one part
+-- bytes without a separator are one part
 pub split_alone : (a : ℕ) (text : List ℕ) → lacks a text ≡ true → split_at_first a text ≡ (text, None)
 unfolding split_at_first
 split_alone a [] h = refl

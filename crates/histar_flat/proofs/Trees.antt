@@ -1,4 +1,4 @@
--- The paths of a state are a tree, and stay so.
+-- The paths of a state are a tree, and each call keeps them one.
 use Rattle.std.specs.Prelude.{◌≡◌, ◌≢◌, Bool, true, false, not, ◌||◌, cond, List, [], ◌∷◌, Option, Some, None, refl}
 use Rattle.std.proofs.Common.{◌⊎◌, ap, inl, inr, sym, ◌∙◌, subst}
 use Rattle.std.proofs.lemmas.Bool.{true≢false, or_parts, not-true}
@@ -35,7 +35,7 @@ there_or_nothing : (o : Option Node) → (is_some_and o (λ n. true) ≡ true) �
 there_or_nothing None = inr refl
 there_or_nothing (Some n) = inl refl
 
--- a file is there, and is no directory
+-- a file is something, and is no directory
 file_is_there : (o : Option Node) → is_some_and o (λ n. not (is_dir n)) ≡ true → (is_some_and o (λ n. true) ≡ true) × (is_some_and o is_dir ≡ false)
 file_is_there None h = absurd (true≢false (sym h))
 file_is_there (Some n) h = (refl, not-true (is_dir n) h)
@@ -46,14 +46,14 @@ left_was_there : (under : Bool) (o : Option Node) → is_some_and (cond (not und
 left_was_there true o h = absurd (true≢false (sym h))
 left_was_there false o h = (refl, h)
 
--- what stands at a path after a rename stood at another, and does not lie below the old one
+-- what is at a path after a rename was at another, and does not lie below the old one
 came_from_there : (under : Bool) (o : Option Node) → is_some_and (cond under None o) (λ n. true) ≡ true
     → (under ≡ false) × (is_some_and o (λ n. true) ≡ true)
 came_from_there true o h = absurd (true≢false (sym h))
 came_from_there false o h = (refl, h)
 
 module _ (f : Flat) (tree : IsTree f) where
-  -- below what is not there nothing is
+  -- below a path with nothing there is nothing
   pub nothing_below : (q : Path) → get f.files q ≡ None → (r : Path) → under_path q r ≡ true → get f.files r ≡ None
   nothing_below q free [] h = elim (same_path_found q []) [
     | inl e ↦ ap (get f.files) (sym e.1) ∙ free
@@ -69,7 +69,7 @@ module _ (f : Flat) (tree : IsTree f) where
     ]
   ]
 
-  -- an entry that is put into a directory, where no directory is lost by it
+  -- an entry can be put into a directory, if no directory is replaced by a file
   pub put_into : (n : Name) (d : Path) (x : Node) → is_dir_at f d ≡ true
       → (is_dir_at f (n ∷ d) ≡ true → is_dir x ≡ true) → IsTree (with_node f (n ∷ d) x.class x.content)
   put_into n d x into_directory no_loss = record {
@@ -88,11 +88,11 @@ module _ (f : Flat) (tree : IsTree f) where
         | inr t ↦ ap (λ o. is_some_and o is_dir) (get_other f.files (n ∷ d) x r t.1) ∙ dir
       ]
 
-  -- where nothing stood, anything can be put
+  -- anything can be made at a path with nothing
   made : (n : Name) (d : Path) (x : Node) → is_dir_at f d ≡ true → get f.files (n ∷ d) ≡ None → IsTree (with_node f (n ∷ d) x.class x.content)
   made n d x dir free = put_into n d x dir (λ h. absurd (true≢false (sym h ∙ ap (λ o. is_some_and o is_dir) free)))
 
-  -- what is cut is cut with all below it
+  -- a tree stays one when an entry is removed with all below it
   cut : (n : Name) (d : Path) → IsTree (without_below f (n ∷ d))
   cut n d = record {
     root = ap (λ o. is_some_and o is_dir) (left []) ∙ tree.root;
@@ -107,7 +107,7 @@ module _ (f : Flat) (tree : IsTree f) where
       left : (r : Path) → get (without_below f (n ∷ d)).files r ≡ cond (not (under_path (n ∷ d) r)) (get f.files r) None
       left r = get-keep f.files (λ t. not (under_path (n ∷ d) t)) r
 
-  -- what is renamed goes with all below it
+  -- a tree stays one when an entry is renamed with all below it
   renamed : (n k : Name) (d : Path) → n ≢ k → get f.files (k ∷ d) ≡ None → IsTree (with_renamed f (n ∷ d) (k ∷ d))
   renamed n k d other free = record {
     root = ap (λ o. is_some_and o is_dir) (comes []) ∙ tree.root;
@@ -162,11 +162,11 @@ module _ (f : Flat) (tree : IsTree f) where
         record { root = t.root; below = t.below };
   }
 
-  -- so does each line
+  -- each line leaves a tree
   pub tree_after : (accounts : Accounts) (me : ProcName) (call : UnixCall) → IsTree (flat_after accounts f me call)
   tree_after accounts me call = by_line accounts f me call IsTree tree (λ p runs. tree_changes accounts me p call)
 
--- and so do all lines
+-- all lines leave a tree
 pub tree_at_end : (accounts : Accounts) (f : Flat) → IsTree f → (calls : List CallLine) → IsTree (flat_end accounts f calls)
 tree_at_end accounts f tree [] = tree
 tree_at_end accounts f tree (c ∷ calls) =

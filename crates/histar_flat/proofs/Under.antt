@@ -1,4 +1,4 @@
--- What lies below what.
+-- Which paths and processes lie below which.
 use Rattle.std.specs.Prelude.{ℕ, ◌≡◌, ◌≢◌, ◌≤◌, ◌<◌, ◌-◌, suc, Bool, true, false, ◌||◌, ◌&&◌, List, [], ◌∷◌, length, drop, refl}
 use Rattle.std.proofs.Common.{arith, ap, inl, inr, sym, ◌∙◌}
 use Rattle.std.proofs.lemmas.Bool.{true≢false, cases_lt, cases_Bool}
@@ -18,12 +18,12 @@ differ equal (m ∷ p) (n ∷ q) other = by (equal m n) (differ equal p q (λ e.
     by false e = refl
     by true e = e
 
--- a longer list lies above no other
+-- a longer list has no shorter list below it
 pub shorter : {A : Type 0} (equal : A → A → Bool) (p q : List A) → length q < length p → is_under equal p q ≡ false
 shorter equal p [] lt = differ equal p [] (λ e. omega (arith, e, lt))
 shorter equal p (n ∷ q) lt = rw (differ equal p (n ∷ q) (λ e. omega (arith, e, lt)), shorter equal p q (omega (arith, lt))) refl
 
--- a list lies above those that it ends
+-- a list has those below it that end with it
 pub under_is_end : {A : Type 0} (equal : A → A → Bool) (p q : List A) → length p ≤ length q
     → is_under equal p q ≡ pointwise equal p (drop (length q - length p) q)
 under_is_end equal [] [] le = refl
@@ -48,15 +48,15 @@ module _ {A : Type 0} (equal : A → A → Bool) (found : (p q : List A) → Fou
     | inr e ↦ absurd (e.1 refl)
   ]
 
-  -- what is in something lies below what that lies below
+  -- an entry of what lies below a path lies below that path
   pub under_child : (p q : List A) (n : A) → is_under equal p q ≡ true → is_under equal p (n ∷ q) ≡ true
   under_child p q n h = ap (λ b. pointwise equal p (n ∷ q) || b) h ∙ or-true (pointwise equal p (n ∷ q))
 
-  -- what lies below another thing, and is not the same, lies in what lies below it
+  -- if an entry lies below a path and is not that path, its directory lies below the path
   pub under_inner : (p q : List A) (n : A) → pointwise equal p (n ∷ q) ≡ false → is_under equal p (n ∷ q) ≡ true → is_under equal p q ≡ true
   under_inner p q n apart h = sym (ap (λ b. b || is_under equal p q) apart) ∙ h
 
-  -- it is no shorter
+  -- a list that lies below another is no shorter
   pub under_is_longer : (p q : List A) → is_under equal p q ≡ true → length p ≤ length q
   under_is_longer p [] h = elim (found p []) [
     | inl e ↦ omega (arith, ap length e.1)
@@ -67,17 +67,17 @@ module _ {A : Type 0} (equal : A → A → Bool) (found : (p q : List A) → Fou
     | inr e ↦ omega (arith, under_is_longer p q (under_inner p q n e.0 h))
   ]
 
-  -- so what a thing lies in is not below it
+  -- a directory does not lie below its entry
   pub above_is_not_under : (p : List A) (n : A) → is_under equal (n ∷ p) p ≡ false
   above_is_not_under p n = elim (cases_Bool (is_under equal (n ∷ p) p)) [
     | inl h ↦ let longer = under_is_longer (n ∷ p) p h in absurd (omega arith)
     | inr h ↦ h
   ]
 
-  -- different things are not the same
+  -- different lists are not the same
   pub apart : (p q : List A) → p ≢ q → pointwise equal p q ≡ false
   apart p q other = elim (found p q) [ inl e ↦ absurd (other e.1) | inr e ↦ e.0 ]
 
-  -- a thing is the same as itself
+  -- a list is the same as itself
   pub same_as_itself : (p : List A) → pointwise equal p p ≡ true
   same_as_itself p = elim (found p p) [ inl e ↦ e.0 | inr e ↦ absurd (e.1 refl) ]

@@ -1,4 +1,4 @@
--- What stands below a directory that a process may not read changes no reply to it.
+-- What lies below a directory that a process may not read changes no reply to the process.
 use Rattle.std.specs.Prelude.{◌≡◌, Bool, true, false, not, ◌||◌, ◌&&◌, cond, List, [], ◌∷◌, Option, Some, None, option_map, refl}
 use Rattle.std.specs.List.{filter_map, cons_option}
 use Rattle.std.proofs.Common.{ap, sym, ◌∙◌, inl, inr}
@@ -33,7 +33,7 @@ no_test false = refl
 root_is_outside : (d : Path) → is_inside d [] ≡ false
 root_is_outside d = no_test (same_path d [])
 
--- an entry lies inside what its directory is, or lies below
+-- an entry lies inside a directory if its own directory is that one, or lies below it
 inside_child : (d : Path) (n : Name) (e : Path) → is_inside d (n ∷ e) ≡ under_path d e
 inside_child d n e = elim (same_path_found d (n ∷ e)) [
   | inl t ↦ ap (λ b. (b || under_path d e) && not b) t.0 ∙ sym (ap (λ (x : Path). under_path x e) t.1 ∙ above_is_not_under same same_path_found e n)
@@ -44,14 +44,14 @@ inside_child d n e = elim (same_path_found d (n ∷ e)) [
 not_under_is_outside : (d e : Path) → under_path d e ≡ false → is_inside d e ≡ false
 not_under_is_outside d e u = ap (λ b. b && not (same_path d e)) u
 
--- ---- the entries of a directory by what stands in it
+-- ---- the entries of a directory, by what is in it
 
 -- the path is an entry of the directory
 abbrev is_entry_of : Path → Path → Bool
 is_entry_of e [] = false
 is_entry_of e (m ∷ above) = same_path e above
 
--- other paths count for nothing
+-- other paths don't change the entries
 entries_kept : (e : Path) (es : List (Path × Node)) → filter_map (entry_in e) (where_key path_cmp (is_entry_of e) es) ≡ filter_map (entry_in e) es
 entries_kept e [] = refl
 entries_kept e (x ∷ es) = step x.0 x.1 (entries_kept e es)
@@ -77,7 +77,7 @@ entries_kept e (x ∷ es) = step x.0 x.1 (entries_kept e es)
 module _ (accounts : Accounts) (f g : Flat) (d : Path) (processes : f.processes ≡ g.processes)
     (alike : (q : Path) → is_inside d q ≡ false → get f.files q ≡ get g.files q) (p : Process)
     (unread : reads accounts f p d ≡ false) where
-  -- a directory that is not below has the same entries
+  -- a directory that is not below has the same entries in both states
   entries_alike : (e : Path) → under_path d e ≡ false → entries_in f e ≡ entries_in g e
   entries_alike e out =
       sym (entries_kept e f.files.entries)
@@ -94,7 +94,7 @@ module _ (accounts : Accounts) (f g : Flat) (d : Path) (processes : f.processes 
         | inr t ↦ ap (λ b. cond b (get f.files (m ∷ above)) None) t.0 ∙ sym (ap (λ b. cond b (get g.files (m ∷ above)) None) t.0)
       ]
 
-  -- what stands outside
+  -- what is outside is the same in both states
   root_alike : get f.files [] ≡ get g.files []
   root_alike = alike [] (root_is_outside d)
 
@@ -131,20 +131,20 @@ module _ (accounts : Accounts) (f g : Flat) (d : Path) (processes : f.processes 
         )
   ]
 
-  -- so an open way leads to what is not below
+  -- a way without refusals leads to a directory that is not below
   open_is_outside : (e : Path) → into accounts f p e ≡ None → under_path d e ≡ false
   open_is_outside e open_so_far = elim (cases_Bool (under_path d e)) [
     | inl u ↦ let stops = way_stops e u in absurd (none-some stops.0 (sym open_so_far ∙ stops.1))
     | inr u ↦ u
   ]
 
-  -- the tests of a way
+  -- the tests of one step of a way
   abbrev way_tests : Option Node → Option Errno
   way_tests o =
       unless (is_some_and o (λ n. true)) ENOENT orelse unless (is_some_and o is_dir) ENOTDIR
       orelse unless (is_some_and o (λ n. may_read accounts p n.class)) EACCES
 
-  -- each way is as open
+  -- each way has the same refusals in both states
   way_alike : (e : Path) → into accounts f p e ≡ into accounts g p e
   way_alike [] = ap (λ (o : Option Node). unless (is_some_and o (λ n. may_read accounts p n.class)) EACCES) root_alike
   way_alike (n ∷ e) =
@@ -152,7 +152,7 @@ module _ (accounts : Accounts) (f g : Flat) (d : Path) (processes : f.processes 
       (way_tests (get g.files (n ∷ e))) (way_alike e)
       (λ open_so_far. ap way_tests (child_alike n e (open_is_outside e open_so_far)))
 
-  -- what may be read is outside where it is reached
+  -- a path that is reached and may be read is outside
   readable_is_outside : (q : Path) → reads accounts f p q ≡ true → walk accounts f p q ≡ None → under_path d q ≡ false
   readable_is_outside q may w = elim (same_path_found d q) [
     | inl t ↦ absurd (true≢false (sym may ∙ ap (reads accounts f p) (sym t.1) ∙ unread))
@@ -163,7 +163,7 @@ module _ (accounts : Accounts) (f g : Flat) (d : Path) (processes : f.processes 
       by [] other w = other
       by (n ∷ e) other w = λ i. other i || open_is_outside e w i
 
-  -- so the states look alike to the process
+  -- the two states look alike to the process
   both_look_alike : (q : Path) → LooksAlike true accounts f g p q
   both_look_alike [] = record {
     way = refl;
@@ -188,7 +188,7 @@ module _ (accounts : Accounts) (f g : Flat) (d : Path) (processes : f.processes 
     life = λ wide name there i. life_reply (processes i name);
   }
 
--- whatever stands below a directory that a process may not read, each call of the process has the same reply
+-- each call of a process has the same reply, whatever lies below a directory that the process may not read
 pub unread_directories_are_hidden : UnreadDirectoriesAreHidden
 unread_directories_are_hidden accounts f g d processes alike me p call runs unread =
     ap (λ (o : Option Process). reply_by accounts f me o call) runs

@@ -1,4 +1,4 @@
--- By its needs each rule looks at what it may, changes what it may, and reveals what it may.
+-- By its needs each rule looks only at what it may, changes only what it may, and reveals only what it may.
 use Rattle.std.specs.Prelude.{◌≡◌, true, not, ◌&&◌, ◌∷◌, Option, None, Some, refl}
 use Rattle.std.specs.List.{list_all}
 use Rattle.std.proofs.Common.{sym}
@@ -20,7 +20,7 @@ use Rattle.histar_flat.specs.CallRules.{path_of, rule}
 use Rattle.histar_flat.specs.RuleLaws.{Holds, Met, IsOrdered, Warrant, MayReveal, TestsAreOrdered, EffectsAreWarranted, AnswersMayBeRevealed}
 use Rattle.histar_flat.proofs.Refusals.{passes_first, passes_later, passed}
 
--- What a process may write it may read.
+-- A process may read what it may write.
 pub writable_is_readable : (accounts : Accounts) (p : Process) (class : Class) → may_write accounts p class ≡ true → may_read accounts p class ≡ true
 writable_is_readable accounts p (Private owner) h = (and_parts (same p.user owner) (is_free p) h).0
 writable_is_readable accounts p (Readable owner) h = refl
@@ -28,7 +28,7 @@ writable_is_readable accounts p Open h = refl
 writable_is_readable accounts p (Scratch owner jobs) h = (and_parts (same p.user owner && list_all (knows p) jobs) (list_all (has jobs) p.chain) h).0
 writable_is_readable accounts p (Grouped group) h = (and_parts (is_member accounts p.user group) (is_free p) h).0
 
--- so a process reads what it writes
+-- a process may read the path that it may write
 pub writes_and_reads : (accounts : Accounts) (f : Flat) (p : Process) (q : Path) → writes accounts f p q ≡ true → reads accounts f p q ≡ true
 writes_and_reads accounts f p q h = by (get f.files q) h
   where
@@ -36,7 +36,7 @@ writes_and_reads accounts f p q h = by (get f.files q) h
     by None i = i
     by (Some n) i = writable_is_readable accounts p n.class i
 
--- where the test for something fails there is nothing
+-- if the test for something fails, there is nothing
 pub nothing_there : (x : Option Node) → not (is_some_and x (λ n. true)) ≡ true → x ≡ None
 nothing_there None h = refl
 nothing_there (Some n) h = absurd (true≢false (sym h))
@@ -59,7 +59,7 @@ module _ (accounts : Accounts) (f : Flat) (me : ProcName) (p : Process) (q : Pat
   holds IsSomebody h = h
   holds _ h = tt
 
-  -- and so is a need that has no refusal
+  -- a need without a refusal is met
   pub met : (need : Need) → unmet accounts f me p q need ≡ None → Met accounts f me p q need
   met (a then b) h = (
     met a (passes_first (unmet accounts f me p q a) (unmet accounts f me p q b) h),
@@ -76,12 +76,12 @@ module _ (accounts : Accounts) (f : Flat) (me : ProcName) (p : Process) (q : Pat
   ordered_at (Create r mode) = assumption
   ordered_at _ = assumption
 
-  -- by its needs it is allowed its effect
+  -- a call whose needs are met is allowed its effect
   warranted_at : (call : UnixCall) → Met accounts f me p q (rule call).needs → Warrant accounts f me p q (rule call).effect
   warranted_at (Create r mode) known = assumption
   warranted_at _ known = assumption
 
-  -- and may reveal its answer
+  -- a call whose needs are met may reveal its answer
   revealed_at : (call : UnixCall) → Met accounts f me p q (rule call).needs → MayReveal accounts f me p q (rule call).answer
   revealed_at (Create r mode) known = assumption
   revealed_at _ known = assumption

@@ -1,4 +1,4 @@
--- Worked sessions: the replies of the meaning, computed.
+-- Worked scripts: the replies of the meaning, computed.
 use Rattle.std.specs.Prelude.{◌≡◌, ℕ, zero, suc, List, [], ◌∷◌, ◌++◌, codes, map, replicate, refl, Some}
 use Rattle.std.specs.Fmt.{decimal, digits}
 use Rattle.histar_flat.specs.declared.calls.CallLine.{CallLine}
@@ -18,7 +18,7 @@ use Rattle.histar_flat.specs.FlatCalls.{reply_to}
 use Rattle.histar_flat.specs.Meaning.{RepliedCall, boot, flat_end, meaning, answered_from, first_process}
 use Rattle.histar_flat.proofs.WorkedScripts.{printed}
 
--- the users of the sessions: root, who is the first, and bob
+-- the users of the scripts: root, who is the first, and bob
 abbrev users : Accounts
 users =
     record {
@@ -96,7 +96,7 @@ pub two_users : replied (meaning users (
     (13, Refused EACCES) ∷ []
 two_users = refl
 
--- the same session as it is printed
+-- the same script as it is printed
 pub two_users_printed : printed (meaning users (
     by_zero 3 (Create path_a Readable) ∷
     by_zero 4 root_logs_in ∷
@@ -123,7 +123,7 @@ pub empty_file : printed (meaning users (
 unfolding digits
 empty_file = refl
 
--- bytes that are written stand in the place of all that was there
+-- a write replaces all bytes that were there
 pub written_twice : replied (meaning users (
     by_zero 3 root_logs_in ∷
     by_zero 4 (Create path_a Private) ∷
@@ -137,7 +137,7 @@ pub written_twice : replied (meaning users (
     (7, Data (codes "bye")) ∷ []
 written_twice = refl
 
--- a file that exists is told before the right to make one, and stays as it is
+-- a file that exists is refused before the right to make one, and stays as it is
 pub file_that_exists : replied (meaning users (
     by_zero 3 root_logs_in ∷
     by_zero 4 (Create path_a Readable) ∷
@@ -163,7 +163,7 @@ pub nothing_there : replied (meaning users (
     (4, Refused ENOENT) ∷ []
 nothing_there = refl
 
--- after a wrong password the process is who it was
+-- after a wrong password the process keeps its user
 pub wrong_password : replied (meaning users (
     by_zero 3 root_logs_in ∷
     by_zero 4 (Create path_a Private) ∷
@@ -175,7 +175,7 @@ pub wrong_password : replied (meaning users (
     (6, Data []) ∷ []
 wrong_password = refl
 
--- no one is the user of an unknown name, and none logs in as nobody
+-- a user that is not declared doesn't exist, and no process logs in as nobody
 pub unknown_user : replied (meaning users (
     by_zero 3 (Login (codes "alice") (codes "rr")) ∷
     by_zero 4 (Login (codes "nobody") (codes "x")) ∷ [])) ≡
@@ -183,7 +183,7 @@ pub unknown_user : replied (meaning users (
     (4, Refused ENOENT) ∷ []
 unknown_user = refl
 
--- nobody makes no file in root's directory
+-- a process of nobody makes no file in root's directory
 pub nobody_in_the_directory_of_root : replied (meaning users (
     by_zero 3 (Create path_a Private) ∷
     by_zero 4 (Create path_a Readable) ∷ [])) ≡
@@ -238,12 +238,12 @@ pub too_large_a_file : reply_to users
     (Write path_a (replicate 4097 97)) ≡ Refused EFBIG
 too_large_a_file = refl
 
--- so many files, named f1, f2 and on
+-- this many files, named f1, f2 and on
 abbrev numbered_files : ℕ → List CallLine
 numbered_files zero = []
 numbered_files (suc n) = by_zero n (Create ((codes "f" ++ decimal n) ∷ []) Private) ∷ numbered_files n
 
--- a directory has 64 entries, and no more; this is looked at before the right to write it
+-- a directory has 64 entries, and no more; this is tested before the right to write it
 pub full_directory : replied (answered_from users (flat_end users (boot users) (by_zero 3 root_logs_in ∷ numbered_files 64)) (
     by_zero 68 (Create path_a Private) ∷
     by_zero 69 (Create (codes "f7" ∷ []) Private) ∷
@@ -260,11 +260,11 @@ pub directory_with_room : reply_to users (flat_end users (boot users) (by_zero 3
 unfolding digits
 directory_with_room = refl
 
--- a state at which no session of today's calls arrives: `/` is open, /d is a private directory of root, and process 0 is nobody's
+-- a state that no calls lead to: `/` is open, /d is a private directory of root, and process 0 is nobody's
 abbrev open_root : Flat
 open_root = with_node (with_node (boot users) [] Open Dir) (codes "d" ∷ []) (PrivateClass (codes "root")) Dir
 
--- in an open directory nobody makes nothing of these modes, and bob makes what is his
+-- in an open directory a process of nobody makes no file of these modes, and bob makes his own
 pub nobody_owns_nothing : replied (answered_from users open_root (
     by_zero 3 (Create path_a Private) ∷
     by_zero 4 (Create path_a Readable) ∷
@@ -276,7 +276,7 @@ pub nobody_owns_nothing : replied (answered_from users open_root (
     (6, Done) ∷ []
 nobody_owns_nothing = refl
 
--- a walk stops at a directory that may not be read, before what stands there is told
+-- a walk stops at a directory that may not be read, before it reveals what is there
 pub unreadable_directory : replied (answered_from users open_root (
     by_zero 3 (Read (codes "x" ∷ codes "d" ∷ [])) ∷
     by_zero 4 (Read (codes "d" ∷ [])) ∷
@@ -321,7 +321,7 @@ job = refl
 abbrev holding_a_job : Flat
 holding_a_job = with_process in_a_job [] (record first_process { user = codes "bob"; held = (1 ∷ []) ∷ [] })
 
--- who holds a job works in its directory; what it makes there is its own, and a login lets go of the job
+-- a process that holds a job works in its directory; what it makes there is its own, and a login releases the job
 pub held_job : replied (answered_from users holding_a_job (
     by_zero 3 (Create (codes "in" ∷ codes "j" ∷ []) Private) ∷
     by_zero 4 (Write (codes "in" ∷ codes "j" ∷ []) (codes "data")) ∷

@@ -1,4 +1,4 @@
--- Worked sessions of three users in an open directory: what is printed, computed.
+-- Worked scripts of three users in an open directory: what is printed, computed.
 use Rattle.std.specs.Prelude.{◌≡◌, ℕ, zero, suc, ◌+◌, List, [], ◌∷◌, ◌++◌, codes, replicate, refl}
 use Rattle.std.specs.Fmt.{decimal, digits}
 use Rattle.histar_flat.specs.declared.calls.CallLine.{CallLine}
@@ -8,14 +8,14 @@ use Rattle.histar_flat.specs.declared.calls.UnixCall.TheVariants.{Spawn, Whoami,
 use Rattle.histar_flat.specs.Meaning.{meaning}
 use Rattle.histar_flat.proofs.WorkedScripts.{line_of, printed, tree_after, three_users, tmp_made, tmp_printed, from_tmp, after_tmp}
 
--- in `/`, which is root's, nobody makes nothing
+-- in `/`, which is root's, a process of nobody makes nothing
 pub nobody_makes_nothing_in_the_root : printed (meaning three_users (
     line_of 4 [] (Create (codes "a" ∷ []) modes.Open) ∷ [])) ≡
     codes "4 EACCES\n"
 unfolding digits
 nobody_makes_nothing_in_the_root = refl
 
--- in an open directory nobody makes what is open alone, and starts no job; its child is nobody's too
+-- in an open directory a process of nobody makes only open files, and starts no job; its child is nobody's too
 pub nobody_in_an_open_directory : printed (meaning three_users (
     line_of 4 [] Spawn ∷
     line_of 5 [] (Login (codes "root") (codes "rr")) ∷
@@ -31,7 +31,7 @@ pub nobody_in_an_open_directory : printed (meaning three_users (
 unfolding digits
 nobody_in_an_open_directory = refl
 
--- bob doesn't read a private file of alice; he is told whose it is, and takes it away where the directory is open
+-- bob doesn't read a private file of alice; `stat` shows him its owner, and he removes it if the directory is open
 pub private_file_in_an_open_directory : after_tmp (
     line_of 10 (1 ∷ []) (Create (codes "s" ∷ codes "tmp" ∷ []) modes.Private) ∷
     line_of 11 (1 ∷ []) (Write (codes "s" ∷ codes "tmp" ∷ []) (codes "deep secret")) ∷
@@ -54,7 +54,7 @@ pub readable_file_in_an_open_directory : after_tmp (
 unfolding digits
 readable_file_in_an_open_directory = refl
 
--- after a wrong password the process is who it was, and none is nobody
+-- after a wrong password the process keeps its user, and no process logs in as nobody
 pub failed_logins : after_tmp (
     line_of 10 (1 ∷ []) (Create (codes "s" ∷ codes "tmp" ∷ []) modes.Private) ∷
     line_of 11 (1 ∷ []) (Write (codes "s" ∷ codes "tmp" ∷ []) (codes "x")) ∷
@@ -68,7 +68,7 @@ pub failed_logins : after_tmp (
 unfolding digits
 failed_logins = refl
 
--- a file has 4,096 bytes at most, and the right to write is looked at before that
+-- a file has 4,096 bytes at most, and the right to write is tested before that
 pub largest_file : after_tmp (
     line_of 10 (1 ∷ []) (Create (codes "b" ∷ codes "tmp" ∷ []) modes.Private) ∷
     line_of 11 (1 ∷ []) (Append (codes "b" ∷ codes "tmp" ∷ []) (replicate 1000 97)) ∷
@@ -85,7 +85,7 @@ pub largest_file : after_tmp (
 unfolding digits
 largest_file = refl
 
--- what is told of paths through files and nothing, of `/`, and of names that are taken
+-- the replies for paths through files and through nothing, for `/`, and for names that are taken
 pub refusals_of_paths : after_tmp (
     line_of 10 (1 ∷ []) (Create (codes "f" ∷ codes "tmp" ∷ []) modes.Open) ∷
     line_of 11 (1 ∷ []) (Read (codes "x" ∷ codes "f" ∷ codes "tmp" ∷ [])) ∷
@@ -116,14 +116,14 @@ pub entries_in_order : after_tmp (
 unfolding digits
 entries_in_order = refl
 
--- files that 0.1 makes in /tmp/d, so many, on the lines from this one on, and named by their lines
+-- this many files that 0.1 makes in /tmp/d, on the lines from this one on, and named by their lines
 abbrev files_made : ℕ → ℕ → List CallLine
 files_made zero line = []
 files_made (suc n) line =
     line_of line (1 ∷ []) (Create ((codes "f" ++ decimal line) ∷ codes "d" ∷ codes "tmp" ∷ []) modes.Private)
     ∷ files_made n (line + 1)
 
--- a directory has 64 entries at most, which is told after a name that is taken, and before the right to write the directory
+-- a directory has 64 entries at most; this is tested after a name that is taken, and before the right to write the directory
 pub full_directory : from_tmp (
     line_of 10 (1 ∷ []) (Mkdir (codes "d" ∷ codes "tmp" ∷ []) modes.Readable) ∷ files_made 64 11 ++
     line_of 75 (2 ∷ []) (Create (codes "z" ∷ codes "d" ∷ codes "tmp" ∷ []) modes.Open) ∷
@@ -144,11 +144,11 @@ pub full_directory : from_tmp (
 unfolding digits
 full_directory = refl
 
--- a tree is `/` at the start
+-- at the start the tree is `/` alone
 pub tree_at_the_start : tree_after three_users [] ≡ codes "/ dir root readable\n"
 tree_at_the_start = refl
 
--- a tree is told by rising paths: what lies in a directory stands behind it, and before what has the directory's name and more
+-- a tree is printed by rising paths: what lies in a directory comes after it, and before a path whose name begins with the directory's name
 pub tree_in_order : tree_after three_users (tmp_made ++
     line_of 10 (1 ∷ []) (Mkdir (codes "a" ∷ codes "tmp" ∷ []) modes.Private) ∷
     line_of 11 (1 ∷ []) (Create (codes "f" ∷ codes "a" ∷ codes "tmp" ∷ []) modes.Private) ∷

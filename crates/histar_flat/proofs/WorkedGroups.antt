@@ -1,4 +1,4 @@
--- Worked sessions of members of a group, of others, and of their jobs: what is printed, computed.
+-- Worked scripts of members of a group, of others, and of their jobs: what is printed, computed.
 use Rattle.std.specs.Prelude.{◌≡◌, ℕ, List, [], ◌∷◌, ◌++◌, codes, refl}
 use Rattle.std.specs.Fmt.{digits}
 use Rattle.histar_flat.specs.declared.calls.CallLine.{CallLine}
@@ -42,8 +42,8 @@ pub members_share_a_file : after_the_logins (
 unfolding digits
 members_share_a_file = refl
 
--- who is no member, root among them, doesn't read or write it and makes nothing of the group; it is told whose it is, and in an open
--- directory it renames it and takes it away
+-- a user that is no member, root among them, doesn't read or write the file and makes nothing of the group; `stat` shows its group, and in
+-- an open directory such a user renames and removes it
 pub who_is_no_member : after_the_logins (
     line_of 14 (1 ∷ []) (Create (codes "g" ∷ codes "tmp" ∷ []) (modes.Group (codes "team"))) ∷
     line_of 15 (1 ∷ []) (Write (codes "g" ∷ codes "tmp" ∷ []) (codes "hi")) ∷
@@ -65,7 +65,7 @@ pub who_is_no_member : after_the_logins (
 unfolding digits
 who_is_no_member = refl
 
--- a directory of a group is its members': others don't look into it, and a private file in it is taken away by another member
+-- a directory of a group is its members': others don't look into it, and another member removes a private file in it
 pub directory_of_a_group : after_the_logins (
     line_of 14 (1 ∷ []) (Mkdir (codes "d" ∷ codes "tmp" ∷ []) (modes.Group (codes "team"))) ∷
     line_of 15 (1 ∷ []) (Create (codes "s" ∷ codes "d" ∷ codes "tmp" ∷ []) modes.Private) ∷
@@ -131,7 +131,7 @@ pub job_in_a_job_of_a_member : after_the_logins (
 unfolding digits
 job_in_a_job_of_a_member = refl
 
--- the job of who is no member reads nothing of the group, and makes scratch for whatever mode is named
+-- the job of a user that is no member reads nothing of the group, and makes scratch for whatever mode is named
 pub job_of_no_member : after_the_logins (
     line_of 14 (1 ∷ []) (Create (codes "g" ∷ codes "tmp" ∷ []) (modes.Group (codes "team"))) ∷
     line_of 15 (3 ∷ []) (Wrap (codes "j" ∷ codes "tmp" ∷ [])) ∷
@@ -144,7 +144,7 @@ pub job_of_no_member : after_the_logins (
 unfolding digits
 job_of_no_member = refl
 
--- a process is a member while its user is one: logins change that, and a child is what its parent is
+-- a process is a member while its user is one: logins change that, and a child is as its parent is
 pub logins_of_members : after_the_logins (
     line_of 14 (1 ∷ []) (Create (codes "g" ∷ codes "tmp" ∷ []) (modes.Group (codes "team"))) ∷
     line_of 15 (3 ∷ []) (Read (codes "g" ∷ codes "tmp" ∷ [])) ∷
@@ -185,7 +185,7 @@ with_two_groups = record {
   groups = with_a_team.groups ++ record { name = codes "pair"; members = codes "bob" ∷ codes "carol" ∷ [] } ∷ [];
 }
 
--- who is in both groups shares the files of both, the others those of their own; his job reads both
+-- a member of both groups shares the files of both, the others those of their own; his job reads both
 pub two_groups : printed (meaning with_two_groups (
     line_of 7 [] Spawn ∷
     line_of 8 [] Spawn ∷

@@ -1,4 +1,4 @@
--- Worked sessions with jobs and groups: what is printed, computed.
+-- Worked scripts with jobs and groups: what is printed, computed.
 use Rattle.std.specs.Prelude.{◌≡◌, [], ◌∷◌, ◌++◌, codes, refl}
 use Rattle.std.specs.Fmt.{digits}
 use Rattle.histar_flat.specs.declared.calls.Mode.TheVariants as modes
@@ -7,7 +7,7 @@ use Rattle.histar_flat.specs.declared.calls.UnixCall.TheVariants.{Spawn, Exit, S
 use Rattle.histar_flat.specs.Meaning.{meaning}
 use Rattle.histar_flat.proofs.WorkedScripts.{line_of, printed, with_a_team, tmp_printed, from_tmp, after_tmp}
 
--- a process in a job reads as its user, writes only in its job, logs in as no one, and starts jobs in its job alone
+-- a process in a job reads as its user, writes only in its job, doesn't log in, and starts jobs only in its job
 pub job : after_tmp (
     line_of 10 (1 ∷ []) (Create (codes "s" ∷ codes "tmp" ∷ []) modes.Private) ∷
     line_of 11 (1 ∷ []) (Write (codes "s" ∷ codes "tmp" ∷ []) (codes "deep")) ∷
@@ -23,7 +23,7 @@ pub job : after_tmp (
 unfolding digits
 job = refl
 
--- what a job makes is scratch: who started the job reads it, a further child and other users don't
+-- what a job makes is scratch: the process that started the job reads it, a further child and other users don't
 pub output_of_a_job : after_tmp (
     line_of 10 (1 ∷ []) (Wrap (codes "j" ∷ codes "tmp" ∷ [])) ∷
     line_of 11 (1 ∷ 1 ∷ []) (Create (codes "out" ∷ codes "j" ∷ codes "tmp" ∷ []) modes.Readable) ∷
@@ -38,7 +38,7 @@ pub output_of_a_job : after_tmp (
 unfolding digits
 output_of_a_job = refl
 
--- the owner of the directory around takes a job's directory away with all in it, though it can't list it
+-- the owner of the directory above removes a job's directory with all in it, though it can't list it
 pub directory_of_a_job_taken_away : after_tmp (
     line_of 10 (1 ∷ []) (Wrap (codes "j" ∷ codes "tmp" ∷ [])) ∷
     line_of 11 [] (Rmdir (codes "j" ∷ codes "tmp" ∷ [])) ∷
@@ -48,7 +48,7 @@ pub directory_of_a_job_taken_away : after_tmp (
 unfolding digits
 directory_of_a_job_taken_away = refl
 
--- a process that has exited is told of till its parent ends it; names are not given again, and only children are ended
+-- a process that has exited keeps its status till its parent kills it; names are not given again, and a process kills only children
 pub ends_of_processes : after_tmp (
     line_of 10 (1 ∷ []) (Wrap (codes "j" ∷ codes "tmp" ∷ [])) ∷
     line_of 11 (1 ∷ 1 ∷ []) Spawn ∷
@@ -68,7 +68,7 @@ pub ends_of_processes : after_tmp (
 unfolding digits
 ends_of_processes = refl
 
--- an inner job reads what is of the outer one, and writes its own alone
+-- an inner job reads what is of the outer one, and writes only its own
 pub job_in_a_job : after_tmp (
     line_of 10 (1 ∷ []) (Wrap (codes "j" ∷ codes "tmp" ∷ [])) ∷
     line_of 11 (1 ∷ 1 ∷ []) (Wrap (codes "k" ∷ codes "j" ∷ codes "tmp" ∷ [])) ∷
@@ -91,8 +91,8 @@ pub job_in_a_job : after_tmp (
 unfolding digits
 job_in_a_job = refl
 
--- two jobs of one process don't see each other; who started them makes files in their directories and ends them, and a further
--- child of it ends none
+-- two jobs of one process don't see each other; the process that started them makes files in their directories and kills them, and a
+-- further child of it kills none
 pub two_jobs : from_tmp (
     line_of 10 (1 ∷ []) (Wrap (codes "j" ∷ codes "tmp" ∷ [])) ∷
     line_of 11 (1 ∷ []) (Wrap (codes "k" ∷ codes "tmp" ∷ [])) ∷
@@ -113,7 +113,7 @@ pub two_jobs : from_tmp (
 unfolding digits
 two_jobs = refl
 
--- nor do two jobs in a job see each other; a job in one of them reads what is of the jobs around it, and each process that started a
+-- two jobs in a job don't see each other either; a job in one of them reads what is of the jobs around it, and each process that started a
 -- job looks into the directory of that job, and not into those of the jobs in it
 pub two_jobs_in_a_job : from_tmp (
     line_of 10 (1 ∷ []) (Wrap (codes "j" ∷ codes "tmp" ∷ [])) ∷
@@ -142,7 +142,7 @@ pub two_jobs_in_a_job : from_tmp (
 unfolding digits
 two_jobs_in_a_job = refl
 
--- who logs in lets go of the jobs that the process held
+-- a login releases the jobs that the process held
 pub login_lets_go : after_tmp (
     line_of 10 (1 ∷ []) (Wrap (codes "j" ∷ codes "tmp" ∷ [])) ∷
     line_of 11 (1 ∷ []) (Wrap (codes "q" ∷ [])) ∷

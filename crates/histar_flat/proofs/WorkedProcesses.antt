@@ -1,4 +1,4 @@
--- Worked sessions of root and bob, of their directories, processes and logins: what is printed, computed.
+-- Worked scripts of root and bob, of their directories, processes and logins: what is printed, computed.
 use Rattle.std.specs.Prelude.{◌≡◌, [], ◌∷◌, codes, refl}
 use Rattle.std.specs.Fmt.{digits}
 use Rattle.histar_flat.specs.declared.calls.Mode.TheVariants as modes
@@ -20,7 +20,7 @@ root_and_bob =
 abbrev root_alone : Accounts
 root_alone = record { users = record { name = codes "root"; password = codes "rr" } ∷ []; groups = [] }
 
--- root makes directories and files in `/` and below; bob, in an open directory, renames and takes away what he can't look into
+-- root makes directories and files in `/` and below; bob, in an open directory, renames and removes what he can't look into
 pub directories : printed (meaning root_and_bob (
     line_of 3 [] (Login (codes "root") (codes "rr")) ∷
     line_of 4 [] (Mkdir (codes "tmp" ∷ []) modes.Open) ∷
@@ -45,7 +45,7 @@ pub directories : printed (meaning root_and_bob (
 unfolding digits
 directories = refl
 
--- a child is its parent's user's from its birth on; an exit leaves the children, and only a parent ends them, all below with them
+-- a child has its parent's user from its birth on; an exit leaves the children, and only a parent kills them, with all below them
 pub processes : printed (meaning root_alone (
     line_of 2 [] Spawn ∷
     line_of 3 [] (Login (codes "root") (codes "rr")) ∷
@@ -73,7 +73,7 @@ pub processes : printed (meaning root_alone (
 unfolding digits
 processes = refl
 
--- a child logs in as another user and back, and its parent stays who it is
+-- a child logs in as another user and back, and its parent keeps its user
 pub logins : printed (meaning root_and_bob (
     line_of 3 [] (Login (codes "root") (codes "rr")) ∷
     line_of 4 [] Spawn ∷

@@ -1,4 +1,4 @@
--- Worked rights: who may read and write what, and what each process makes, computed.
+-- Worked rights: which classes each process may read and write, and what it makes, computed.
 use Rattle.std.specs.Prelude.{◌≡◌, Bool, true, false, List, [], ◌∷◌, codes, Option, Some, None, map, refl}
 use Rattle.histar_flat.specs.declared.calls.Mode.TheVariants as modes
 use Rattle.histar_flat.specs.Words.{ProcName}
@@ -14,7 +14,7 @@ outer = 1 ∷ []
 abbrev inner : ProcName
 inner = 1 ∷ 1 ∷ []
 
--- a session with a group of which bob is the member
+-- the accounts with a group of which bob is the member
 abbrev of_team : Accounts
 of_team = record { users = []; groups = record { name = codes "team"; members = codes "bob" ∷ [] } ∷ [] }
 
@@ -40,7 +40,7 @@ of_root = record first_process { user = codes "root" }
 abbrev of_bob : List ProcName → List ProcName → Process
 of_bob chain held = record first_process { user = codes "bob"; chain = chain; held = held }
 
--- nobody and other users read what is readable or open, and write what is open
+-- processes of nobody and of other users read readable and open files, and write open ones
 pub rights_of_nobody : (readable first_process ≡ false ∷ true ∷ true ∷ false ∷ false ∷ [])
     × (writable first_process ≡ false ∷ false ∷ true ∷ false ∷ false ∷ [])
 rights_of_nobody = (refl, refl)
@@ -53,7 +53,7 @@ pub rights_of_bob : (readable (of_bob [] []) ≡ true ∷ true ∷ true ∷ fals
     × (writable (of_bob [] []) ≡ true ∷ true ∷ true ∷ false ∷ false ∷ [])
 rights_of_bob = (refl, refl)
 
--- with the outer job held, the scratch of that job too
+-- a process that holds the outer job reads and writes the scratch of that job too
 pub rights_of_a_holder : (readable (of_bob [] (outer ∷ [])) ≡ true ∷ true ∷ true ∷ true ∷ false ∷ [])
     × (writable (of_bob [] (outer ∷ [])) ≡ true ∷ true ∷ true ∷ true ∷ false ∷ [])
 rights_of_a_holder = (refl, refl)
@@ -63,12 +63,12 @@ pub rights_in_a_job : (readable (of_bob (outer ∷ []) []) ≡ true ∷ true ∷
     × (writable (of_bob (outer ∷ []) []) ≡ false ∷ false ∷ false ∷ true ∷ false ∷ [])
 rights_in_a_job = (refl, refl)
 
--- holding the inner job there, it writes the scratch of that one too
+-- a process in the outer job that holds the inner one writes the scratch of the inner one too
 pub rights_of_a_holder_in_a_job : (readable (of_bob (outer ∷ []) (inner ∷ [])) ≡ true ∷ true ∷ true ∷ true ∷ true ∷ [])
     × (writable (of_bob (outer ∷ []) (inner ∷ [])) ≡ false ∷ false ∷ false ∷ true ∷ true ∷ [])
 rights_of_a_holder_in_a_job = (refl, refl)
 
--- in the inner job it reads the scratch of both, and writes that of the inner one alone
+-- in the inner job it reads the scratch of both, and writes only that of the inner one
 pub rights_in_an_inner_job : (readable (of_bob (outer ∷ inner ∷ []) []) ≡ true ∷ true ∷ true ∷ true ∷ true ∷ [])
     × (writable (of_bob (outer ∷ inner ∷ []) []) ≡ false ∷ false ∷ false ∷ false ∷ true ∷ [])
 rights_in_an_inner_job = (refl, refl)
@@ -79,11 +79,11 @@ pub rights_of_another_user_in_the_job :
     × (writable (record of_root { chain = outer ∷ [] }) ≡ false ∷ false ∷ false ∷ false ∷ false ∷ [])
 rights_of_another_user_in_the_job = (refl, refl)
 
--- nobody makes nothing of these modes
+-- a process of nobody makes no file of these modes
 pub made_by_nobody : made first_process ≡ None ∷ None ∷ []
 made_by_nobody = refl
 
--- a user makes what is the user's
+-- a process of a user makes the user's files
 pub made_by_bob : made (of_bob [] (outer ∷ [])) ≡ Some (Private (codes "bob")) ∷ Some (Readable (codes "bob")) ∷ []
 made_by_bob = refl
 
@@ -92,7 +92,7 @@ pub made_in_a_job : made (of_bob (outer ∷ inner ∷ []) [])
     ≡ Some (Scratch (codes "bob") (outer ∷ inner ∷ [])) ∷ Some (Scratch (codes "bob") (outer ∷ inner ∷ [])) ∷ []
 made_in_a_job = refl
 
--- everyone makes what is open, and a member what is a group's; in a job both are scratch
+-- every process makes open files, and a member's makes a group's; in a job both are scratch
 pub made_open : class_made of_team first_process modes.Open ≡ Some Open
 made_open = refl
 

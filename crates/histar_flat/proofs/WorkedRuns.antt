@@ -1,4 +1,4 @@
--- Worked sessions run twice, as they are and without the calls of a job: what is printed, what stands at the end, and who could tell
+-- Worked scripts run twice, as they are and without the calls of a job: what is printed, the trees at the end, and which outsiders can tell
 -- the two runs apart, computed.
 use Rattle.std.specs.Prelude.{◌≡◌, ℕ, Bool, true, false, not, ◌||◌, ◌&&◌, cond, List, [], ◌∷◌, ◌++◌, codes, filter, map, refl}
 use Rattle.std.specs.List.{list_any}
@@ -25,7 +25,7 @@ use Rattle.histar_flat.proofs.WorkedGroups.{logins, logins_printed}
 abbrev without_job : ProcName → List CallLine → List CallLine
 without_job job calls = filter (λ (c : CallLine). not (under_process job c.process)) calls
 
--- the name of the job was the reply to a call that starts one
+-- a call that starts a job was answered with the name of this job
 abbrev is_start_of : ProcName → UnixCall → Reply → Bool
 is_start_of job (Wrap q) (Child name) = same job name
 is_start_of job _ _ = false
@@ -46,7 +46,7 @@ lines_that_differ (a ∷ as') (b ∷ bs) =
     cond (same (reply_text a.reply) (reply_text b.reply)) (lines_that_differ as' bs)
     (a.call.line ∷ lines_that_differ as' bs)
 
--- a directory of the job stands at the path
+-- a directory of the job is at the path
 abbrev is_directory_of : ProcName → Flat → Path → Bool
 is_directory_of job f q = is_some_and (get f.files q) (λ node. is_dir node && carries job node.class)
 
@@ -65,7 +65,7 @@ paths_that_differ job f g =
 record TwoRuns : Type 0 where
   -- in the first run a call started the job
   is_started : Bool
-  -- the lines of outsiders that were answered otherwise, and the paths at which the trees differ
+  -- the lines of outsiders at which the replies differ, and the paths at which the trees differ
   lines_apart : List ℕ
   paths_apart : List Path
   -- what is printed of each run
@@ -94,7 +94,7 @@ calls_around_a_job = tmp_made ++
     line_of 12 (1 ∷ []) (ListCall (codes "j" ∷ codes "tmp" ∷ [])) ∷
     line_of 13 (2 ∷ []) (ListCall (codes "tmp" ∷ [])) ∷ []
 
--- who started the job sees the file, and no one else notices
+-- the process that started the job sees the file, and no outsider notices the job
 pub unnoticed_job : two_runs three_users (1 ∷ 1 ∷ []) calls_around_a_job ≡ record {
   is_started = true;
   lines_apart = [];
@@ -112,7 +112,7 @@ pub no_job : (two_runs three_users (2 ∷ []) calls_around_a_job).is_started ≡
 unfolding digits
 no_job = refl
 
--- a job that makes a file, and who started it tries to take its directory away
+-- a job makes a file, and the process that started it tries to remove its directory
 abbrev pub calls_with_a_rmdir : List CallLine
 calls_with_a_rmdir = tmp_made ++
     line_of 10 (1 ∷ []) (Wrap (codes "j" ∷ codes "tmp" ∷ [])) ∷
@@ -120,7 +120,7 @@ calls_with_a_rmdir = tmp_made ++
     line_of 12 (1 ∷ []) (Rmdir (codes "j" ∷ codes "tmp" ∷ [])) ∷
     line_of 13 (2 ∷ []) (ListCall (codes "tmp" ∷ [])) ∷ []
 
--- who started the job may tell others of it by taking its directory away, which is refused where the job has made something
+-- the process that started the job can reveal it to others by a `rmdir` of its directory, which is refused if the job has made something
 pub rmdir_that_decides_of_a_job : two_runs three_users (1 ∷ 1 ∷ []) calls_with_a_rmdir ≡ record {
   is_started = true;
   lines_apart = 13 ∷ [];
@@ -140,7 +140,7 @@ calls_that_end_in_a_rmdir = tmp_made ++
     line_of 11 (1 ∷ 1 ∷ []) (Create (codes "a" ∷ codes "j" ∷ codes "tmp" ∷ []) modes.Open) ∷
     line_of 12 (1 ∷ []) (Rmdir (codes "j" ∷ codes "tmp" ∷ [])) ∷ []
 
--- the same where no one lists anything after it: the trees alone tell it
+-- without a later line the trees alone differ
 pub rmdir_that_the_tree_decides_of : two_runs three_users (1 ∷ 1 ∷ []) calls_that_end_in_a_rmdir ≡ record {
   is_started = true;
   lines_apart = [];
@@ -153,7 +153,7 @@ pub rmdir_that_the_tree_decides_of : two_runs three_users (1 ∷ 1 ∷ []) calls
 unfolding digits
 rmdir_that_the_tree_decides_of = refl
 
--- a job that makes a file, and who started it tries to start a further job at the path of the file
+-- a job makes a file, and the process that started it tries to start a further job at the path of the file
 abbrev pub calls_with_a_further_wrap : List CallLine
 calls_with_a_further_wrap = tmp_made ++
     line_of 10 (1 ∷ []) (Wrap (codes "j" ∷ codes "tmp" ∷ [])) ∷
@@ -161,8 +161,7 @@ calls_with_a_further_wrap = tmp_made ++
     line_of 12 (1 ∷ []) (Wrap (codes "out" ∷ codes "j" ∷ codes "tmp" ∷ [])) ∷
     line_of 13 (2 ∷ []) (Status (2 ∷ 1 ∷ [])) ∷ []
 
--- a further job that is started in the directory of the first one tells of it too: whether the name is taken there decides whether
--- the further job is
+-- a further job at a path in the directory of the first one reveals it too: it is started only if that path is free
 pub wrap_that_decides_of_a_job : two_runs three_users (1 ∷ 1 ∷ []) calls_with_a_further_wrap ≡ record {
   is_started = true;
   lines_apart = 13 ∷ [];
@@ -175,7 +174,7 @@ pub wrap_that_decides_of_a_job : two_runs three_users (1 ∷ 1 ∷ []) calls_wit
 unfolding digits
 wrap_that_decides_of_a_job = refl
 
--- a job that makes a file and exits, and who started it uses the file
+-- a job makes a file and exits, and the process that started it uses the file
 abbrev pub calls_on_output : List CallLine
 calls_on_output = tmp_made ++
     line_of 10 (1 ∷ []) (Wrap (codes "j" ∷ codes "tmp" ∷ [])) ∷
@@ -189,8 +188,8 @@ calls_on_output = tmp_made ++
     line_of 18 (2 ∷ []) (ListCall (codes "tmp" ∷ [])) ∷
     line_of 19 (1 ∷ []) (Kill (1 ∷ 1 ∷ [])) ∷ []
 
--- who started a job reads, writes and renames what it made, asks how it ended, and takes its directory away: the replies to these
--- calls differ, and no one else notices
+-- the process that started a job reads, writes and renames what the job made, asks for its status, and removes its directory: the replies
+-- to these calls differ, and no outsider notices the job
 pub output_used_by_who_started_the_job : two_runs three_users (1 ∷ 1 ∷ []) calls_on_output ≡ record {
   is_started = true;
   lines_apart = [];
@@ -212,7 +211,7 @@ calls_of_an_inner_job = tmp_made ++
     line_of 13 (1 ∷ 1 ∷ []) (ListCall (codes "k" ∷ codes "j" ∷ codes "tmp" ∷ [])) ∷
     line_of 14 (1 ∷ []) (ListCall (codes "j" ∷ codes "tmp" ∷ [])) ∷ []
 
--- a job in a job: the outer one sees what the inner one makes, and who started the outer one doesn't notice
+-- a job in a job: the outer one sees what the inner one makes, and the process that started the outer one doesn't notice
 pub unnoticed_inner_job : two_runs three_users (1 ∷ 1 ∷ 1 ∷ []) calls_of_an_inner_job ≡ record {
   is_started = true;
   lines_apart = [];
@@ -234,7 +233,7 @@ calls_with_an_inner_rmdir = tmp_made ++
     line_of 13 (1 ∷ 1 ∷ []) (Rmdir (codes "k" ∷ codes "j" ∷ codes "tmp" ∷ [])) ∷
     line_of 14 (1 ∷ []) (ListCall (codes "j" ∷ codes "tmp" ∷ [])) ∷ []
 
--- there too a directory that is taken away tells of the inner job
+-- there too a `rmdir` reveals the inner job
 pub rmdir_that_decides_of_an_inner_job : two_runs three_users (1 ∷ 1 ∷ 1 ∷ []) calls_with_an_inner_rmdir ≡ record {
   is_started = true;
   lines_apart = 14 ∷ [];
@@ -267,8 +266,8 @@ calls_of_a_job_with_a_job_in_it = tmp_made ++
     line_of 24 (1 ∷ []) (Kill (1 ∷ 1 ∷ [])) ∷
     line_of 25 (1 ∷ []) (Rmtree (codes "j" ∷ codes "tmp" ∷ [])) ∷ []
 
--- an outer job that starts an inner one, with all that both do: without them the inner one was never there, and who started the outer
--- one alone is told so
+-- an outer job starts an inner one: without the calls of both, only the process that started the outer job has another reply, since the
+-- inner one is never started
 pub unnoticed_job_with_a_job_in_it : two_runs three_users (1 ∷ 1 ∷ []) calls_of_a_job_with_a_job_in_it ≡ record {
   is_started = true;
   lines_apart = [];
@@ -297,7 +296,7 @@ calls_of_a_members_job = logins ++
     line_of 21 (1 ∷ []) (Read (codes "g" ∷ codes "tmp" ∷ [])) ∷
     line_of 22 (3 ∷ []) (ListCall (codes "tmp" ∷ [])) ∷ []
 
--- a member's job reads a file of the group and tries to append to it: neither another member nor who is none notices
+-- a member's job reads a file of the group and tries to append to it: neither another member nor any other outsider notices
 pub unnoticed_job_of_a_member : two_runs with_a_team (1 ∷ 2 ∷ []) calls_of_a_members_job ≡ record {
   is_started = true;
   lines_apart = [];

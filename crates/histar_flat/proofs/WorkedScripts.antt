@@ -23,7 +23,7 @@ line_of line process call = record { line = line; process = process; call = call
 abbrev pub printed : List RepliedCall → List ℕ
 printed = flat_map (λ (a : RepliedCall). decimal a.call.line ++ codes " " ++ reply_text a.reply ++ codes "\n")
 
--- what stands at a path as it is printed: the path, its kind, its owner and its mode, and the bytes of a file
+-- what is printed of a path: the path, its kind, its owner and its mode, and the bytes of a file
 abbrev content_printed : Content → List ℕ
 content_printed Dir = []
 content_printed (File bytes) = codes " = " ++ bytes
@@ -34,7 +34,7 @@ node_printed q node =
     ++ stat_text (record { is_directory = is_dir node; owner = class_owner node.class; mode = class_mode node.class })
     ++ content_printed node.content ++ codes "\n"
 
--- the line of the path, where something stands there
+-- the line of the path, if something is there
 abbrev pub printed_at : Flat → Path → List ℕ
 printed_at f q = elim (get f.files q) [ None ↦ [] | Some node ↦ node_printed q node ]
 
@@ -51,7 +51,7 @@ three_users = record {
   groups = [];
 }
 
--- carol beside them, and a group of alice and bob
+-- the same users and carol, and a group of alice and bob
 abbrev pub with_a_team : Accounts
 with_a_team = record {
   users =
@@ -75,7 +75,7 @@ pub tmp_is_made : printed (meaning three_users tmp_made) ≡ codes "4 ok 0.1\n5 
 unfolding digits
 tmp_is_made = refl
 
--- what is printed of it, and of a script that goes on from there
+-- what is printed of these calls, and of a script that goes on from there
 abbrev pub tmp_printed : List ℕ
 tmp_printed = codes "4 ok 0.1\n5 ok 0.2\n6 ok\n7 ok\n8 ok\n9 ok\n"
 

@@ -1,5 +1,5 @@
--- A wrapped job changes nothing outside its scratch directory: its processes are those of its name and below, each is in the job, and at first
--- nothing but the directory is of the job.
+-- A wrapped job changes nothing outside its scratch directory: its processes are those of its name and below, each is in the job, and at
+-- first only the directory is of the job.
 use Rattle.std.specs.Prelude.{◌≡◌, ◌⊎◌, ◌+◌, Bool, true, false, cond, ◌||◌, List, [], ◌∷◌, ◌++◌, Option, Some, None, refl}
 use Rattle.std.proofs.Common.{ap, inl, inr, sym, ◌∙◌, subst}
 use Rattle.std.proofs.lemmas.Bool.{true≢false, and_parts, or_parts}
@@ -34,12 +34,12 @@ use Rattle.histar_flat.proofs.Under.{under_itself}
 
 -- ---- lists of jobs
 
--- what is put last is in the list
+-- a list contains what is put last
 pub has_last : (jobs : List ProcName) (job : ProcName) → has (jobs ++ job ∷ []) job ≡ true
 has_last [] job = ap (λ b. b || false) (same_itself job)
 has_last (k ∷ jobs) job = ap (λ b. same job k || b) (has_last jobs job) ∙ or-true (same job k)
 
--- and what was in it still is
+-- a list keeps what was in it
 has_longer : (jobs : List ProcName) (job last : ProcName) → has jobs job ≡ true → has (jobs ++ last ∷ []) job ≡ true
 has_longer [] job last h = absurd (true≢false (sym h))
 has_longer (k ∷ jobs) job last h = by (same job k) refl (has_longer jobs job last)
@@ -50,7 +50,7 @@ has_longer (k ∷ jobs) job last h = by (same job k) refl (has_longer jobs job l
 
 -- ---- the processes of a job
 
--- a name of which a longer one was given was given
+-- if a longer name was given, the names above it were given
 pub given_above : (processes : ProcName → Option Process) (above q : ProcName) → under_process above q ≡ true
     → is_given processes q ≡ true → is_given processes above ≡ true
 given_above processes above [] under given = elim (same_name_found above []) [
@@ -69,7 +69,7 @@ abbrev AreInJob : ProcName → Flat → Type 0
 AreInJob job f = (q : ProcName) (p : Process) → f.processes q ≡ Some p → under_process job q ≡ true → has p.chain job ≡ true
 
 module _ (job : ProcName) where
-  -- a process that is put there is in the job, where it has to be
+  -- processes stay in the job when one is put there that is in the job if it has to be
   put_in : (f : Flat) (me : ProcName) (p : Process) → AreInJob job f
       → (under_process job me ≡ true → has p.chain job ≡ true) → AreInJob job (with_process f me p)
   put_in f me p all own q x at under = elim (same_name_found me q) [
@@ -119,14 +119,14 @@ module _ (job : ProcName) where
           (has_longer p.chain job (next_child me p));
     }
 
-  -- so each line leaves them in the job
+  -- each line leaves these processes in the job
   in_after : (accounts : Accounts) (f : Flat) → is_given f.processes job ≡ true → AreInJob job f
       → (me : ProcName) (call : UnixCall) → AreInJob job (flat_after accounts f me call)
   in_after accounts f given all me call =
       by_line accounts f me call (AreInJob job) all
       (λ p runs. in_changes f given all me p (runs_is_there (f.processes me) p runs) accounts call)
 
-  -- and what its processes call are calls of the job
+  -- the calls of these processes are calls of the job
   calls_of_job : (accounts : Accounts) (f : Flat) → is_given f.processes job ≡ true → AreInJob job f
       → (calls : List CallLine) → all_under job calls ≡ true → AreOfJob accounts job f calls
   calls_of_job accounts f given all [] under = tt
@@ -165,7 +165,7 @@ module _ (accounts : Accounts) (f : Flat) (tree : IsTree f) (names : NamesAreGiv
   none_before : AreInJob job f
   none_before q x at under = absurd (true≢false (sym (given_above f.processes job q under (names.of_processes q x at)) ∙ new))
 
-  -- who wraps is not below the job
+  -- the process that calls `wrap` is not below the job
   wrapper_above : under_process job me ≡ true → has p.chain job ≡ true
   wrapper_above under = none_before me p here under
 
@@ -178,7 +178,7 @@ module _ (accounts : Accounts) (f : Flat) (tree : IsTree f) (names : NamesAreGiv
   not_carried true c = absurd (true≢false (sym (c refl) ∙ new))
   not_carried false c = refl
 
-  -- nothing was of the job
+  -- nothing was of the job before
   no_one : (q : Path) (o : Option Node) → get f.files q ≡ o → is_some_and o (λ y. carries job y.class) ≡ false
   no_one q None at = refl
   no_one q (Some y) at = not_carried (carries job y.class) (λ c. names.of_carried_jobs q y job at c)
@@ -192,7 +192,7 @@ module _ (accounts : Accounts) (f : Flat) (tree : IsTree f) (names : NamesAreGiv
       get_other f.files (n ∷ d) (record { class = Scratch p.user (inner_chain me p); content = Dir }) q
       (λ e. true≢false (sym (under_itself same same_path_found (n ∷ d)) ∙ ap (under_path (n ∷ d)) (sym e) ∙ apart))
 
-  -- so nothing but the directory, and what lies below it, lies in a scratch directory of the job
+  -- only the directory, and what lies below it, lies in a scratch directory of the job
   outside : (q : Path) → under_path (n ∷ d) q ≡ false → lies_in_scratch wrapped job q ≡ false
   outside [] apart = ap (λ (x : Option Node). is_some_and x (λ y. carries job y.class)) (elsewhere [] apart) ∙ no_one [] (get f.files []) refl
   outside (m ∷ q) apart =
@@ -200,14 +200,14 @@ module _ (accounts : Accounts) (f : Flat) (tree : IsTree f) (names : NamesAreGiv
       (λ i. is_some_and (elsewhere (m ∷ q) apart i) (λ y. carries job y.class) || outside q parts.1 i)
       ∙ ap (λ b. b || false) (no_one (m ∷ q) (get f.files (m ∷ q)) refl)
 
-  -- the job's first process is there, so its name was given
+  -- the job's first process is there, and its name was given
   first_there : wrapped.processes job ≡ Some first
   first_there =
       ap (λ b.
       cond b (Some first) (cond (same me job) (Some (record p { held = p.held ++ job ∷ []; born = p.born + 1 }))
       (f.processes job))) (same_itself job)
 
-  -- after it, whatever the job's processes call
+  -- after the wrap a path outside stays as it is, whatever the job's processes call
   inside_after : NamesAreGiven wrapped → IsTree wrapped → (calls : List CallLine) → all_under job calls ≡ true
       → (q : Path) → under_path (n ∷ d) q ≡ false → get (flat_end accounts wrapped calls).files q ≡ get f.files q
   inside_after later_names later_tree calls under q apart =

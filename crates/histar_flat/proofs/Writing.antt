@@ -22,7 +22,7 @@ use Rattle.histar_flat.proofs.FileLemmas.{same_path_found, get_other, get_new}
 use Rattle.histar_flat.proofs.PrivateFiles.{written_is_writable}
 use Rattle.histar_flat.proofs.Refusals.{passes_first, passes_later, passed}
 
--- new bytes in a file show nothing else
+-- new bytes in a file change nothing else that is shown
 bytes_show_nothing : (f : Flat) (q : Path) (bytes : List ℕ) → is_file_at f q ≡ true → ShowAlike (with_bytes f q bytes) f
 bytes_show_nothing f q bytes h r = elim (same_path_found r q) [
   | inl e ↦

@@ -30,15 +30,15 @@ pub record Accounts : Type 0 where
   pub users : List User
   pub groups : List Group
 
--- nothing is declared
+-- the accounts of a script that declares nothing
 abbrev pub no_accounts : Accounts
 no_accounts = record { users = []; groups = [] }
 
--- one user more, behind the others
+-- the accounts with one more user, after the others
 abbrev pub with_user : Accounts → User → Accounts
 with_user accounts user = record { users = accounts.users ++ user ∷ []; groups = accounts.groups }
 
--- one group more, behind the others
+-- the accounts with one more group, after the others
 abbrev pub with_group : Accounts → Group → Accounts
 with_group accounts group = record { users = accounts.users; groups = accounts.groups ++ group ∷ [] }
 
@@ -47,7 +47,7 @@ pub record IsSmall (accounts : Accounts) : Type 0 where
   pub users : length accounts.users ≤ most_users
   pub groups : length accounts.groups ≤ most_groups
 
--- the list of names has this one
+-- the list of names contains this one
 abbrev pub has : List (List ℕ) → List ℕ → Bool
 has names name = list_any (same name) names
 
@@ -64,7 +64,7 @@ is_member accounts user group = list_any (λ (g : Group). same g.name group && h
 abbrev pub is_group : Accounts → Name → Bool
 is_group accounts name = list_any (λ (g : Group). same g.name name) accounts.groups
 
--- the mode is for a user, or for a group that is declared
+-- the mode is not a group's, or its group is declared
 abbrev pub is_declared_mode : Accounts → Mode → Bool
 is_declared_mode accounts (modes.Group group) = is_group accounts group
 is_declared_mode accounts mode = true

@@ -1,4 +1,4 @@
--- The rules of the Unix calls, a line each: what a call needs, and else its refusals in their order, what it changes, and what it answers.
+-- The rules of the Unix calls, one line each: what a call needs, with its refusals in their order, what it changes, and what it answers.
 use Rattle.std.specs.Prelude.{[], ◌++◌}
 use Rattle.histar_flat.specs.declared.calls.UnixCall.{UnixCall}
 use Rattle.histar_flat.specs.declared.calls.UnixCall.TheVariants.{Create, Mkdir, Read, Write, Append, List as ListCall, Stat, Unlink, Rmdir, Rmtree}
@@ -14,7 +14,7 @@ use Rattle.histar_flat.specs.Effects.{Effect, ReplyForm}
 use Rattle.histar_flat.specs.Effects.Effect.{Makes, Stores, Removes, Renames, Spawns, Exits, LogsIn, Kills, Wraps, Nothing as nothing}
 use Rattle.histar_flat.specs.Effects.ReplyForm.{Done, Bytes, Listing, Attributes, StatusOf, Identity, NewChild}
 
--- the rule of a call: the path that it names, and else `/`; what it needs, changes and answers
+-- the rule of a call: the path that it names, or `/` if it names none; what it needs, changes and answers
 pub record Rule : Type 0 where
   pub path : Path
   pub needs : Need
@@ -52,6 +52,6 @@ rule (Login name password) =
     answers Done
 rule (Wrap q) = at q needs child then room then IsSomebody or EPERM changes Wraps answers NewChild
 
--- the path that a call names, and else `/`
+-- the path that a call names, or `/` if it names none
 abbrev pub path_of : UnixCall → Path
 path_of call = (rule call).path

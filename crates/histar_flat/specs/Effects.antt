@@ -13,7 +13,7 @@ use Rattle.histar_flat.specs.FlatState.{Flat, Node, Content, is_dir, bytes_at, e
 use Rattle.histar_flat.specs.FlatState.{with_process, with_child, without_process}
 use Rattle.histar_flat.specs.FlatState.Content.{Dir}
 
--- the class that is made; where there is none the call was refused
+-- the class that is made; if there is none, the call was refused
 abbrev pub class_or_open : Option Class → Class
 class_or_open None = Open
 class_or_open (Some class) = class
@@ -22,7 +22,7 @@ class_or_open (Some class) = class
 abbrev pub next_child : ProcName → Process → ProcName
 next_child me p = (p.born + 1) ∷ me
 
--- the jobs of a job that the process starts: its own, and one that is named by the next child
+-- the jobs of a job that the process starts: its own jobs, and one that is named by the next child
 abbrev pub inner_chain : ProcName → Process → List ProcName
 inner_chain me p = p.chain ++ next_child me p ∷ []
 
@@ -80,7 +80,7 @@ module _ (accounts : Accounts) (f : Flat) (me : ProcName) (p : Process) (q : Pat
       (with_node f q (Scratch p.user (inner_chain me p)) Dir)
       me (record p { held = p.held ++ next_child me p ∷ [] }) (inner_chain me p)
 
--- the reply with an answer, to the same call
+-- the reply to the same call with this form of answer
 abbrev pub reply_with : Flat → ProcName → Process → Path → ReplyForm → Reply
 reply_with f me p q Done = replies.Done
 reply_with f me p q Bytes = replies.Data (bytes_at f q)

@@ -1,4 +1,4 @@
--- One call of one process: its first refusal, and else the change and the answer.
+-- One call of one process: its first refusal, or its change and its answer.
 use Rattle.std.specs.Prelude.{Option, None, Some}
 use Rattle.histar_flat.specs.declared.calls.UnixCall.{UnixCall}
 use Rattle.histar_flat.specs.declared.replies.Errno.{Errno}
@@ -31,26 +31,26 @@ abbrev pub reply_or : Option Errno → Reply → Reply
 reply_or None reply = reply
 reply_or (Some e) reply = Refused e
 
--- the state as it was where there is a refusal, or else the new one
+-- the state as it was if there is a refusal, or else the new one
 abbrev pub flat_or : Option Errno → Flat → Flat → Flat
 flat_or None old new = new
 flat_or (Some e) old new = old
 
--- a process that has not exited
+-- the process, if it has not exited
 abbrev pub if_running : Option Process → Option Process
 if_running None = None
 if_running (Some p) = elim p.exited [ None ↦ Some p | Some n ↦ None ]
 
--- the process of this name, where it runs
+-- the process of this name, if it runs
 abbrev pub running : Flat → ProcName → Option Process
 running f me = if_running (f.processes me)
 
--- the reply to a process that runs, and else `gone`
+-- the reply to a process that runs, or else `gone`
 abbrev pub reply_by : Accounts → Flat → ProcName → Option Process → UnixCall → Reply
 reply_by accounts f me None call = Gone
 reply_by accounts f me (Some p) call = reply_or (refused accounts f me p call) (answer f me p call)
 
--- the state after the call of a process that runs, and else the same state
+-- the state after the call of a process that runs, or else the same state
 abbrev pub flat_by : Accounts → Flat → ProcName → Option Process → UnixCall → Flat
 flat_by accounts f me None call = f
 flat_by accounts f me (Some p) call = flat_or (refused accounts f me p call) f (changed accounts f me p call)
@@ -59,6 +59,6 @@ flat_by accounts f me (Some p) call = flat_or (refused accounts f me p call) f (
 abbrev pub reply_to : Accounts → Flat → ProcName → UnixCall → Reply
 reply_to accounts f me call = reply_by accounts f me (running f me) call
 
--- the flat state after it
+-- the flat state after a call of the process of this name
 abbrev pub flat_after : Accounts → Flat → ProcName → UnixCall → Flat
 flat_after accounts f me call = flat_by accounts f me (running f me) call

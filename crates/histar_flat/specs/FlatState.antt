@@ -1,4 +1,4 @@
--- The flat state: a map from paths to files and directories, and a map from names to processes; what is there, and the walk.
+-- The flat state: a map from paths to files and directories, and a map from names to processes; lookups, the walk, and updates.
 use Rattle.std.specs.Prelude.{◌≡◌, Bool, true, false, not, cond, List, [], ◌∷◌, map, ℕ, ◌+◌, ◌&&◌, nat_le, Option, None, Some}
 use Rattle.std.specs.List.{filter_map}
 use Rattle.histar_base.specs.Refusals.{◌orelse◌, unless}
@@ -16,12 +16,12 @@ pub data Content : Type 0 where
   Dir : Content
   File : List ℕ → Content
 
--- what stands at a path
+-- what is at a path
 pub record Node : Type 0 where
   pub class : Class
   pub content : Content
 
--- the state: what stands at each path, and the process of each name
+-- the state: what is at each path, and the process of each name
 pub record Flat : Type 0 where
   pub files : Files Node
   pub processes : ProcName → Option Process
@@ -31,36 +31,36 @@ abbrev pub is_some_and : {A : Type 0} → Option A → (A → Bool) → Bool
 is_some_and None test = false
 is_some_and (Some x) test = test x
 
--- a directory
+-- the node is a directory
 abbrev pub is_dir : Node → Bool
 is_dir n = elim n.content [ Dir ↦ true | File bytes ↦ false ]
 
--- something stands at the path
+-- something is at the path
 abbrev pub is_there : Flat → Path → Bool
 is_there f q = is_some_and (get f.files q) (λ n. true)
 
--- a directory stands at the path
+-- a directory is at the path
 abbrev pub is_dir_at : Flat → Path → Bool
 is_dir_at f q = is_some_and (get f.files q) is_dir
 
--- a file stands at the path
+-- a file is at the path
 abbrev pub is_file_at : Flat → Path → Bool
 is_file_at f q = is_some_and (get f.files q) (λ n. not (is_dir n))
 
--- the paths are a tree: `/` is a directory, and what lies in something lies in a directory
+-- the paths are a tree: `/` is a directory, and whatever has a parent has a directory as its parent
 pub record IsTree (f : Flat) : Type 0 where
   pub root : is_dir_at f [] ≡ true
   pub below : (n : Name) (d : Path) → is_there f (n ∷ d) ≡ true → is_dir_at f d ≡ true
 
--- the process may read what stands at the path
+-- the process may read what is at the path
 abbrev pub reads : Accounts → Flat → Process → Path → Bool
 reads accounts f p q = is_some_and (get f.files q) (λ n. may_read accounts p n.class)
 
--- the process may write what stands at the path
+-- the process may write what is at the path
 abbrev pub writes : Accounts → Flat → Process → Path → Bool
 writes accounts f p q = is_some_and (get f.files q) (λ n. may_write accounts p n.class)
 
--- the bytes of a file, where one stands there
+-- the bytes of the node, if it is a file
 abbrev pub bytes_of : Option Node → List ℕ
 bytes_of None = []
 bytes_of (Some n) = elim n.content [ Dir ↦ [] | File bytes ↦ bytes ]
@@ -73,7 +73,7 @@ bytes_at f q = bytes_of (get f.files q)
 abbrev pub Entry : Type 0
 Entry = Name × Bool
 
--- the entry of the directory d that a path is, if it is one
+-- the entry of the directory d that is at a path, if it is one
 abbrev pub entry_in : Path → Path × Node → Option Entry
 entry_in d e = elim e.0 [ [] ↦ None | n ∷ above ↦ cond (same_path d above) (Some (n, is_dir e.1)) None ]
 
@@ -81,8 +81,8 @@ entry_in d e = elim e.0 [ [] ↦ None | n ∷ above ↦ cond (same_path d above)
 abbrev pub entries_in : Flat → Path → List Entry
 entries_in f d = filter_map (entry_in d) f.files.entries
 
--- The first refusal on the way into a directory: from `/` on each directory may not be read, or the next name is not in it, or that
--- is no directory.
+-- The first refusal on the way into a directory: from `/` on, a directory may not be read, or it lacks the next name, or the entry of that
+-- name is no directory.
 abbrev pub into : Accounts → Flat → Process → Path → Option Errno
 into accounts f p [] = unless (reads accounts f p []) EACCES
 into accounts f p (n ∷ d) =
@@ -91,52 +91,52 @@ into accounts f p (n ∷ d) =
     orelse unless (is_dir_at f (n ∷ d)) ENOTDIR
     orelse unless (reads accounts f p (n ∷ d)) EACCES
 
--- the first refusal on the walk to a path, which is the way into the directory that it lies in; to `/` there is no walk
+-- the first refusal on the walk to a path, which is the way into its parent; to `/` there is no walk
 abbrev pub walk : Accounts → Flat → Process → Path → Option Errno
 walk accounts f p [] = None
 walk accounts f p (n ∷ d) = into accounts f p d
 
--- with this at the path
+-- the state with a node of this class and content at the path
 abbrev pub with_node : Flat → Path → Class → Content → Flat
 with_node f q class content = record f { files = insert f.files q (record { class = class; content = content }) }
 
--- the class of what stands there; no call that passes asks where nothing does
+-- the class of what is there; no call that passes asks for it if nothing is
 abbrev pub class_of : Option Node → Class
 class_of None = Open
 class_of (Some n) = n.class
 
--- with these bytes in the file, which stays of its class
+-- the state with these bytes in the file, which keeps its class
 abbrev pub with_bytes : Flat → Path → List ℕ → Flat
 with_bytes f q bytes = with_node f q (class_of (get f.files q)) (File bytes)
 
--- with this process under the name
+-- the state with this process under the name
 abbrev pub with_process : Flat → ProcName → Process → Flat
 with_process f me p = record f { processes = λ q. cond (same me q) (Some p) (f.processes q) }
 
--- without what stands at the path and all below it
+-- the state without what is at the path and all below it
 abbrev pub without_below : Flat → Path → Flat
 without_below f q = record f { files = keep f.files (λ r. not (under_path q r)) }
 
--- where a path leads once what stands at `old` is called `new`
+-- where a path leads once the file or directory at `old` is at `new`
 abbrev pub moved : Path → Path → Path → Path
 moved old new [] = []
 moved old new (n ∷ d) = cond (same_path old (n ∷ d)) new (n ∷ moved old new d)
 
--- with all paths as they are once what stands at `old` is called `new`
+-- the state with all paths as they are once the file or directory at `old` is at `new`
 abbrev pub with_renamed : Flat → Path → Path → Flat
 with_renamed f old new = record f { files = from_list (map (λ e. (moved old new e.0, e.1)) f.files.entries) }
 
--- with a child of the process `me`, which is p, in these jobs; a child is its parent's user's, runs, and holds nothing
+-- the state with one more child of the process `me`, which is p, in these jobs; a child has its parent's user, runs, and holds nothing
 abbrev pub with_child : Flat → ProcName → Process → List ProcName → Flat
 with_child f me p chain =
     with_process (with_process f me (record p { born = p.born + 1 })) ((p.born + 1) ∷ me)
     (record { user = p.user; chain = chain; held = []; exited = None; born = 0 })
 
--- without the process and all below it
+-- the state without the process and all below it
 abbrev pub without_process : Flat → ProcName → Flat
 without_process f me = record f { processes = λ q. cond (under_process me q) None (f.processes q) }
 
--- the number was given to a child that was born, where the process is there
+-- the process has given the number to a child; of a process that is not there every number counts as given
 abbrev pub was_given : Option Process → ℕ → Bool
 was_given None n = true
 was_given (Some p) n = nat_le 1 n && nat_le n p.born

@@ -15,7 +15,7 @@ use Rattle.histar_flat.specs.FlatState.{Flat, IsTree, is_some_and, with_process}
 use Rattle.histar_flat.specs.FlatCalls.{running, reply_to, flat_after}
 use Rattle.histar_flat.specs.Meaning.{boot, flat_end}
 
--- A path lies in a scratch directory of the job: what stands there, or at a directory above it, is of the job.
+-- A path lies in a scratch directory of the job if what is there, or at a directory above it, is of the job.
 abbrev pub lies_in_scratch : Flat → ProcName → Path → Bool
 lies_in_scratch f job [] = is_some_and (get f.files []) (λ n. carries job n.class)
 lies_in_scratch f job (n ∷ d) = is_some_and (get f.files (n ∷ d)) (λ n. carries job n.class) || lies_in_scratch f job d
@@ -40,8 +40,8 @@ JobsStayInside = (accounts : Accounts) (f : Flat) → IsTree f → (job : ProcNa
 abbrev pub all_under : ProcName → List CallLine → Bool
 all_under name calls = list_all (λ (c : CallLine). under_process name c.process) calls
 
--- After any calls, a wrap of a path that is answered with the name of its job, and whatever the job's processes call then, leave each path
--- as it was but the path itself and those below it.
+-- After any calls, take a wrap of a path that is answered with the name of its job, and then any calls of the job's processes: they leave
+-- each path as it was but the path itself and those below it.
 abbrev pub WrappedJobsStayInside : Type 0
 WrappedJobsStayInside =
     (accounts : Accounts) (before : List CallLine) (wrap : CallLine) (path : Path) (job : ProcName)
@@ -56,12 +56,12 @@ abbrev pub CallsChangeTheirOwnTree : Type 0
 CallsChangeTheirOwnTree = (accounts : Accounts) (f : Flat) (me : ProcName) (call : UnixCall) (other : ProcName) → under_process me other ≡ false
     → (flat_after accounts f me call).processes other ≡ f.processes other
 
--- what is of this class is of jobs
+-- a file of this class is of jobs
 abbrev pub is_scratch : Class → Bool
 is_scratch (Scratch owner jobs) = true
 is_scratch _ = false
 
--- what stands at the path, or at a directory above it, is of some job
+-- what is at the path, or at a directory above it, is of some job
 abbrev pub lies_in_some_scratch : Flat → Path → Bool
 lies_in_some_scratch f [] = is_some_and (get f.files []) (λ n. is_scratch n.class)
 lies_in_some_scratch f (n ∷ d) = is_some_and (get f.files (n ∷ d)) (λ n. is_scratch n.class) || lies_in_some_scratch f d
@@ -70,7 +70,7 @@ lies_in_some_scratch f (n ∷ d) = is_some_and (get f.files (n ∷ d)) (λ n. is
 abbrev pub out_of_jobs : Process → Process
 out_of_jobs p = record p { chain = []; held = [] }
 
--- outside all scratch directories a process in jobs is answered what it were answered in none
+-- outside all scratch directories a process in jobs gets the reply that it would get in no job
 abbrev pub JobsReadAsTheirUser : Type 0
 JobsReadAsTheirUser =
     (accounts : Accounts) (f : Flat) (me : ProcName) (p : Process) (q : Path) → running f me ≡ Some p

@@ -1,5 +1,5 @@
--- What the meaning amounts to: calls that are refused, the private files of others, what is written, the replies of a script, names
--- and jobs.
+-- What follows from the meaning of calls: laws of refusals, of the private files of others, of writing, of the replies of a script, of
+-- names and of jobs.
 use Rattle.std.specs.Prelude.{◌&&◌, ◌≡◌, ◌≢◌, ℕ, Bool, true, false, not, List, [], map, None, Some}
 use Rattle.std.specs.List.{list_all}
 use Rattle.histar_flat.specs.declared.calls.CallLine.{CallLine}
@@ -25,16 +25,16 @@ use Rattle.histar_flat.specs.Meaning.{RepliedCall, boot, answered_from, flat_end
 abbrev pub private_file : Name → List ℕ → Node
 private_file owner bytes = record { class = Private owner; content = File bytes }
 
--- the process of this name runs, and it is the owner's
+-- the process of this name runs, and its user is the owner
 abbrev pub runs_for : Flat → ProcName → Name → Bool
 runs_for f me owner = is_some_and (running f me) (λ p. same p.user owner)
 
--- an effect by which a process becomes one of these users
+-- the effect makes a process one of these users'
 abbrev pub becomes : (Name → Bool) → Effect → Bool
 becomes users (LogsIn name) = users name
 becomes users _ = false
 
--- a login as one of these users
+-- the call is a login as one of these users
 abbrev pub is_login_of : (Name → Bool) → UnixCall → Bool
 is_login_of users call = becomes users (rule call).effect
 
@@ -42,7 +42,7 @@ is_login_of users call = becomes users (rule call).effect
 abbrev pub has_no_login_of : (Name → Bool) → List CallLine → Bool
 has_no_login_of users calls = list_all (λ (c : CallLine). not (is_login_of users c.call)) calls
 
--- no process that runs is of one of these users
+-- no running process is of one of these users
 abbrev pub AreAway : (Name → Bool) → Flat → Type 0
 AreAway users f = (me : ProcName) → is_some_and (running f me) (λ p. users p.user) ≡ false
 
@@ -52,18 +52,18 @@ RefusalsChangeNothing =
     (accounts : Accounts) (f : Flat) (me : ProcName) (call : UnixCall) (e : Errno)
     → reply_to accounts f me call ≡ Refused e → flat_after accounts f me call ≡ f
 
--- the effect takes away or renames what stands at the path of the call
+-- the effect removes or renames what is at the path of the call
 abbrev pub removes : Effect → Bool
 removes Removes = true
 removes (Renames name) = true
 removes _ = false
 
--- the call takes away or renames what stands at the path, or a directory that it lies in
+-- the call removes or renames what is at the path, or a directory above it
 abbrev pub takes_away : UnixCall → Path → Bool
 takes_away call q = removes (rule call).effect && under_path (path_of call) q
 
--- In a tree a call of a process that is not the owner's leaves a private file as it is, unless it takes it away or renames it: it
--- stands at its path, is private, and has its bytes.
+-- In a tree a call of a process that is not the owner's leaves a private file as it is, unless it removes or renames it: the file is at its
+-- path, is private, and has its bytes.
 abbrev pub PrivateFilesStay : Type 0
 PrivateFilesStay = (f : Flat) → IsTree f → (q : Path) (owner : Name) (bytes : List ℕ) → get f.files q ≡ Some (private_file owner bytes)
     → (accounts : Accounts) (me : ProcName) (call : UnixCall) → runs_for f me owner ≡ false → takes_away call q ≡ false
@@ -74,7 +74,7 @@ abbrev pub PrivateFilesAreHidden : Type 0
 PrivateFilesAreHidden = (f : Flat) (q : Path) (owner : Name) (bytes : List ℕ) → get f.files q ≡ Some (private_file owner bytes)
     → (accounts : Accounts) (me : ProcName) (revealed : List ℕ) → runs_for f me owner ≡ false → reply_to accounts f me (Read q) ≢ Data revealed
 
--- while no process is the owner's and no call is a login as the owner, all replies are as if other bytes stood in the private file
+-- while no process is the owner's and no call is a login as the owner, all replies are the same with other bytes in the private file
 abbrev pub PrivateBytesAreHidden : Type 0
 PrivateBytesAreHidden =
     (owner : Name) (accounts : Accounts) (f : Flat) (q : Path) (bytes other : List ℕ) (calls : List CallLine)
@@ -86,7 +86,7 @@ PrivateBytesAreHidden =
 abbrev pub group_file : Name → List ℕ → Node
 group_file group bytes = record { class = Grouped group; content = File bytes }
 
--- each call of a process that is no member's has the reply that it had if other bytes stood in a file of the group
+-- each call of a process that is no member's has the same reply with other bytes in a file of the group
 abbrev pub GroupBytesAreHidden : Type 0
 GroupBytesAreHidden =
     (group : Name) (accounts : Accounts) (f : Flat) (q : Path) (bytes other : List ℕ) (me : ProcName) (call : UnixCall)
@@ -94,7 +94,7 @@ GroupBytesAreHidden =
     → is_some_and (running f me) (λ p. is_member accounts p.user group) ≡ false
     → reply_to accounts f me call ≡ reply_to accounts (with_bytes f q other) me call
 
--- while no process is a member's and no call is a login as a member, all replies are as if other bytes stood in the group's file
+-- while no process is a member's and no call is a login as a member, all replies are the same with other bytes in the group's file
 abbrev pub GroupBytesStayHidden : Type 0
 GroupBytesStayHidden =
     (group : Name) (accounts : Accounts) (f : Flat) (q : Path) (bytes other : List ℕ) (calls : List CallLine)
@@ -108,7 +108,7 @@ abbrev pub WritesAreReadBack : Type 0
 WritesAreReadBack = (accounts : Accounts) (f : Flat) (me : ProcName) (q : Path) (bytes : List ℕ) → reply_to accounts f me (Write q bytes) ≡ Done
     → reply_to accounts (flat_after accounts f me (Write q bytes)) me (Read q) ≡ Data bytes
 
--- the replies of a script are one a call line, in the order of the lines
+-- a script has one reply for each call line, in the order of the lines
 abbrev pub OneReplyALine : Type 0
 OneReplyALine = (accounts : Accounts) (calls : List CallLine) → map (λ (a : RepliedCall). a.call) (meaning accounts calls) ≡ calls
 
@@ -122,8 +122,8 @@ pub record NamesAreGiven (f : Flat) : Type 0 where
   pub of_known_jobs : (q : ProcName) (p : Process) (job : ProcName) → f.processes q ≡ Some p → knows p job ≡ true → is_given f.processes job ≡ true
   pub of_carried_jobs : (q : Path) (n : Node) (job : ProcName) → get f.files q ≡ Some n → carries job n.class ≡ true → is_given f.processes job ≡ true
 
--- Names are given once: in each state that calls lead to, all names that are there were given; the name of a next child was not; and
--- a name that was given stays so.
+-- Names are given once: in each state that calls lead to, all names that are there were given; the name of a next child was not; and a name
+-- that was given stays given.
 pub record NamesAreGivenOnce : Type 0 where
   pub old : (accounts : Accounts) (calls : List CallLine) → NamesAreGiven (flat_end accounts (boot accounts) calls)
   pub new : (f : Flat) (me : ProcName) (p : Process) → f.processes me ≡ Some p → is_given f.processes (next_child me p) ≡ false
@@ -135,7 +135,7 @@ pub record HasNoJob (p : Process) : Type 0 where
   pub in_none : p.chain ≡ []
   pub holds_none : p.held ≡ []
 
--- who is nobody, and who is no declared user, has no job, in each state that calls lead to
+-- a process of nobody, or of a user that is not declared, is in no job and holds none, in each state that calls lead to
 pub record NobodyHasAJob : Type 0 where
   pub nobodys : (accounts : Accounts) (calls : List CallLine) (me : ProcName) (p : Process)
       → (flat_end accounts (boot accounts) calls).processes me ≡ Some p

@@ -18,11 +18,11 @@ abbrev pub first_user : List User → Name
 first_user [] = nobody
 first_user (u ∷ users) = u.name
 
--- a process that has just started: nobody's, in no job, running, and nothing is held or born
+-- a process that has just started: nobody's, in no job, running, with no job held and no child born
 abbrev pub first_process : Process
 first_process = record { user = nobody; chain = []; held = []; exited = None; born = 0 }
 
--- the flat state at the start: `/` alone, which everyone may read and the first user may write, and process 0 alone
+-- the flat state at the start: `/`, which everyone may read and the first user may write, and process 0
 abbrev pub boot : Accounts → Flat
 boot accounts = with_process
     (record {
@@ -36,7 +36,7 @@ pub record RepliedCall : Type 0 where
   pub call : CallLine
   pub reply : Reply
 
--- the calls, one after another, each with its reply
+-- the calls, made one after another from this state, each with its reply
 abbrev pub answered_from : Accounts → Flat → List CallLine → List RepliedCall
 answered_from accounts f [] = []
 answered_from accounts f (c ∷ calls) =
@@ -47,10 +47,10 @@ abbrev pub flat_end : Accounts → Flat → List CallLine → Flat
 flat_end accounts f [] = f
 flat_end accounts f (c ∷ calls) = flat_end accounts (flat_after accounts f c.process c.call) calls
 
--- what a script of this session and these calls means: each call with its reply, from the start on
+-- the meaning of a script with these accounts and calls: each call with its reply, from the start on
 abbrev pub meaning : Accounts → List CallLine → List RepliedCall
 meaning accounts calls = answered_from accounts (boot accounts) calls
 
--- the calls but those of this process and of what is below it
+-- the calls without those of this process and of the processes below it
 abbrev pub without : ProcName → List CallLine → List CallLine
 without job calls = filter (λ c. not (under_process job c.process)) calls

@@ -1,15 +1,15 @@
--- Which bytes are read as a mode, and which modes these are.
+-- The modes that lines of a script name, and how they are read.
 use Rattle.std.specs.Prelude.{ℕ, Bool, true, List, codes, Option, Some, None, option_map, if◌then◌else◌}
 use Rattle.std.specs.Str.{bytes_eq}
 use Rattle.histar_flat.specs.declared.calls.Mode.{Mode}
 use Rattle.histar_flat.specs.declared.calls.Mode.TheVariants.{Private, Readable, Open, Group}
 use Rattle.histar_flat.specs.Words.{is_user_name, user_name_of, split_at_first}
 
--- what stands between `group` and the group's name in a mode, a colon
+-- the byte between `group` and the group's name in a mode, a colon
 abbrev pub colon : ℕ
 colon = 58
 
--- a group's mode: `group`, a colon, and a name of the form of a user's
+-- the mode `group:NAME`, where NAME may be a user's
 unfoldable pub group_mode_of : List ℕ → Option Mode
 group_mode_of bs =
     if bytes_eq (split_at_first colon bs).0 (codes "group")

@@ -1,4 +1,4 @@
--- What a call needs, in the order in which it is looked at, and the refusal where a need is not met.
+-- What a call needs, in the order of its tests, and the refusal if a need is not met.
 use Rattle.std.specs.Prelude.{ℕ, Bool, false, true, not, ◌==◌, nat_lt, nat_le, List, [], ◌∷◌, length, Option, None, is_some}
 use Rattle.histar_base.specs.Refusals.{◌orelse◌, unless}
 use Rattle.histar_flat.specs.declared.calls.Mode.{Mode}
@@ -28,7 +28,7 @@ abbrev pub is_child : ProcName → ProcName → Bool
 is_child me [] = false
 is_child me (n ∷ above) = same me above
 
--- the first refusal of a look at a process: from process 0 on, a child is not there, or the process may not see it
+-- the first refusal on the search for a process: from process 0 on, a child is not there, or the process may not see it
 abbrev pub not_found : Flat → Process → ProcName → Option Errno
 not_found f p [] = None
 not_found f p (n ∷ above) =
@@ -36,7 +36,7 @@ not_found f p (n ∷ above) =
     orelse unless (is_some (f.processes (n ∷ above))) ESRCH
     orelse unless (is_some_and (f.processes (n ∷ above)) (sees p)) EACCES
 
--- what a call tests, of the path that it names and of its process
+-- a test of a call, of the path that it names and of its process
 pub data Test : Type 0 where
   -- the path is not `/`; a file or a directory is there; a file is; a directory is; nothing is
   NotRoot Exists IsFile IsDirectory Absent : Test
@@ -68,9 +68,9 @@ pub data Need : Type 0 where
   Nothing Walk : Need
   -- the one, and then the other
   ◌then◌ : Need → Need → Need
-  -- that a test passes, and else this refusal
+  -- that a test passes, or else this refusal
   ◌or◌ : Test → Errno → Need
-  -- that the process finds the one that is named, where the search has refusals of its own
+  -- that the process finds the one of this name, where the search has refusals of its own
   Found : ProcName → Need
 
 module _ (accounts : Accounts) (f : Flat) (me : ProcName) (p : Process) (q : Path) where
@@ -117,6 +117,6 @@ file = NotRoot or EISDIR then Walk then Exists or ENOENT then IsFile or EISDIR
 abbrev pub entry : Need
 entry = NotRoot or EBUSY then Walk then Exists or ENOENT
 
--- a child more: the process has a child left, and a number for its name
+-- one more child: the process has a child left, and room for a number in its name
 abbrev pub child : Need
 child = HasChildLeft or EAGAIN then HasNumberLeft or EAGAIN

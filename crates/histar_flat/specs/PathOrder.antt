@@ -1,19 +1,19 @@
--- The same name, the same path, and the order in which paths are listed.
+-- Equality of names and paths, what lies below a path, and the order in which paths are listed.
 use Rattle.std.specs.Prelude.{ℕ, Bool, false, ◌||◌, nat_eq, List, [], ◌∷◌}
 use Rattle.std.specs.declared.cmp.Ordering.{Ordering}
 use Rattle.std.specs.Ordering.{nat_cmp}
 use Rattle.std.specs.Cmp.Lexicographic.{pointwise, slice_cmp}
 use Rattle.histar_flat.specs.Words.{Path, ProcName}
 
--- the same name of a file, of a user or of a process
+-- two names are the same: of files, of users or of processes
 abbrev pub same : List ℕ → List ℕ → Bool
 same = pointwise nat_eq
 
--- the same path
+-- two paths are the same
 abbrev pub same_path : Path → Path → Bool
 same_path = pointwise same
 
--- the name is this one, or that of what lies below it
+-- the second list is the first one, or has it as its end: it lies below
 abbrev pub is_under : {A : Type 0} → (A → A → Bool) → List A → List A → Bool
 is_under equal above [] = pointwise equal above []
 is_under equal above (n ∷ q) = pointwise equal above (n ∷ q) || is_under equal above q
@@ -31,12 +31,12 @@ below_path above (n ∷ d) = under_path above d
 abbrev pub under_process : ProcName → ProcName → Bool
 under_process = is_under nat_eq
 
--- what a path or a process's name lies in; `/` and process 0 are given back
+-- the path or the process above; `/` and process 0 have themselves
 abbrev pub parent : {A : Type 0} → List A → List A
 parent [] = []
 parent (n ∷ d) = d
 
--- a list, turned round, before another
+-- the second list reversed, in front of the first
 abbrev pub reverse_onto : {A : Type 0} → List A → List A → List A
 reverse_onto ys [] = ys
 reverse_onto ys (x ∷ xs) = reverse_onto (x ∷ ys) xs

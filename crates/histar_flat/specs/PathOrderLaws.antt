@@ -10,7 +10,7 @@ use Rattle.std.specs.FinMap.{IsAntisymmetric, nat_cmp-IsAntisymmetric, slice_cmp
 use Rattle.histar_flat.specs.PathOrder.{from_root, path_cmp, reverse_onto, same_path}
 use Rattle.histar_flat.specs.Words.{Path}
 
--- things are ordered as what a function makes of them
+-- an order of the images under a function is an order
 by_image : {A B : Type 0} (f : A → B) (R : B → B → Ordering) → IsTotalOrder R → IsTotalOrder (λ x y. R (f x) (f y))
 by_image f R o = record {
   antisymm = λ x y. o.antisymm (f x) (f y);
@@ -18,16 +18,16 @@ by_image f R o = record {
   congr = λ x y z. o.congr (f x) (f y) (f z);
 }
 
--- the order is total
+-- the order of paths is total
 pub path_cmp_total : IsTotalOrder path_cmp
 path_cmp_total = by_image from_root (slice_cmp (slice_cmp nat_cmp)) (lists_total (lists_total nat_cmp_total))
 
--- turned round twice, the list is before the other as it was
+-- a list reversed onto another and back is as it was
 reversed-onto : {A : Type 0} (ys xs : List A) → reverse_onto [] (reverse_onto ys xs) ≡ reverse_onto xs ys
 reversed-onto ys [] = refl
 reversed-onto ys (x ∷ xs) = reversed-onto (x ∷ ys) xs
 
--- a list that is turned round twice is as it was
+-- a list reversed twice is as it was
 pub from_root_twice : {A : Type 0} (xs : List A) → from_root (from_root xs) ≡ xs
 from_root_twice xs = reversed-onto [] xs
 
@@ -46,6 +46,6 @@ path_cmp_ties p q =
     one_answer (same_path p q) (eq_by_cmp path_cmp p q)
     (λ e. ap (path_cmp p) (sym (same.0 e)) ∙ tied_itself path_cmp_total p, λ e. same.1 (path_cmp_exact p q e)) (Equal-is (path_cmp p q))
 
--- so it orders them up to their equality
+-- the order of paths is a partial order up to their equality
 pub path_cmp_po : IsPartialOrder same_path (λ p q. Some (path_cmp p q))
 path_cmp_po = po path_cmp_total path_cmp_ties

@@ -1,4 +1,4 @@
--- What calls come to for processes: kills, exits, and who is gone.
+-- What calls mean for processes: kills, exits, and processes that are gone.
 use Rattle.std.specs.Prelude.{◌≡◌, ◌≢◌, ℕ, true, false, List, None, Some}
 use Rattle.histar_flat.specs.declared.calls.CallLine.{CallLine}
 use Rattle.histar_flat.specs.declared.calls.UnixCall.{UnixCall}
@@ -29,7 +29,7 @@ pub record ExitsAlone (f : Flat) (me : ProcName) (status : ℕ) (after : Flat) :
   pub others : (other : ProcName) → other ≢ me → after.processes other ≡ f.processes other
   pub files : after.files ≡ f.files
 
--- an exit that is done is that of its process alone
+-- an exit that is done ends its process alone
 abbrev pub ExitsLeaveChildren : Type 0
 ExitsLeaveChildren =
     (accounts : Accounts) (f : Flat) (me : ProcName) (status : ℕ) → reply_to accounts f me (Exit status) ≡ Done
@@ -41,7 +41,7 @@ GoneChangeNothing =
     (accounts : Accounts) (f : Flat) (me : ProcName) (call : UnixCall) → running f me ≡ None
     → (reply_to accounts f me call ≡ Gone) × (flat_after accounts f me call ≡ f)
 
--- who doesn't run, and whose name was given, never runs again, whatever is called: no name is used twice
+-- a process that doesn't run, and whose name was given, never runs again, whatever is called: no name is used twice
 abbrev pub GoneStayGone : Type 0
 GoneStayGone =
     (accounts : Accounts) (f : Flat) (me : ProcName) (calls : List CallLine) → is_given f.processes me ≡ true

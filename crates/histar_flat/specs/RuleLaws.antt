@@ -1,4 +1,5 @@
--- What every rule keeps to: it looks only at what the process may see by then, changes only what it was allowed, and reveals only what may be read.
+-- Laws of every rule: it looks only at what the process may see by then, changes only what it was allowed, and reveals only what may be
+-- read.
 use Rattle.std.specs.Prelude.{◌≡◌, true, not, [], ◌∷◌, length, nat_le, None, is_some}
 use Rattle.histar_flat.specs.declared.calls.UnixCall.{UnixCall}
 use Rattle.histar_flat.specs.Words.{Path, ProcName}
@@ -19,14 +20,14 @@ use Rattle.histar_flat.specs.Effects.ReplyForm.{Bytes, Listing, Attributes, Stat
 use Rattle.histar_flat.specs.CallRules.{path_of, rule}
 use Rattle.histar_flat.specs.FlatCalls.{refused}
 
--- what is made has no bytes
+-- the content has no bytes
 abbrev pub IsBlank : Content → Type 0
 IsBlank Dir = Unit {0}
 IsBlank (File []) = Unit {0}
 IsBlank (File (b ∷ bytes)) = ⊥
 
 module _ (accounts : Accounts) (f : Flat) (me : ProcName) (p : Process) (q : Path) where
-  -- what is known where a test has passed; what a process may write it may read
+  -- what is known once a test has passed; a process may read what it may write
   abbrev pub Holds : Test → Type 0
   Holds NotRoot = is_below_root q ≡ true
   Holds Exists = is_there f q ≡ true
@@ -43,7 +44,7 @@ module _ (accounts : Accounts) (f : Flat) (me : ProcName) (p : Process) (q : Pat
   Holds IsSomebody = not (same p.user nobody) ≡ true
   Holds _ = Unit {0}
 
-  -- what is known where a need is met
+  -- what is known once a need is met
   abbrev pub Met : Need → Type 0
   Met (a then b) = Met a × Met b
   Met (test or e) = Holds test
@@ -51,8 +52,8 @@ module _ (accounts : Accounts) (f : Flat) (me : ProcName) (p : Process) (q : Pat
   Met (Found name) = not_found f p name ≡ None
   Met _ = Unit {0}
 
-  -- what has to be known before a test is made: of the path, the walk; of its directory, that the path is not `/`; of entries and
-  -- bytes, that they may be read
+  -- what has to be known before a test is made: for tests of the path, that the walk to it passes; of its directory, that the path is not
+  -- `/`; of entries and bytes, that they may be read
   abbrev pub MayLook : Test → Type 0
   MayLook Exists = walk accounts f p q ≡ None
   MayLook IsFile = walk accounts f p q ≡ None
@@ -111,7 +112,7 @@ abbrev pub EffectsAreWarranted : Type 0
 EffectsAreWarranted = (accounts : Accounts) (f : Flat) (me : ProcName) (p : Process) (call : UnixCall)
     → refused accounts f me p call ≡ None → Warrant accounts f me p (path_of call) (rule call).effect
 
--- and may reveal its answer
+-- a call that is not refused may reveal its answer
 abbrev pub AnswersMayBeRevealed : Type 0
 AnswersMayBeRevealed = (accounts : Accounts) (f : Flat) (me : ProcName) (p : Process) (call : UnixCall)
     → refused accounts f me p call ≡ None → MayReveal accounts f me p (path_of call) (rule call).answer

@@ -1,4 +1,4 @@
--- How paths, processes and modes are written, and what is printed of a reply.
+-- How paths, processes and modes are written, and the printed text of a reply.
 use Rattle.std.specs.Prelude.{ℕ, Bool, List, [], ◌∷◌, ◌++◌, Option, None, Some, codes, if◌then◌else◌}
 use Rattle.std.specs.List.{flat_map}
 use Rattle.std.specs.Fmt.{decimal}
@@ -15,29 +15,29 @@ use Rattle.histar_flat.specs.declared.replies.Reply.TheVariants.{Done, Data, Ent
 use Rattle.histar_flat.specs.Words.{Name, Path, ProcName}
 use Rattle.histar_flat.specs.FlatState.{Entry}
 
--- each name after a slash
+-- the names of a path, each after a slash
 abbrev pub names_text : Path → List ℕ
 names_text [] = []
 names_text (n ∷ d) = names_text d ++ codes "/" ++ n
 
--- a path as it is written
+-- the text of a path
 abbrev pub path_text : Path → List ℕ
 path_text [] = codes "/"
 path_text (n ∷ d) = names_text (n ∷ d)
 
--- a process as it is written: 0, and a dot before each further number
+-- the text of a process's name: 0, and a dot before each further number
 abbrev pub process_text : ProcName → List ℕ
 process_text [] = codes "0"
 process_text (n ∷ p) = process_text p ++ codes "." ++ decimal n
 
--- a mode as it is written
+-- the text of a mode
 abbrev pub mode_text : Mode → List ℕ
 mode_text Private = codes "private"
 mode_text Readable = codes "readable"
 mode_text Open = codes "open"
 mode_text (Group name) = codes "group:" ++ name
 
--- the name of a refusal
+-- the name of an errno
 abbrev pub errno_text : Errno → List ℕ
 errno_text ENOENT = codes "ENOENT"
 errno_text ENOTDIR = codes "ENOTDIR"
@@ -53,12 +53,12 @@ errno_text ESRCH = codes "ESRCH"
 errno_text EAGAIN = codes "EAGAIN"
 errno_text EAUTH = codes "EAUTH"
 
--- an owner as it is printed: what has none has a hyphen
+-- the text of an owner: a hyphen if there is none
 abbrev pub owner_text : Option Name → List ℕ
 owner_text None = codes "-"
 owner_text (Some owner) = owner
 
--- the mode of a file or a directory as it is printed
+-- the text of the mode of a file or a directory
 abbrev pub file_mode_text : FileMode → List ℕ
 file_mode_text file_modes.Private = codes "private"
 file_mode_text file_modes.Readable = codes "readable"
@@ -66,19 +66,19 @@ file_mode_text file_modes.Open = codes "open"
 file_mode_text file_modes.Scratch = codes "scratch"
 file_mode_text (file_modes.Group name) = codes "group:" ++ name
 
--- the kind of what stands at a path, its owner and its mode
+-- the text of what is at a path: its kind, its owner and its mode
 abbrev pub stat_text : Stat → List ℕ
 stat_text stat = (if stat.is_directory then codes "dir " else codes "file ") ++ owner_text stat.owner ++ codes " " ++ file_mode_text stat.mode
 
--- an entry in a list: a directory's name has a slash after it
+-- the text of an entry in a list: a directory's name has a slash after it
 abbrev pub entry_text : Entry → List ℕ
 entry_text e = codes " " ++ e.0 ++ (if e.1 then codes "/" else [])
 
--- what stands after the user of a process that is in a job
+-- the text after the user of a process that is in a job
 abbrev pub confined_text : Bool → List ℕ
 confined_text confined = if confined then codes " confined" else []
 
--- the text of a reply: what was read stands after `= `, also where it is empty
+-- the text of a reply: the bytes that were read are after `= `, also if there are none
 abbrev pub reply_text : Reply → List ℕ
 reply_text Done = codes "ok"
 reply_text (Data bytes) = codes "= " ++ bytes

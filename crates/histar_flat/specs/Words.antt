@@ -1,4 +1,4 @@
--- Names, passwords, paths and processes: what they are, and which bytes are read as one.
+-- Names, passwords, paths and processes: which byte strings are valid, and how they are read.
 use Rattle.std.specs.Prelude.{◌≡◌, ◌≢◌, ℕ, zero, suc, Bool, false, not, ◌&&◌, ◌||◌, ◌==◌, nat_le, nat_lt, slice_index, List, [], ◌∷◌, length, codes}
 use Rattle.std.specs.Prelude.{Option, Some, None, if◌then◌else◌}
 use Rattle.std.specs.List.{list_all}
@@ -66,7 +66,7 @@ abbrev pub begins_with_letter : List ℕ → Bool
 begins_with_letter [] = false
 begins_with_letter (b ∷ bs) = is_letter b
 
--- a name: 1 to 32 such bytes, not `.` and not `..`
+-- a name: 1 to 32 such bytes, other than `.` and `..`
 unfoldable pub is_name : List ℕ → Bool
 is_name bs = nat_lt 0 (length bs) && nat_le (length bs) most_word_bytes && list_all is_name_byte bs && not (is_dots bs)
 
@@ -78,19 +78,19 @@ is_user_name bs = is_name bs && begins_with_letter bs && not (bytes_eq bs (codes
 unfoldable pub is_password : List ℕ → Bool
 is_password bs = nat_lt 0 (length bs) && nat_le (length bs) most_word_bytes && list_all is_password_byte bs
 
--- the name that the bytes are, if they are one
+-- the name that the bytes spell, if they spell one
 abbrev pub name_of : List ℕ → Option Name
 name_of bs = if is_name bs then Some bs else None
 
--- the user's name that the bytes are, if they are one
+-- the user's name that the bytes spell, if they spell one
 abbrev pub user_name_of : List ℕ → Option Name
 user_name_of bs = if is_user_name bs then Some bs else None
 
--- the password that the bytes are, if they are one
+-- the password that the bytes spell, if they spell one
 abbrev pub password_of : List ℕ → Option Password
 password_of bs = if is_password bs then Some bs else None
 
--- a path that can be named: `/`, or up to so many names
+-- a path that can be named: `/`, or at most eight names
 abbrev pub is_path : Path → Bool
 is_path path = nat_le (length path) most_names && list_all is_name path
 
@@ -98,11 +98,11 @@ is_path path = nat_le (length path) most_names && list_all is_name path
 abbrev pub is_child_number : ℕ → Bool
 is_child_number n = nat_le 1 n && nat_le n most_children
 
--- a process that can be named: up to so many numbers after the 0, each of which a child can have
+-- a process that can be named: at most seven numbers after the 0, each of which a child can have
 abbrev pub is_process : ProcName → Bool
 is_process process = nat_le (length process) most_numbers && list_all is_child_number process
 
--- what stands before each name of a path, a slash
+-- the byte before each name of a path, a slash
 abbrev pub slash : ℕ
 slash = 47
 
@@ -111,7 +111,7 @@ unfoldable pub split_at_first : ℕ → List ℕ → List ℕ × Option (List �
 split_at_first separator [] = ([], None)
 split_at_first separator (b ∷ bs) = if b == separator then ([], Some bs) else (b ∷ (split_at_first separator bs).0, (split_at_first separator bs).1)
 
--- the path that names with slashes between them lead to from a directory, if they are at most so many
+-- the path from a directory along names with slashes between them, if they are at most this many
 unfoldable pub path_from : ℕ → Path → List ℕ → Option Path
 path_from zero directory bs = None
 path_from (suc most) directory bs =
@@ -122,12 +122,12 @@ path_from (suc most) directory bs =
     ]
     else None
 
--- the path that stands after its first slash: nothing is `/`
+-- the path after its first slash: nothing is `/`
 abbrev pub path_from_root : List ℕ → Option Path
 path_from_root [] = Some []
 path_from_root (b ∷ bs) = path_from most_names [] (b ∷ bs)
 
--- the path that the bytes are, if they are one: `/`, `/NAME`, `/NAME/NAME` ..
+-- the path that the bytes spell, if they spell one: `/`, `/NAME`, `/NAME/NAME` ..
 abbrev pub path_of : List ℕ → Option Path
 path_of [] = None
 path_of (b ∷ bs) = if b == slash then path_from_root bs else None
@@ -140,15 +140,15 @@ number_of test bs = let n = digits_value 10 bs in if test n && bytes_eq bs (deci
 abbrev pub BeginsPlainly : List ℕ → Type 0
 BeginsPlainly bs = (slice_index bs 0 ≢ 43) × (slice_index bs 0 ≡ 48 → length bs ≡ 1)
 
--- the exit status that the bytes are, if they are one: 0 to 255
+-- the exit status that the bytes spell, if they spell one: 0 to 255
 abbrev pub status_of : List ℕ → Option ℕ
 status_of = number_of (λ n. nat_le n greatest_status)
 
--- what stands before each number of a process's name, a dot
+-- the byte before each number of a process's name, a dot
 abbrev pub dot : ℕ
 dot = 46
 
--- the process that numbers with dots between them, if there are any, lead to from another one, if they are at most so many
+-- the process that the numbers lead to from another one, with dots between them, if they are at most this many
 unfoldable pub process_from : ℕ → ProcName → Option (List ℕ) → Option ProcName
 process_from most above None = Some above
 process_from zero above (Some bs) = None

@@ -1,4 +1,4 @@
-//! What a script declares.
+//! The users and groups that a script declares.
 ghost use Rattle.std.specs.Prelude.{◌≡◌, ◌<◌, ◌≤◌, length, position, IfSome, OnOk};
 ghost use Rattle.histar_flat.specs.PathOrder.{same};
 ghost use Rattle.histar_flat.specs.Accounts.{IsSmall, group_number, is_group, most_users, most_groups, no_accounts, with_user, with_group};
@@ -9,8 +9,8 @@ use crate::names::Name;
 use std::alloc::{AllocError, Global};
 use std::marker::Model;
 
-/// The users of a machine and the groups of these, at most 16 users and 8 groups. Each has a number, from
-/// 1 on in the order in which they were declared.
+/// The users of a machine and their groups, at most 16 users and 8 groups. Each has a number, from 1 on in
+/// the order of declaration.
 #[derive(Drop)]
 pub struct Accounts {
     users: Vec<User>,
@@ -28,7 +28,7 @@ impl Model for Accounts {
 }
 
 impl Accounts {
-    /// A session in which nothing is declared.
+    /// Returns accounts with no users and no groups.
     pub fn new(alloc: Global) -> Accounts
         ensures { result ≡ no_accounts }
     {
@@ -38,7 +38,7 @@ impl Accounts {
         }
     }
 
-    /// The users, in the order in which they were declared.
+    /// Returns the users, in the order in which they were declared.
     pub fn users(&self) -> &[User]
         ensures users { result.now ≡ self.now.users }
         ensures few { IsSmall self.now }
@@ -46,7 +46,7 @@ impl Accounts {
         self.users.as_slice()
     }
 
-    /// The groups, in the order in which they were declared.
+    /// Returns the groups, in the order in which they were declared.
     pub fn groups(&self) -> &[Group]
         ensures groups { result.now ≡ self.now.groups }
         ensures few { IsSmall self.now }
@@ -54,7 +54,7 @@ impl Accounts {
         self.groups.as_slice()
     }
 
-    /// Declares a user, behind the others.
+    /// Declares a user, after the others.
     pub fn add_user(&mut self, user: User) -> Result<(), AllocError>
         requires { length self.old.users < most_users }
         ensures { OnOk result (self.new ≡ with_user self.old user) }
@@ -63,7 +63,7 @@ impl Accounts {
         Ok(())
     }
 
-    /// Declares a group, behind the others.
+    /// Declares a group, after the others.
     pub fn add_group(&mut self, group: Group) -> Result<(), AllocError>
         requires { length self.old.groups < most_groups }
         ensures { OnOk result (self.new ≡ with_group self.old group) }
@@ -72,7 +72,7 @@ impl Accounts {
         Ok(())
     }
 
-    /// The number of the group of this name.
+    /// Returns the number of the group of this name, or `None` if none is declared.
     pub fn group_number(&self, name: Name) -> Option<u8>
         ensures number { result ≡ group_number self.now name }
         ensures small { IfSome result (λ number. number ≤ most_groups) }
@@ -83,7 +83,7 @@ impl Accounts {
         }
     }
 
-    /// Whether a group has this name.
+    /// Returns whether a group has this name.
     pub fn has_group(&self, name: Name) -> bool
         ensures { result ≡ is_group self.now name }
     {
@@ -91,7 +91,7 @@ impl Accounts {
     }
 }
 
-/// The place of the group of this name.
+/// Returns the place of the group of this name, counted from 0.
 fn place_of(groups: &[Group], name: Name) -> Option<usize>
     ensures place { result ≡ position (λ group. same group.name name) groups.now }
     ensures within { IfSome result (λ place. place < length groups.now) }

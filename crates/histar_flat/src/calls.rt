@@ -40,21 +40,21 @@ pub enum UnixCall {
     Read(OwnedPath),
     /// Puts bytes in the place of what a file holds.
     Write(OwnedPath, Bytes),
-    /// Puts bytes behind what a file holds.
+    /// Puts bytes after what a file holds.
     Append(OwnedPath, Bytes),
     /// Asks for the entries of a directory.
     List(OwnedPath),
-    /// Asks what stands at a path, whose it is and of which mode.
+    /// Asks for the kind, the owner and the mode of what is at a path.
     Stat(OwnedPath),
-    /// Takes a file away.
+    /// Removes a file.
     Unlink(OwnedPath),
-    /// Takes an empty directory away.
+    /// Removes an empty directory.
     Rmdir(OwnedPath),
-    /// Takes away a file, or a directory with all below it.
+    /// Removes a file, or a directory with all below it.
     Rmtree(OwnedPath),
     /// Gives an entry another name in the same directory.
     Rename(OwnedPath, Name),
-    /// Has a child of the process be born.
+    /// Starts a child of the process.
     Spawn,
     /// Ends the process that makes the call, with this status.
     Exit(u8),
@@ -64,7 +64,7 @@ pub enum UnixCall {
     Kill(ProcName),
     /// Asks for the process's own user, and whether it is in a job.
     Whoami,
-    /// Makes the process that of another user, by the user's password.
+    /// Makes the process another user's, if the password is that user's.
     Login(Name, Password),
     /// Starts a job: a directory for it, and a child of the process that is in it.
     Wrap(OwnedPath),
@@ -87,8 +87,8 @@ impl UnixCall {
     }
 }
 
-/// Shows that a call is such as a line of a script can have: its path, its name and its status obey
-/// their rules by their types. It does nothing.
+/// Shows that a call is one that a line of a script can have: its path, its name and its status are valid by
+/// their types. It does nothing.
 pub fn each_call_is_right(call: &UnixCall)
     ensures { IsCall call.now }
 {

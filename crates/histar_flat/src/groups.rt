@@ -24,7 +24,7 @@ impl Model for Group {
 }
 
 impl Group {
-    /// The group of this name, which has these members.
+    /// Returns a group with this name and these members.
     pub fn new(name: Name, members: Vec<Name>) -> Group
         requires { length members.items ≤ most_members }
         ensures { result ≡ record { name = name; members = members.items } }
@@ -38,7 +38,7 @@ impl Group {
         self.name
     }
 
-    /// The names of the members, in the order in which they were declared.
+    /// Returns the names of the members, in the order in which they were declared.
     pub fn members(&self) -> &[Name]
         ensures members { result.now ≡ self.now.members }
         ensures few { length self.now.members ≤ most_members }
@@ -46,7 +46,7 @@ impl Group {
         self.members.as_slice()
     }
 
-    /// Whether a user is a member.
+    /// Returns whether the user is a member.
     pub fn has(&self, user: Name) -> bool
         ensures { result ≡ has self.now.members user }
     {

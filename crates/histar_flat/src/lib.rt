@@ -1,7 +1,7 @@
 //! Words, calls and replies of the Unix library, as a user of it writes and reads them.
 //!
-//! What calls mean is `specs/Meaning.antt`, by the rules of `specs/CallRules.antt`. [`rule_laws`] says what every
-//! rule keeps to, and [`flat_laws`] what the meaning amounts to.
+//! What calls mean is defined in `specs/Meaning.antt`, by the rules of `specs/CallRules.antt`. [`rule_laws`]
+//! says what every rule keeps to, and [`flat_laws`] what follows from the meaning.
 #![tactic(auto)]
 
 mod accounts;

@@ -1,4 +1,4 @@
-//! Names and passwords.
+//! Names and passwords, as types that hold only valid ones.
 ghost use Rattle.std.specs.Prelude.{◌≡◌, IsTrue};
 ghost use Rattle.histar_flat.specs.Words.{is_name, is_password};
 
@@ -7,8 +7,8 @@ use std::cmp::Ordering;
 use std::fmt;
 use std::marker::Model;
 
-/// What users and the entries of directories are called: 1 to 32 bytes of `a-z 0-9 . _ -`,
-/// not `.` and not `..`. Contracts see a name as the list of its bytes.
+/// The name of a user, a group or an entry of a directory: 1 to 32 bytes of `a-z 0-9 . _ -`, not `.` and not
+/// `..`. Contracts see a name as the list of its bytes.
 #[derive(Clone, Copy)]
 pub struct Name {
     word: Word,
@@ -28,7 +28,7 @@ impl Model for Name {
 }
 
 impl Name {
-    /// The name that these bytes are; `read_name` looks whether they are one.
+    /// Returns the name with these bytes, which have to be valid; `read_name` checks bytes that may not be.
     #[tactic(auto, using(crate::proofs::WordLemmas::short_name))]
     pub(crate) fn of(text: &[u8]) -> Name
         requires { IsTrue (is_name text.now) }
@@ -46,7 +46,7 @@ impl Name {
         self.word.as_bytes()
     }
 
-    /// Returns the name as a text.
+    /// Returns the name as text.
     pub fn as_str(&self) -> &str
         ensures { result.now ≡ self.now }
     {
@@ -122,7 +122,7 @@ impl Ord for Name {
     }
 }
 
-/// What a user proves to be that user by: 1 to 32 bytes, each 0x21 to 0x7e.
+/// The password of a user, which `login` checks: 1 to 32 bytes, each 0x21 to 0x7e.
 #[derive(Clone, Copy)]
 pub struct Password {
     word: Word,
@@ -142,7 +142,8 @@ impl Model for Password {
 }
 
 impl Password {
-    /// The password that these bytes are; `read_password` looks whether they are one.
+    /// Returns the password with these bytes, which have to be valid; `read_password` checks bytes that may
+    /// not be.
     #[tactic(auto, using(crate::proofs::WordLemmas::short_password))]
     pub(crate) fn of(text: &[u8]) -> Password
         requires { IsTrue (is_password text.now) }

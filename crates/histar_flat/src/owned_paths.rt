@@ -1,4 +1,4 @@
-//! Paths as calls own them.
+//! Paths that own their memory, as calls hold them.
 ghost use Rattle.std.specs.Prelude.{◌≡◌, ◌<◌, ◌≤◌, [], ◌∷◌, length, IfOk, IsTrue, OnOk};
 ghost use Rattle.histar_flat.specs.Words.{most_names, is_path, path_of, path_from};
 
@@ -27,7 +27,7 @@ impl Model for OwnedPath {
 }
 
 impl OwnedPath {
-    // `/`, with room for so many names.
+    // Returns `/`, with room for this many names.
     fn root(alloc: Global, names: usize) -> Result<OwnedPath, AllocError>
         ensures { IfOk result (λ owned. owned ≡ []) }
     {
@@ -35,7 +35,7 @@ impl OwnedPath {
         Ok(OwnedPath { names })
     }
 
-    // Goes on to an entry of the directory that the path leads to.
+    // Goes on to an entry of the directory at this path.
     fn enter(&mut self, name: Name) -> Result<(), AllocError>
         requires { length self.old < most_names }
         ensures { OnOk result (self.new ≡ name ∷ self.old) }
@@ -45,7 +45,7 @@ impl OwnedPath {
         Ok(())
     }
 
-    /// The same path.
+    /// Returns a copy of the path, in memory of its own.
     pub fn of(alloc: Global, path: &Path) -> Result<OwnedPath, AllocError>
         ensures { IfOk result (λ owned. owned ≡ path.now) }
     {
@@ -54,7 +54,7 @@ impl OwnedPath {
         Ok(OwnedPath { names })
     }
 
-    /// The names of the path, the last one first.
+    /// Returns the names of the path, the last one first.
     pub fn names(&self) -> &[Name]
         ensures names { result.now ≡ self.now }
         ensures right { IsTrue (is_path self.now) }
@@ -63,7 +63,7 @@ impl OwnedPath {
         self.names.as_slice()
     }
 
-    /// The same path, to be copied like a number.
+    /// Returns the same path as a value that can be copied.
     pub fn path(&self) -> Path
         ensures { result ≡ self.now }
     {
@@ -71,7 +71,7 @@ impl OwnedPath {
     }
 }
 
-/// Returns the path that the bytes are, read straight into memory of its own.
+/// Returns the path that the bytes spell, in memory of its own, or `None` if they spell none.
 pub fn read_owned_path(alloc: Global, text: &[u8]) -> Result<Option<OwnedPath>, AllocError>
     ensures { IfOk result (λ path. path ≡ path_of text.now) }
 {
@@ -85,7 +85,7 @@ pub fn read_owned_path(alloc: Global, text: &[u8]) -> Result<Option<OwnedPath>, 
     }
 }
 
-// The path that names with slashes between them lead to from `/`.
+// Returns the path from `/` along these names, which have slashes between them.
 fn read_owned_names(alloc: Global, text: &[u8]) -> Result<Option<OwnedPath>, AllocError>
     ensures { IfOk result (λ path. path ≡ path_from most_names [] text.now) }
 {
@@ -105,7 +105,7 @@ fn read_owned_names(alloc: Global, text: &[u8]) -> Result<Option<OwnedPath>, All
     Ok(None)
 }
 
-// How many names a text may have by its slashes, and no more than a path may have.
+// Returns how many names the text may have, going by its slashes, but no more than a path may have.
 fn count_names(text: &[u8]) -> usize
     ensures { result ≤ most_names }
 {

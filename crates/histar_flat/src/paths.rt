@@ -1,4 +1,4 @@
-//! Paths.
+//! Paths of files and directories.
 ghost use Rattle.std.specs.Prelude.{◌≡◌, ◌<◌, ◌≤◌, [], ◌∷◌, length, codes, IsTrue};
 ghost use Rattle.histar_flat.specs.FlatState.{moved};
 ghost use Rattle.histar_flat.specs.Padding.{padded, unused_name};
@@ -41,7 +41,7 @@ impl Model for Path {
 }
 
 impl Path {
-    /// `/`
+    /// Returns `/`.
     pub fn root() -> Path
         ensures { result ≡ [] }
     {
@@ -51,7 +51,7 @@ impl Path {
         }
     }
 
-    /// The path of these names, of which the last stands first.
+    /// Returns the path of these names, of which the last comes first.
     pub(crate) fn of(names: &[Name]) -> Path
         requires { IsTrue (is_path names.now) }
         ensures { result ≡ names.now }
@@ -62,7 +62,7 @@ impl Path {
         }
     }
 
-    /// The path of the entry of this directory that has the name.
+    /// Returns the path of this directory's entry of this name.
     pub fn entry(&self, name: Name) -> Path
         requires { length self.now < most_names }
         ensures { result ≡ name ∷ self.now }
@@ -72,19 +72,19 @@ impl Path {
         path
     }
 
-    /// Goes on to the entry of this directory that has the name.
+    /// Goes on to this directory's entry of this name.
     pub(crate) fn enter(&mut self, name: Name)
         requires { length self.old < most_names }
         ensures { self.new ≡ name ∷ self.old }
     {
-        // A name is one by its type, so that the path is one too.
+        // The name is read for its invariant: it is valid, so the path is one too.
         let _text = name.as_bytes();
         self.names.rotate_right(1);
         self.names[0] = name;
         self.len += 1;
     }
 
-    /// The names of the path, the last one first.
+    /// Returns the names of the path, the last one first.
     pub fn names(&self) -> &[Name]
         ensures names { result.now ≡ self.now }
         ensures right { IsTrue (is_path self.now) }
@@ -92,14 +92,14 @@ impl Path {
         &self.names[..self.len as usize]
     }
 
-    /// Whether what stands here is what stands at the other path, or lies below it.
+    /// Returns whether this path is the other one, or lies below it.
     pub fn is_at_or_below(&self, above: &Path) -> bool
         ensures { result ≡ under_path above.now self.now }
     {
         is_under(above.names(), self.names())
     }
 
-    /// Whether what stands here lies below what stands at the other path.
+    /// Returns whether this path lies below the other one.
     pub fn is_below(&self, above: &Path) -> bool
         ensures { result ≡ below_path above.now self.now }
     {
@@ -109,7 +109,7 @@ impl Path {
         }
     }
 
-    /// Where this path leads once what stands at the other one has a new name in its directory.
+    /// Returns where this path leads once the file or directory at `old` has a new name in its directory.
     pub fn renamed(&self, old: &Path, name: Name) -> Path
         ensures { result ≡ moved old.now (name ∷ parent old.now) self.now }
     {
@@ -125,7 +125,7 @@ impl Path {
         }
     }
 
-    /// How many names the path has.
+    /// Returns how many names the path has.
     pub fn depth(&self) -> usize
         ensures value { result ≡ length self.now }
         ensures most { result ≤ most_names }
@@ -218,7 +218,7 @@ fn padded_names(names: &[Name]) -> [Name; MOST_NAMES]
     padded
 }
 
-/// The name that stands in the places of a path that are not used.
+/// Returns the name that fills the unused places of a path.
 #[tactic(auto, unfolding(crate::specs::Words::is_name))]
 fn unused_name() -> Name
     ensures { result ≡ codes "-" }

@@ -37,7 +37,7 @@ impl Model for ProcName {
 }
 
 impl ProcName {
-    /// The first process.
+    /// Returns the name of the first process.
     pub fn zero() -> ProcName
         ensures { result ≡ [] }
     {
@@ -47,7 +47,7 @@ impl ProcName {
         }
     }
 
-    /// The child of this process that has the number.
+    /// Returns the name of this process's child of this number.
     pub fn child(self, number: u8) -> ProcName
         requires { length self < most_numbers }
         ensures { result ≡ number ∷ self }
@@ -61,7 +61,7 @@ impl ProcName {
         }
     }
 
-    /// The numbers after the leading 0, the last one first.
+    /// Returns the numbers after the leading 0, the last one first.
     pub fn numbers(&self) -> &[u8]
         ensures value { result.now ≡ self.now }
         ensures most { length self.now ≤ most_numbers }
@@ -69,7 +69,7 @@ impl ProcName {
         &self.numbers[..self.len as usize]
     }
 
-    /// Whether this process is the other one, or below it: a child of it, or of such a child.
+    /// Returns whether this process is the other one, or a descendant of it.
     pub fn is_at_or_below(&self, above: &ProcName) -> bool
         ensures { result ≡ under_process above.now self.now }
     {

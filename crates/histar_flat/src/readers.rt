@@ -1,4 +1,4 @@
-//! Readers of single words.
+//! Readers of single words: names, passwords, paths, processes, numbers and modes.
 ghost use Rattle.std.specs.Prelude.{◌≡◌, ◌≤◌, ◌^◌, ◌↔◌, nat_le, nat_lt, [], IsTrue, IfSome};
 ghost use Rattle.std.specs.List.{list_all};
 ghost use Rattle.std.specs.Option.{option_copied};
@@ -22,7 +22,7 @@ const MOST_CHILDREN: u64 = 64;
 /// The greatest number that a process can exit with.
 const GREATEST_STATUS: u64 = 255;
 
-/// The name that the bytes are.
+/// Returns the name that the bytes spell, or `None`.
 pub fn read_name(text: &[u8]) -> Option<Name>
     ensures { result ≡ name_of text.now }
 {
@@ -32,7 +32,7 @@ pub fn read_name(text: &[u8]) -> Option<Name>
     Some(Name::of(text))
 }
 
-/// The name that the bytes are, if a user may have it: it begins with a letter and isn't `nobody`.
+/// Returns the name that the bytes spell, if a user may have it: it begins with a letter and isn't `nobody`.
 pub fn read_user_name(text: &[u8]) -> Option<Name>
     ensures { result ≡ user_name_of text.now }
 {
@@ -42,7 +42,7 @@ pub fn read_user_name(text: &[u8]) -> Option<Name>
     Some(Name::of(text))
 }
 
-/// The password that the bytes are.
+/// Returns the password that the bytes spell, or `None`.
 pub fn read_password(text: &[u8]) -> Option<Password>
     ensures { result ≡ password_of text.now }
 {
@@ -52,7 +52,7 @@ pub fn read_password(text: &[u8]) -> Option<Password>
     Some(Password::of(text))
 }
 
-/// The path that the bytes are: `/`, or up to eight names with a slash before each.
+/// Returns the path that the bytes spell: `/`, or up to eight names with a slash before each.
 pub fn read_path(text: &[u8]) -> Option<Path>
     ensures { result ≡ path_of text.now }
 {
@@ -63,7 +63,7 @@ pub fn read_path(text: &[u8]) -> Option<Path>
     }
 }
 
-/// The path that names with slashes between them lead to from `/`.
+/// Returns the path from `/` along these names, which have slashes between them.
 fn read_names(text: &[u8]) -> Option<Path>
     ensures { result ≡ path_from most_names [] text.now }
 {
@@ -80,7 +80,7 @@ fn read_names(text: &[u8]) -> Option<Path>
     None
 }
 
-/// The bytes before the first one that is the separator, and those after it where there is one.
+/// Returns the bytes before the first separator, and those after it if there is one.
 pub fn split_at_first(text: &[u8], separator: u8) -> (&[u8], Option<&[u8]>)
     ensures before { result.0.now ≡ (split separator text.now).0 }
     ensures after { option_copied result.1 ≡ (split separator text.now).1 }
@@ -91,7 +91,7 @@ pub fn split_at_first(text: &[u8], separator: u8) -> (&[u8], Option<&[u8]>)
     }
 }
 
-/// The process that the bytes name: `0`, and up to seven numbers of children with a dot before each.
+/// Returns the process that the bytes name: `0`, and up to seven numbers of children with a dot before each.
 pub fn read_process(text: &[u8]) -> Option<ProcName>
     ensures { result ≡ process_of text.now }
 {
@@ -102,7 +102,8 @@ pub fn read_process(text: &[u8]) -> Option<ProcName>
     read_numbers(numbers)
 }
 
-/// The process that numbers with dots between them, if there are any, lead to from process 0.
+/// Returns the descendant of process 0 that these numbers lead to, with dots between them, or process 0
+/// itself.
 fn read_numbers(numbers: Option<&[u8]>) -> Option<ProcName>
     ensures { result ≡ process_from most_numbers [] (option_copied numbers.entry) }
 {
@@ -122,7 +123,7 @@ fn read_numbers(numbers: Option<&[u8]>) -> Option<ProcName>
     }
 }
 
-/// Returns the exit status that the bytes are: 0 to 255 in decimal.
+/// Returns the exit status that the bytes spell: 0 to 255 in decimal.
 pub fn read_status(text: &[u8]) -> Option<u8>
     ensures { result ≡ status_of text.now }
 {
@@ -130,7 +131,7 @@ pub fn read_status(text: &[u8]) -> Option<u8>
     Some(number as u8)
 }
 
-/// Returns the number of a child that the bytes are: 1 to 64 in decimal.
+/// Returns the number of a child that the bytes spell: 1 to 64 in decimal.
 #[tactic(auto, using(crate::proofs::Numbers::child_number_within))]
 fn read_child_number(text: &[u8]) -> Option<u8>
     ensures { result ≡ number_of child_number text.now }
@@ -142,7 +143,7 @@ fn read_child_number(text: &[u8]) -> Option<u8>
     Some(number as u8)
 }
 
-/// Returns the number that the bytes are in decimal, if it is up to the greatest. Zeros before other digits are no number.
+/// Returns the number that the bytes spell in decimal, if it is at most `greatest` and has no leading zero.
 pub fn read_number(text: &[u8], greatest: u64) -> Option<u64>
     ensures value { result ≡ number_of (λ n. nat_le n greatest) text.now }
     ensures small { IfSome result (λ n. n ≤ greatest) }
@@ -154,7 +155,7 @@ pub fn read_number(text: &[u8], greatest: u64) -> Option<u64>
     Some(number)
 }
 
-/// Returns the number of 64 bits that the bytes are in decimal.
+/// Returns the number of 64 bits that the bytes spell in decimal.
 fn read_digits(text: &[u8]) -> Option<u64>
     ensures { result ≡ number_of (λ n. nat_lt n (2 ^ 64)) text.now }
 {
@@ -167,7 +168,7 @@ fn read_digits(text: &[u8]) -> Option<u64>
     }
 }
 
-/// Checks that no plus comes first, nor a zero before other digits: `parse` takes both.
+/// Checks that the text begins with no plus, and with no zero before other digits: `parse` takes both.
 fn begins_plainly(text: &[u8]) -> bool
     ensures { IsTrue result ↔ BeginsPlainly text.now }
 {
@@ -178,7 +179,8 @@ fn begins_plainly(text: &[u8]) -> bool
     }
 }
 
-/// The mode that the bytes name: `private`, `readable`, `open`, or `group:NAME`, where the name has the form of a user's.
+/// Returns the mode that the bytes name: `private`, `readable`, `open`, or `group:NAME`, where NAME may be a
+/// user's.
 pub fn read_mode(text: &[u8]) -> Option<Mode>
     ensures { result ≡ mode_of text.now }
 {
@@ -193,7 +195,7 @@ pub fn read_mode(text: &[u8]) -> Option<Mode>
     }
 }
 
-/// The mode of a group that the bytes name.
+/// Returns the mode of a group that the bytes name.
 #[tactic(auto, unfolding(crate::specs::Modes::group_mode_of))]
 fn read_group_mode(text: &[u8]) -> Option<Mode>
     ensures { result ≡ group_mode_of text.now }
@@ -205,7 +207,7 @@ fn read_group_mode(text: &[u8]) -> Option<Mode>
     Some(Mode::Group(read_user_name(name?)?))
 }
 
-/// Whether the bytes are a name: `read_name` takes a copy of them.
+/// Returns whether the bytes are a name, without copying them as `read_name` does.
 #[tactic(auto, unfolding(crate::specs::Words::is_name))]
 pub fn is_name(text: &[u8]) -> bool
     ensures { result ≡ name text.now }

@@ -1,4 +1,4 @@
-//! What calls are answered.
+//! Replies to calls, and the errnos of refusals.
 ghost use Rattle.std.specs.Prelude.{◌≡◌};
 ghost use Rattle.histar_flat.specs.Texts.{errno_text};
 
@@ -12,19 +12,19 @@ use std::marker::Model;
 pub enum Errno {
     /// There is no such file, directory or user.
     ENOENT = 1,
-    /// What stands on the way of a path is no directory.
+    /// A name on the way to the path is no directory.
     ENOTDIR = 2,
-    /// The call wants a file, and a directory stands there.
+    /// The call needs a file, and the path has a directory.
     EISDIR = 3,
-    /// Something stands there already.
+    /// The path has a file or a directory already.
     EEXIST = 4,
-    /// The process may not look there, or not change what is there.
+    /// The process may not look there, or may not change what is there.
     EACCES = 5,
-    /// The process may not make a thing of this mode.
+    /// The process may not make a file or directory of this mode.
     EPERM = 6,
     /// The directory has entries.
     ENOTEMPTY = 7,
-    /// `/` can't be taken away or renamed.
+    /// `/` can't be removed or renamed.
     EBUSY = 8,
     /// The directory has 64 entries.
     ENOSPC = 9,
@@ -34,12 +34,12 @@ pub enum Errno {
     ESRCH = 11,
     /// The process had 64 children, or its name has no room for another number.
     EAGAIN = 12,
-    /// The password is another one.
+    /// The password is wrong.
     EAUTH = 13,
 }
 
 impl Errno {
-    /// The name that is printed.
+    /// Returns the name that is printed.
     pub fn name(self) -> &'static str
         ensures { result.now ≡ errno_text self }
     {
@@ -76,16 +76,16 @@ pub enum FileMode {
     Group(Name),
 }
 
-/// What is told of a file or a directory.
+/// What `stat` reveals of a file or a directory.
 #[derive(Clone, Copy)]
 pub struct Stat {
     pub is_directory: bool,
-    /// The owner, if it has one: what is open or a group's has none.
+    /// The owner, if it has one: an open file and a group's file have none.
     pub owner: Option<Name>,
     pub mode: FileMode,
 }
 
-/// The entries of a directory, by rising names, and of each whether it is a directory.
+/// The entries of a directory, by rising names, each with whether it is a directory.
 #[derive(Drop)]
 pub struct Listing {
     entries: Vec<(Name, bool)>,
@@ -100,7 +100,7 @@ impl Model for Listing {
 }
 
 impl Listing {
-    /// The listing of these entries.
+    /// Returns the listing of these entries.
     pub fn new(entries: Vec<(Name, bool)>) -> Self
         ensures { result ≡ entries.items }
     {
@@ -117,13 +117,13 @@ impl Listing {
 /// The reply to one call.
 #[derive(Drop)]
 pub enum Reply {
-    /// The call was done, and has nothing more to tell.
+    /// The call was done, and has no other answer.
     Done,
     /// The bytes that were read.
     Data(Bytes),
     /// The entries of a directory.
     Entries(Listing),
-    /// What stands at a path.
+    /// The kind, the owner and the mode of what is at a path.
     Stats(Stat),
     /// The child that was born.
     Child(ProcName),

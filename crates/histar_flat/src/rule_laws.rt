@@ -8,14 +8,14 @@ pub fn tests_are_ordered()
     ensures { TestsAreOrdered }
 {}
 
-/// Shows that a call that is not refused was allowed its effect: what it writes may be written, what it
-/// makes is not there yet, and whom it kills is a child.
+/// Shows that a call that is not refused was allowed its effect: what it writes may be written, what it makes
+/// is not there yet, and the process that it kills is a child.
 pub fn effects_are_warranted()
     ensures { EffectsAreWarranted }
 {}
 
 /// Shows that a call that is not refused may reveal its answer: the bytes and entries of what may be read,
-/// the attributes of what is walked to, the status of a process that is found.
+/// the attributes of what its walk reaches, the status of a process that is found.
 pub fn answers_may_be_revealed()
     ensures { AnswersMayBeRevealed }
 {}

@@ -1,4 +1,4 @@
-//! Short runs of bytes that are copied like numbers.
+//! Byte strings of at most 32 bytes that can be copied.
 ghost use Rattle.std.specs.Prelude.{◌≡◌, ◌≤◌, length};
 ghost use Rattle.histar_flat.specs.Padding.{padded};
 ghost use Rattle.histar_flat.specs.Words.{most_word_bytes};
@@ -8,7 +8,7 @@ use std::marker::Model;
 /// The most bytes that a name or a password has.
 pub const MOST_WORD_BYTES: usize = 32;
 
-/// At most 32 bytes, whatever they are; names and passwords are kept in it.
+/// At most 32 bytes of any values, which hold a name or a password.
 #[derive(Clone, Copy)]
 pub struct Word {
     bytes: [u8; MOST_WORD_BYTES],
@@ -34,7 +34,7 @@ impl Model for Word {
 }
 
 impl Word {
-    /// A copy of the bytes.
+    /// Returns a copy of the bytes.
     pub fn of(text: &[u8]) -> Word
         requires { length text.now ≤ most_word_bytes }
         ensures { result ≡ text.now }

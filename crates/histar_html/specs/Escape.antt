@@ -1,8 +1,8 @@
--- What is written of bytes that are to be text of a page.
+-- Escaping of bytes as text of a page.
 use Rattle.std.specs.Prelude.{ℕ, List, [], ◌∷◌, ◌==◌, codes, if◌then◌else◌}
 use Rattle.std.specs.List.{flat_map}
 
--- what is written of a byte: a reference for each of the five bytes of markup, and else the byte
+-- an escaped byte: a reference for each of the five bytes of markup, or else the byte
 abbrev pub escaped_byte : ℕ → List ℕ
 escaped_byte b =
     if b == 60 then codes "&lt;"
@@ -12,6 +12,6 @@ escaped_byte b =
     else if b == 39 then codes "&#39;"
     else b ∷ []
 
--- what is written of bytes
+-- escaped bytes
 abbrev pub escaped : List ℕ → List ℕ
 escaped bytes = flat_map escaped_byte bytes

@@ -1,9 +1,9 @@
--- What escaped bytes amount to.
+-- What escaping guarantees.
 use Rattle.std.specs.Prelude.{◌≡◌, ℕ, true, List, [], ◌∷◌}
 use Rattle.histar_html.specs.Escape.{escaped}
 use Rattle.histar_html.specs.Reading.{begins_as_text, unescaped}
 
--- bytes are read as what they are
+-- escaped bytes are read as the bytes
 abbrev pub BytesAreRead : Type 0
 BytesAreRead = (bytes : List ℕ) → unescaped (escaped bytes) ≡ bytes
 
@@ -12,6 +12,6 @@ abbrev pub IsText : List ℕ → Type 0
 IsText [] = Unit {0}
 IsText (b ∷ bs) = (begins_as_text (b ∷ bs) ≡ true) × IsText bs
 
--- what is written of bytes is such a text
+-- escaped bytes are such a text
 abbrev pub EscapedIsText : Type 0
 EscapedIsText = (bytes : List ℕ) → IsText (escaped bytes)

@@ -1,4 +1,4 @@
--- How the text of a page is read.
+-- How a reader reads the text of a page.
 use Rattle.std.specs.Prelude.{ℕ, zero, suc, ◌-◌, Bool, true, false, not, ◌&&◌, ◌||◌, List, [], ◌∷◌, ◌==◌, codes, length, find, Option, None, Some}
 use Rattle.std.specs.Prelude.{is_some}
 
@@ -8,7 +8,7 @@ begins_with text [] = true
 begins_with [] (c ∷ cs) = false
 begins_with (b ∷ bs) (c ∷ cs) = (b == c) && begins_with bs cs
 
--- the five references, each behind the byte that it is read as: `<`, `>`, `&`, `"` and `'`
+-- the five references, each with the byte that it is read as: `<`, `>`, `&`, `"` and `'`
 abbrev pub references : List (ℕ × List ℕ)
 references = (60, codes "&lt;") ∷ (62, codes "&gt;") ∷ (38, codes "&amp;") ∷ (34, codes "&quot;") ∷ (39, codes "&#39;") ∷ []
 
@@ -16,14 +16,14 @@ references = (60, codes "&lt;") ∷ (62, codes "&gt;") ∷ (38, codes "&amp;") �
 abbrev pub reference_at : List ℕ → Option (ℕ × List ℕ)
 reference_at text = find (λ r. begins_with text r.1) references
 
--- what a text is read as behind so many bytes: a byte in place of each reference, and the other bytes
+-- the bytes that a text is read as after this many bytes: a byte in place of each reference, and the other bytes
 abbrev pub read_past : ℕ → List ℕ → List ℕ
 read_past zero [] = []
 read_past (suc n) [] = []
 read_past zero (b ∷ bs) = elim (reference_at (b ∷ bs)) [ None ↦ b ∷ read_past 0 bs | Some r ↦ r.0 ∷ read_past (length r.1 - 1) bs ]
 read_past (suc n) (b ∷ bs) = read_past n bs
 
--- what a text of a page is read as
+-- the bytes that a text of a page is read as
 abbrev pub unescaped : List ℕ → List ℕ
 unescaped text = read_past 0 text
 

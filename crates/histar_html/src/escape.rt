@@ -1,10 +1,10 @@
-//! Bytes that are written as text of a page.
+//! Escaping of bytes as text of a page.
 ghost use Rattle.std.specs.Prelude.{◌≡◌, ◌++◌, OnOk};
 ghost use Rattle.histar_html.specs.Escape.{escaped, escaped_byte};
 
 use std::alloc::AllocError;
 
-/// Adds bytes to a page as text. Bytes that are no ASCII are added as they are.
+/// Adds bytes to a page as text. Bytes that are not ASCII are added unchanged.
 pub fn push_escaped(page: &mut Vec<u8>, bytes: &[u8]) -> Result<(), AllocError>
     ensures { OnOk result (page.new.items ≡ page.old.items ++ escaped bytes.now) }
 {

@@ -1,6 +1,6 @@
-//! Bytes as text in an HTML page: what is written of them is never markup, and a reader gets them back.
+//! Bytes as text in an HTML page: escaped bytes are never markup, and a reader gets the bytes back.
 //!
-//! [`laws`] says so of every byte there is.
+//! [`laws`] proves this for all bytes.
 #![tactic(auto)]
 
 mod escape;

@@ -1,11 +1,11 @@
--- How much was taken of an input.
+-- How many bytes were taken of an input.
 use Rattle.std.proofs.Common.{ℕ, ◌+◌, ◌≤◌, List, ◌++◌, length, Option, arith}
 use Rattle.std.proofs.lemmas.List.{length-append}
 use Rattle.std.specs.Io.KnownBytes.{Consumes}
 use Rattle.std.proofs.KnownBytes.{Consumes-trans}
 use Rattle.histar_io.specs.Input.{most_taken, TakesSome}
 
--- some bytes, and then a piece
+-- bytes that were taken stay taken with one more piece
 pub takes_piece : (a b c : Option (List ℕ)) (taken piece : List ℕ) → Consumes a b taken → Consumes b c piece
     → length taken + length piece ≤ most_taken → TakesSome a c
 takes_piece a b c taken piece before after within = record {

@@ -26,11 +26,11 @@ sent_more a b c text rest n sent more = record {
 pub sent_kept : (a b c : Option (List ℕ)) (text rest : List ℕ) → AppendsUpTo a b text rest → Keeps b c → AppendsUpTo a c text rest
 sent_kept a b c text rest sent keeps = record { front = sent.front; parts = sent.parts; appended = Appends-kept a b c sent.front sent.appended keeps }
 
--- where nothing is left the whole text was written
+-- if nothing is left, the whole text was written
 pub sent_all : (a b : Option (List ℕ)) (text rest : List ℕ) → AppendsUpTo a b text rest → length rest ≡ 0 → Appends a b text
 sent_all a b text rest sent none =
     subst (Appends a b) (sym (sent.parts ∙ ap (λ (l : List ℕ). sent.front ++ l) (nil_from_length rest none) ∙ append-nil sent.front)) sent.appended
 
--- a whole text is a beginning of itself
+-- a text that is written is a beginning of itself that is written
 pub whole_front : (a b : Option (List ℕ)) (text : List ℕ) → Appends a b text → AppendsFront a b text
 whole_front a b text whole = ([], record { front = text; parts = sym (append-nil text); appended = whole })

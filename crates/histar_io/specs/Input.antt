@@ -8,8 +8,8 @@ use Rattle.histar_io.specs.declared.input.InputError.TheVariants.{ReadFailed, Ou
 abbrev pub most_taken : ℕ
 most_taken = 1048577
 
--- These bytes were taken from the front, and either they are as many as a run takes or nothing is left. Of a source that doesn't tell
--- what it has left this says how many they are at most, and no more.
+-- These bytes were taken from the front, and either they are as many as a run takes or nothing is left. Of a source whose rest is not known
+-- this says only how many they are at most.
 pub record TakesAll (old new : Option (List ℕ)) (taken : List ℕ) : Type 0 where
   pub consumed : Consumes old new taken
   pub within : length taken ≤ most_taken
@@ -21,7 +21,7 @@ pub record TakesSome (old new : Option (List ℕ)) : Type 0 where
   pub consumed : Consumes old new taken
   pub within : length taken ≤ most_taken
 
--- the answer is that a read failed
+-- the result is that a read failed
 abbrev pub is_read_failed : {A : Type 0} → Result A InputError → Bool
 is_read_failed (Ok x) = false
 is_read_failed (Err ReadFailed) = true

@@ -9,18 +9,17 @@ use std::io::{Read, Write};
 
 /// Where the bytes of a script come from.
 ///
-/// A source acts as a reader does and counts the calls that failed, so that a run can be held to
-/// account: it answers that a read failed exactly where the count rose. `Counted` makes one of any
-/// reader.
+/// A source is a reader that counts its failed calls: a run reports that a read failed exactly if the count
+/// rose. `Counted` makes a source of any reader.
 pub trait Source {
-    // The bytes that are left, where the source tells them.
+    // The bytes that are left, if the source knows them.
     ghost left: { Self → Option (List ℕ) };
 
     // How many calls have failed, up to the greatest number of 64 bits.
     ghost failures: { Self → ℕ };
 
-    /// Takes some of the bytes that are left, as `Read::read` does: 0 for a buffer with room means
-    /// the end. Every `Err` is a failure, whatever its kind.
+    /// Reads some of the bytes that are left, as `Read::read` does: 0 for a buffer with room means the end.
+    /// Every `Err` is a failure, whatever its kind.
     fn pull(&mut self, buffer: &mut [u8]) -> io::Result<usize>
         ensures bound { ReadsAtMost result buffer.new }
         ensures bytes { ReadConsumes (left self.old) (left self.new) result buffer.new }
@@ -29,17 +28,17 @@ pub trait Source {
 
 /// Where the replies of a script go.
 ///
-/// A sink acts as a writer does and counts the calls that failed: a run answers that a write failed
-/// exactly where the count rose. `Counted` makes one of any writer.
+/// A sink is a writer that counts its failed calls: a run reports that a write failed exactly if the count
+/// rose. `Counted` makes a sink of any writer.
 pub trait Sink {
-    // The bytes that were written, where the sink tells them.
+    // The bytes that were written, if the sink knows them.
     ghost written: { Self → Option (List ℕ) };
 
     // How many calls have failed, up to the greatest number of 64 bits.
     ghost failures: { Self → ℕ };
 
-    /// Takes some bytes from the front, as `Write::write` does. An `Err` is a failure, and so is 0
-    /// for bytes that were handed to it.
+    /// Writes some bytes from the front, as `Write::write` does. An `Err` is a failure, and 0 is one too if
+    /// there were bytes to write.
     fn give(&mut self, bytes: &[u8]) -> io::Result<usize>
         ensures bound { WritesAtMost result bytes.now }
         ensures bytes { WriteAppends (written self.old) (written self.new) result bytes.now }
@@ -54,7 +53,7 @@ pub struct Counted<T> {
 }
 
 impl<T> Counted<T> {
-    /// A reader or a writer of which no call has failed yet.
+    /// Returns a reader or a writer of which no call has failed yet.
     pub fn new(inner: T) -> Counted<T>
         ensures inner { result.inner ≡ inner }
         ensures count { result.failures ≡ 0 }
@@ -62,14 +61,14 @@ impl<T> Counted<T> {
         Counted { inner, failures: 0 }
     }
 
-    /// How many calls have failed. At the greatest number of 64 bits there may have been more.
+    /// Returns how many calls have failed. At the greatest number of 64 bits there may have been more.
     pub fn failures(&self) -> u64
         ensures { result ≡ self.now.failures }
     {
         self.failures
     }
 
-    /// The reader or the writer itself, for a flush after a run.
+    /// Returns the reader or the writer itself, for a flush after a run.
     pub fn into_inner(self) -> T
         ensures { result ≡ self.inner }
     {

@@ -33,9 +33,9 @@ impl From<AllocError> for InputError {
     }
 }
 
-/// The bytes of a source up to its end, or as many as show that they are too many.
+/// Reads a source up to its end, or up to one byte more than a script may have.
 ///
-/// Each failed read is an error, of whatever kind it is, and no read is tried again.
+/// Each failed read is an error, of whatever kind, and no read is tried again.
 pub fn read_input<R: Source>(alloc: Global, reader: &mut R) -> Result<Vec<u8>, InputError>
     ensures ok { IfOk result (λ input. TakesAll (R.left reader.old) (R.left reader.new) input.items) }
     ensures err { OnErr result (TakesSome (R.left reader.old) (R.left reader.new)) }

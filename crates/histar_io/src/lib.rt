@@ -1,5 +1,5 @@
-//! Where a run reads and writes: sources and sinks that count their failed calls, the whole of a
-//! source read, and bytes handed to a sink until it fails.
+//! Where a run reads and writes: sources and sinks that count their failed calls, a function that reads a
+//! whole source, and one that writes bytes to a sink until it fails.
 #![tactic(auto)]
 
 mod device;

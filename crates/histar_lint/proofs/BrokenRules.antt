@@ -25,11 +25,11 @@ use Rattle.histar_lint.specs.Rules.{kind_rules, rules_for, sentence, user_place_
 use Rattle.histar_lint.specs.Laws.{EachBadLineBreaksOne}
 use Rattle.histar_lint.proofs.Rules.{some_broken, or_first, or_second, is_said, in_front, behind, none_at}
 
--- there is nothing
+-- a value that is `None` passes the test for it
 is_nothing : {A : Type 0} (o : Option A) → o ≡ None → is_none o ≡ true
 is_nothing o none = ap is_none none
 
--- the words of a user line that is no user line
+-- words of a user line that declare no user break a rule
 no_user : (text : List ℕ) → user_of text ≡ None → some_broken (user_word_rules text) ≡ true
 unfolding user_of
 no_user text bad =
@@ -57,7 +57,7 @@ one_of_four true true false d e = refl
 one_of_four true true true true e = refl
 one_of_four true true true false e = absurd cc
 
--- a user that may not be declared where it is
+-- a user that may not be declared here breaks a rule
 misplaced_user : (lines : List (List ℕ)) (s : ScriptModel) (text : List ℕ) (u : User) → user_of text ≡ Some u
     → takes_user s u ≡ false → some_broken (user_place_rules lines s text) ≡ true
 unfolding user_of
@@ -92,7 +92,7 @@ name_of_group text g is =
     let own : named.0 ≡ g.name = cc in
     named.1 ∙ ap (λ (n : List ℕ). Some n) own
 
--- a group that may not be declared where it is
+-- a group that may not be declared here breaks a rule
 misplaced_group : (s : ScriptModel) (text : List ℕ) (g : Group) → group_of text ≡ Some g → takes_group s g ≡ false
     → some_broken (group_place_rules s text) ≡ true
 misplaced_group s text g is bad =
@@ -108,14 +108,14 @@ misplaced_group s text g is bad =
     (one_of_six (is_empty s.calls) (nat_lt (length s.accounts.groups) most_groups) (has_user s.accounts.users g.name) (is_group s.accounts g.name)
     (are_users s.accounts.users g.members) (are_distinct g.members) bad)
 
--- a call that says nothing breaks a rule for its words
+-- words that are no call break a rule for words
 no_words : (text : List ℕ) (o : Option Shape) → call_of text ≡ None → some_broken (shape_rules text o) ≡ true
 no_words text None bad = refl
 no_words text (Some shape) bad =
     or_second (has_too_much text shape) _ (or_second (has_too_little text shape) _
     (or_first (is_none (call_of text)) false (is_nothing (call_of text) bad)))
 
--- a call line that says nothing
+-- a call line without a call breaks a rule
 no_call : (process text : List ℕ) → call_item process text ≡ None → some_broken (call_word_rules process text) ≡ true
 no_call process text bad =
     elim (none_at (process_of process) _ bad) [
@@ -132,7 +132,7 @@ one_of_two true b e = refl
 one_of_two false false e = refl
 one_of_two false true e = absurd cc
 
--- a call that may not be where it is
+-- a call that may not be here breaks a rule
 misplaced_call : (s : ScriptModel) (text : List ℕ) (c : UnixCall) → call_of text ≡ Some c → takes_call s c ≡ false
     → some_broken (call_place_rules s text) ≡ true
 misplaced_call s text c is bad =
@@ -150,7 +150,7 @@ found_byte n (b ∷ line) bad = by n line (is_plain_byte b) b bad (found_byte (n
     by n line true b bad go_on = go_on bad
     by n line false b bad go_on = refl
 
--- a line that is not plain
+-- a line that is not plain breaks a rule
 not_plain : (line : List ℕ) → is_plain line ≡ false → some_broken (byte_rules line) ≡ true
 unfolding is_plain
 not_plain line bad = by (nat_le (length line) most_line_bytes) refl bad
@@ -162,7 +162,7 @@ not_plain line bad = by (nat_le (length line) most_line_bytes) refl bad
         or_second (nat_lt most_line_bytes (length line)) _ (or_second (ends_with 13 line) _
         (or_first (is_some (unprintable_from 1 line)) false (found_byte 1 line bad)))
 
--- what a line says by its words, by its kind
+-- the item of a line of words, by its kind
 pub data IsKind (word rest : List ℕ) : Item → Type 0 where
   user : (u : User) → bytes_eq word (codes "user") ≡ true → user_of rest ≡ Some u → IsKind word rest (items.User u)
   group : (g : Group) → bytes_eq word (codes "user") ≡ false → bytes_eq word (codes "group") ≡ true
@@ -170,7 +170,7 @@ pub data IsKind (word rest : List ℕ) : Item → Type 0 where
   call : (p : ProcName) (c : UnixCall) → bytes_eq word (codes "user") ≡ false → bytes_eq word (codes "group") ≡ false
       → call_of rest ≡ Some c → IsKind word rest (items.Call p c)
 
--- each line that says something is of a kind
+-- each line with an item is of a kind
 kind : (word rest : List ℕ) (item : Item) (u g : Bool) → bytes_eq word (codes "user") ≡ u → bytes_eq word (codes "group") ≡ g
     → cond u (user_item rest) (cond g (group_item rest) (call_item word rest)) ≡ Some item → IsKind word rest item
 kind word rest item true g is_user is_group says =
@@ -187,13 +187,13 @@ kind word rest item false false is_user is_group says =
     let same : items.Call process.0 found.0 ≡ item = cc in
     subst (IsKind word rest) same (call process.0 found.0 is_user is_group found.1)
 
--- the rules for a line whose first word is this, and what follows it that
+-- the rules for a line with this first word and this rest
 abbrev rules_of_kind : List (List ℕ) → ScriptModel → List ℕ → List ℕ → Bool → Bool → List Rule
 rules_of_kind lines s word rest u g =
     cond u (user_word_rules rest ++ user_place_rules lines s rest)
     (cond g (group_word_rules rest ++ group_place_rules s rest) (call_word_rules word rest ++ call_place_rules s rest))
 
--- a line whose words say nothing
+-- a line whose words have no item breaks a rule
 no_kind : (lines : List (List ℕ)) (s : ScriptModel) (word rest : List ℕ) (u g : Bool)
     → cond u (user_item rest) (cond g (group_item rest) (call_item word rest)) ≡ None
     → some_broken (rules_of_kind lines s word rest u g) ≡ true
@@ -214,7 +214,7 @@ no_kind lines s word rest false true bad =
         (or_first (is_none (group_of text)) false (is_nothing (group_of text) none)))
 no_kind lines s word rest false false bad = in_front (call_word_rules word rest) (call_place_rules s rest) (no_call word rest bad)
 
--- an item that may not be where it is
+-- an item that may not be here breaks a rule
 refused_item : (lines : List (List ℕ)) (s : ScriptModel) (n : ℕ) (word rest : List ℕ) (item : Item)
     → IsKind word rest item → with_item s n item ≡ None
     → some_broken (rules_of_kind lines s word rest (bytes_eq word (codes "user")) (bytes_eq word (codes "group"))) ≡ true
@@ -235,7 +235,7 @@ refused_item lines s n word rest _ (call p c is_user is_group says) bad =
       | inr h ↦ rw (is_user, is_group) (behind (call_word_rules word rest) (call_place_rules s rest) (misplaced_call s rest c says h.0))
     ]
 
--- behind the rules for the bytes and the words of any line come those for its kind
+-- the rules for lines of its kind come after those for the bytes and the words of any line
 by_kind : (lines : List (List ℕ)) (s : ScriptModel) (line rest : List ℕ) → after_word line ≡ Some rest
     → some_broken (rules_of_kind lines s (word_of line) rest (bytes_eq (word_of line) (codes "user"))
     (bytes_eq (word_of line) (codes "group"))) ≡ true
@@ -247,7 +247,7 @@ by_kind lines s line rest is broken =
     (subst (λ text. some_broken (rules_of_kind lines s (word_of line) text (bytes_eq (word_of line) (codes "user"))
     (bytes_eq (word_of line) (codes "group"))) ≡ true) same broken))
 
--- a line whose words say nothing
+-- a line whose words have no item breaks a rule
 no_words_item : (lines : List (List ℕ)) (s : ScriptModel) (line : List ℕ) → words_item line ≡ None → some_broken (rules_for lines s line) ≡ true
 unfolding words_item
 no_words_item lines s line bad =
@@ -265,7 +265,7 @@ no_words_item lines s line bad =
         or_second (begins_with 32 line) _ (or_second (ends_with 32 line) _ (or_second (has_comment line) _
         (or_first (is_none (after_word line)) false (is_nothing (after_word line) none))))
 
--- a line that says nothing
+-- a line without an item breaks a rule
 no_item : (lines : List (List ℕ)) (s : ScriptModel) (line : List ℕ) → item_of line ≡ None → some_broken (rules_for lines s line) ≡ true
 unfolding item_of
 no_item lines s [] bad = absurd cc
@@ -275,7 +275,7 @@ no_item lines s (b ∷ line) bad =
       | inl h ↦ elim (either_chosen (eqb b 35) _ _ None h.1) [ inl comment ↦ absurd cc | inr words ↦ no_words_item lines s (b ∷ line) words.1 ]
     ]
 
--- a line that says something by its words that may not be there
+-- a line of words whose item may not be here breaks a rule
 misplaced_words : (lines : List (List ℕ)) (s : ScriptModel) (n : ℕ) (line : List ℕ) (item : Item)
     → words_item line ≡ Some item → with_item s n item ≡ None → some_broken (rules_for lines s line) ≡ true
 unfolding words_item
@@ -294,7 +294,7 @@ no_comment lines s n line item is bad =
     let bad' = subst (λ (i : Item). with_item s n i ≡ None) same bad in
     absurd cc
 
--- a line that says something that may not be there
+-- a line whose item may not be here breaks a rule
 misplaced : (lines : List (List ℕ)) (s : ScriptModel) (n : ℕ) (line : List ℕ) (item : Item) → item_of line ≡ Some item
     → with_item s n item ≡ None → some_broken (rules_for lines s line) ≡ true
 unfolding item_of

@@ -1,4 +1,4 @@
--- What is said of the bytes that were taken is said of a known input.
+-- From the bytes that were taken to the known input.
 use Rattle.std.proofs.Common.{◌≡◌, ℕ, List, Option, Result, Ok, Err, true, false, sym, ap, ◌∙◌, ◌⊎◌, inl, inr}
 use Rattle.std.specs.Prelude.{Bool, IfSome, is_ok}
 use Rattle.std.specs.Io.KnownBytes.{Keeps}
@@ -13,7 +13,7 @@ use Rattle.histar_lint.specs.Session.{Lints, Writes}
 not_bad : (text : List ℕ) (n : ℕ) → script_of text ≡ Err TooLong → script_of text ≡ Err (BadScript n) → ⊥
 not_bad text n long bad = let same : TooLong ≡ BadScript n = cc in absurd cc
 
--- what is said of a text that is too long is said of another one
+-- what holds of one text that is too long holds of another
 long_lints : (file : List ℕ) (old new : Option (List ℕ)) (result : Result Bool Fault) (taken input : List ℕ)
     → AreLong taken input → Lints file taken old new result → Lints file input old new result
 long_lints file old new (Ok true) taken input long h = let wrong : is_ok (script_of taken) ≡ false = ap is_ok long.one in absurd cc
@@ -24,7 +24,7 @@ long_lints file old new (Err ReadFailed) taken input long h = h
 long_lints file old new (Err WriteFailed) taken input long h = absurd (not_bad taken h.line long.one h.bad)
 long_lints file old new (Err (BadScript n)) taken input long h = absurd h
 
--- where reading stopped nothing is said
+-- if reading stopped, nothing is written
 stopped : (file : List ℕ) (old new : Option (List ℕ)) (fault : Fault) (input : List ℕ) → Keeps old new
     → (fault ≡ OutOfMemory) ⊎ (fault ≡ ReadFailed) → Lints file input old new (Err fault)
 stopped file old new fault input keeps (inl is) = rw is keeps

@@ -16,14 +16,14 @@ use Rattle.histar_script.proofs.Beginnings.{takes_on}
 use Rattle.histar_lint.specs.Session.{IsFinding, said_of}
 use Rattle.histar_lint.proofs.BrokenRules.{each_bad_line_breaks_one}
 
--- so many lines of a text whose line is bad were read, and this is left of it
+-- this many lines of a text with this bad line were read, and this is the rest of the text
 pub record IsAt (text rest : List ℕ) (s : ScriptModel) (count bad : ℕ) : Type 0 where
   pub read : TakesLines nothing_read 0 (take count (lines_of text)) s
   pub left : lines_of rest ≡ drop count (lines_of text)
   pub found : with_lines s count (lines_of rest) ≡ failed bad
   pub within : count ≤ length (lines_of text)
 
--- at first
+-- this holds at the start
 pub at_start : (text : List ℕ) (bad : ℕ) → reading text ≡ Err (BadScript bad) → IsAt text text nothing_read 0 bad
 unfolding reading
 at_start text bad found = record { read = refl; left = refl; found = found; within = omega arith }
@@ -52,7 +52,7 @@ is_right text rest s count bad line behind at parts more =
     let found = subst (λ lines. with_lines s count lines ≡ failed bad) parts at.found in
     ap is_some (right_by s count bad line (lines_of behind) found more).1
 
--- there is such a line
+-- there is a line before the bad one
 pub has_line : (text rest : List ℕ) (s : ScriptModel) (count bad : ℕ) → IsAt text rest s count bad → count + 1 < bad → lines_of rest ≢ []
 unfolding with_lines
 has_line text rest s count bad at more none =
@@ -62,14 +62,14 @@ has_line text rest s count bad at more none =
       | inr h ↦ absurd cc
     ]
 
--- what was found bad is so at the next line, and behind it
+-- a line that is bad among all lines is bad in the step of the first of them
 found_at : (s : ScriptModel) (count bad : ℕ) (line : List ℕ) (lines others : List (List ℕ)) → lines ≡ line ∷ others
     → with_lines s count lines ≡ failed bad
     → after (count + 1) (λ m. with_lines m (count + 1) others) (with_line s (count + 1) line) ≡ failed bad
 unfolding with_lines
 found_at s count bad line lines others parts found = subst (λ given. with_lines s count given ≡ failed bad) parts found
 
--- behind a right line
+-- this holds after a right line
 pub went_on : (text rest : List ℕ) (s t : ScriptModel) (count bad : ℕ) (line behind : List ℕ)
     → IsAt text rest s count bad → lines_of rest ≡ line ∷ lines_of behind
     → with_line s (count + 1) line ≡ Some t → IsAt text behind t (count + 1) bad
@@ -110,12 +110,12 @@ said_by all s count bad (line ∷ lines) found last = by all s count bad line li
     by all s count bad line lines None is found last = each_bad_line_breaks_one all s (count + 1) line is
     by all s count bad line lines (Some t) is found last = let late = later_bad t (count + 1) lines bad found in absurd (omega arith)
 
--- of the bad line something is said
+-- the bad line has a sentence
 pub is_said_of : (text rest : List ℕ) (s : ScriptModel) (count bad : ℕ) → IsAt text rest s count bad → bad ≤ count + 1
     → is_some (said_of (lines_of text) s (lines_of rest)) ≡ true
 is_said_of text rest s count bad at last = said_by (lines_of text) s count bad (lines_of rest) at.found last
 
--- which is what is found
+-- this sentence is the one that is found
 pub is_finding : (text rest : List ℕ) (s : ScriptModel) (count bad : ℕ) (said : List ℕ) → IsAt text rest s count bad
     → bad ≤ count + 1 → said_of (lines_of text) s (lines_of rest) ≡ Some said
     → IsFinding text bad said

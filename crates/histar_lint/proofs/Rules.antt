@@ -1,4 +1,4 @@
--- Lists of rules: which of them is broken first.
+-- Lists of rules: the first that is broken.
 use Rattle.std.proofs.Common.{◌≡◌, Bool, true, false, cond, List, [], ◌∷◌, ◌++◌, Option, Some, None, ◌||◌, ◌⊎◌, inl, inr, refl, ℕ}
 use Rattle.std.specs.Prelude.{is_some}
 use Rattle.std.specs.List.{list_any}
@@ -9,7 +9,7 @@ use Rattle.histar_lint.specs.Lines.{Rule, first_sentence}
 abbrev pub some_broken : List Rule → Bool
 some_broken rules = list_any (λ (rule : Rule). rule.0) rules
 
--- the first or a later test
+-- if the first of two tests holds, one of them does
 pub or_first : (b c : Bool) → b ≡ true → (b || c) ≡ true
 or_first true c h = refl
 or_first false c h = absurd cc
@@ -23,7 +23,7 @@ said_by : (b : Bool) (said : List ℕ) (later : Bool) (rest : Option (List ℕ))
 said_by true said later rest broken go_on = refl
 said_by false said later rest broken go_on = go_on broken
 
--- then something is said
+-- broken rules have a sentence
 pub is_said : (rules : List Rule) → some_broken rules ≡ true → is_some (first_sentence rules) ≡ true
 is_said [] broken = absurd cc
 is_said (rule ∷ rules) broken = said_by rule.0 rule.1 (some_broken rules) (first_sentence rules) broken (is_said rules)
@@ -32,12 +32,12 @@ or_by : (b c d : Bool) → (b || c) ≡ true → (c ≡ true → d ≡ true) →
 or_by true c d broken go_on = refl
 or_by false c d broken go_on = go_on broken
 
--- a rule is broken of those in front
+-- if one of the first rules is broken, one of all is
 pub in_front : (rules others : List Rule) → some_broken rules ≡ true → some_broken (rules ++ others) ≡ true
 in_front [] others broken = absurd cc
 in_front (rule ∷ rules) others broken = or_by rule.0 (some_broken rules) (some_broken (rules ++ others)) broken (in_front rules others)
 
--- a rule is broken of those behind
+-- if one of the later rules is broken, one of all is
 pub behind : (rules others : List Rule) → some_broken others ≡ true → some_broken (rules ++ others) ≡ true
 behind [] others broken = broken
 behind (rule ∷ rules) others broken = or_second rule.0 (some_broken (rules ++ others)) (behind rules others broken)
@@ -47,7 +47,7 @@ front_by : (b : Bool) (own said : List ℕ) (rest other : Option (List ℕ)) →
 front_by true own said rest other e go_on = e
 front_by false own said rest other e go_on = go_on e
 
--- what rules in front say is said
+-- the sentence of the first rules is that of all
 pub said_in_front : (rules others : List Rule) (said : List ℕ) → first_sentence rules ≡ Some said → first_sentence (rules ++ others) ≡ Some said
 said_in_front [] others said e = absurd cc
 said_in_front (rule ∷ rules) others said e =
@@ -59,14 +59,14 @@ behind_by : (b : Bool) (own : List ℕ) (rest other last : Option (List ℕ)) �
 behind_by true own rest other last e go_on = absurd cc
 behind_by false own rest other last e go_on = go_on e
 
--- where rules in front are kept, what those behind say is said
+-- if the first rules are kept, the sentence of the later ones is that of all
 pub said_behind : (rules others : List Rule) → first_sentence rules ≡ None → first_sentence (rules ++ others) ≡ first_sentence others
 said_behind [] others e = refl
 said_behind (rule ∷ rules) others e =
     behind_by rule.0 rule.1 (first_sentence rules) (first_sentence (rules ++ others)) (first_sentence others) e
     (said_behind rules others)
 
--- a chain without a value lacks one at its first part, or behind that
+-- a chain without a value lacks one at its first part or after it
 pub none_at : {A B : Type 0} (o : Option A) (f : A → Option B) → option_and_then f o ≡ None → (o ≡ None) ⊎ ((x : A) × (o ≡ Some x) × (f x ≡ None))
 none_at None f e = inl refl
 none_at (Some x) f e = inr (x, refl, e)

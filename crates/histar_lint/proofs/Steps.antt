@@ -1,4 +1,4 @@
--- What taking a right line answers.
+-- The result of taking a right line.
 use Rattle.std.proofs.Common.{◌≡◌, ℕ, true, false, List, Option, Some, None, Result, Ok, Err, refl, sym, ap, ◌∙◌}
 use Rattle.std.specs.Prelude.{is_some, IfErr, OnOk}
 use Rattle.std.specs.Option.{option_and_then}
@@ -10,14 +10,14 @@ use Rattle.histar_script.specs.Script.{ScriptModel}
 use Rattle.histar_script.specs.Reading.{item_of, with_item, with_line}
 use Rattle.histar_lint.specs.Session.{IsMemory}
 
--- a right line says something
+-- a right line has an item
 pub says_something : (s : ScriptModel) (n : ℕ) (line : List ℕ) → is_some (with_line s n line) ≡ true → item_of line ≡ None → ⊥
 unfolding with_line
 says_something s n line right none =
     let wrong : is_some (with_line s n line) ≡ false = ap (λ (o : Option Item). is_some (option_and_then (λ i. with_item s n i) o)) none in
     absurd cc
 
--- what is read after a line that says this
+-- the script after a line with this item
 pub line_is : (s : ScriptModel) (n : ℕ) (line : List ℕ) (item : Item) → item_of line ≡ Some item → with_line s n line ≡ with_item s n item
 unfolding with_line
 line_is s n line item is = ap (option_and_then (λ i. with_item s n i)) is

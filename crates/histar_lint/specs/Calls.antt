@@ -40,7 +40,7 @@ shape_among (form ∷ forms) word = if bytes_eq word (form_word form) then Some 
 abbrev pub shape_named : List ℕ → Option Shape
 shape_named = shape_among call_forms
 
--- how an argument is named where the form of a call is shown
+-- the name of an argument in the form of a call
 abbrev pub kind_name : Kind → List ℕ
 kind_name kinds.Path = codes "PATH"
 kind_name kinds.Mode = codes "MODE"
@@ -76,7 +76,7 @@ arguments_text Alone = []
 arguments_text (One a) = codes " " ++ kind_name a
 arguments_text (Two a b) = codes " " ++ kind_name a ++ codes " " ++ kind_name b
 
--- how a call is written
+-- the sentence with the form of a call
 abbrev pub usage_text : List ℕ → Shape → List ℕ
 usage_text word shape = codes "the call is `PROC " ++ word ++ arguments_text shape ++ codes "`"
 
@@ -86,36 +86,36 @@ has_too_much text Alone = is_some (after_word text)
 has_too_much text (One a) = false
 has_too_much text (Two a b) = false
 
--- an argument of the call isn't there
+-- the call lacks an argument
 abbrev pub has_too_little : List ℕ → Shape → Bool
 has_too_little text Alone = false
 has_too_little text (One a) = is_none (after_word text)
 has_too_little text (Two a b) = is_none (after_word (rest_of text))
 
--- what the first argument has to be that is not so
+-- what the first argument that is not valid has to be
 abbrev pub bad_argument : List ℕ → Shape → List ℕ
 bad_argument text Alone = []
 bad_argument text (One a) = kind_text a
 bad_argument text (Two a b) = if is_value a (word_of (rest_of text)) then kind_text b else kind_text a
 
--- one insertion, deletion or substitution leads from one word to the other
+-- one insertion, deletion or substitution turns one word into the other
 abbrev pub is_near : List ℕ → List ℕ → Bool
 is_near word other = levenshtein_row nat_eq word other (length other) == 1
 
--- the first of these calls whose word is near
+-- the first of these calls whose word is near to this one
 unfoldable pub first_near : List ℕ → List (List ℕ) → Option (List ℕ)
 first_near word [] = None
 first_near word (call ∷ calls) = if is_near word call then Some call else first_near word calls
 
--- the first call whose word is near
+-- the first call whose word is near to this one
 abbrev pub nearest : List ℕ → Option (List ℕ)
 nearest word = first_near word (map form_word call_forms)
 
--- a call that may be meant
+-- the question whether this call was meant
 abbrev pub suggestion : List ℕ → List ℕ
 suggestion call = codes " (did you mean " ++ call ++ codes "?)"
 
--- there is no such call, and which one may be meant
+-- the sentence that there is no such call, with the one that may have been meant
 abbrev pub unknown_text : List ℕ → List ℕ
 unknown_text word = codes "there is no call " ++ word ++ option_map_or suggestion (nearest word) []
 
@@ -126,11 +126,11 @@ argument_rules text shape =
     ∷ (has_too_little text shape, usage_text (word_of text) shape)
     ∷ (is_none (call_of text), bad_argument text shape) ∷ []
 
--- the rules for a call whose word names one of this shape, or none
+-- the rules for a call of this shape, or for an unknown word
 abbrev pub shape_rules : List ℕ → Option Shape → List Rule
 shape_rules text None = (true, unknown_text (word_of text)) ∷ []
 shape_rules text (Some shape) = argument_rules text shape
 
--- The rules for the words of a call line: its process, its call, and the arguments of that. The text is what follows the process.
+-- The rules for the words of a call line: its process, its call, and its arguments. The text is what follows the process.
 abbrev pub call_word_rules : List ℕ → List ℕ → List Rule
 call_word_rules process text = (is_none (process_of process), kind_text kinds.Process) ∷ shape_rules text (shape_named (word_of text))

@@ -1,4 +1,4 @@
--- What the rules come to.
+-- What the rules guarantee.
 use Rattle.std.specs.Prelude.{◌≡◌, ℕ, true, List, None, is_some}
 use Rattle.histar_script.specs.Script.{ScriptModel}
 use Rattle.histar_script.specs.Reading.{with_line}

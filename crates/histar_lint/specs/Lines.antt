@@ -35,29 +35,29 @@ begins_with b (c ∷ text) = c == b
 abbrev pub ends_with : ℕ → List ℕ → Bool
 ends_with b text = option_map_or (λ c. c == b) (slice_get text (length text - 1)) false
 
--- a space and a number sign are in the text, one behind the other
+-- the text has a space directly followed by a number sign
 abbrev pub has_comment : List ℕ → Bool
 has_comment [] = false
 has_comment (b ∷ text) = (b == 32 && begins_with 35 text) || has_comment text
 
--- a digit of a number to the base 16
+-- a hexadecimal digit
 abbrev pub hex_digit : ℕ → ℕ
 hex_digit n = if nat_lt n 10 then 48 + n else 87 + n
 
--- a byte to the base 16
+-- a byte in hexadecimal
 abbrev pub hex_text : ℕ → List ℕ
 hex_text b = codes "0x" ++ hex_digit (b / 16) ∷ hex_digit (b % 16) ∷ []
 
--- the column and the value of the first byte that is not printable, where columns are numbered from this one on
+-- the column and the value of the first byte that is not printable, with columns numbered from this one on
 abbrev pub unprintable_from : ℕ → List ℕ → Option (ℕ × ℕ)
 unprintable_from n [] = None
 unprintable_from n (b ∷ line) = if is_plain_byte b then unprintable_from (n + 1) line else Some (n, b)
 
--- which byte is not printable, and in which column
+-- the sentence that a byte is not printable, with its column
 abbrev pub unprintable_text : ℕ × ℕ → List ℕ
 unprintable_text found = codes "byte " ++ hex_text found.1 ++ codes " at column " ++ decimal found.0 ++ codes " is not printable"
 
--- how many bytes a line has that has too many
+-- the sentence that a line has too many bytes, with their number
 abbrev pub long_text : List ℕ → List ℕ
 long_text line = codes "the line has " ++ decimal (length line) ++ codes " bytes, and 1024 is the most"
 

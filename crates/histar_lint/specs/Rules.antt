@@ -1,4 +1,4 @@
--- The rules that a line of a script keeps to, each with the sentence that is written where a bad line breaks it.
+-- The rules that a line of a script has to keep, each with the sentence that is written if a bad line breaks it.
 use Rattle.std.specs.Prelude.{ℕ, ◌+◌, Bool, false, not, ◌==◌, nat_lt, List, [], ◌∷◌, ◌++◌, length, codes, decimal, Option, None, Some}
 use Rattle.std.specs.Prelude.{is_none, position, unwrap_or, if◌then◌else◌}
 use Rattle.std.specs.Option.{option_map_or}
@@ -16,11 +16,11 @@ use Rattle.histar_lint.specs.declared.shapes.Kind.TheVariants.{Mode, Password}
 use Rattle.histar_lint.specs.Lines.{Rule, after_word, byte_rules, first_sentence, rest_of, word_of, word_rules}
 use Rattle.histar_lint.specs.Calls.{call_word_rules, kind_text}
 
--- what was read of the lines above
+-- the script of the lines above
 abbrev pub read_so_far : Accounts → List CallLine → ScriptModel
 read_so_far accounts calls = record { accounts = accounts; calls = calls }
 
--- what the name of a user or of a group has to be
+-- the sentence on the name of a user or a group
 abbrev pub declared_name_text : List ℕ
 declared_name_text = codes "the name of a user or a group has 1 to 32 of a-z, 0-9, dot, underscore and hyphen, begins with a letter and is not nobody"
 
@@ -45,7 +45,7 @@ declared_on lines name = declared_from 1 lines name
 abbrev pub is_taken : (Name → Bool) → List ℕ → Bool
 is_taken taken text = option_map_or taken (user_name_of (word_of text)) false
 
--- which user is declared already, and on which line
+-- the sentence that a user is declared already, with the line
 abbrev pub declared_twice : List (List ℕ) → Name → List ℕ
 declared_twice lines name = codes "user " ++ name ++ codes " stands already on line " ++ decimal (declared_on lines name)
 
@@ -56,7 +56,7 @@ user_word_rules text =
     ∷ (is_none (after_word text), codes "a user line is `user NAME PASSWORD`")
     ∷ (is_none (password_of (rest_of text)), kind_text Password) ∷ []
 
--- The rules for what a user line needs of the lines above, of which this was read.
+-- The rules for what a user line needs of the lines above, given their script.
 abbrev pub user_place_rules : List (List ℕ) → ScriptModel → List ℕ → List Rule
 user_place_rules lines s text =
     (not (is_empty s.accounts.groups), codes "a user line after a group line")
@@ -99,14 +99,14 @@ call_place_rules s text =
     (is_empty s.accounts.users, codes "a call line before any user line")
     ∷ (is_undeclared s.accounts (call_of text), kind_text Mode) ∷ []
 
--- the rules for a line of a kind, which its first word says
+-- the rules for a line of the kind that its first word determines
 abbrev pub kind_rules : List (List ℕ) → ScriptModel → List ℕ → List Rule
 kind_rules lines s line =
     if bytes_eq (word_of line) (codes "user") then user_word_rules (rest_of line) ++ user_place_rules lines s (rest_of line)
     else (if bytes_eq (word_of line) (codes "group") then group_word_rules (rest_of line) ++ group_place_rules s (rest_of line)
     else (call_word_rules (word_of line) (rest_of line) ++ call_place_rules s (rest_of line)))
 
--- The rules for a line of a text with these lines, where this was read of those above it, in their order.
+-- The rules for a line of a text with these lines, in their order, given the script of the lines above.
 abbrev pub rules_for : List (List ℕ) → ScriptModel → List ℕ → List Rule
 rules_for lines s line = byte_rules line ++ (word_rules line ++ kind_rules lines s line)
 

@@ -1,4 +1,5 @@
--- What is said of a script: nothing of a right one, and of a bad one its first bad line, with the sentence of the first rule that it breaks.
+-- The finding on a script: nothing for a right one, and for a bad one its first bad line, with the sentence of the first rule that it
+-- breaks.
 use Rattle.std.specs.Prelude.{◌≡◌, ℕ, ◌-◌, true, false, List, [], ◌∷◌, ◌++◌, codes, decimal, drop, take, Option, Some, Result, Ok, Err, IsOk, Bool}
 use Rattle.std.specs.Io.KnownBytes.{Appends, Keeps}
 use Rattle.histar_io.specs.Writing.{AppendsFront}
@@ -10,13 +11,13 @@ use Rattle.histar_script.specs.Grammar.{TakesLines}
 use Rattle.histar_script.specs.Reading.{script_of}
 use Rattle.histar_lint.specs.Rules.{sentence}
 
--- what is said of the first of the lines that are left, of a text with these lines, where this was read of those above; where none is
--- left the text lacks a user
+-- the sentence for the first bad line of the rest of a text with these lines, given the script of the lines above; if nothing is left, the
+-- text lacks a user
 abbrev pub said_of : List (List ℕ) → ScriptModel → List (List ℕ) → Option (List ℕ)
 said_of lines s [] = Some (codes "there is no user line")
 said_of lines s (line ∷ after) = sentence lines s line
 
--- this is said of line n: the lines before it are right, and it breaks the rule
+-- this sentence is for line n: the lines before it are right, and it breaks the rule
 pub record IsFinding (text : List ℕ) (n : ℕ) (said : List ℕ) : Type 0 where
   pub read : ScriptModel
   pub before : TakesLines nothing_read 0 (take (n - 1) (lines_of text)) read
@@ -26,11 +27,11 @@ pub record IsFinding (text : List ℕ) (n : ℕ) (said : List ℕ) : Type 0 wher
 abbrev pub IsMemory : Fault → Type 0
 IsMemory fault = fault ≡ OutOfMemory
 
--- the file, the number of the line, and what is said of it
+-- the file, the number of the line, and its sentence
 abbrev pub finding_text : List ℕ → ℕ → List ℕ → List ℕ
 finding_text file n said = file ++ codes ":" ++ decimal n ++ codes ": " ++ said ++ codes "\n"
 
--- the text is a bad script at a line, of which the finding is made and then written as far as this says
+-- the text is a bad script at a line; its finding is made, and then written as far as the predicate says
 pub record Writes (written : List ℕ → Type 0) (file text : List ℕ) : Type 0 where
   pub line : ℕ
   pub bad : script_of text ≡ Err (BadScript line)
@@ -38,7 +39,8 @@ pub record Writes (written : List ℕ → Type 0) (file text : List ℕ) : Type 
   pub found : IsFinding text line said
   pub appended : written (finding_text file line said)
 
--- A right script is answered true, with nothing written; a bad one false, with its finding; and one that is too long has that fault.
+-- For a right script the result is true, with nothing written; for a bad one false, with its finding; and one that is too long has that
+-- fault.
 abbrev pub Lints : List ℕ → List ℕ → Option (List ℕ) → Option (List ℕ) → Result Bool Fault → Type 0
 Lints file text old new (Ok true) = IsOk (script_of text) × Keeps old new
 Lints file text old new (Ok false) = Writes (Appends old new) file text

@@ -10,7 +10,7 @@ use histar_flat::{Accounts, CallLine, UnixCall, read_process};
 use histar_script::{is_declared_call, read_call, split_word};
 use std::alloc::{AllocError, Global};
 
-/// Checks whether something follows the word of a call behind which nothing may be.
+/// Checks whether a call that takes no argument has one.
 fn has_too_much(text: &[u8], shape: Shape) -> bool
     ensures { result ≡ has_too_much text.now shape }
 {
@@ -27,7 +27,7 @@ pub(crate) fn rest_of(text: &[u8]) -> &[u8]
     split_word(text).1.unwrap_or(&[])
 }
 
-/// Checks whether an argument of a call isn't there.
+/// Checks whether a call lacks an argument.
 fn has_too_little(text: &[u8], shape: Shape) -> bool
     ensures { result ≡ has_too_little text.now shape }
 {
@@ -38,7 +38,7 @@ fn has_too_little(text: &[u8], shape: Shape) -> bool
     }
 }
 
-/// Returns what the first argument of a call has to be that is not so.
+/// Returns what the first argument of a call that is not valid has to be.
 fn bad_argument(text: &[u8], shape: Shape) -> &'static str
     ensures { result.now ≡ bad_argument text.now shape }
 {
@@ -55,7 +55,7 @@ fn bad_argument(text: &[u8], shape: Shape) -> &'static str
     }
 }
 
-/// Adds a call that may be meant.
+/// Adds a call that may have been meant.
 fn push_call(said: &mut Vec<u8>, call: &str) -> Result<(), AllocError>
     ensures { OnOk result (said.new.items ≡ said.old.items ++ suggestion call.now) }
 {
@@ -65,7 +65,7 @@ fn push_call(said: &mut Vec<u8>, call: &str) -> Result<(), AllocError>
     Ok(())
 }
 
-/// Adds which call may be meant, if one is near.
+/// Adds the call that may have been meant, if one is near.
 fn push_suggestion(said: &mut Vec<u8>, near: Option<&str>) -> Result<(), AllocError>
     ensures { OnOk result (said.new.items ≡ said.old.items ++ option_map_or suggestion (option_copied near.entry) []) }
 {
@@ -75,7 +75,7 @@ fn push_suggestion(said: &mut Vec<u8>, near: Option<&str>) -> Result<(), AllocEr
     }
 }
 
-/// Says that there is no such call, and which one may be meant.
+/// Returns the sentence that there is no such call, with the one that may have been meant.
 fn unknown_text(alloc: Global, word: &[u8]) -> Result<Vec<u8>, AllocError>
     ensures { IfOk result (λ said. said.items ≡ unknown_text word.now) }
 {
@@ -106,7 +106,8 @@ fn argument_sentence(
     Ok(Some(said))
 }
 
-/// Returns the sentence of the first rule that the words of a call line break: its process, and what follows that.
+/// Returns the sentence of the first rule that the words of a call line break: its process, its call and its
+/// arguments.
 pub(crate) fn call_word_sentence(
     alloc: Global,
     process: &[u8],

@@ -26,7 +26,7 @@ const MOST_GROUPS: usize = 8;
 const DECLARED_NAME: &str =
     "the name of a user or a group has 1 to 32 of a-z, 0-9, dot, underscore and hyphen, begins with a letter and is not nobody";
 
-/// Returns the sentence of the first rule that the words behind `user` break.
+/// Returns the sentence of the first rule that the words after `user` break.
 pub(crate) fn user_word_sentence(text: &[u8]) -> Option<&'static str>
     ensures { option_copied result ≡ first_sentence (user_word_rules text.now) }
 {
@@ -53,7 +53,8 @@ fn declares(name: &[u8], item: Option<&Item>) -> bool
     }
 }
 
-/// Returns the number of the first line of a text that declares the user of this name, or of the line behind the text.
+/// Returns the number of the first line of a text that declares the user of this name, or one more than there
+/// are lines.
 fn declared_on(alloc: Global, text: &[u8], name: &[u8]) -> Result<usize, AllocError>
     ensures { IfOk result (λ line. line ≡ declared_on (lines_of text.now) name.now) }
 {
@@ -71,7 +72,7 @@ fn declared_on(alloc: Global, text: &[u8], name: &[u8]) -> Result<usize, AllocEr
     Ok(number)
 }
 
-/// Says that a user is declared already, and on which line.
+/// Returns the sentence that a user is declared already, with the line.
 fn declared_twice(alloc: Global, text: &[u8], name: &[u8]) -> Result<Vec<u8>, AllocError>
     ensures { IfOk result (λ said. said.items ≡ declared_twice (lines_of text.now) name.now) }
 {
@@ -103,7 +104,7 @@ fn is_group(accounts: &Accounts, words: &[u8]) -> bool
     }
 }
 
-/// Returns the sentence of the first rule by which a user line may not be where it is, in a text.
+/// Returns the sentence of the first rule by which a user line of a text may not be where it is.
 pub(crate) fn user_place_sentence(
     alloc: Global,
     text: &[u8],
@@ -128,7 +129,7 @@ pub(crate) fn user_place_sentence(
     Ok(Some(Vec::from_slice(alloc, fixed)?))
 }
 
-/// Returns the sentence of the first rule that the words behind `group` break.
+/// Returns the sentence of the first rule that the words after `group` break.
 pub(crate) fn group_word_sentence(
     alloc: Global,
     text: &[u8],

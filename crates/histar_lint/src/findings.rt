@@ -1,4 +1,4 @@
-//! What is said of a bad line.
+//! The sentence about a bad line.
 ghost use Rattle.std.specs.Prelude.{◌≡◌, ◌++◌, IfOk, option_map};
 ghost use Rattle.std.specs.Option.{option_copied};
 ghost use Rattle.histar_script.specs.Lines.{lines_of};
@@ -16,7 +16,7 @@ use histar_flat::{Accounts, CallLine};
 use histar_script::split_word;
 use std::alloc::{AllocError, Global};
 
-/// Copies a sentence, where there is one.
+/// Copies a sentence, if there is one.
 fn copied(alloc: Global, said: Option<&str>) -> Result<Option<Vec<u8>>, AllocError>
     ensures { IfOk result (λ copy. option_map (λ text. text.items) copy ≡ option_copied said.entry) }
 {
@@ -77,7 +77,7 @@ fn call_sentence(
     }
 }
 
-/// Returns the sentence of the first rule for a line of its kind that a line breaks.
+/// Returns the sentence of the first rule for lines of its kind that a line breaks.
 fn kind_sentence(
     alloc: Global,
     text: &[u8],
@@ -99,7 +99,7 @@ fn kind_sentence(
     }
 }
 
-/// Returns the sentence of the first rule for the words of a line that it breaks.
+/// Returns the sentence of the first rule for words that a line breaks.
 fn printable_sentence(
     alloc: Global,
     text: &[u8],
@@ -116,7 +116,8 @@ fn printable_sentence(
     }
 }
 
-/// Returns the sentence of the first rule that a line of a text breaks, where this was read of the lines above it.
+/// Returns the sentence of the first rule that a line of a text breaks, given the accounts and calls of the
+/// lines above it.
 pub(crate) fn sentence(
     alloc: Global,
     text: &[u8],

@@ -1,6 +1,6 @@
 //! Why a script is bad: its first bad line, with the sentence of the first rule that the line breaks.
 //!
-//! `specs/Rules.antt` has the rules in their order. [`lint_laws`] says what they come to.
+//! `specs/Rules.antt` has the rules in their order. [`lint_laws`] says what they guarantee.
 #![tactic(auto)]
 
 mod call_rules;

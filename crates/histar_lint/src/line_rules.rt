@@ -31,7 +31,7 @@ fn ends_with(text: &[u8], byte: u8) -> bool
     }
 }
 
-/// Checks whether a space and a number sign are in a text, one behind the other.
+/// Checks whether a text has a space directly followed by a number sign.
 fn has_comment(text: &[u8]) -> bool
     ensures { result ≡ has_comment text.now }
 {
@@ -57,7 +57,7 @@ fn unprintable(line: &[u8]) -> Option<(usize, u8)>
     None
 }
 
-/// Says how many bytes a line has that has too many.
+/// Returns the sentence that a line has too many bytes, with their number.
 fn long_text(alloc: Global, line: &[u8]) -> Result<Vec<u8>, AllocError>
     ensures { IfOk result (λ said. said.items ≡ long_text line.now) }
 {
@@ -67,7 +67,7 @@ fn long_text(alloc: Global, line: &[u8]) -> Result<Vec<u8>, AllocError>
     Ok(said)
 }
 
-/// Says which byte is not printable, and in which column it is.
+/// Returns the sentence that a byte is not printable, with its column.
 fn unprintable_text(alloc: Global, column: usize, byte: u8) -> Result<Vec<u8>, AllocError>
     ensures { IfOk result (λ said. said.items ≡ unprintable_text (column, byte)) }
 {
@@ -79,7 +79,7 @@ fn unprintable_text(alloc: Global, column: usize, byte: u8) -> Result<Vec<u8>, A
     Ok(said)
 }
 
-/// Returns the sentence of the first rule for the bytes of a line that it breaks.
+/// Returns the sentence of the first rule for bytes that a line breaks.
 pub(crate) fn byte_sentence(alloc: Global, line: &[u8]) -> Result<Option<Vec<u8>>, AllocError>
     ensures { IfOk result (λ said. option_map (λ text. text.items) said ≡ first_sentence (byte_rules line.now)) }
 {
@@ -99,7 +99,7 @@ pub(crate) fn byte_sentence(alloc: Global, line: &[u8]) -> Result<Option<Vec<u8>
     }
 }
 
-/// Returns the sentence of the first rule for the words of a line that it breaks.
+/// Returns the sentence of the first rule for words that a line breaks.
 pub(crate) fn word_sentence(line: &[u8]) -> Option<&'static str>
     ensures { option_copied result ≡ first_sentence (word_rules line.now) }
 {

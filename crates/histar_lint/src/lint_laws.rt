@@ -1,7 +1,7 @@
-//! What the rules come to. Each law is the contract of a function that does nothing.
+//! What the rules guarantee. Each law is the contract of a function that does nothing.
 ghost use Rattle.histar_lint.specs.Laws.{EachBadLineBreaksOne};
 
-/// Each bad line of a script breaks a rule, so that something is said of it.
+/// Shows that each bad line of a script breaks a rule; lint always has a sentence for it.
 pub fn each_bad_line_breaks_one()
     ensures { EachBadLineBreaksOne }
 {}

@@ -12,8 +12,8 @@ use histar_io::{Sink, Source, read_input, write_bytes};
 use histar_script::{Fault, Script, read_item, read_script, split_line};
 use std::alloc::{AllocError, Global};
 
-/// Reads a script, and answers whether it is right. Of a bad one it writes a line: the name of the file, the number of the
-/// first bad line, and the sentence of the first rule that this line breaks.
+/// Reads a script, and returns whether it is right. For a bad one it writes a line: the name of the file, the
+/// number of the first bad line, and the sentence of the first rule that this line breaks.
 ///
 /// It doesn't flush the sink.
 pub fn lint<R: Source, W: Sink>(
@@ -22,18 +22,18 @@ pub fn lint<R: Source, W: Sink>(
     reader: &mut R,
     writer: &mut W,
 ) -> Result<bool, Fault>
-    // After a script that is too long and a failed read the sink is as it was.
+    // After a failed read or a script that is too long, the sink is as it was.
     ensures nothing { IfErr result (LeavesSink writer.old writer.new) }
 
-    // A device has failed exactly where its fault is the answer.
+    // A device has failed exactly if its fault is returned.
     ensures reads { CountsFailure (R.failures reader.old) (R.failures reader.new) (is_read_failed result) }
     ensures writes { CountsFailure (W.failures writer.old) (W.failures writer.new) (is_write_failed result) }
 
-    // Whatever the source gives, bytes of it were taken, to its end but never more than 1,048,577, and linted.
+    // Some bytes of the source were read, to its end but never more than 1,048,577, and these were linted.
     ensures runs { RunsInput (Lints file.now) (R.left reader.old) (R.left reader.new)
         (W.written writer.old) (W.written writer.new) result }
 
-    // So where the input is known, the whole input was linted.
+    // If the input is known, it was linted as a whole.
     ensures known { IfSome (R.left reader.old) (λ input. Lints file.now input
         (W.written writer.old) (W.written writer.new) result) }
 {
@@ -41,7 +41,7 @@ pub fn lint<R: Source, W: Sink>(
     lint_text(alloc, file, input.as_slice(), writer)
 }
 
-/// Lints the script that a text is.
+/// Lints a text.
 fn lint_text<W: Sink>(
     alloc: Global,
     file: &[u8],
@@ -65,7 +65,7 @@ fn lint_text<W: Sink>(
     }
 }
 
-/// Returns the line that is written of a bad script.
+/// Returns the line that is written for a bad script.
 fn finding(alloc: Global, file: &[u8], line: u32, said: &[u8]) -> Result<Vec<u8>, Fault>
     ensures ok { IfOk result (λ text. text.items ≡ finding_text file.now line said.now) }
     ensures err { IfErr result IsMemory }
@@ -79,7 +79,7 @@ fn finding(alloc: Global, file: &[u8], line: u32, said: &[u8]) -> Result<Vec<u8>
     Ok(text)
 }
 
-/// Takes a line that is right.
+/// Adds a line that is right to the script.
 fn take_line(alloc: Global, script: &mut Script, number: u32, line: &[u8]) -> Result<(), Fault>
     requires { is_some (with_line script.old number line.now) ≡ true }
     ensures ok { OnOk result (with_line script.old number line.now ≡ Some script.new) }
@@ -91,7 +91,7 @@ fn take_line(alloc: Global, script: &mut Script, number: u32, line: &[u8]) -> Re
     }
 }
 
-/// Returns what is said of the first of the lines that are left of a text, where this was read of those above.
+/// Returns the sentence for the first bad line of the rest of a text, given the script of the lines above.
 fn said_of(alloc: Global, text: &[u8], script: Script, rest: &[u8]) -> Result<Vec<u8>, AllocError>
     requires { is_some (said_of (lines_of text.now) script (lines_of rest.now)) ≡ true }
     ensures { IfOk result (λ said. said_of (lines_of text.now) script (lines_of rest.now) ≡ Some said.items) }
@@ -107,7 +107,7 @@ fn said_of(alloc: Global, text: &[u8], script: Script, rest: &[u8]) -> Result<Ve
     }
 }
 
-/// Returns what is said of the first bad line of a text. The lines before it are read once more.
+/// Returns the sentence for the bad line of this number. The lines before it are read once more.
 fn said_at(alloc: Global, text: &[u8], bad: u32) -> Result<Vec<u8>, Fault>
     requires short { length text.now ≤ most_script_bytes }
     requires bad { reading text.now ≡ Err (Fault.BadScript bad) }

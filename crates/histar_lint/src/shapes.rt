@@ -1,4 +1,5 @@
-//! The words of calls: which arguments follow each, and which is near to a word that is none.
+//! The shapes of calls: which arguments follow the word of each call, and which call is near to an unknown
+//! word.
 ghost use Rattle.std.specs.Prelude.{◌≡◌, ◌++◌, IfOk, OnOk, codes, map};
 ghost use Rattle.std.specs.Option.{option_copied};
 ghost use Rattle.histar_script.specs.CallForms.{call_forms, entry_calls, process_calls, reading_calls};
@@ -9,7 +10,7 @@ use histar_flat::{read_mode, read_name, read_password, read_path, read_process, 
 use std::alloc::{AllocError, Global};
 use strsim::generic_levenshtein;
 
-/// What an argument of a call is.
+/// The kind of an argument of a call.
 #[derive(Clone, Copy)]
 pub enum Kind {
     Path,
@@ -29,7 +30,7 @@ pub enum Shape {
     Two(Kind, Kind),
 }
 
-/// Returns the shape of the call that a word names, if it names one.
+/// Returns the shape of the call that a word names, or `None`.
 pub(crate) fn shape_named(word: &[u8]) -> Option<Shape>
     ensures { result ≡ shape_named word.now }
 {
@@ -50,7 +51,7 @@ pub(crate) fn shape_named(word: &[u8]) -> Option<Shape>
     }
 }
 
-/// Returns the shape of a call that only reads, or of one of those behind.
+/// Returns the shape of a call that only reads, or of one of the later groups.
 fn reading_shape(word: &[u8]) -> Option<Shape>
     ensures { result ≡ shape_among (reading_calls ++ entry_calls ++ process_calls) word.now }
 {
@@ -65,7 +66,7 @@ fn reading_shape(word: &[u8]) -> Option<Shape>
     }
 }
 
-/// Returns the shape of a call on an entry, or of one of those behind.
+/// Returns the shape of a call on an entry, or of one of the later groups.
 fn entry_shape(word: &[u8]) -> Option<Shape>
     ensures { result ≡ shape_among (entry_calls ++ process_calls) word.now }
 {
@@ -109,7 +110,7 @@ fn is_near(alloc: Global, word: &[u8], other: &[u8]) -> Result<bool, AllocError>
     Ok(edits == 1)
 }
 
-/// Returns the first of these calls whose word is near.
+/// Returns the first of these calls whose word is near to this one.
 #[tactic(auto, unfolding(crate::specs::Calls::first_near))]
 fn first_near<'a>(
     alloc: Global,
@@ -126,7 +127,7 @@ fn first_near<'a>(
     Ok(None)
 }
 
-/// Returns the first call whose word is near.
+/// Returns the first call whose word is near to this one.
 pub(crate) fn nearest(alloc: Global, word: &[u8]) -> Result<Option<&'static str>, AllocError>
     ensures { IfOk result (λ call. option_copied call ≡ nearest word.now) }
 {
@@ -137,7 +138,7 @@ pub(crate) fn nearest(alloc: Global, word: &[u8]) -> Result<Option<&'static str>
     first_near(alloc, word, calls.as_slice())
 }
 
-/// Returns how an argument is named where the form of a call is shown.
+/// Returns the name of an argument in the form of a call.
 fn kind_name(kind: Kind) -> &'static str
     ensures { result.now ≡ kind_name kind }
 {
@@ -169,7 +170,7 @@ pub(crate) fn kind_text(kind: Kind) -> &'static str
     }
 }
 
-/// Checks whether a text is a value of a kind.
+/// Checks whether a text is a value of this kind.
 pub(crate) fn is_value(kind: Kind, text: &[u8]) -> bool
     ensures { result ≡ is_value kind text.now }
 {
@@ -184,7 +185,7 @@ pub(crate) fn is_value(kind: Kind, text: &[u8]) -> bool
     }
 }
 
-/// Adds the name of an argument, behind a space.
+/// Adds the name of an argument, after a space.
 fn push_kind(said: &mut Vec<u8>, kind: Kind) -> Result<(), AllocError>
     ensures { OnOk result (said.new.items ≡ said.old.items ++ codes " " ++ kind_name kind) }
 {
@@ -206,7 +207,7 @@ fn push_arguments(said: &mut Vec<u8>, shape: Shape) -> Result<(), AllocError>
     }
 }
 
-/// Says how the call of a word is written.
+/// Returns the form of the call of a word: the word and its arguments.
 pub(crate) fn usage_text(alloc: Global, word: &[u8], shape: Shape) -> Result<Vec<u8>, AllocError>
     ensures { IfOk result (λ said. said.items ≡ usage_text word.now shape) }
 {

@@ -1,4 +1,4 @@
-//! Sentences that name a part of the line.
+//! Numbers and bytes as text, for sentences that name a part of the line.
 ghost use Rattle.std.specs.Prelude.{◌≡◌, ◌++◌, ◌/◌, ◌%◌, ◌<◌, IfOk, OnOk, decimal};
 ghost use Rattle.histar_lint.specs.Lines.{hex_digit, hex_text};
 
@@ -13,7 +13,7 @@ pub(crate) fn push_number(text: &mut Vec<u8>, number: usize) -> Result<(), Alloc
     text.extend_from_slice(digits.format(number).as_bytes())
 }
 
-/// Returns a digit of a number to the base 16.
+/// Returns a hexadecimal digit.
 fn hex_digit(number: u8) -> u8
     requires { number < 16 }
     ensures { result ≡ hex_digit number }
@@ -25,7 +25,7 @@ fn hex_digit(number: u8) -> u8
     }
 }
 
-/// Adds a byte to the base 16.
+/// Adds a byte in hexadecimal.
 pub(crate) fn push_hex(text: &mut Vec<u8>, byte: u8) -> Result<(), AllocError>
     ensures { OnOk result (text.new.items ≡ text.old.items ++ hex_text byte) }
 {

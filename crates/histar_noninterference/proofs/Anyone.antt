@@ -1,4 +1,4 @@
--- A call of anyone outside the job but `rmdir` and `wrap`: the states stay the same outside the job.
+-- A call of any process outside the job but `rmdir` and `wrap` keeps the states the same outside the job.
 use Rattle.std.specs.Prelude.{Bool, None, Option, Some, [], false, is_some, not, option_map, refl, true, ℕ, ◌||◌, ◌∷◌, ◌≡◌, ◌⊎◌}
 use Rattle.std.proofs.Common.{ap, inl, inr, subst, sym, ◌∙◌}
 use Rattle.std.proofs.lemmas.Bool.{or_parts, true≢false, cases_Bool}
@@ -43,14 +43,14 @@ both_refused job f g f' g' None e' r h h' = absurd (true≢false (sym h))
 both_refused job f g f' g' (Some x) None r h h' = absurd (true≢false (sym h'))
 both_refused job f g f' g' (Some x) (Some y) r h h' = r
 
--- a call that only answers
+-- a call that changes nothing keeps the states the same
 still : (job : ProcName) (f g : Flat) (e e' : Option Errno) → SameOutside job f g → SameOutside job (flat_or e f f) (flat_or e' g g)
 still job f g None None r = r
 still job f g None (Some y) r = r
 still job f g (Some x) None r = r
 still job f g (Some x) (Some y) r = r
 
--- an effect changes files alone, where the call names a path, and else the caller and its children
+-- the effect changes only files, if the call names a path, and else only the caller and its children
 abbrev is_calm : Path → Effect → Bool
 is_calm q (Kills name) = false
 is_calm q Wraps = false
@@ -61,7 +61,7 @@ is_calm q _ = true
 
 module _ (m : ℕ) (w : ProcName) (accounts : Accounts) (f g : Flat) (r : SameOutside (m ∷ w) f g) (hf : IsStarted (m ∷ w) f)
     (hg : IsStarted (m ∷ w) g) (me : ProcName) (p : Process) (out : under_process (m ∷ w) me ≡ false) where
-  -- at a path that doesn't lie in the job
+  -- two states look alike at a path that doesn't lie in the job
   looks_alike : (q : Path) → lies_in_job (m ∷ w) f.files q ≡ false → LooksAlike false accounts f g p q
   looks_alike q u = record {
     way = way q u;
@@ -88,7 +88,7 @@ module _ (m : ℕ) (w : ProcName) (accounts : Accounts) (f g : Flat) (r : SameOu
       beside [] u below = absurd (true≢false (sym below))
       beside (n ∷ d) u below = u
 
-  -- at a path that does, a calm effect changes files below the directory alone
+  -- at a path that lies in the job, a calm effect changes only files below the directory
   changes_below : (a : Flat) → IsStarted (m ∷ w) a → (n : Name) (d : Path) (effect : Effect) → Warrant accounts a me p (n ∷ d) effect
       → is_calm (n ∷ d) effect ≡ true → ChangesFilesBelow d a (apply accounts a me p (n ∷ d) effect)
   unfolding renamed
@@ -104,7 +104,7 @@ module _ (m : ℕ) (w : ProcName) (accounts : Accounts) (f g : Flat) (r : SameOu
       }
   changes_below a h n d _ may calm = absurd (true≢false (sym calm))
 
-  -- a calm call with narrow needs: its path lies in the job, or it is refused alike
+  -- a calm call with narrow needs keeps the states the same: its path lies in the job, or it is refused alike
   calmly : (call : UnixCall) → is_narrow (rule call).needs ≡ true → is_calm (path_of call) (rule call).effect ≡ true
       → SameOutside (m ∷ w) (flat_by accounts f me (Some p) call) (flat_by accounts g me (Some p) call)
   calmly call narrow calm = by (path_of call) refl (cases_Bool (lies_in_job (m ∷ w) f.files (path_of call)))

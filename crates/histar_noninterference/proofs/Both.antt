@@ -32,7 +32,7 @@ abbrev pub writes_bytes : Effect → Bool
 writes_bytes (Stores new) = true
 writes_bytes _ = false
 
--- the same process changes, or is new, on both sides
+-- the states stay the same outside the job when the same process changes, or is new, in both
 pub both_process : (job : ProcName) (f g : Flat) → SameOutside job f g → (a : ProcName) (x : Process)
     → SameOutside job (with_process f a x) (with_process g a x)
 both_process job f g r a x = record {
@@ -48,12 +48,12 @@ both_process job f g r a x = record {
 
 module _ (m : ℕ) (w : ProcName) (accounts : Accounts) (f g : Flat) (r : SameOutside (m ∷ w) f g) (hf : IsStarted (m ∷ w) f)
     (hg : IsStarted (m ∷ w) g) (me : ProcName) (p : Process) where
-  -- what is new, or written, on both sides
+  -- the states stay the same outside the job when the same node is put in both
   put : (q : Path) (x : Node) → is_dir_of (m ∷ w) (get f.files q) ≡ false
       → SameOutside (m ∷ w) (with_node f q x.class x.content) (with_node g q x.class x.content)
   put q x plain = record { files = insert_alike (m ∷ w) f.files g.files r.files q x plain; processes = r.processes; chain = r.chain }
 
-  -- an effect of a call that passes on both sides
+  -- an effect that is warranted in both states keeps them the same
   applied_alike : (q : Path) (effect : Effect) → Warrant accounts f me p q effect → Warrant accounts g me p q effect
       → (writes_bytes effect ≡ true → lies_in_job (m ∷ w) f.files q ≡ false)
       → SameOutside (m ∷ w) (apply accounts f me p q effect) (apply accounts g me p q effect)
@@ -87,7 +87,7 @@ module _ (m : ℕ) (w : ProcName) (accounts : Accounts) (f g : Flat) (r : SameOu
       (both_process (m ∷ w) (with_node f q x.class x.content) (with_node g q x.class x.content) (put q x (ap (is_dir_of (m ∷ w)) may.2)) me p')
       (next_child me p) (record { user = p.user; chain = inner_chain me p; held = []; exited = None; born = 0 })
 
-  -- calls that are refused alike
+  -- a call that is refused alike keeps the states the same
   pub both : (call : UnixCall) → refused accounts f me p call ≡ refused accounts g me p call
       → (refused accounts f me p call ≡ None → writes_bytes (rule call).effect ≡ true → lies_in_job (m ∷ w) f.files (path_of call) ≡ false)
       → SameOutside (m ∷ w) (flat_by accounts f me (Some p) call) (flat_by accounts g me (Some p) call)

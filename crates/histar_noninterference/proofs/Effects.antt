@@ -15,7 +15,7 @@ use Rattle.histar_noninterference.proofs.Relation.{SameFiles}
 use Rattle.histar_noninterference.proofs.TestLemmas.{left_holds, parent_under}
 
 module _ (job : ProcName) where
-  -- what lay in the job still does once something new is made, where no directory of the job was
+  -- what lies in the job still does after something new is made, if no directory of the job was there
   pub lies_inserted : (m : Files Node) (q : Path) (x : Node) → is_dir_of job (get m q) ≡ false → (r : Path) → lies_in_job job m r ≡ true
       → lies_in_job job (insert m q x) r ≡ true
   lies_inserted m q x plain [] h = h
@@ -32,7 +32,7 @@ module _ (job : ProcName) where
         ]
   ]
 
-  -- what is new or written in both trees keeps them the same outside the job
+  -- the same node put in both trees keeps them the same outside the job
   pub insert_alike : (m n : Files Node) → SameFiles job m n → (q : Path) (x : Node) → is_dir_of job (get m q) ≡ false
       → SameFiles job (insert m q x) (insert n q x)
   insert_alike m n r q x plain = record { same = by }
@@ -43,7 +43,7 @@ module _ (job : ProcName) where
         | inr i ↦ get-insert m q x t ∙ ap (cond (same_path t q) (Some x)) (r.same t i) ∙ sym (get-insert n q x t)
       ]
 
-  -- what is left after a removal lies in the job as before
+  -- what a removal leaves lies in the job as before
   pub lies_cut : (m : Files Node) (q : Path) (r : Path) → under_path q r ≡ false
       → lies_in_job job (keep m (λ t. not (under_path q t))) r ≡ lies_in_job job m r
   lies_cut m q [] u = refl
@@ -53,7 +53,7 @@ module _ (job : ProcName) where
       (get-keep m (λ t. not (under_path q t)) d ∙ ap (λ b. cond (not b) (get m d) None) above)
       ∙ ap (λ b. is_dir_of job (get m d) || b) (lies_cut m q d above)
 
-  -- and so does what is taken away in both
+  -- a removal in both trees keeps them the same outside the job
   pub cut_alike : (m n : Files Node) → SameFiles job m n → (q : Path)
       → SameFiles job (keep m (λ t. not (under_path q t))) (keep n (λ t. not (under_path q t)))
   cut_alike m n r q = record { same = by }
@@ -67,7 +67,7 @@ module _ (job : ProcName) where
             ∙ ap (λ o. cond (not (under_path q t)) o None) (r.same t (sym (lies_cut m q t u) ∙ h))
       ] ∙ sym (get-keep n (λ t. not (under_path q t)) t)
 
-  -- making and removing in a directory changes only what is below it
+  -- making an entry in a directory changes only what is below it
   pub insert_below : (m : Files Node) (n : Name) (d : Path) (x : Node) → ChangesBelow d m (insert m (n ∷ d) x)
   insert_below m n d x = record { rest = λ q h. get_other m (n ∷ d) x q (by q h) }
     where

@@ -1,4 +1,4 @@
--- Two runs, step by step, and what their comparison finds.
+-- Two runs, step by step, and the result of their comparison.
 use Rattle.std.specs.Prelude.{Bool, List, None, Some, [], cond, false, map, not, refl, true, ◌&&◌, ◌++◌, ◌||◌, ◌∷◌, ◌≡◌}
 use Rattle.std.proofs.Common.{ap, inl, inr, subst, sym, ◌∙◌}
 use Rattle.std.proofs.lemmas.Bool.{and_parts, true≢false, cases_Bool}
@@ -38,7 +38,7 @@ none_differs job f g r (q ∷ qs) =
 pub no_path_differs : (job : ProcName) (f g : Flat) → SameOutside job f g → first_path job f g ≡ None
 no_path_differs job f g r = none_differs job f g r (map (λ e. e.0) ((from_list (f.files.entries ++ g.files.entries)).entries))
 
--- what is owed for each call, by who makes it
+-- what has to be shown of each call, by its process
 pub record Steps (job : ProcName) (accounts : Accounts) : Type 0 where
   pub keeps : (f : Flat) (me : ProcName) (call : UnixCall) → IsStarted job f → IsStarted job (flat_after accounts f me call)
   pub inside : (f g : Flat) (me : ProcName) (call : UnixCall) → SameOutside job f g → IsStarted job f → under_process job me ≡ true
@@ -50,7 +50,7 @@ pub record Steps (job : ProcName) (accounts : Accounts) : Type 0 where
   pub replies : (f g : Flat) (me : ProcName) (call : UnixCall) → SameOutside job f g → IsStarted job f → IsStarted job g
       → is_outsider job me ≡ true → reply_to accounts f me call ≡ reply_to accounts g me call
 
--- two runs that tell outsiders the same, and end the same outside the job
+-- two runs give outsiders the same replies, and end the same outside the job
 pub record RunAlike (job : ProcName) (as' bs : List RepliedCall) (f g : Flat) : Type 0 where
   pub lines : first_line (outsiders job as') (outsiders job bs) ≡ None
   pub ends : SameOutside job f g

@@ -1,4 +1,4 @@
--- Each line leaves the directory of a job where its call and its reply say.
+-- Each line leaves the directory of a job where its call and its reply determine.
 use Rattle.std.specs.Prelude.{Bool, List, None, Option, Some, [], cond, false, not, refl, true, ◌&&◌, ◌||◌, ◌∷◌, ◌≡◌}
 use Rattle.std.proofs.Common.{ap, inl, inr, sym, ◌∙◌}
 use Rattle.std.proofs.lemmas.Bool.{and_parts, true≢false, cases_Bool}
@@ -40,7 +40,7 @@ use Rattle.histar_noninterference.proofs.Kept.{file_is_no_dir}
 use Rattle.histar_noninterference.proofs.Outside.{lies_below_it}
 use Rattle.histar_noninterference.proofs.TestLemmas.{has_longer, is_same, left_holds, none_some, not_passed}
 
--- a line is answered `gone`, or is refused, and changes nothing; or it is answered, and the state is changed
+-- a line is answered `gone` or refused, and changes nothing, or it is answered, and changes the state
 by_reply : (accounts : Accounts) (f : Flat) (me : ProcName) (call : UnixCall) (Q : Flat → Reply → Type 0) → Q f Gone
     → ((e : Errno) → Q f (Refused e))
     → ((p : Process) → f.processes me ≡ Some p → refused accounts f me p call ≡ None → Q (changed accounts f me p call) (answer f me p call))
@@ -64,14 +64,14 @@ module _ (job : ProcName) (accounts : Accounts) (f : Flat) (tree : IsTree f) (na
   writes_dir_of p None inside dir w = absurd (true≢false (sym dir))
   writes_dir_of p (Some n) inside dir w = (λ i. dir i && carries job n.class) ∙ writes_of_job accounts p job inside n.class w
 
-  -- so what such a process makes lies where it should
+  -- what such a process makes lies at the followed directory or below it
   made_inside : (p : Process) (n : Name) (d : Path) → into accounts f p d ≡ None → writes accounts f p d ≡ true → has p.chain job ≡ true
       → lies_at directory (n ∷ d) ≡ true
   made_inside p n d walked w inside =
       lies_at_entry directory n d (h.carried d
       (writes_dir_of p (get f.files d) inside (walked_into_directory accounts f p tree.root d walked) w))
 
-  -- a call that takes nothing away, renames nothing and starts no job leaves the directory where it is
+  -- a call that removes nothing, renames nothing and starts no job leaves the directory where it is
   plain_changes : (call : UnixCall) → ((q : Path) → takes_away call q ≡ false) → ((rule call).effect ≡ Wraps → ⊥)
       → (p : Process) → EachChange accounts f me p call (λ g. IsFollowed job g directory)
   plain_changes call takes_none no_wrap p = record {
@@ -98,7 +98,7 @@ module _ (job : ProcName) (accounts : Accounts) (f : Flat) (tree : IsTree f) (na
   plain_line call takes_none no_wrap =
       by_line accounts f me call (λ g. IsFollowed job g directory) h (λ p runs. plain_changes call takes_none no_wrap p)
 
-  -- a `wrap` that is not refused
+  -- after a `wrap` that is not refused, the directory of its job is at its path
   wrapped : (p : Process) → f.processes me ≡ Some p → (n : Name) (d : Path) → refused accounts f me p (Wrap (n ∷ d)) ≡ None
       → (b : Bool) → same job (next_child me p) ≡ b
       → IsFollowed job (changed accounts f me p (Wrap (n ∷ d))) (cond b (Some (n ∷ d)) directory)
@@ -133,7 +133,7 @@ module _ (job : ProcName) (accounts : Accounts) (f : Flat) (tree : IsTree f) (na
       (λ dir. made_inside p n d tests.0 tests.2 (sym (has_longer p.chain (next_child me p) job is) ∙ dir)) in
       record { carried = put.carried; there = put.there }
 
-  -- Each line leaves the directory where its call and its reply say.
+  -- Each line leaves the directory where its call and its reply determine.
   pub line_followed : (call : UnixCall)
       → IsFollowed job (flat_after accounts f me call) (after_reply job directory call (reply_to accounts f me call))
   line_followed (Wrap q) =
@@ -164,7 +164,7 @@ module _ (job : ProcName) (accounts : Accounts) (f : Flat) (tree : IsTree f) (na
           let tests = rename_tests accounts f me p n name d passes in rename_followed job f directory h tree n name d tests.0 tests.1
   line_followed call = plain_line call (λ q. refl) (λ e. cc)
 
--- So do all lines.
+-- All lines leave the directory where their calls and replies determine.
 all_followed : (job : ProcName) (accounts : Accounts) (f : Flat) → IsTree f → NamesAreGiven f → (directory : Option Path)
     → IsFollowed job f directory → (calls : List CallLine)
     → IsFollowed job (flat_end accounts f calls) (directory_of job directory (answered_from accounts f calls))
@@ -186,7 +186,7 @@ followed_at_start job accounts = record { carried = none; there = λ p e. absurd
     none [] is = is
     none (n ∷ d) is = sym (ap (is_dir_of job) (get_other empty [] slash (n ∷ d) (λ e. cc))) ∙ is
 
--- where the directory is followed, what lies below directories of the job lies below it
+-- what lies below directories of the job lies below the followed directory
 followed_is_left_out : (job : ProcName) (f : Flat) (directory : Option Path) → IsFollowed job f directory → (q : Path)
     → lies_in_job job f.files q ≡ lies_below directory q
 followed_is_left_out job f directory h [] = at_root directory
@@ -217,7 +217,7 @@ followed_is_left_out job f directory h (n ∷ d) =
     below None = refl
     below (Some p) = refl
 
--- What lies below directories of a job is what lies below the directory that was followed.
+-- What lies below directories of a job is what lies below the followed directory.
 pub finds_left_out : FindsLeftOut
 finds_left_out accounts calls job q =
     followed_is_left_out job (flat_end accounts (boot accounts) calls) (directory_of job None (meaning accounts calls))

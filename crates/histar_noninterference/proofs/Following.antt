@@ -1,4 +1,5 @@
--- The directory of a job is where calls and replies say: each directory of the job is at the followed path or below it, and one is at it.
+-- The directory of a job is where calls and replies determine: each directory of the job is at the followed path or below it, and one is at
+-- it.
 use Rattle.std.specs.Prelude.{Bool, None, Option, Some, [], cond, false, not, option_map, refl, true, ◌∷◌, ◌≡◌, ◌≢◌, ◌⊎◌}
 use Rattle.std.proofs.Common.{ap, inl, inr, sym, ◌∙◌}
 use Rattle.std.proofs.lemmas.Bool.{true≢false, cases_Bool}
@@ -15,7 +16,7 @@ use Rattle.histar_noninterference.specs.Following.{left_without}
 use Rattle.histar_noninterference.proofs.Renames.{gone_renamed, kept_renamed, renamed}
 use Rattle.histar_noninterference.proofs.TestLemmas.{is_same_path, none_some, under_all}
 
--- the followed directory, or what lies below it
+-- the path is the followed directory, or lies below it
 abbrev pub lies_at : Option Path → Path → Bool
 lies_at None q = false
 lies_at (Some p) q = under_path p q
@@ -25,7 +26,7 @@ pub record IsFollowed (job : ProcName) (f : Flat) (directory : Option Path) : Ty
   pub carried : (q : Path) → is_dir_of job (get f.files q) ≡ true → lies_at directory q ≡ true
   pub there : (p : Path) → directory ≡ Some p → is_dir_of job (get f.files p) ≡ true
 
--- what lies below something that lies at the directory lies there too
+-- what lies below a path at or below the directory lies at or below it too
 lies_at_below : (directory : Option Path) (q r : Path) → lies_at directory q ≡ true → under_path q r ≡ true → lies_at directory r ≡ true
 lies_at_below None q r h u = h
 lies_at_below (Some p) q r h u = under_all same same_path_found p q r h u
@@ -34,12 +35,12 @@ pub lies_at_entry : (directory : Option Path) (n : Name) (d : Path) → lies_at 
 lies_at_entry directory n d h =
     lies_at_below directory d (n ∷ d) h (under_child same same_path_found d d n (under_itself same same_path_found d))
 
--- a directory of the job is there
+-- a path with a directory of the job is not empty
 dir_is_there : (job : ProcName) (o : Option Node) → is_dir_of job o ≡ true → o ≡ None → ⊥
 dir_is_there job o h e = true≢false (sym h ∙ ap (is_dir_of job) e)
 
 module _ (job : ProcName) (f : Flat) (directory : Option Path) (h : IsFollowed job f directory) where
-  -- something is put where no directory of the job is; where it is one, it lies where it should
+  -- the directory stays followed when a node is put at a path without a directory of the job; one of the job has to lie at it or below
   pub put_followed : (q : Path) (x : Node) → is_dir_of job (get f.files q) ≡ false
       → (is_dir_of job (Some x) ≡ true → lies_at directory q ≡ true) → IsFollowed job (with_node f q x.class x.content) directory
   put_followed q x free own = record {
@@ -51,7 +52,7 @@ module _ (job : ProcName) (f : Flat) (directory : Option Path) (h : IsFollowed j
         (get_other f.files q x p (λ i. true≢false (sym (h.there p e) ∙ ap (λ z. is_dir_of job (get f.files z)) i ∙ free))) ∙ h.there p e;
   }
 
-  -- something is taken away with all below it
+  -- the directory, or nothing if it was removed, stays followed after a removal
   pub cut_followed : (q : Path) → IsFollowed job (without_below f q) (left_without q directory)
   cut_followed q = record {
     carried = λ r is. by r is (cases_Bool (under_path q r));
@@ -87,7 +88,7 @@ module _ (job : ProcName) (f : Flat) (directory : Option Path) (h : IsFollowed j
             ∙ ap (is_dir_of job) (left_at r ∙ ap (λ b. cond (not b) (get f.files r) None) u) ∙ h.there r is
       ]
 
--- what lies below something is moved with it
+-- what lies below a path is moved with it
 moved_under : (n k : Name) (d p r : Path) → under_path p r ≡ true → under_path (moved (n ∷ d) (k ∷ d) p) (moved (n ∷ d) (k ∷ d) r) ≡ true
 moved_under n k d p [] u = ap (λ z. under_path (moved (n ∷ d) (k ∷ d) z) []) (is_same_path p [] u)
 moved_under n k d p (x ∷ e) u = elim (same_path_found p (x ∷ e)) [

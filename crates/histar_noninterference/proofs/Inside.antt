@@ -25,7 +25,7 @@ use Rattle.histar_noninterference.proofs.Relation.{IsStarted, SameOutside, chain
 use Rattle.histar_noninterference.proofs.Renames.{renamed}
 use Rattle.histar_noninterference.proofs.TestLemmas.{is_same, parent_under, under_all}
 
--- a call that changes files alone, and only below d
+-- the call changes only files, and only below d
 pub record ChangesFilesBelow (d : Path) (f f' : Flat) : Type 0 where
   pub files : ChangesBelow d f.files f'.files
   pub processes : f'.processes ≡ f.processes
@@ -37,7 +37,7 @@ not_below n d (k ∷ q) h = elim (cases_Bool (under_path (n ∷ d) (k ∷ q))) [
   | inr u ↦ u
 ]
 
--- another name in a directory changes only what is below it
+-- a rename in a directory changes only what is below the directory
 pub rename_below : (job : ProcName) (m : Files Node) (n k : Name) (d : Path) (ne : n ≢ k)
     → ((q : Path) → under_path (k ∷ d) q ≡ true → get m q ≡ None) → ChangesBelow d m (renamed job n k d ne m)
 unfolding renamed
@@ -50,7 +50,7 @@ rename_below job m n k d ne below = record {
     moved_back = moved (k ∷ d) (n ∷ d)
 
 module _ (job : ProcName) (f g : Flat) (r : SameOutside job f g) where
-  -- files change only below a directory of the job, or below what lies there
+  -- files that change only at or below a directory of the job are aside: the states stay the same outside it
   pub aside : (f' : Flat) (d : Path) → (is_dir_of job (get f.files d) || lies_in_job job f.files d) ≡ true → ChangesFilesBelow d f f'
       → SameOutside job f' g
   aside f' d h c = record {
@@ -59,7 +59,7 @@ module _ (job : ProcName) (f g : Flat) (r : SameOutside job f g) where
     chain = ap (λ m. chain_of (m job)) c.processes ∙ r.chain;
   }
 
-  -- a process of the job changes or is new
+  -- the states stay the same outside the job when a process of the job changes or is new
   aside_process : (a : ProcName) (x : Process) → under_process job a ≡ true
       → (same a job ≡ true → chain_of (f.processes job) ≡ Some x.chain) → SameOutside job (with_process f a x) g
   aside_process a x u known = record {
@@ -79,7 +79,7 @@ module _ (job : ProcName) (accounts : Accounts) (f g : Flat) (r : SameOutside jo
   own : (p' : Process) → p'.chain ≡ p.chain → same me job ≡ true → chain_of (f.processes job) ≡ Some p'.chain
   own p' jobs t = ap (λ z. chain_of (f.processes z)) (sym (is_same me job t)) ∙ ap chain_of here ∙ ap Some (sym jobs)
 
-  -- a child of the job's is born
+  -- the states stay the same outside the job when a child of the job is born
   birth : (f' : Flat) → SameOutside job f' g → f'.processes ≡ f.processes → (p' c : Process) → p'.chain ≡ p.chain
       → SameOutside job (with_process (with_process f' me p') (next_child me p) c) g
   birth f' r' still p' c jobs = aside_process job (with_process f' me p') g

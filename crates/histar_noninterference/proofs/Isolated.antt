@@ -1,4 +1,4 @@
--- Where a `wrap` started a job, and who called it calls no `rmdir` and no `wrap` after that, the job changes nothing outside.
+-- If a `wrap` started a job, and its caller calls no `rmdir` and no `wrap` after that, the job changes nothing outside.
 use Rattle.std.specs.Prelude.{List, None, Option, Some, [], cond, false, nat_eq, refl, true, ℕ, ◌++◌, ◌+◌, ◌||◌, ◌∷◌, ◌≡◌, ◌⊎◌}
 use Rattle.std.proofs.Common.{ap, inl, inr, subst, sym, ◌∙◌}
 use Rattle.std.proofs.lemmas.Bool.{or_parts, true≢false, cases_Bool}
@@ -64,7 +64,7 @@ module _ (accounts : Accounts) (f : Flat) (me : ProcName) (job : ProcName) (P : 
   wrap_line (Wrap q) k h = by_process q (running f me) refl k h
   wrap_line _ k h = absurd (true≢false (sym h))
 
--- a name that was given is the name of no later job
+-- a name that was given is not given to a later job
 pub never_again : (accounts : Accounts) (job : ProcName) (calls : List CallLine) (f : Flat) → is_given f.processes job ≡ true
     → starts job (answered_from accounts f calls) ≡ false
 never_again accounts job [] f given = refl
@@ -81,7 +81,7 @@ never_again accounts job (c ∷ calls) f given =
         (λ p n d here e. true≢false (sym given ∙ ap (is_given f.processes) e ∙ next_is_new f c.process p here)) w)
     by (inr w) = w
 
--- the state right after the line of the wrap
+-- facts about the state right after the line of the wrap
 module _ (accounts : Accounts) (f : Flat) (names : NamesAreGiven f) (me : ProcName) (p : Process) (here : f.processes me ≡ Some p) (n : Name)
     (d : Path) where
   abbrev pub new_job : ProcName
@@ -99,7 +99,7 @@ module _ (accounts : Accounts) (f : Flat) (names : NamesAreGiven f) (me : ProcNa
   not_given : is_given f.processes new_job ≡ true → ⊥
   not_given given = true≢false (sym given ∙ next_is_new f me p here)
 
-  -- who was there neither is in the job nor holds it
+  -- a process that was there before neither is in the job nor holds it
   known_not : (q : ProcName) (y : Process) → f.processes q ≡ Some y → knows y new_job ≡ false
   known_not q y e = elim (cases_Bool (knows y new_job)) [
     | inl k ↦ absurd (not_given (names.of_known_jobs q y new_job e k))
@@ -150,7 +150,7 @@ module _ (accounts : Accounts) (f : Flat) (names : NamesAreGiven f) (me : ProcNa
 pub same_outside_itself : (job : ProcName) (f : Flat) → SameOutside job f f
 same_outside_itself job f = record { files = same_files_itself job f.files; processes = λ q u. refl; chain = refl }
 
--- up to the line of the wrap the two runs are in the same state
+-- the two runs are in the same state up to the line of the wrap
 module _ (m : ℕ) (w : ProcName) (accounts : Accounts) where
   abbrev job : ProcName
   job = m ∷ w
@@ -224,7 +224,7 @@ module _ (m : ℕ) (w : ProcName) (accounts : Accounts) where
             (flat_end accounts x (without job calls))) e rest.ends);
       }
 
--- A job that was started changes nothing outside.
+-- A job that was started changes nothing outside it.
 pub isolates_jobs : IsolatesJobs
 isolates_jobs accounts calls [] st quiet = absurd (true≢false (sym st ∙ never_again accounts [] calls (boot accounts) refl))
 isolates_jobs accounts calls (m ∷ w) st quiet =

@@ -1,4 +1,4 @@
--- What holds after a job was started is kept by each call.
+-- Each call keeps what holds after a job was started.
 use Rattle.std.specs.Prelude.{Bool, None, Option, Some, [], cond, false, nat_eq, not, refl, true, ◌&&◌, ◌++◌, ◌+◌, ◌||◌, ◌∷◌, ◌≡◌, ◌≢◌, ◌⊎◌}
 use Rattle.std.proofs.Common.{ap, inl, inr, sym, ◌∙◌}
 use Rattle.std.proofs.lemmas.Bool.{not-true, true≢false, cases_Bool}
@@ -27,7 +27,7 @@ use Rattle.histar_noninterference.proofs.Relation.{IsStarted}
 use Rattle.histar_noninterference.proofs.Renames.{gone_renamed, kept_renamed, lies_renamed, renamed}
 use Rattle.histar_noninterference.proofs.TestLemmas.{has_longer, none_some}
 
--- a process that is put there, or one that was there
+-- after a process is put, each process is that one, or was there before
 pub put_cases : (f : Flat) (me : ProcName) (p : Process) (q : ProcName) (y : Process) → (with_process f me p).processes q ≡ Some y
     → ((me ≡ q) × (p ≡ y)) ⊎ (f.processes q ≡ Some y)
 put_cases f me p q y e = elim (same_name_found me q) [
@@ -35,7 +35,7 @@ put_cases f me p q y e = elim (same_name_found me q) [
   | inr t ↦ inr (sym (ap (λ b. cond b (Some p) (f.processes q)) t.0) ∙ e)
 ]
 
--- a child that is born, its parent, or a process that was there
+-- after a birth, each process is the child, its parent, or was there before
 pub born_cases : (f : Flat) (me : ProcName) (p : Process) (name : ProcName) (child : Process) (q : ProcName) (y : Process)
     → (with_process (with_process f me p) name child).processes q ≡ Some y
     → ((name ≡ q) × (child ≡ y)) ⊎ (((me ≡ q) × (p ≡ y)) ⊎ (f.processes q ≡ Some y))
@@ -56,11 +56,11 @@ not_next job f given me p here =
     apart nat_eq same_name_found job (next_child me p) (λ e. true≢false (sym given ∙ ap (is_given f.processes) e ∙ next_is_new f me p here))
 
 module _ (job : ProcName) (f : Flat) (h : IsStarted job f) where
-  -- kept in another state, which is a tree, and where the name of the job was given
+  -- the facts hold in another state too, if it is a tree, and the name of the job was given there
   abbrev pub IsKept : Flat → Type 0
   IsKept g = IsTree g → is_given g.processes job ≡ true → IsStarted job g
 
-  -- something new is made, or a file is written; a file of the job lies in the job
+  -- they hold after something is made, or a file is written; a file of the job has to lie in the job
   pub kept_put : (q : Path) (x : Node) → is_dir_of job (get f.files q) ≡ false
       → (carries job x.class ≡ true → is_dir x ≡ false → lies_in_job job f.files q ≡ true) → IsKept (with_node f q x.class x.content)
   kept_put q x plain own tree given = record {
@@ -77,7 +77,7 @@ module _ (job : ProcName) (f : Flat) (h : IsStarted job f) where
     held = h.held;
   }
 
-  -- something goes with all below it
+  -- they hold after something is removed with all below it
   kept_cut : (n : Name) (d : Path) → IsKept (without_below f (n ∷ d))
   kept_cut n d tree given = record {
     tree = tree;
@@ -93,7 +93,7 @@ module _ (job : ProcName) (f : Flat) (h : IsStarted job f) where
     held = h.held;
   }
 
-  -- something has another name
+  -- they hold after a rename
   kept_rename : (n k : Name) (d : Path) → n ≢ k → get f.files (k ∷ d) ≡ None → IsKept (with_renamed f (n ∷ d) (k ∷ d))
   unfolding renamed
   kept_rename n k d ne free tree given = record {
@@ -112,7 +112,7 @@ module _ (job : ProcName) (f : Flat) (h : IsStarted job f) where
       below : (q : Path) → under_path (k ∷ d) q ≡ true → get f.files q ≡ None
       below = nothing_below f h.tree (k ∷ d) free
 
-  -- processes change, and each is in the job and holds it as it may
+  -- they hold after processes change, if each is in the job and holds it only as allowed
   kept_processes : (ps : ProcName → Option Process)
       → ((q : ProcName) (y : Process) → ps q ≡ Some y → (has y.chain job ≡ under_process job q) ×
       (same (parent job) q ≡ false → has y.held job ≡ false))
@@ -126,7 +126,7 @@ module _ (job : ProcName) (f : Flat) (h : IsStarted job f) where
   }
 
   module _ (me : ProcName) (p : Process) (here : f.processes me ≡ Some p) where
-    -- a process that is in the jobs of p and holds no more is as it may be
+    -- a process may be replaced by one that is in the same jobs and holds no more
     instead : (q : Process) → q.chain ≡ p.chain → (has p.held job ≡ false → has q.held job ≡ false)
         → (has q.chain job ≡ under_process job me) × (same (parent job) me ≡ false → has q.held job ≡ false)
     instead q jobs less = (ap (λ js. has js job) jobs ∙ h.inside me p here, λ out. less (h.held me p here out))
@@ -142,7 +142,7 @@ module _ (job : ProcName) (f : Flat) (h : IsStarted job f) where
       | inr t ↦ (h.inside x y t, h.held x y t)
     ])
 
-    -- a child is born
+    -- they hold after a child is born
     kept_birth : (q child : Process) → q.chain ≡ p.chain → (has p.held job ≡ false → has q.held job ≡ false)
         → has child.chain job ≡ has p.chain job → has child.held job ≡ false
         → IsKept (with_process (with_process f me q) (next_child me p) child)

@@ -1,4 +1,4 @@
--- What lies below a job's directories, what changes there, and that being the same outside a job is a relation like equality.
+-- What lies below a job's directories, what changes there, and that being the same outside a job is an equivalence.
 use Rattle.std.specs.Prelude.{Bool, [], false, refl, true, ◌||◌, ◌∷◌, ◌≡◌}
 use Rattle.std.proofs.Common.{ap, inl, inr, subst, sym, ◌∙◌}
 use Rattle.std.proofs.lemmas.Bool.{true≢false, cases_Bool}
@@ -12,17 +12,17 @@ use Rattle.histar_noninterference.specs.Comparison.{is_dir_of, lies_in_job}
 use Rattle.histar_noninterference.proofs.Relation.{SameFiles}
 use Rattle.histar_noninterference.proofs.TestLemmas.{is_same_path}
 
--- strictly below a directory
+-- the path lies strictly below the directory
 abbrev pub is_below : Path → Path → Bool
 is_below d [] = false
 is_below d (n ∷ q) = under_path d q
 
--- the only changes are strictly below d
+-- the trees differ only strictly below d
 pub record ChangesBelow (d : Path) (m n : Files Node) : Type 0 where
   pub rest : (q : Path) → is_below d q ≡ false → get n q ≡ get m q
 
 module _ (job : ProcName) where
-  -- in the other tree the same lies in the job
+  -- in the other tree the same paths lie in the job
   pub lie_alike : (m n : Files Node) → SameFiles job m n → (q : Path) → lies_in_job job m q ≡ lies_in_job job n q
   lie_alike m n r [] = refl
   lie_alike m n r (x ∷ d) = elim (cases_Bool (lies_in_job job m d)) [
@@ -41,7 +41,7 @@ module _ (job : ProcName) where
   pub same_files_itself : (m : Files Node) → SameFiles job m m
   same_files_itself m = record { same = λ q h. refl }
 
-  -- what lies below a directory of the job, or below what lies in the job, lies there too
+  -- what lies below a directory of the job, or below what lies in the job, lies in the job too
   pub lies_below_it : (m : Files Node) (d : Path) → (is_dir_of job (get m d) || lies_in_job job m d) ≡ true → (q : Path)
       → under_path d q ≡ true → (is_dir_of job (get m q) || lies_in_job job m q) ≡ true
   lies_below_it m d h [] u = subst (λ x. (is_dir_of job (get m x) || lies_in_job job m x) ≡ true) (is_same_path d [] u) h

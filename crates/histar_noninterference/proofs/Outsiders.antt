@@ -1,4 +1,4 @@
--- To an outsider two states that are the same outside a job look alike.
+-- Two states that are the same outside a job look alike to an outsider.
 use Rattle.std.specs.Prelude.{None, [], false, option_map, refl, true, ℕ, ◌||◌, ◌∷◌, ◌≡◌}
 use Rattle.std.proofs.Common.{ap, inl, inr, sym, ◌∙◌}
 use Rattle.std.proofs.lemmas.Bool.{or_parts, true≢false, cases_Bool}
@@ -19,7 +19,7 @@ use Rattle.histar_noninterference.proofs.Walks.{closed_dir, entries_alike, outsi
 
 module _ (m : ℕ) (w : ProcName) (accounts : Accounts) (f g : Flat) (r : SameOutside (m ∷ w) f g) (hf : IsStarted (m ∷ w) f)
     (p : Process) (o : knows p (m ∷ w) ≡ false) where
-  -- what is walked to lies outside, and so does the directory that it lies in
+  -- a path that an outsider can walk to lies outside the job
   pub outside : (q : Path) → walk accounts f p q ≡ None → lies_in_job (m ∷ w) f.files q ≡ false
   outside = reached (m ∷ w) accounts p f g r.files o
 
@@ -27,7 +27,7 @@ module _ (m : ℕ) (w : ProcName) (accounts : Accounts) (f g : Flat) (r : SameOu
   above_outside [] walked = refl
   above_outside (n ∷ d) walked = (or_parts (is_dir_of (m ∷ w) (get f.files d)) (lies_in_job (m ∷ w) f.files d) (outside (n ∷ d) walked)).1
 
-  -- and what is read is no directory of the job
+  -- what an outsider reads is no directory of the job
   read_outside : (q : Path) → walk accounts f p q ≡ None → reads accounts f p q ≡ true
       → (is_dir_of (m ∷ w) (get f.files q) || lies_in_job (m ∷ w) f.files q) ≡ false
   read_outside q walked may = elim (cases_Bool (is_dir_of (m ∷ w) (get f.files q))) [
@@ -35,7 +35,7 @@ module _ (m : ℕ) (w : ProcName) (accounts : Accounts) (f g : Flat) (r : SameOu
     | inr no_dir ↦ λ i. no_dir i || outside q walked i
   ]
 
-  -- a process that is found is in no job that is not known
+  -- a process that is found is in no job that the finder doesn't know
   found_outside : (name : ProcName) → not_found f p name ≡ None → under_process (m ∷ w) name ≡ false
   found_outside name found = elim (cases_Bool (under_process (m ∷ w) name)) [
     | inl u ↦ absurd (not_passed (not_found f p name) (job_not_found m w f g r hf p o name u) found)

@@ -1,4 +1,4 @@
--- Process calls of outsiders, and of who started the job.
+-- Process calls of outsiders, and of the process that started the job.
 use Rattle.std.specs.Prelude.{Bool, List, None, Option, Some, [], cond, false, is_some, nat_eq, refl, true, ℕ, ◌||◌, ◌∷◌, ◌≡◌, ◌⊎◌}
 use Rattle.std.proofs.Common.{ap, inl, inr, subst, sym, ◌∙◌}
 use Rattle.std.proofs.lemmas.Bool.{or_parts, true≢false, cases_Bool}
@@ -18,7 +18,7 @@ use Rattle.histar_flat.proofs.Under.{above_is_not_under}
 use Rattle.histar_noninterference.proofs.Relation.{IsStarted, SameOutside, chain_of}
 use Rattle.histar_noninterference.proofs.TestLemmas.{all_of, failed, guarded, is_same, not_passed, stops_later}
 
--- the tests at one process on the way
+-- the tests of one process on the search
 at_process : Process → Option Process → Option Errno
 at_process p x = unless (is_some x) ESRCH orelse unless (is_some_and x (sees p)) EACCES
 
@@ -27,7 +27,7 @@ found_step : (f : Flat) (p : Process) (n : ℕ) (q : ProcName)
 unfolding at_process
 found_step f p n q = refl
 
--- the tests see no more of a process than whether it is there and its jobs
+-- the tests see of a process only whether it is there, and its jobs
 by_chain : Process → Option (List ProcName) → Option Errno
 by_chain p x = unless (is_some x) ESRCH orelse unless (is_some_and x (list_all (knows p))) EACCES
 
@@ -36,7 +36,7 @@ unfolding at_process by_chain
 at_process_chain p None = refl
 at_process_chain p (Some q) = refl
 
--- an outsider isn't let past a process of the job
+-- a process of the job stops the search of an outsider
 closed_process : (job : ProcName) (p : Process) (x : Option Process) → knows p job ≡ false
     → ((q : Process) → x ≡ Some q → has q.chain job ≡ true) → is_some (at_process p x) ≡ true
 unfolding at_process
@@ -48,14 +48,14 @@ closed_process job p (Some q) o h = failed (sees p q) EACCES (by (sees p q) refl
     by false e = e
 
 module _ (m : ℕ) (w : ProcName) (f g : Flat) (r : SameOutside (m ∷ w) f g) (hf : IsStarted (m ∷ w) f) (p : Process) where
-  -- up to the job's first process all find alike
+  -- each process up to the job's first one is found alike
   at_alike : (q : ProcName) → (under_process (m ∷ w) q ≡ false) ⊎ (m ∷ w ≡ q) → at_process p (f.processes q) ≡ at_process p (g.processes q)
   at_alike q (inl h) = ap (at_process p) (r.processes q h)
   at_alike q (inr e) =
       at_process_chain p (f.processes q) ∙ ap (by_chain p) (subst (λ x. chain_of (f.processes x) ≡ chain_of (g.processes x)) e r.chain)
       ∙ sym (at_process_chain p (g.processes q))
 
-  -- anyone finds alike what isn't below the job
+  -- any process finds alike what isn't below the job
   pub found_alike : (q : ProcName) → under_process (m ∷ w) q ≡ false → not_found f p q ≡ not_found g p q
   found_alike [] h = refl
   found_alike (n ∷ q) h =
@@ -63,7 +63,7 @@ module _ (m : ℕ) (w : ProcName) (f g : Flat) (r : SameOutside (m ∷ w) f g) (
       found_step f p n q ∙ guarded (not_found f p q) (not_found g p q) _ _ (found_alike q up) (λ _. at_alike (n ∷ q) (inl h))
       ∙ sym (found_step g p n q)
 
-  -- and the job itself
+  -- any process finds the job itself alike
   pub job_found_alike : not_found f p (m ∷ w) ≡ not_found g p (m ∷ w)
   job_found_alike =
       found_step f p m w
@@ -71,7 +71,7 @@ module _ (m : ℕ) (w : ProcName) (f g : Flat) (r : SameOutside (m ∷ w) f g) (
       (λ _. at_alike (m ∷ w) (inr refl))
       ∙ sym (found_step g p m w)
 
-  -- an outsider finds nothing of the job
+  -- an outsider finds no process of the job
   pub job_not_found : knows p (m ∷ w) ≡ false → (q : ProcName) → under_process (m ∷ w) q ≡ true → is_some (not_found f p q) ≡ true
   job_not_found o [] h = absurd (true≢false (sym h))
   job_not_found o (n ∷ q) h = ap is_some (found_step f p n q) ∙ stops_later (not_found f p q) (at_process p (f.processes (n ∷ q)))
@@ -102,7 +102,7 @@ module _ (m : ℕ) (w : ProcName) (f g : Flat) (r : SameOutside (m ∷ w) f g) (
     pub kill_alike : (q : ProcName) → refused accounts f me p (Kill q) ≡ refused accounts g me p (Kill q)
     kill_alike q = ap (λ x. x orelse unless (is_child me q) EACCES) (outsider_finds o q)
 
-  -- the same processes go on both sides
+  -- a kill of the same process keeps the states the same outside the job
   pub kill_state : (q : ProcName) → SameOutside (m ∷ w) (without_process f q) (without_process g q)
   kill_state q = record {
     files = r.files;

@@ -8,7 +8,7 @@ use Rattle.histar_flat.specs.Accounts.{has}
 use Rattle.histar_flat.specs.Words.{Path, ProcName}
 use Rattle.histar_noninterference.specs.Comparison.{lies_in_job}
 
--- two trees that are the same but below the job's directories
+-- the trees are the same but below the job's directories
 pub record SameFiles (job : ProcName) (m n : Files Node) : Type 0 where
   pub same : (q : Path) → lies_in_job job m q ≡ false → get m q ≡ get n q
 
@@ -17,7 +17,7 @@ abbrev pub chain_of : Option Process → Option (List ProcName)
 chain_of None = None
 chain_of (Some p) = Some p.chain
 
--- two states that are the same outside the job; the job's first process has the same jobs in both, or is there in neither
+-- the states are the same outside the job; the job's first process has the same jobs in both, or is there in neither
 pub record SameOutside (job : ProcName) (f g : Flat) : Type 0 where
   pub files : SameFiles job f.files g.files
   pub processes : (q : ProcName) → under_process job q ≡ false → f.processes q ≡ g.processes q

@@ -16,7 +16,7 @@ module _ (job : ProcName) (n k : Name) (d : Path) (ne : n ≢ k) where
   abbrev from_new : Path → Path
   from_new = moved (k ∷ d) (n ∷ d)
 
-  -- the tree once the entry has its new name
+  -- the tree after the entry has its new name
   unfoldable pub renamed : Files Node → Files Node
   renamed m = from_list (map (λ e. (moved (n ∷ d) (k ∷ d) e.0, e.1)) m.entries)
 
@@ -48,7 +48,7 @@ module _ (job : ProcName) (n k : Name) (d : Path) (ne : n ≢ k) where
         | inr t ↦ sym (ap (λ b. lies_in_job job m (cond b (n ∷ d) (x ∷ from_new e))) t.0)
       ]
 
-  -- renaming in both trees keeps them the same outside the job
+  -- a rename in both trees keeps them the same outside the job
   pub renamed_alike : (a b : Files Node) → SameFiles job a b
       → ((q : Path) → under_path (k ∷ d) q ≡ true → get a q ≡ None) → ((q : Path) → under_path (k ∷ d) q ≡ true → get b q ≡ None)
       → SameFiles job (renamed a) (renamed b)

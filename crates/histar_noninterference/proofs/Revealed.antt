@@ -43,7 +43,7 @@ module _ (m : ℕ) (w : ProcName) (accounts : Accounts) (f g : Flat) (r : SameOu
   pub outsider_reply : (call : UnixCall) → reply_by accounts f me (Some p) call ≡ reply_by accounts g me (Some p) call
   outsider_reply call = reply_alike accounts f g me p call (outsider_looks m w accounts f g r hf p o (path_of call))
 
--- a line of a process outside the job
+-- the steps of a process outside the job
 module _ (job : ProcName) (accounts : Accounts) (f g : Flat) (r : SameOutside job f g) (me : ProcName) (u : under_process job me ≡ false)
     (call : UnixCall) where
   state_line : ((p : Process) → f.processes me ≡ Some p → SameOutside job (flat_by accounts f me (Some p) call)
@@ -77,7 +77,7 @@ knows_not job f h me p out here =
 not_inside : (job me : ProcName) → is_outsider job me ≡ true → under_process job me ≡ false
 not_inside job me out = not-true (under_process job me) ((and_parts (not (under_process job me)) (not (same (parent job) me)) out).0)
 
--- all that the two runs owe
+-- all that has to be shown of the calls of the two runs
 pub all_steps : (m : ℕ) (w : ProcName) (accounts : Accounts) → Steps (m ∷ w) accounts
 unfolding outsider_state outsider_reply state_line reply_line knows_not not_inside
 all_steps m w accounts = record {

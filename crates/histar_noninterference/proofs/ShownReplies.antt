@@ -1,16 +1,16 @@
--- Replies differ where what is printed of them differs.
+-- Replies differ exactly if their texts differ.
 use Rattle.std.specs.Prelude.{◌≡◌, List, None, Some, [], cond, refl, ◌∷◌}
 use Rattle.histar_flat.specs.PathOrder.{same}
 use Rattle.histar_flat.specs.Texts.{reply_text}
 use Rattle.histar_noninterference.specs.declared.replies.ShownReply.{ShownReply}
 use Rattle.histar_noninterference.specs.Replies.{FindsFirstLine, first_shown}
 
--- no line differs where the other run has no more replies
+-- no line differs if the other run has no more replies
 pub first_shown-nil : (as' : List ShownReply) → first_shown as' [] ≡ None
 first_shown-nil [] = refl
 first_shown-nil (a ∷ as') = refl
 
--- the first line at which two runs differ is found by what is printed
+-- the first line at which two runs differ is the first at which their texts differ
 pub finds_first_line : FindsFirstLine
 finds_first_line [] bs = refl
 finds_first_line (a ∷ as') [] = refl

@@ -1,4 +1,4 @@
--- What tests and chains of refusals say.
+-- Facts about tests and chains of refusals.
 use Rattle.std.specs.Prelude.{Bool, List, None, Option, Some, [], false, is_some, refl, true, ℕ, ◌++◌, ◌||◌, ◌∷◌, ◌≡◌}
 use Rattle.std.proofs.Common.{ap, inl, inr, subst, sym, ◌∙◌}
 use Rattle.std.proofs.lemmas.Bool.{and_parts, true≢false}
@@ -15,11 +15,11 @@ use Rattle.histar_flat.proofs.Under.{under_child, under_inner, under_itself}
 pub is_same : (m n : List ℕ) → same m n ≡ true → m ≡ n
 is_same m n h = elim (same_name_found m n) [ inl t ↦ t.1 | inr t ↦ absurd (true≢false (sym h ∙ t.0)) ]
 
--- and so are paths
+-- paths that a test finds the same are equal
 pub is_same_path : (q r : Path) → same_path q r ≡ true → q ≡ r
 is_same_path q r h = elim (same_path_found q r) [ inl t ↦ t.1 | inr t ↦ absurd (true≢false (sym h ∙ t.0)) ]
 
--- where one of two holds and the second doesn't, the first does
+-- if one of two holds and the second doesn't, the first does
 pub left_holds : (a b : Bool) → b ≡ false → (a || b) ≡ true → a ≡ true
 left_holds true b i e = refl
 left_holds false b i e = absurd (true≢false (sym e ∙ i))
@@ -29,7 +29,7 @@ pub none_some : {A : Type 0} (x : A) → None ≡ Some x → ⊥
 none_some x e = cc
 
 module _ {A : Type 0} (equal : A → A → Bool) (found : (p q : List A) → Found (pointwise equal p q) p q) where
-  -- what lies below a child has a parent below the child's parent
+  -- if an entry lies below an entry, its directory lies below that one's directory
   pub parent_under : (p q : List A) (n k : A) → is_under equal (n ∷ p) (k ∷ q) ≡ true → is_under equal p q ≡ true
   parent_under p [] n k h = elim (found (n ∷ p) (k ∷ [])) [
     | inl r ↦ let tails : p ≡ [] = cc in subst (λ x. is_under equal p x ≡ true) tails (under_itself equal found p)
@@ -40,7 +40,7 @@ module _ {A : Type 0} (equal : A → A → Bool) (found : (p q : List A) → Fou
     | inr r ↦ under_child equal found p q m (parent_under p q n m (under_inner equal found (n ∷ p) (m ∷ q) k r.0 h))
   ]
 
-  -- what lies below something that lies below p lies below p
+  -- lying below is transitive
   pub under_all : (p q r : List A) → is_under equal p q ≡ true → is_under equal q r ≡ true → is_under equal p r ≡ true
   under_all p q [] u v = elim (found q []) [
     | inl i ↦ subst (λ z. is_under equal p z ≡ true) i.1 u
@@ -51,7 +51,7 @@ module _ {A : Type 0} (equal : A → A → Bool) (found : (p q : List A) → Fou
     | inr i ↦ under_child equal found p r x (under_all p q r u (under_inner equal found q r x i.0 v))
   ]
 
--- what each of a list passes, a member passes
+-- if all of a list pass a test, each member passes it
 pub all_of : (test : ProcName → Bool) (jobs : List ProcName) (job : ProcName) → list_all test jobs ≡ true → has jobs job ≡ true
     → test job ≡ true
 all_of test [] job h i = absurd (true≢false (sym i))
@@ -62,25 +62,25 @@ all_of test (k ∷ jobs) job h i =
       | inr t ↦ all_of test jobs job parts.1 (sym (ap (λ b. b || has jobs job) t.0) ∙ i)
     ]
 
--- a list with another name at its end has what it had
+-- a list with another name at its end contains what it contained
 pub has_longer : (jobs : List ProcName) (last job : ProcName) → same job last ≡ false → has (jobs ++ last ∷ []) job ≡ has jobs job
 has_longer [] last job h = ap (λ b. b || false) h
 has_longer (k ∷ jobs) last job h = ap (λ b. same job k || b) (has_longer jobs last job h)
 
 module _ {E : Type 0} where
-  -- later refusals count only where there is no earlier one
+  -- later refusals count only if there is no earlier one
   pub guarded : (a b x y : Option E) → a ≡ b → (a ≡ None → x ≡ y) → (a orelse x) ≡ (b orelse y)
   guarded None None x y e h = h refl
   guarded None (Some c) x y e h = absurd (cc)
   guarded (Some c) None x y e h = absurd (cc)
   guarded (Some c) (Some d) x y e h = e
 
-  -- what is refused first is refused
+  -- a chain whose first part refuses refuses
   pub stops_first : (a b : Option E) → is_some a ≡ true → is_some (a orelse b) ≡ true
   stops_first None b h = absurd (true≢false (sym h))
   stops_first (Some e) b h = refl
 
-  -- and so is what is refused later
+  -- a chain whose later part refuses refuses
   pub stops_later : (a b : Option E) → is_some b ≡ true → is_some (a orelse b) ≡ true
   stops_later None b h = h
   stops_later (Some e) b h = refl
@@ -90,6 +90,6 @@ module _ {E : Type 0} where
   failed true e h = absurd (true≢false h)
   failed false e h = refl
 
-  -- what is refused doesn't pass
+  -- a chain that refuses doesn't pass
   pub not_passed : (a : Option E) → is_some a ≡ true → a ≡ None → ⊥
   not_passed a h n = true≢false (sym h ∙ ap is_some n)

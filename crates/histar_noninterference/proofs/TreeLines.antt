@@ -29,17 +29,17 @@ use Rattle.histar_noninterference.proofs.Unions.{find_past, holds, paths_of, tur
 abbrev lines_of : Nodes → List PathText
 lines_of es = map (λ e. (e.0, node_text e.0 e.1)) es
 
--- a text that goes on is not empty
+-- a text with something before it is not empty
 goes_on : (first later : List ℕ) → first ≢ [] → first ++ later ≢ []
 goes_on [] later some e = some refl
 goes_on (b ∷ first) later some e = cc
 
--- nor is one with a space at its end
+-- a text with a space at its end is not empty
 has_space : (first : List ℕ) → first ++ codes " " ≢ []
 has_space [] e = cc
 has_space (b ∷ first) e = cc
 
--- so what is printed of a path is not empty
+-- the text of a path is not empty
 node_has_text : (q : Path) (node : Node) → node_text q node ≢ []
 node_has_text q node = goes_on _ _ (goes_on _ _ (has_space (path_text q)))
 
@@ -56,7 +56,7 @@ module _ (left_out : Path → Bool) where
   abbrev differ : Nodes → Nodes → Path → Bool
   differ as' bs q = not (left_out q) && not (same (text_at q (find path_cmp q as')) (text_at q (find path_cmp q bs)))
 
-  -- one step: the test says that the path is not passed over
+  -- one step of the search: the test fails at a path that is passed over, and else holds
   one_step : (P : Path → Bool) (q : Path) (paths : List Path) (passed_over : Bool) (rest : Option Path) → P q ≡ not passed_over
       → first_that P paths ≡ rest → first_that P (q ∷ paths) ≡ cond passed_over rest (Some q)
   one_step P q paths passed_over rest e h = (λ i. cond (e i) (Some q) (h i)) ∙ turn passed_over
@@ -65,7 +65,7 @@ module _ (left_out : Path → Bool) where
       turn true = refl
       turn false = refl
 
-  -- where something stands in one list alone, the lists differ
+  -- if a path is in one list only, the lists differ there
   in_first : (as' bs : Nodes) (q : Path) (node : Node) → find path_cmp q as' ≡ Some node → find path_cmp q bs ≡ None
       → differ as' bs q ≡ not (left_out q)
   in_first as' bs q node here there =
@@ -80,7 +80,7 @@ module _ (left_out : Path → Bool) where
       ∙ ap (λ b. not (left_out q) && not b) (apart nat_eq same_name_found [] (node_text q node) (λ e. node_has_text q node (sym e)))
       ∙ and-true (not (left_out q))
 
-  -- where something stands in both, they differ by the texts
+  -- if a path is in both lists, they differ there if the texts do
   in_both_lists : (as' bs : Nodes) (q : Path) (x y : Node) → find path_cmp q as' ≡ Some x → find path_cmp q bs ≡ Some y
       → differ as' bs q ≡ not (left_out q || same (node_text q x) (node_text q y))
   in_both_lists as' bs q x y here there =
@@ -90,12 +90,12 @@ module _ (left_out : Path → Bool) where
       by true = refl
       by false = refl
 
-  -- where the other list is at its end, the lists differ at the first line that is not left out
+  -- if the other list is at its end, the lists differ at the first line that is not left out
   pub first_difference-nil : (as' : List PathText) → first_difference left_out as' [] ≡ first_kept left_out as'
   first_difference-nil [] = refl
   first_difference-nil (a ∷ as') = λ i. cond (left_out a.0) (first_difference-nil as' i) (Some a.0)
 
-  -- above the first entry of a list the test is that of the list behind it
+  -- above the first entry of a list the test is that of the rest of the list
   behind_first : (a : Path × Node) (as' bs : Nodes) (q : Path) → path_cmp a.0 q ≡ Less → differ (a ∷ as') bs q ≡ differ as' bs q
   behind_first a as' bs q less = λ i. not (left_out q) && not (same (text_at q (find_past a as' q less i)) (text_at q (find path_cmp q bs)))
 
@@ -103,7 +103,7 @@ module _ (left_out : Path → Bool) where
   behind_second b as' bs q less =
       λ i. not (left_out q) && not (same (text_at q (find path_cmp q as')) (text_at q (find_past b bs q less i)))
 
-  -- the first list is at its end
+  -- the case of one list, with the other at its end
   one_list : (bs : Nodes) → Rises bs → first_that (differ [] bs) (paths_of bs) ≡ first_kept left_out (lines_of bs)
   one_list [] h = refl
   one_list (b ∷ bs) h =
@@ -112,7 +112,7 @@ module _ (left_out : Path → Bool) where
       (in_second [] (b ∷ bs) b.0 b.1 refl (find_here b bs))
       (agree (differ [] (b ∷ bs)) (differ [] bs) b.0 bs parts.0 (behind_second b [] bs) ∙ one_list bs parts.1)
 
-  -- The test finds in the union what going through the lists side by side finds: where the first list begins with a ..
+  -- The test finds in the union what a comparison side by side finds: if the first list begins with a ..
   from_first : (a : Path × Node) (as' : Nodes) → IsBelow a.0 as'
       → ((cs : Nodes) → Rises cs → first_that (differ as' cs) (paths_of (union as' cs)) ≡ first_difference left_out (lines_of as')
       (lines_of cs))
@@ -186,7 +186,7 @@ module _ (left_out : Path → Bool) where
       ∙ side_by_side f.files.entries g.files.entries (holds (is_sorted path_cmp f.files.entries) f.files.sorted)
       (holds (is_sorted path_cmp g.files.entries) g.files.sorted)
 
--- The first path at which the trees of two runs differ is the first difference of their lines, where what lies below the followed
+-- The first path at which the trees of two runs differ is the first difference of their lines, when what lies below the followed
 -- directories is left out.
 pub finds_first_path : FindsFirstPath
 finds_first_path accounts calls others job =

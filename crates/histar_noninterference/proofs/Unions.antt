@@ -19,7 +19,7 @@ use Rattle.histar_flat.proofs.Renaming.{get-from_list}
 use Rattle.histar_flat.proofs.Finding.{is_less}
 use Rattle.histar_noninterference.proofs.TestLemmas.{is_same_path}
 
--- what stands at each path of a tree, by rising paths
+-- nodes with their paths, by rising paths
 abbrev pub Nodes : Type 0
 Nodes = List (Path × Node)
 
@@ -27,12 +27,12 @@ Nodes = List (Path × Node)
 abbrev pub paths_of : Nodes → List Path
 paths_of es = map (λ e. e.0) es
 
--- the union of a list that begins with a, and of another one; `rest` makes the union of what is behind a and another list
+-- the union of a list that begins with a, and of another one; `rest` makes the union of the rest of the first list and another list
 abbrev pub union_from : Path × Node → (Nodes → Nodes) → Nodes → Nodes
 union_from a rest [] = a ∷ rest []
 union_from a rest (b ∷ bs) = by_order (path_cmp a.0 b.0) (a ∷ rest (b ∷ bs)) (a ∷ rest bs) (b ∷ union_from a rest bs)
 
--- the union of two lists; where a path stands in both, the entry of the first is taken
+-- the union of two lists; if a path is in both, the entry of the first is taken
 abbrev pub union : Nodes → Nodes → Nodes
 union [] bs = bs
 union (a ∷ as') bs = union_from a (union as') bs
@@ -49,7 +49,7 @@ pub holds : (b : Bool) → T b → b ≡ true
 holds true h = refl
 holds false h = absurd h
 
--- what is above the greater of two paths is above the lesser one
+-- a path that is less than one below a whole list is below that list too
 pub below_less : (q r : Path) (es : Nodes) → path_cmp q r ≡ Less → IsBelow r es → IsBelow q es
 below_less q r [] less h = refl
 below_less q r (e ∷ es) less h =
@@ -57,18 +57,18 @@ below_less q r (e ∷ es) less h =
     and_from (is_lt (path_cmp q e.0)) (below_all path_cmp q es)
     (ap is_lt (path_cmp_total.trans q r e.0 less (is_less (path_cmp r e.0) parts.0))) (below_less q r es less parts.1)
 
--- the greater of two paths is not the same
+-- if one path is less than another, the other is greater
 pub turned_less : (q r : Path) → path_cmp q r ≡ Less → path_cmp r q ≡ Greater
 turned_less q r less = path_cmp_total.antisymm r q ∙ ap ordering_reverse less
 
 pub turned_greater : (q r : Path) → path_cmp q r ≡ Greater → path_cmp r q ≡ Less
 turned_greater q r greater = path_cmp_total.antisymm r q ∙ ap ordering_reverse greater
 
--- what stands at a path is found at the path
+-- the first entry is found at its path
 pub find_here : (e : Path × Node) (es : Nodes) → find path_cmp e.0 (e ∷ es) ≡ Some e.1
 find_here e es = ap (λ r. cond (is_eq r) (Some e.1) (find path_cmp e.0 es)) (tied_itself path_cmp_total e.0)
 
--- what stands at a greater path is found behind
+-- what is at a greater path is found in the rest
 pub find_past : (e : Path × Node) (es : Nodes) (q : Path) → path_cmp e.0 q ≡ Less → find path_cmp q (e ∷ es) ≡ find path_cmp q es
 find_past e es q less = ap (λ r. cond (is_eq r) (Some e.1) (find path_cmp q es)) (turned_less e.0 q less)
 
@@ -100,14 +100,14 @@ below_union q (a ∷ as') bs ha hb =
     let parts = and_parts (is_lt (path_cmp q a.0)) (below_all path_cmp q as') ha in
     below_from q a (union as') parts.0 (λ cs hc. below_union q as' cs parts.1 hc) bs hb
 
--- where the first of a list is less than the first of another, it is below all of the other; where it is equal, it is below the rest
+-- if the first path of a list is less than that of another, it is below all of the other; if it is equal, it is below the rest
 pub below_other : (q : Path) (b : Path × Node) (bs : Nodes) → path_cmp q b.0 ≡ Less → IsBelow b.0 bs → IsBelow q (b ∷ bs)
 below_other q b bs less h = and_from (is_lt (path_cmp q b.0)) (below_all path_cmp q bs) (ap is_lt less) (below_less q b.0 bs less h)
 
 pub below_tied : (q r : Path) (bs : Nodes) → path_cmp q r ≡ Equal → IsBelow r bs → IsBelow q bs
 below_tied q r bs tied h = subst (λ x. IsBelow x bs) (sym (path_cmp_exact q r tied)) h
 
--- the union rises
+-- the paths of the union rise
 union_from_rises : (a : Path × Node) (as' : Nodes) → IsBelow a.0 as' → ((cs : Nodes) → Rises cs → Rises (union as' cs)) → (bs : Nodes)
     → Rises bs → Rises (union_from a (union as') bs)
 union_from_rises a as' ha each [] h =
@@ -134,7 +134,7 @@ union_rises (a ∷ as') bs ha hb =
     let parts = and_parts (below_all path_cmp a.0 as') (is_sorted path_cmp as') ha in
     union_from_rises a as' parts.0 (λ cs hc. union_rises as' cs parts.1 hc) bs hb
 
--- what is found in the first of two, or else in the second
+-- a path is found in the first of two lists, or else in the second
 in_both : (q : Path) (a : Path × Node) (es : Nodes) (x y : Option Node) → find path_cmp q es ≡ (x orelse y)
     → find path_cmp q (a ∷ es) ≡ (cond (eq_by_cmp path_cmp q a.0) (Some a.1) x orelse y)
 in_both q a es x y h = by (eq_by_cmp path_cmp q a.0)

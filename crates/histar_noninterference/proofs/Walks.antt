@@ -37,7 +37,7 @@ pub closed_dir : (accounts : Accounts) (p : Process) (job : ProcName) (n : Optio
 closed_dir accounts p job None o h = refl
 closed_dir accounts p job (Some n) o h = closed_class accounts p job n.class o ((and_parts (is_dir n) (carries job n.class) h).1)
 
--- the tests on the way at one directory
+-- the tests of one directory on the way
 at_dir : Accounts → Process → Option Node → Option Errno
 at_dir accounts p o =
     unless (is_some_and o (λ n. true)) ENOENT orelse unless (is_some_and o is_dir) ENOTDIR orelse unless
@@ -58,7 +58,7 @@ at_dir_closed accounts p o h =
     (failed (is_some_and o (λ n. may_read accounts p n.class)) EACCES h))
 
 module _ (job : ProcName) (accounts : Accounts) (p : Process) (f g : Flat) (r : SameFiles job f.files g.files) where
-  -- outside the job's directories everyone walks alike
+  -- outside the job's directories all processes walk alike
   pub into_alike : (d : Path) → (is_dir_of job (get f.files d) || lies_in_job job f.files d) ≡ false
       → into accounts f p d ≡ into accounts g p d
   into_alike [] h = ap (λ o. unless (is_some_and o (λ n. may_read accounts p n.class)) EACCES) (r.same [] refl)
@@ -68,7 +68,7 @@ module _ (job : ProcName) (accounts : Accounts) (p : Process) (f g : Flat) (r : 
       ∙ guarded (into accounts f p d) (into accounts g p d) _ _ (into_alike d out) (λ _. ap (at_dir accounts p) (r.same (n ∷ d) out))
       ∙ sym (into_step accounts g p n d)
 
-  -- below them an outsider's walk is refused
+  -- a walk of an outsider below them is refused
   pub into_refused : knows p job ≡ false → (d : Path) → (is_dir_of job (get f.files d) || lies_in_job job f.files d) ≡ true
       → is_some (into accounts f p d) ≡ true
   into_refused o [] h = failed _ EACCES (closed_dir accounts p job (get f.files []) o (or_right (is_dir_of job (get f.files [])) h))
@@ -85,7 +85,7 @@ module _ (job : ProcName) (accounts : Accounts) (p : Process) (f g : Flat) (r : 
         (left_holds (is_dir_of job (get f.files (n ∷ d))) (lies_in_job job f.files (n ∷ d)) i h)))
   ]
 
-  -- so an outsider walks alike in both trees
+  -- an outsider walks alike in both trees
   pub outsider_into : knows p job ≡ false → (d : Path) → into accounts f p d ≡ into accounts g p d
   outsider_into o [] = ap (λ x. unless (is_some_and x (λ n. may_read accounts p n.class)) EACCES) (r.same [] refl)
   outsider_into o (n ∷ d) =
@@ -103,7 +103,7 @@ module _ (job : ProcName) (accounts : Accounts) (p : Process) (f g : Flat) (r : 
   outsider_walk o [] = refl
   outsider_walk o (n ∷ d) = outsider_into o d
 
-  -- what an outsider's walk reaches doesn't lie in the job
+  -- a path that an outsider's walk reaches doesn't lie in the job
   pub reached : knows p job ≡ false → (q : Path) → walk accounts f p q ≡ None → lies_in_job job f.files q ≡ false
   reached o [] w = refl
   reached o (n ∷ d) w = elim (cases_Bool (lies_in_job job f.files (n ∷ d))) [

@@ -1,4 +1,4 @@
--- Two runs of a script, with all its calls and without those of a job, compared.
+-- Comparison of two runs of a script: with all its calls and without those of a job.
 use Rattle.std.specs.Prelude.{ℕ, Bool, false, not, ◌&&◌, ◌||◌, cond, List, [], ◌∷◌, ◌++◌, Option, None, Some, codes, filter, map, if◌then◌else◌}
 use Rattle.std.specs.List.{list_any}
 use Rattle.histar_flat.specs.declared.calls.CallLine.{CallLine}
@@ -21,7 +21,7 @@ use Rattle.histar_noninterference.specs.declared.verdict.Verdict.TheVariants.{Sa
 abbrev pub is_outsider : ProcName → ProcName → Bool
 is_outsider job process = not (under_process job process) && not (same (parent job) process)
 
--- a `wrap` that was answered by the job's name
+-- the call is a `wrap` that was answered with the job's name
 abbrev pub is_wrap_reply : ProcName → UnixCall → Reply → Bool
 is_wrap_reply job (Wrap q) (Child name) = same job name
 is_wrap_reply job _ _ = false
@@ -40,7 +40,7 @@ first_line [] bs = None
 first_line (a ∷ as') [] = None
 first_line (a ∷ as') (b ∷ bs) = cond (same (reply_text a.reply) (reply_text b.reply)) (first_line as' bs) (Some a.call.line)
 
--- a directory of the job
+-- the node is a directory of the job
 abbrev pub is_dir_of : ProcName → Option Node → Bool
 is_dir_of job node = is_some_and node (λ n. is_dir n && carries job n.class)
 
@@ -53,19 +53,19 @@ lies_in_job job files (n ∷ d) = is_dir_of job (get files d) || lies_in_job job
 abbrev pub is_left_out : ProcName → Flat → Flat → Path → Bool
 is_left_out job f g q = lies_in_job job f.files q || lies_in_job job g.files q
 
--- what is printed of a path in a tree: the path, what stands there, its owner and its mode, and the bytes of a file
+-- what is printed of a path in a tree: the path, its kind, its owner and its mode, and the bytes of a file
 abbrev pub node_text : Path → Node → List ℕ
 node_text q node =
     path_text q ++ codes " "
     ++ stat_text (record { is_directory = is_dir node; owner = class_owner node.class; mode = class_mode node.class })
     ++ (if is_dir node then [] else codes " = " ++ bytes_of (Some node))
 
--- the text of a path; where nothing stands it is empty
+-- the text of a path; it is empty if nothing is there
 abbrev pub text_at : Path → Option Node → List ℕ
 text_at q None = []
 text_at q (Some node) = node_text q node
 
--- the two trees differ at a path that is not left out
+-- the trees differ at the path, and it is not left out
 abbrev pub differs : ProcName → Flat → Flat → Path → Bool
 differs job f g q = not (is_left_out job f g q) && not (same (text_at q (get f.files q)) (text_at q (get g.files q)))
 
@@ -78,17 +78,17 @@ first_that test (q ∷ paths) = cond (test q) (Some q) (first_that test paths)
 abbrev pub first_path : ProcName → Flat → Flat → Option Path
 first_path job f g = first_that (differs job f g) (map (λ e. e.0) (from_list (f.files.entries ++ g.files.entries)).entries)
 
--- the verdict of the trees
+-- the verdict by the trees
 abbrev pub tree_verdict : Option Path → Verdict
 tree_verdict None = Same
 tree_verdict (Some q) = Tree q
 
--- the verdict of the lines, and where they are the same that of the trees
+-- the verdict by the lines, or that of the trees if the lines are the same
 abbrev pub line_verdict : Option ℕ → Verdict → Verdict
 line_verdict None trees = trees
 line_verdict (Some number) trees = Line number
 
--- what is found where a script is compared with the same script without the calls of the job
+-- the verdict of a script's comparison with the same script without the calls of the job
 abbrev pub verdict : Accounts → List CallLine → ProcName → Verdict
 verdict accounts calls job =
     cond (starts job (meaning accounts calls))

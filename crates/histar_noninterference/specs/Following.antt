@@ -1,4 +1,4 @@
--- Where the directory of a job is, followed by calls and their replies, with no look at classes.
+-- Where the directory of a job is, computed from calls and their replies without the classes of files.
 use Rattle.std.specs.Prelude.{◌≡◌, Bool, true, false, cond, List, [], ◌∷◌, Option, None, Some, option_map}
 use Rattle.histar_flat.specs.declared.calls.CallLine.{CallLine}
 use Rattle.histar_flat.specs.declared.calls.UnixCall.{UnixCall}
@@ -12,18 +12,18 @@ use Rattle.histar_flat.specs.FlatState.{moved}
 use Rattle.histar_flat.specs.Meaning.{RepliedCall, boot, flat_end, meaning}
 use Rattle.histar_noninterference.specs.Comparison.{is_wrap_reply, lies_in_job}
 
--- the call was done, and there was nothing more to tell
+-- the call was done, with no other answer
 abbrev pub is_done : Reply → Bool
 is_done Done = true
 is_done _ = false
 
--- the directory, unless it goes with what is taken away at the path
+-- the directory, unless it is at the path or below it and is removed
 abbrev pub left_without : Path → Option Path → Option Path
 left_without q None = None
 left_without q (Some directory) = cond (under_path q directory) None (Some directory)
 
 -- where the directory of a job is after a call with this reply: where the `wrap` that started the job made it; nowhere once it, or a
--- directory above it, is taken away; and where it is moved to by a rename of it, or of a directory above it
+-- directory above it, is removed; and where a rename of it, or of a directory above it, moves it
 abbrev pub after_reply : ProcName → Option Path → UnixCall → Reply → Option Path
 after_reply job directory (Wrap q) reply = cond (is_wrap_reply job (Wrap q) reply) (Some q) directory
 after_reply job directory (Unlink q) reply = cond (is_done reply) (left_without q directory) directory

@@ -16,17 +16,17 @@ abbrev pub after_start : ProcName → List RepliedCall → List RepliedCall
 after_start job [] = []
 after_start job (a ∷ as') = cond (is_wrap_reply job a.call.call a.reply) as' (after_start job as')
 
--- a `rmdir` or a `wrap`, by which who started a job can tell others of it
+-- a `rmdir` or a `wrap`, by which the process that started a job can reveal it to others
 abbrev pub is_rmdir_or_wrap : UnixCall → Bool
 is_rmdir_or_wrap (Rmdir q) = true
 is_rmdir_or_wrap (Wrap q) = true
 is_rmdir_or_wrap _ = false
 
--- who started the job has none of these two calls
+-- the process that started the job calls neither of these two
 abbrev pub is_quiet : ProcName → List RepliedCall → Bool
 is_quiet job = list_all (λ (a : RepliedCall). not (same (parent job) a.call.process && is_rmdir_or_wrap a.call.call))
 
--- where a `wrap` started a job, and who called it calls no `rmdir` and no `wrap` after that, the job changes nothing outside
+-- if a `wrap` started a job, and its caller calls no `rmdir` and no `wrap` after that, the job changes nothing outside
 abbrev pub IsolatesJobs : Type 0
 IsolatesJobs = (accounts : Accounts) (calls : List CallLine) (job : ProcName)
     → starts job (meaning accounts calls) ≡ true

@@ -6,7 +6,7 @@ use Rattle.histar_flat.specs.Meaning.{RepliedCall}
 use Rattle.histar_noninterference.specs.declared.replies.ShownReply.{ShownReply}
 use Rattle.histar_noninterference.specs.Comparison.{first_line}
 
--- the number of a line, and what is printed of its reply
+-- the number of a line, and the text of its reply
 abbrev pub shown : RepliedCall → ShownReply
 shown a = record { line = a.call.line; text = reply_text a.reply }
 
@@ -16,6 +16,6 @@ first_shown [] bs = None
 first_shown (a ∷ as') [] = None
 first_shown (a ∷ as') (b ∷ bs) = cond (same a.text b.text) (first_shown as' bs) (Some a.line)
 
--- replies differ where what is printed of them differs
+-- replies differ exactly if their texts differ
 abbrev pub FindsFirstLine : Type 0
 FindsFirstLine = (as' bs : List RepliedCall) → first_line as' bs ≡ first_shown (map shown as') (map shown bs)

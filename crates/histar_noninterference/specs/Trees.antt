@@ -1,4 +1,4 @@
--- Two trees compared line by line: each is a list of lines by rising paths, and the two lists are gone through side by side.
+-- Comparison of two trees line by line: each is a list of lines by rising paths, and the two lists are read side by side.
 use Rattle.std.specs.Prelude.{◌≡◌, ℕ, Bool, ◌||◌, cond, List, [], ◌∷◌, Option, None, Some, map}
 use Rattle.std.specs.FinMap.Entries.{by_order}
 use Rattle.histar_flat.specs.declared.calls.CallLine.{CallLine}
@@ -23,8 +23,8 @@ abbrev pub first_kept : (Path → Bool) → List PathText → Option Path
 first_kept left_out [] = None
 first_kept left_out (b ∷ bs) = cond (left_out b.0) (first_kept left_out bs) (Some b.0)
 
--- The first path at which a list of lines that begins with a differs from another list: the lesser of the two first paths stands in one
--- list alone; equal ones differ by their texts. What is left out is passed over, and `rest` compares the lines behind a.
+-- The first path at which a list of lines that begins with a differs from another list: the lesser of the two first paths is in one list
+-- only; equal ones differ by their texts. What is left out is passed over, and `rest` compares the lines after a.
 abbrev pub difference_from : (Path → Bool) → PathText → (List PathText → Option Path) → List PathText → Option Path
 difference_from left_out a rest [] = cond (left_out a.0) (rest []) (Some a.0)
 difference_from left_out a rest (b ∷ bs) = by_order (path_cmp a.0 b.0)
@@ -37,12 +37,12 @@ abbrev pub first_difference : (Path → Bool) → List PathText → List PathTex
 first_difference left_out [] bs = first_kept left_out bs
 first_difference left_out (a ∷ as') bs = difference_from left_out a (first_difference left_out as') bs
 
--- what is left out where the directories of a job are followed in two runs of a script
+-- what is left out if the directories of a job are followed in two runs of a script
 abbrev pub is_below_either : Option Path → Option Path → Path → Bool
 is_below_either directory other q = lies_below directory q || lies_below other q
 
--- the first path at which the trees of two runs differ is the first difference of their lines, where what lies below the directories
--- that are followed is left out
+-- the first path at which the trees of two runs differ is the first difference of their lines, when what lies below the followed
+-- directories is left out
 abbrev pub FindsFirstPath : Type 0
 FindsFirstPath = (accounts : Accounts) (calls others : List CallLine) (job : ProcName)
     → first_path job (flat_end accounts (boot accounts) calls) (flat_end accounts (boot accounts) others)

@@ -1,4 +1,4 @@
--- What is printed of a verdict.
+-- The text of a verdict.
 use Rattle.std.specs.Prelude.{ℕ, List, ◌++◌, codes, decimal}
 use Rattle.histar_flat.specs.Texts.{path_text}
 use Rattle.histar_noninterference.specs.declared.verdict.Verdict.{Verdict}

@@ -1,5 +1,5 @@
-//! Two runs of a script, with all its calls and without those of a job, compared; and that outsiders
-//! can't tell them apart.
+//! Noninterference of a job: compares the runs of a script with and without the job's calls, and proves that
+//! outsiders can't tell them apart.
 #![tactic(auto)]
 
 pub mod isolation_laws;

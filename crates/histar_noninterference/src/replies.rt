@@ -1,4 +1,4 @@
-//! The replies of two runs compared.
+//! Comparison of the replies of two runs.
 ghost use Rattle.std.specs.Prelude.{◌≡◌};
 ghost use Rattle.histar_noninterference.specs.Replies.{first_shown};
 
@@ -11,7 +11,7 @@ pub struct ShownReply {
     pub text: Bytes,
 }
 
-/// The number of the first line at which the texts of the two replies differ.
+/// Returns the number of the first line at which the texts of the two replies differ.
 pub fn first_line(replies: &[ShownReply], others: &[ShownReply]) -> Option<u32>
     ensures { result ≡ first_shown replies.now others.now }
 {

@@ -1,4 +1,4 @@
-//! Two trees compared line by line.
+//! Comparison of two trees line by line.
 ghost use Rattle.std.specs.Prelude.{◌≡◌};
 ghost use Rattle.histar_noninterference.specs.Following.{lies_below as is_below_directory};
 ghost use Rattle.histar_noninterference.specs.Trees.{first_difference as first_path_that_differs, first_kept as first_path_kept};
@@ -8,8 +8,8 @@ use histar_base::Bytes;
 use histar_flat::Path;
 use std::cmp::Ordering;
 
-/// The first path at which two trees differ. Each is given by its lines, by rising paths: a path and
-/// what is printed of it. What lies below the directories is left out.
+/// Returns the first path at which two trees differ. Each tree is given by its lines, by rising paths: a path
+/// and what is printed of it. What lies below the directories is left out.
 pub fn first_difference(
     lines: &[(Path, Bytes)],
     others: &[(Path, Bytes)],
@@ -44,7 +44,7 @@ pub fn first_difference(
     first_kept(other_rest, &directory, &other)
 }
 
-/// The first path of the lines that is not left out.
+/// Returns the first path of the lines that is not left out.
 fn first_kept(
     lines: &[(Path, Bytes)],
     directory: &Option<Path>,
@@ -62,14 +62,14 @@ fn first_kept(
     None
 }
 
-/// Whether the path lies below one of the directories.
+/// Returns whether the path lies below one of the directories.
 fn lies_below_either(directory: &Option<Path>, other: &Option<Path>, path: &Path) -> bool
     ensures { result ≡ is_left_out directory.now other.now path.now }
 {
     lies_below(directory, path) || lies_below(other, path)
 }
 
-/// Whether the path lies below the directory, where there is one.
+/// Returns whether the path lies below the directory, if there is one.
 fn lies_below(directory: &Option<Path>, path: &Path) -> bool
     ensures { result ≡ is_below_directory directory.now path.now }
 {

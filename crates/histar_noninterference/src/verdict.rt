@@ -1,23 +1,21 @@
-//! What a comparison finds.
+//! The verdict of a comparison.
 use histar_flat::Path;
 use std::fmt;
 
-/// What is found where the run of a script is compared with the run of the script without the calls
-/// of a job.
+/// The verdict of a comparison of a script's run with the run of the script without the calls of a job.
 #[derive(Clone, Copy)]
 pub enum Verdict {
-    /// No outsider was answered otherwise, and the trees are the same outside the job.
+    /// All outsiders have the same replies, and the trees are the same outside the job.
     Same,
     /// No `wrap` started the job.
     NoJob,
     /// The number of the first line of an outsider at which the replies differ.
     Line(u32),
-    /// The first path outside the job at which the trees differ, where all outsiders were answered
-    /// the same.
+    /// The first path outside the job at which the trees differ, if all outsiders have the same replies.
     Tree(Path),
 }
 
-/// A verdict is printed as `same`, `no job`, `line` with the number of the line, or `tree` with the path.
+/// Prints a verdict as `same`, `no job`, `line` with the number of the line, or `tree` with the path.
 impl fmt::Display for Verdict {
     ghost use Rattle.std.specs.Prelude.{Some};
     ghost use Rattle.histar_noninterference.specs.VerdictText.{verdict_text};

@@ -6,17 +6,17 @@ use Rattle.histar_page.specs.Items.{Item, item_of, items_of}
 use Rattle.histar_page.specs.Rendering.{piece_text, rendered}
 use Rattle.histar_page.specs.Page.{IsPage, IsReport, Sources}
 
--- a page is written so far of pieces that show these items
+-- the page so far is written of pieces that show these items
 pub record IsWritten (page : List ℕ) (items : List Item) : Type 0 where
   pub pieces : List Piece
   pub written : page ≡ rendered pieces
   pub shown : items_of pieces ≡ items
 
--- nothing is written
+-- an empty page is written of no pieces
 pub none_written : {page : List ℕ} → page ≡ [] → IsWritten page []
 none_written e = record { pieces = []; written = e; shown = refl }
 
--- one part more is written
+-- a page is written of one more part
 pub part_written : {old new : List ℕ} {items added : List Item} (part more : List Piece) → IsWritten old items
     → new ≡ old ++ rendered more → more ≡ part → items_of part ≡ added → IsWritten new (items ++ added)
 part_written part more h e same shown = record {
@@ -25,6 +25,6 @@ part_written part more h e same shown = record {
   shown = flat_map-append item_of h.pieces part ∙ ap₂ (λ (a b : List Item). a ++ b) h.shown shown;
 }
 
--- a page that shows a report
+-- the page is one that shows a report
 pub page_is : {sources : Sources} {page : List ℕ} {items : List Item} → IsWritten page items → IsReport sources items → IsPage sources page
 page_is {sources} h report = record { pieces = h.pieces; written = h.written; shows = subst (IsReport sources) (sym h.shown) report }

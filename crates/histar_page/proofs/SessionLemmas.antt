@@ -20,15 +20,15 @@ use Rattle.histar_page.proofs.OwnLemmas.{boot_alone}
 
 -- ---- kinds
 
--- a fact of both kinds of replies is one of the kind of each
+-- a property of both kinds of replies holds of the kind of each reply
 by_reply : (P : Kind → Type 0) → P Refusal → P Reply → (line : List ℕ) → P (reply_kind line)
 by_reply P refused granted line = elim (is_refused line) as (λ b. P (if b then Refusal else Reply)) [ true ↦ refused | false ↦ granted ]
 
--- a fact of both kinds of raw calls is one of the kind of each
+-- a property of both kinds of raw calls holds of the kind of each raw call
 by_raw : (P : Kind → Type 0) → P DeniedCall → P RawCall → (line : List ℕ) → P (raw_kind line)
 by_raw P denied made line = elim (is_denied line) as (λ b. P (if b then DeniedCall else RawCall)) [ true ↦ denied | false ↦ made ]
 
--- those of two lists that are of these kinds
+-- the items of these kinds in two lists in a row are those of each
 of-append : (test : Kind → Bool) (xs ys : List Item) → of_kinds test (xs ++ ys) ≡ of_kinds test xs ++ of_kinds test ys
 of-append test xs ys = filter-append (λ (item : Item). test item.0) xs ys
 
@@ -44,13 +44,13 @@ of_all : (test : Kind → Bool) (f : List ℕ → Item) → ((line : List ℕ) �
 of_all test f passes [] = refl
 of_all test f passes (line ∷ lines) = rw (passes line) (ap (λ l. f line ∷ l) (of_all test f passes lines))
 
--- a raw call's kind
+-- the items of raw calls have none of these kinds, if neither kind of raw calls is one
 raw_none : (test : Kind → Bool) → test DeniedCall ≡ false → test RawCall ≡ false → (lines : List (List ℕ)) → of_kinds test (map raw_item lines) ≡ []
 raw_none test denied made lines = of_none test raw_item (by_raw (λ k. test k ≡ false) denied made) lines
 
--- ---- what is behind a call
+-- ---- the raw calls and explanations after a call
 
--- what is behind a call has none of these kinds but those of raw calls
+-- the items after a call have none of these kinds but those of raw calls
 behind_raw : (raw_calls explanations : List (List ℕ))
     → of_kinds is_raw_kind (map raw_item raw_calls ++ map why_item explanations) ≡ map raw_item raw_calls
 behind_raw raw_calls explanations =
@@ -98,20 +98,20 @@ call_others script line raw_calls explanations =
 
 -- ---- numbers
 
--- no kind is this one
+-- false is not true
 never : {P : Type 0} → false ≡ true → P
 never h = absurd cc
 
--- what is behind numbers of its own goes behind anything
+-- items after their own numbers stay so after any others
 own-append : (number : List ℕ) (xs ys : List Item) → AreOwn number xs → ((n : List ℕ) → AreOwn n ys) → AreOwn number (xs ++ ys)
 own-append number [] ys h all = all number
 own-append number (x ∷ xs) ys h all = (h.0, own-append (if is_number_kind x.0 then x.1 else number) xs ys h.1 all)
 
--- a line has the number that a test finds
+-- a line that passes the test of a number has it
 has_number : (number line : List ℕ) → is_own number line ≡ true → mark_number line ≡ number
 has_number number line h = (bytes_eq-Decides (mark_number line) number).0 h
 
--- raw calls that have a number, and then what is behind it
+-- raw calls that have a number are after it, and so is what follows them
 own_raw : (number : List ℕ) (lines : List (List ℕ)) (more : List Item) → list_all (is_own number) lines ≡ true → AreOwn number more
     → AreOwn number (map raw_item lines ++ more)
 own_raw number [] more h rest = rest
@@ -119,14 +119,14 @@ own_raw number (line ∷ lines) more h rest =
     let parts = and_parts (is_own number line) (list_all (is_own number) lines) h in
     (λ is. has_number number line parts.0, rw (by_raw (λ k. is_number_kind k ≡ false) refl refl line) (own_raw number lines more parts.1 rest))
 
--- explanations that have a number
+-- explanations that have a number are after it
 own_why : (number : List ℕ) (lines : List (List ℕ)) → list_all (is_own number) lines ≡ true → AreOwn number (map why_item lines)
 own_why number [] h = tt
 own_why number (line ∷ lines) h =
     let parts = and_parts (is_own number line) (list_all (is_own number) lines) h in
     (λ is. has_number number line parts.0, own_why number lines parts.1)
 
--- a call with what has its number
+-- a call, and the lines of its number, are after it
 own_call : (script : List (List ℕ)) (line : List ℕ) (raw_calls explanations : List (List ℕ))
     → list_all (is_own (split_word line).0) raw_calls ≡ true → list_all (is_own (split_word line).0) explanations ≡ true
     → (number : List ℕ) → AreOwn number (call_items script line raw_calls explanations)
@@ -143,18 +143,18 @@ own_call script line raw_calls explanations raw why number =
       ),
     )
 
--- raw calls behind their own numbers
+-- raw calls are after their own numbers
 own_other_calls : (lines : List (List ℕ)) (number : List ℕ) → AreOwn number (flat_map other_call_items lines)
 own_other_calls [] number = tt
 own_other_calls (line ∷ lines) number =
     (never, (λ is. refl, rw (by_raw (λ k. is_number_kind k ≡ false) refl refl line) (own_other_calls lines (mark_number line))))
 
--- explanations behind their own numbers
+-- explanations are after their own numbers
 own_other_why : (lines : List (List ℕ)) (number : List ℕ) → AreOwn number (flat_map other_why_items lines)
 own_other_why [] number = tt
 own_other_why (line ∷ lines) number = (never, (λ is. refl, own_other_why lines (mark_number line)))
 
--- ---- lines of no reply
+-- ---- lines without a reply
 
 other_answers : (lines : List (List ℕ)) → of_kinds is_answer_kind (flat_map other_call_items lines) ≡ []
 other_answers [] = refl
@@ -194,7 +194,7 @@ boot_number boot = ap (λ l. other_item (codes "0") ∷ l) (raw_none is_other_ki
 
 -- ---- what is added
 
--- one list was added behind another
+-- one list was added after another
 joined : (test : Kind → Bool) (xs ys a b : List Item) → of_kinds test xs ≡ a → of_kinds test ys ≡ b → of_kinds test (xs ++ ys) ≡ a ++ b
 joined test xs ys a b x y = of-append test xs ys ∙ ap₂ (λ (a b : List Item). a ++ b) x y
 
@@ -230,7 +230,7 @@ adds_call {script} {done} {raw} {why} {numbers} {old} line raw_calls explanation
       others = joined is_other_kind h.added call _ _ h.others (call_others script line raw_calls explanations) ∙ append-nil (map other_item numbers);
     }
 
--- raw calls of no reply were added
+-- raw calls without a reply were added
 pub adds_calls : {script done raw why numbers : List (List ℕ)} {old mid new : List Item} (raw_calls : List (List ℕ))
     → AddsSession script done raw why numbers old mid → new ≡ mid ++ flat_map other_call_items raw_calls
     → AddsSession script done (raw ++ raw_calls) why (numbers ++ map mark_number raw_calls) old new
@@ -248,7 +248,7 @@ adds_calls {script} {done} {raw} {why} {numbers} {old} raw_calls h e =
           ∙ sym (map-append other_item numbers (map mark_number raw_calls));
     }
 
--- explanations of no reply were added
+-- explanations without a reply were added
 pub adds_whys : {script done raw why numbers : List (List ℕ)} {old mid new : List Item} (explanations : List (List ℕ))
     → AddsSession script done raw why numbers old mid → new ≡ mid ++ flat_map other_why_items explanations
     → AddsSession script done raw (why ++ explanations) (numbers ++ map mark_number explanations) old new
@@ -266,7 +266,7 @@ adds_whys {script} {done} {raw} {why} {numbers} {old} explanations h e =
           ∙ sym (map-append other_item numbers (map mark_number explanations));
     }
 
--- what was added behind the raw calls of boot
+-- what was added after the raw calls of boot
 pub adds_boot : {script done raw why numbers : List (List ℕ)} {old mid new : List Item} (boot : List (List ℕ))
     → mid ≡ old ++ boot_items boot → list_all (is_own (codes "0")) boot ≡ true → AddsSession script done raw why numbers mid new
     → AddsSession script done (boot ++ raw) why (codes "0" ∷ numbers) old new
@@ -289,12 +289,12 @@ adds_boot {script} {done} {raw} {why} {numbers} {old} boot e is_boot h =
     subst_nil : (number : List ℕ) (lines : List (List ℕ)) → list_all (is_own number) lines ≡ true → AreOwn number (map raw_item lines)
     subst_nil number lines is = let P : List Item → Type 0 = AreOwn number in rw (← append-nil (map raw_item lines)) (own_raw number lines [] is tt)
 
--- what was added of equal lists
+-- the same was added for equal lists
 pub adds_as : {script done raw why numbers all raws whys others : List (List ℕ)} {old new : List Item} → all ≡ done → raws ≡ raw → whys ≡ why
     → others ≡ numbers → AddsSession script done raw why numbers old new → AddsSession script all raws whys others old new
 adds_as is_all are_raws are_whys are_others h = rw (is_all, are_raws, are_whys, are_others) h
 
--- a session that was added to nothing
+-- a session that was added to an empty list
 pub session_is : {script replies raw why lines output : List (List ℕ)} {old new : List Item}
     → script ≡ lines → replies ≡ filter is_reply output → raw ≡ filter is_raw_call output → why ≡ filter is_explanation output → old ≡ []
     → AddsSession script replies raw why (session_numbers replies raw why) old new → IsSession lines output new

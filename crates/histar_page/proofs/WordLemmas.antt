@@ -12,7 +12,7 @@ unfolding words_of
 no_words [] h = refl
 no_words (b ∷ bs) h = absurd (omega arith)
 
--- the first word of what is behind a byte, and then those behind it
+-- the words of a text after a byte: the first, and then those after it
 after_byte : (b : ℕ) (text : List ℕ) (test : Bool) → (b == 32) ≡ test
     → words_of text ≡ (split_word text).0 ∷ words_of (after_word text)
     → words_of (b ∷ text) ≡ (split_word (b ∷ text)).0 ∷ words_of (after_word (b ∷ text))
@@ -20,14 +20,14 @@ unfolding words_of split_at_first
 after_byte b text true e h = rw e refl
 after_byte b text false e h = rw e (ap (onto_line b) h)
 
--- the first word of a text, and then those behind it
+-- the words of a text are the first and then those after it
 pub words_split : (text : List ℕ) → 0 < length text → words_of text ≡ (split_word text).0 ∷ words_of (after_word text)
 unfolding words_of split_at_first
 words_split [] h = absurd (omega arith)
 words_split (b ∷ []) h = elim (eqb_tells b 32) [ inl e ↦ rw e.1 refl | inr e ↦ rw e.0 refl ]
 words_split (b ∷ c ∷ cs) h = after_byte b (c ∷ cs) (b == 32) refl (words_split (c ∷ cs) (omega arith))
 
--- what is behind the first word is shorter
+-- the text after the first word is shorter
 pub after_shorter : (text : List ℕ) → 0 < length text → length (after_word text) < length text
 unfolding split_at_first
 after_shorter [] h = absurd (omega arith)

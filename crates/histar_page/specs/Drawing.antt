@@ -14,9 +14,9 @@ use Rattle.histar_page.specs.Lines.{after_word, is_reply, words_of}
 use Rattle.histar_page.specs.Places.{drawn_height, file_top, half_height, process_top}
 use Rattle.histar_page.specs.Session.{call_on}
 
--- ---- the lines of the table
+-- ---- the rows of the table
 
--- the words behind a path, what it is, its owner and its mode
+-- the cells of a row: the words after a path, its kind, its owner and its mode
 abbrev pub row_cells : List (List ℕ) → List (List ℕ)
 row_cells (path ∷ kind ∷ owner ∷ mode ∷ cells) = cells
 row_cells words = []
@@ -38,7 +38,7 @@ line_path line = (split_word line).0
 abbrev pub process_of : List ℕ → List ℕ
 process_of cell = (split_at_first 58 cell).0
 
--- the letters of its rights have this one
+-- the letters of a cell's rights have this one
 abbrev pub has_letter : ℕ → List ℕ → Bool
 has_letter letter cell = list_any (λ b. b == letter) (unwrap_or (split_at_first 58 cell).1 [])
 
@@ -46,13 +46,13 @@ has_letter letter cell = list_any (λ b. b == letter) (unwrap_or (split_at_first
 abbrev pub is_narrow : List ℕ → Bool
 is_narrow line = nat_le (length (words_of line)) (4 + MOST_DRAWN_PROCESSES)
 
--- a session is drawn where it has so few files, and so few processes
+-- a session is drawn if it has few enough files and processes
 abbrev pub is_drawn : List (List ℕ) → Bool
 is_drawn lines = nat_le (length lines) MOST_DRAWN_FILES && list_all is_narrow lines
 
 -- ---- edges
 
--- the kind of an edge between a process that may read or not, and write or not, and a file
+-- the kind of the edge between a file and a process that may read it or not, and write it or not
 abbrev pub edge_kind : Bool → Bool → Option Kind
 edge_kind true true = Some BothEdge
 edge_kind true false = Some ReadEdge
@@ -66,11 +66,11 @@ edge (Some kind) path j i cell =
     (kind, decimal (process_top i + half_height)) ∷ (EdgeEnd, decimal (file_top j + half_height))
     ∷ (EdgeProcess, process_of cell) ∷ (EdgeFile, path) ∷ []
 
--- the edge of a cell: it may read where the cell has `r`, and write where it has `w`
+-- the edge of a cell: its process may read if the cell has `r`, and write if it has `w`
 abbrev pub cell_edge : List ℕ → ℕ → ℕ → List ℕ → List Item
 cell_edge path j i cell = edge (edge_kind (has_letter 114 cell) (has_letter 119 cell)) path j i cell
 
--- the edges of cells, the first of which is of the i-th process
+-- the edges of cells, the first of which is that of the i-th process
 abbrev pub row_edges : List ℕ → ℕ → ℕ → List (List ℕ) → List Item
 row_edges path j i [] = []
 row_edges path j i (cell ∷ cells) = cell_edge path j i cell ++ row_edges path j (i + 1) cells
@@ -105,20 +105,20 @@ is_within (a ∷ job) (b ∷ bs) = (a == b) && is_within job bs
 abbrev pub is_in_a_job : List (List ℕ) → List ℕ → Bool
 is_in_a_job jobs process = list_any (λ job. is_within job process) jobs
 
--- the first process of the job that a call with this reply has begun, if it has begun one
+-- the first process of the job that a call with this reply has started, if it has started one
 abbrev pub job_begun : List (List ℕ) → List (List ℕ) → List (List ℕ)
 job_begun (process ∷ word ∷ rest) (ok ∷ job ∷ []) = if bytes_eq word (codes "wrap") then job ∷ [] else []
 job_begun call reply = []
 
--- the same of a line of the output
+-- the same for a line of the output
 abbrev pub job_on : List (List ℕ) → List ℕ → List (List ℕ)
 job_on script line = job_begun (words_of (call_on script line)) (words_of (after_word line))
 
--- the jobs of a session, in the order of their beginnings
+-- the jobs of a session, in the order in which they are started
 abbrev pub jobs_of : List (List ℕ) → List (List ℕ) → List (List ℕ)
 jobs_of script output = flat_map (job_on script) (filter is_reply output)
 
--- bands around the processes of a job; the first of these is the i-th
+-- the bands around the processes of a job, the first of which is the i-th
 abbrev pub process_bands : List ℕ → ℕ → List (List ℕ) → List Item
 process_bands job i [] = []
 process_bands job i (cell ∷ cells) =
@@ -129,7 +129,7 @@ process_bands job i (cell ∷ cells) =
 abbrev pub changes_by : List ℕ → List ℕ → Bool
 changes_by job cell = is_within job (process_of cell) && has_letter 119 cell
 
--- bands around the files that a process of a job may write; the first of these is the j-th
+-- the bands around the files that a process of a job may write, the first of which is the j-th
 abbrev pub file_bands : List ℕ → ℕ → List (List ℕ) → List Item
 file_bands job j [] = []
 file_bands job j (line ∷ lines) =

@@ -10,11 +10,11 @@ use Rattle.histar_page.specs.Drawing.{first_cells, is_in_a_job, process_of}
 
 -- ---- the columns
 
--- the user of a word, which is behind its colon
+-- the user in a word, after its colon
 abbrev pub user_item : List ℕ → Item
 user_item word = (ColumnUser, unwrap_or (split_at_first 58 word).1 [])
 
--- the processes with their users: the words of the first line of the secrets, behind the word that it begins with
+-- the processes with their users: the words of the first line of the secrets, after its first word
 abbrev pub runners_of : List (List ℕ) → List (List ℕ)
 runners_of [] = []
 runners_of (line ∷ lines) = without_first (words_of line)
@@ -23,17 +23,17 @@ runners_of (line ∷ lines) = without_first (words_of line)
 abbrev pub is_job_cell : List (List ℕ) → List ℕ → Bool
 is_job_cell jobs cell = is_in_a_job jobs (process_of cell)
 
--- whether the first column is of a job
+-- the process of the first column is in a job
 abbrev pub first_flag : List Bool → Bool
 first_flag [] = false
 first_flag (flag ∷ flags) = flag
 
--- and whether the columns behind it are
+-- the same for the columns after the first
 abbrev pub later_flags : List Bool → List Bool
 later_flags [] = []
 later_flags (flag ∷ flags) = flags
 
--- a column of a job is set off
+-- a column of a process in a job is set off
 abbrev pub column_kind : Bool → Kind
 column_kind in_job = if in_job then JobColumn else Column
 
@@ -42,7 +42,7 @@ abbrev pub column_items : List Bool → List (List ℕ) → List Item
 column_items flags [] = []
 column_items flags (cell ∷ cells) = (column_kind (first_flag flags), process_of cell) ∷ column_items (later_flags flags) cells
 
--- ---- the lines
+-- ---- the rows
 
 -- a hyphen stands for a right that is withheld
 abbrev pub right_kind : ℕ → Kind
@@ -52,11 +52,11 @@ right_kind letter = if letter == 45 then Withheld else Granted
 abbrev pub right_item : ℕ → Item
 right_item letter = (right_kind letter, letter ∷ [])
 
--- a word about a path: what it is, its owner or its mode
+-- a word about a path: its kind, its owner or its mode
 abbrev pub stat_item : List ℕ → Item
 stat_item word = (Stat, word)
 
--- a cell of a job is set off
+-- a cell of a process in a job is set off
 abbrev pub process_kind : Bool → Kind
 process_kind in_job = if in_job then JobProcess else Process
 
@@ -69,18 +69,18 @@ abbrev pub cells_items : List Bool → List (List ℕ) → List Item
 cells_items flags [] = []
 cells_items flags (cell ∷ cells) = cell_items (first_flag flags) cell ++ cells_items (later_flags flags) cells
 
--- the words of a line of the table: a path, what it is, its owner, its mode, and then the cells
+-- the items of a row of the table: a path, its kind, its owner, its mode, and then the cells
 abbrev pub row_items : List Bool → List (List ℕ) → List Item
 row_items flags (path ∷ kind ∷ owner ∷ mode ∷ cells) = (Path, path) ∷ stat_item kind ∷ stat_item owner ∷ stat_item mode ∷ cells_items flags cells
 row_items flags words = map stat_item words
 
--- a line of the table
+-- the items of a row, by its line
 abbrev pub line_items : List Bool → List ℕ → List Item
 line_items flags line = row_items flags (words_of line)
 
 -- ---- the table
 
--- the process of each column, and then each line of the table
+-- the process of each column, and then each row of the table
 abbrev pub table_items : List Bool → List (List ℕ) → List Item
 table_items flags lines = column_items flags (first_cells lines) ++ flat_map (line_items flags) lines
 

@@ -5,7 +5,7 @@ use Rattle.histar_page.specs.declared.kind.Kind.{Kind}
 use Rattle.histar_page.specs.declared.piece.Piece.{Piece}
 use Rattle.histar_page.specs.declared.piece.Piece.TheVariants.{Fixed, Shown, Counted, Letter}
 
--- a text and what it is
+-- a text with its kind
 abbrev pub Item : Type 0
 Item = Kind × List ℕ
 

@@ -13,7 +13,7 @@ front_number line = number_of (λ n. nat_le n most_script_lines) (split_word lin
 abbrev pub is_reply : List ℕ → Bool
 is_reply line = is_some (front_number line)
 
--- what is behind the first word of a line
+-- the text after the first word of a line
 abbrev pub after_word : List ℕ → List ℕ
 after_word line = unwrap_or (split_word line).1 []
 
@@ -30,12 +30,12 @@ is_raw_call line = has_mark 64 line
 abbrev pub is_explanation : List ℕ → Bool
 is_explanation line = has_mark 63 line
 
--- the word behind a mark: the number of the line that a raw call or an explanation belongs to
+-- the word after a mark: the number of the line that a raw call or an explanation belongs to
 abbrev pub mark_number : List ℕ → List ℕ
 mark_number [] = []
 mark_number (b ∷ bs) = (split_word bs).0
 
--- the word behind the mark of a line is this one
+-- the word after the mark of a line is this one
 abbrev pub is_own : List ℕ → List ℕ → Bool
 is_own word line = bytes_eq (mark_number line) word
 
@@ -43,7 +43,7 @@ is_own word line = bytes_eq (mark_number line) word
 abbrev pub is_denied : List ℕ → Bool
 is_denied line = not (ends_with nat_eq line (codes " = ok"))
 
--- a reply that begins with `ok` or `=` is none
+-- the text begins with `ok` or `=`, and is no refusal
 abbrev pub begins_granted : List ℕ → Bool
 begins_granted [] = false
 begins_granted (b ∷ bs) = if b == 111 then true else b == 61
@@ -52,12 +52,12 @@ begins_granted (b ∷ bs) = if b == 111 then true else b == 61
 abbrev pub is_refused : List ℕ → Bool
 is_refused line = not (begins_granted (after_word line))
 
--- texts without the first of them
+-- the list without its first text
 abbrev pub without_first : List (List ℕ) → List (List ℕ)
 without_first [] = []
 without_first (text ∷ texts) = texts
 
--- the words of a line: each is ended by a space, which the last may lack
+-- the words of a line: each ends at a space, which the last may lack
 unfoldable pub words_of : List ℕ → List (List ℕ)
 words_of [] = []
 words_of (b ∷ bs) = if b == 32 then [] ∷ words_of bs else onto_line b (words_of bs)

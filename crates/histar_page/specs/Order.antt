@@ -8,13 +8,13 @@ use Rattle.histar_page.specs.Lines.{is_explanation, is_own, is_raw_call, is_repl
 abbrev pub reply_numbers : List (List ℕ) → List (List ℕ)
 reply_numbers replies = map (λ line. (split_word line).0) replies
 
--- Lines follow numbers: first are lines with the first number behind their mark, then lines with the second, and so on, and no others.
+-- Lines follow numbers: first come the lines with the first number after their mark, then those with the second, and so on, and no others.
 abbrev pub Follow : List (List ℕ) → List (List ℕ) → Type 0
 Follow [] lines = lines ≡ []
 Follow (number ∷ numbers) lines =
     (own : List (List ℕ)) × (rest : List (List ℕ)) × (lines ≡ own ++ rest) × (list_all (is_own number) own ≡ true) × Follow numbers rest
 
--- Of an output the raw calls are those of boot, and then those of one reply after another; and so are the explanations, of which boot has none.
+-- The raw calls of an output are those of boot, and then those of one reply after another; the explanations are the same, without boot's.
 pub record FollowsReplies (output : List (List ℕ)) : Type 0 where
   pub raw_calls : Follow (codes "0" ∷ reply_numbers (filter is_reply output)) (filter is_raw_call output)
   pub explanations : Follow (reply_numbers (filter is_reply output)) (filter is_explanation output)
@@ -26,7 +26,7 @@ abbrev pub past_own : List ℕ → List (List ℕ) → List (List ℕ)
 past_own number [] = []
 past_own number (line ∷ lines) = if is_own number line then past_own number lines else line ∷ lines
 
--- the lines that are left where each number in turn takes its own from the front
+-- the lines that are left after each number in turn has taken its own from the front
 abbrev pub left_over : List (List ℕ) → List (List ℕ) → List (List ℕ)
 left_over [] lines = lines
 left_over (number ∷ numbers) lines = left_over numbers (past_own number lines)

@@ -20,7 +20,7 @@ pub record Sources : Type 0 where
   pub table : List ℕ
   pub secrets : List ℕ
 
--- the texts that references point to
+-- the texts behind the references
 abbrev pub sources_of : Texts → Sources
 sources_of texts =
     record {

@@ -1,4 +1,4 @@
--- Where a drawing has its nodes: processes in one column, and files in another.
+-- The positions of the nodes of a drawing: processes in one column, and files in another.
 use Rattle.std.specs.Prelude.{◌≢◌, ℕ, ◌+◌, ◌*◌, ◌≤◌, ◌⊎◌, nat_lt, if◌then◌else◌}
 
 -- how far down the process of an index is drawn
@@ -13,7 +13,7 @@ file_top index = 24 + 32 * index
 abbrev pub half_height : ℕ
 half_height = 13
 
--- how high a drawing of so many processes and files is
+-- the height of a drawing with this many processes and files
 abbrev pub drawn_height : ℕ → ℕ → ℕ
 drawn_height processes files = 24 + (if nat_lt (44 * processes) (32 * files) then 32 * files else 44 * processes)
 
@@ -40,7 +40,7 @@ process_band index = record { left = 0; width = 216; top = 15 + 44 * index; heig
 abbrev pub file_band : ℕ → Box
 file_band index = record { left = 512; width = 416; top = 21 + 32 * index; height = 32 }
 
--- two rectangles do not overlap
+-- the two rectangles do not overlap
 abbrev pub AreApart : Box → Box → Type 0
 AreApart a b = (a.left + a.width ≤ b.left) ⊎ (b.left + b.width ≤ a.left) ⊎ (a.top + a.height ≤ b.top) ⊎ (b.top + b.height ≤ a.top)
 

@@ -1,4 +1,4 @@
--- What is written of the pieces of a page.
+-- The HTML of the pieces of a page.
 use Rattle.std.specs.Prelude.{ℕ, List, [], ◌∷◌, ◌++◌, codes, decimal}
 use Rattle.std.specs.List.{flat_map}
 use Rattle.histar_html.specs.Escape.{escaped}
@@ -60,7 +60,7 @@ opening ProcessNode = codes "<g class=\"node\" transform=\"translate(8 "
 opening FileNode = codes "<g class=\"node\" transform=\"translate(520 "
 opening NodeName = codes "<text x=\"8\" y=\"18\">"
 
--- the markup behind a text of a kind
+-- the markup after a text of a kind
 abbrev pub closing : Kind → List ℕ
 closing Title = codes "</title>\n"
 closing FileName = codes "</h1>\n"
@@ -137,17 +137,17 @@ markup_text Arrows = codes "<defs>\n<marker id=\"read\" viewBox=\"0 0 8 8\" refX
 markup_text EndDrawing = codes "</svg>\n</div>\n</section>\n"
 markup_text End = codes "</main>\n</body>\n</html>\n"
 
--- what is written of a text of a kind: the text, escaped, between its tags
+-- the HTML of a text of this kind: the text, escaped, between its tags
 abbrev pub shown_text : Kind → List ℕ → List ℕ
 shown_text kind text = opening kind ++ escaped text ++ closing kind
 
--- what is written of a piece
+-- the HTML of a piece
 abbrev pub piece_text : Piece → List ℕ
 piece_text (Fixed markup) = markup_text markup
 piece_text (Shown kind text) = shown_text kind text.now
 piece_text (Counted kind number) = shown_text kind (decimal number)
 piece_text (Letter kind letter) = shown_text kind (letter ∷ [])
 
--- what is written of pieces
+-- the HTML of pieces
 abbrev pub rendered : List Piece → List ℕ
 rendered pieces = flat_map piece_text pieces

@@ -1,4 +1,4 @@
--- The session on a page: each call with its reply, and behind it its raw calls and why some were denied.
+-- The session on a page: each call with its reply, and then its raw calls and why some were denied.
 use Rattle.std.specs.Prelude.{◌≡◌, ℕ, ◌-◌, ◌||◌, Bool, true, false, List, [], ◌∷◌, ◌++◌, codes, filter, map, None, Some, slice_index_or}
 use Rattle.std.specs.Prelude.{if◌then◌else◌}
 use Rattle.std.specs.List.{flat_map}
@@ -9,7 +9,7 @@ use Rattle.histar_page.specs.Items.{Item}
 use Rattle.histar_page.specs.Lines.{after_word, front_number, is_denied, is_explanation, is_raw_call, is_refused, is_reply, mark_number}
 use Rattle.histar_page.specs.Order.{FollowsReplies}
 
--- ---- what is shown of a line
+-- ---- the items of one line
 
 -- the line of a script that a reply answers
 abbrev pub call_on : List (List ℕ) → List ℕ → List ℕ
@@ -19,7 +19,7 @@ call_on script line = elim (front_number line) [ None ↦ [] | Some n ↦ slice_
 abbrev pub reply_kind : List ℕ → Kind
 reply_kind line = if is_refused line then Refusal else Reply
 
--- of a reply: the number of its line, the text of the call on that line, and the reply
+-- the items of a reply: the number of its line, the text of the call on that line, and the reply
 abbrev pub answer_items : List (List ℕ) → List ℕ → List Item
 answer_items script line = (LineNumber, (split_word line).0) ∷ (Call, call_on script line) ∷ (reply_kind line, after_word line) ∷ []
 
@@ -35,9 +35,9 @@ raw_item line = (raw_kind line, line)
 abbrev pub why_item : List ℕ → Item
 why_item line = (Explanation, line)
 
--- ---- what is shown of an output
+-- ---- the items of an output
 
--- the number, the call or the reply of a line
+-- the kind is that of the number, the call or the reply of a line
 abbrev pub is_answer_kind : Kind → Bool
 is_answer_kind LineNumber = true
 is_answer_kind Call = true
@@ -45,24 +45,24 @@ is_answer_kind Reply = true
 is_answer_kind Refusal = true
 is_answer_kind kind = false
 
--- a raw call
+-- the kind is that of a raw call
 abbrev pub is_raw_kind : Kind → Bool
 is_raw_kind RawCall = true
 is_raw_kind DeniedCall = true
 is_raw_kind kind = false
 
--- an explanation
+-- the kind is that of an explanation
 abbrev pub is_why_kind : Kind → Bool
 is_why_kind Explanation = true
 is_why_kind kind = false
 
--- the number of a line
+-- the kind is that of the number of a line
 abbrev pub is_number_kind : Kind → Bool
 is_number_kind LineNumber = true
 is_number_kind OtherLine = true
 is_number_kind kind = false
 
--- the number of a line that is shown without a call
+-- the kind is that of a number that is shown without a call
 abbrev pub is_other_kind : Kind → Bool
 is_other_kind OtherLine = true
 is_other_kind kind = false
@@ -71,19 +71,19 @@ is_other_kind kind = false
 abbrev pub other_item : List ℕ → Item
 other_item number = (OtherLine, number)
 
--- those of these kinds
+-- the items of these kinds
 abbrev pub of_kinds : (Kind → Bool) → List Item → List Item
 of_kinds test items = filter (λ item. test item.0) items
 
--- Each raw call and each explanation is behind the number of its line: between that and it no other number is shown.
+-- Each raw call and each explanation is after the number of its line, with no other number between.
 abbrev pub AreOwn : List ℕ → List Item → Type 0
 AreOwn number [] = Unit {0}
 AreOwn number (item ∷ items) =
     ((is_raw_kind item.0 || is_why_kind item.0) ≡ true → mark_number item.1 ≡ number)
     × AreOwn (if is_number_kind item.0 then item.1 else number) items
 
--- The calls, raw calls and explanations are those of the output: each line is shown once, in its order, and behind the number of its line. Where
--- they are in the order of the replies, the number is that of its call, since no other is shown without a call but the 0 of boot.
+-- The calls, raw calls and explanations are those of the output: each line is shown once, in its order, and after the number of its line.
+-- If they are in the order of the replies, that number is the one of its call, since only the 0 of boot is then shown without a call.
 pub record IsSession (script output : List (List ℕ)) (items : List Item) : Type 0 where
   pub answers : of_kinds is_answer_kind items ≡ flat_map (answer_items script) (filter is_reply output)
   pub raw_calls : of_kinds is_raw_kind items ≡ map raw_item (filter is_raw_call output)
@@ -97,19 +97,19 @@ pub record IsSession (script output : List (List ℕ)) (items : List Item) : Typ
 abbrev pub call_items : List (List ℕ) → List ℕ → List (List ℕ) → List (List ℕ) → List Item
 call_items script line raw_calls explanations = answer_items script line ++ map raw_item raw_calls ++ map why_item explanations
 
--- the raw calls of boot, behind the number 0
+-- the raw calls of boot, after the number 0
 abbrev pub boot_items : List (List ℕ) → List Item
 boot_items raw_calls = (OtherLine, codes "0") ∷ map raw_item raw_calls
 
--- a raw call behind its own number
+-- a raw call after its own number
 abbrev pub other_call_items : List ℕ → List Item
 other_call_items line = (OtherLine, mark_number line) ∷ raw_item line ∷ []
 
--- an explanation behind its own number
+-- an explanation after its own number
 abbrev pub other_why_items : List ℕ → List Item
 other_why_items line = (OtherLine, mark_number line) ∷ why_item line ∷ []
 
--- Items were added that are these replies with these raw calls and explanations, and these numbers are shown without a call.
+-- Items were added that are these replies with these raw calls and explanations, where these numbers are shown without a call.
 pub record AddsSession (script replies raw_calls explanations numbers : List (List ℕ)) (old new : List Item) : Type 0 where
   pub added : List Item
   pub is_added : new ≡ old ++ added

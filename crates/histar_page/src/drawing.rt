@@ -77,7 +77,7 @@ fn is_narrow(alloc: Global, line: &[u8]) -> Result<bool, AllocError>
     Ok(words.len() <= WORDS_BEFORE_CELLS + MOST_DRAWN_PROCESSES)
 }
 
-/// Adds the drawing of a session that is small enough.
+/// Adds the drawing of a session that is small enough to be drawn.
 fn push_drawing<'a>(
     alloc: Global,
     pieces: &mut Vec<Piece<'a>>,

@@ -1,4 +1,5 @@
-//! The edges of a drawing: from files to processes that may read them, and from processes to files that they may write.
+//! The edges of a drawing: from files to the processes that may read them, and from processes to the files
+//! that they may write.
 ghost use Rattle.std.specs.Prelude.{◌≡◌, ◌≤◌, ◌++◌, true, length, OnOk};
 ghost use Rattle.std.specs.List.{list_all};
 ghost use Rattle.histar_page.specs.Texts.{texts};
@@ -13,7 +14,7 @@ use crate::places::{HALF_HEIGHT, MOST_DRAWN_FILES, MOST_DRAWN_PROCESSES, file_to
 use histar_script::split_word;
 use std::alloc::{AllocError, Global};
 
-/// Adds the edges of the lines of the table.
+/// Adds the edges of the rows of the table.
 pub(crate) fn push_edges<'a>(
     alloc: Global,
     pieces: &mut Vec<Piece<'a>>,
@@ -35,7 +36,7 @@ pub(crate) fn push_edges<'a>(
     Ok(())
 }
 
-/// Adds the edges of cells of the file of an index.
+/// Adds the edges between the file with this index and the processes of its cells.
 fn push_row<'a>(
     pieces: &mut Vec<Piece<'a>>,
     path: &'a [u8],

@@ -18,15 +18,16 @@ use crate::piece::{Piece, fix, show, spell};
 use histar_flat::split_at_first;
 use std::alloc::{AllocError, Global};
 
-/// What is between a process and its rights.
+/// The byte between a process and its rights.
 pub(crate) const COLON: u8 = b':';
 
 /// The letter of a right that is withheld.
 const WITHHELD: u8 = b'-';
 
-/// Returns the pieces of the part of a page that shows files, with the columns of processes in these jobs set off.
+/// Returns the pieces of the part of a page that shows files. The columns of processes in these jobs are set
+/// off.
 ///
-/// Each job is looked at once for each column at most, and not for each cell.
+/// Each job is compared at most once with each column, and not with each cell.
 pub(crate) fn files_pieces<'a>(
     alloc: Global,
     jobs: &[&'a [u8]],
@@ -128,7 +129,7 @@ fn push_columns<'a>(
     Ok(())
 }
 
-/// Returns whether the first column is of a job.
+/// Returns whether the first column is that of a process in a job.
 fn first_flag(flags: &[bool]) -> bool
     ensures { result ≡ first_flag flags.now }
 {
@@ -138,7 +139,7 @@ fn first_flag(flags: &[bool]) -> bool
     }
 }
 
-/// Returns for the columns behind the first whether they are of a job.
+/// Returns the flags of the columns after the first.
 fn later_flags(flags: &[bool]) -> &[bool]
     ensures { result.now ≡ later_flags flags.entry.now }
 {
@@ -148,7 +149,7 @@ fn later_flags(flags: &[bool]) -> &[bool]
     }
 }
 
-/// Returns what the process of a column is.
+/// Returns the kind of the process at the head of a column.
 fn column_kind(in_job: bool) -> Kind
     ensures { result ≡ column_kind in_job }
 {
@@ -159,7 +160,7 @@ fn column_kind(in_job: bool) -> Kind
     }
 }
 
-/// Adds the lines of the table.
+/// Adds the rows of the table.
 fn push_rows<'a>(
     alloc: Global,
     pieces: &mut Vec<Piece<'a>>,
@@ -177,7 +178,7 @@ fn push_rows<'a>(
     Ok(())
 }
 
-/// Adds a line of the table.
+/// Adds a row of the table.
 fn push_row<'a>(
     alloc: Global,
     pieces: &mut Vec<Piece<'a>>,
@@ -193,7 +194,7 @@ fn push_row<'a>(
     fix(pieces, Markup::EndRow)
 }
 
-/// Adds the words of a line of the table.
+/// Adds the words of a row of the table.
 fn push_words<'a>(
     pieces: &mut Vec<Piece<'a>>,
     flags: &[bool],
@@ -212,7 +213,7 @@ fn push_words<'a>(
     push_cells(pieces, flags, cells)
 }
 
-/// Adds the words of a line that has too few.
+/// Adds the words of a row that has too few.
 fn push_short<'a>(pieces: &mut Vec<Piece<'a>>, words: &[&'a [u8]]) -> Result<(), AllocError>
     ensures { OnOk result (items_of pieces.new.items
         ≡ items_of pieces.old.items ++ map stat_item (texts words.now)) }
@@ -259,7 +260,7 @@ fn push_cell<'a>(
     fix(pieces, Markup::EndCell)
 }
 
-/// Returns what the process of a cell is.
+/// Returns the kind of the process of a cell.
 fn process_kind(in_job: bool) -> Kind
     ensures { result ≡ process_kind in_job }
 {
@@ -283,7 +284,7 @@ fn push_rights(pieces: &mut Vec<Piece>, rights: &[u8]) -> Result<(), AllocError>
     Ok(())
 }
 
-/// Returns whether the letter of a right is there or withheld.
+/// Returns whether the letter of a right is given or withheld.
 fn right_kind(letter: u8) -> Kind
     ensures { result ≡ right_kind letter }
 {

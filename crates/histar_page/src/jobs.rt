@@ -15,7 +15,7 @@ use std::alloc::{AllocError, Global};
 /// The call that begins a job.
 const WRAP: &[u8] = b"wrap";
 
-/// Returns the jobs of a session, in the order of their beginnings.
+/// Returns the jobs of a session, in the order in which they started.
 pub(crate) fn jobs_of<'a>(
     alloc: Global,
     script: &'a [u8],

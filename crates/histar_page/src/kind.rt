@@ -1,8 +1,8 @@
-//! What the texts on a page are.
+//! Kinds of texts on a page.
 ghost use Rattle.std.specs.Prelude.{◌≡◌};
 ghost use Rattle.histar_page.specs.Rendering.{closing, opening};
 
-/// What a text on a page is.
+/// The kind of a text on a page, which determines its markup.
 #[derive(Clone, Copy)]
 pub enum Kind {
     Title,
@@ -12,7 +12,7 @@ pub enum Kind {
     Denials,
     Version,
     LineNumber,
-    /// The number of a line that has no reply, as that of boot.
+    /// The number of a line without a reply, such as that of boot.
     OtherLine,
     Call,
     Reply,
@@ -120,7 +120,7 @@ impl Kind {
         }
     }
 
-    /// Returns the markup behind a text of this kind.
+    /// Returns the markup after a text of this kind.
     pub(crate) fn closing(self) -> &'static [u8]
         ensures { result.now ≡ closing self }
     {

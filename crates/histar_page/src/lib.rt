@@ -1,6 +1,7 @@
 //! The page of a session: one HTML text, made of the texts that other commands write of it.
 //!
-//! A page is a list of pieces: [`Markup`] is fixed text of the program, and all else is shown as text.
+//! A page is a list of pieces: [`Markup`] is fixed text of the program, and everything else is escaped as
+//! text.
 #![tactic(auto)]
 
 mod bands;

@@ -13,7 +13,7 @@ use std::alloc::{AllocError, Global};
 /// The most lines of a script.
 const MOST_SCRIPT_LINES: u64 = 16_384;
 
-/// Returns the lines of a text.
+/// Returns the lines of a text, without their line ends.
 pub(crate) fn lines_in<'a>(alloc: Global, text: &'a [u8]) -> Result<Vec<&'a [u8]>, AllocError>
     ensures { IfOk result (λ lines. texts lines.items ≡ lines_of text.entry.now) }
 {
@@ -52,7 +52,7 @@ fn has_mark(mark: u8, line: &[u8]) -> bool
     }
 }
 
-/// Returns texts without the first of them.
+/// Returns the list without its first text.
 pub(crate) fn without_first<'s, 'a>(lines: &'s [&'a [u8]]) -> &'s [&'a [u8]]
     ensures { texts result.now ≡ without_first (texts lines.entry.now) }
 {
@@ -99,7 +99,7 @@ pub(crate) fn marked_among<'a>(
     Ok(found)
 }
 
-/// Returns the word behind a mark.
+/// Returns the word after a mark.
 pub(crate) fn mark_number<'a>(line: &'a [u8]) -> &'a [u8]
     ensures { result.now ≡ mark_number line.entry.now }
 {
@@ -109,14 +109,14 @@ pub(crate) fn mark_number<'a>(line: &'a [u8]) -> &'a [u8]
     }
 }
 
-/// Checks whether the word behind the mark of a line is this one.
+/// Checks whether a line has this word after its mark.
 fn is_own(word: &[u8], line: &[u8]) -> bool
     ensures { result ≡ is_own word.now line.now }
 {
     mark_number(line) == word
 }
 
-/// Returns how many lines at the front have this word behind their mark.
+/// Returns how many lines at the front have this word after their mark.
 pub(crate) fn own_count(lines: &[&[u8]], word: &[u8]) -> usize
     ensures { result ≡ prefix_len (is_own word.now) (texts lines.now) }
 {
@@ -132,14 +132,14 @@ pub(crate) fn own_count(lines: &[&[u8]], word: &[u8]) -> usize
     count
 }
 
-/// Returns what is behind the first word of a line.
+/// Returns what is after the first word of a line.
 pub(crate) fn after_word<'a>(line: &'a [u8]) -> &'a [u8]
     ensures { result.now ≡ after_word line.entry.now }
 {
     or_nothing(split_word(line).1)
 }
 
-/// Returns a text, or nothing where there is none.
+/// Returns the text, or an empty one if there is none.
 pub(crate) fn or_nothing<'a>(text: Option<&'a [u8]>) -> &'a [u8]
     ensures { result.now ≡ unwrap_or (option_copied text.entry) [] }
 {

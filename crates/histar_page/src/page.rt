@@ -19,12 +19,12 @@ pub struct Texts<'a> {
     /// The version of the program.
     pub version: &'a [u8],
     pub script: &'a [u8],
-    /// What a run of the script writes with its trace and its explanations.
+    /// What a run of the script writes, with its trace and its explanations.
     pub output: &'a [u8],
     /// What `access` writes of the script.
     pub table: &'a [u8],
-    /// What is written of its secrets: a line of the processes with their users, and then one for each file that
-    /// not everyone may read.
+    /// The lines on secrets: one of the processes with their users, and then one for each file that not
+    /// everyone may read.
     pub secrets: &'a [u8],
 }
 

@@ -9,7 +9,7 @@ use histar_html::push_escaped;
 use itoa::Buffer;
 use std::alloc::AllocError;
 
-/// A piece of a page: markup, which no session has a say in, or a text.
+/// A piece of a page: markup, which doesn't depend on the session, or a text.
 #[derive(Clone, Copy)]
 pub enum Piece<'a> {
     Fixed(Markup),
@@ -57,7 +57,7 @@ pub(crate) fn spell(pieces: &mut Vec<Piece>, kind: Kind, letter: u8) -> Result<(
     Ok(())
 }
 
-/// Adds what is written of pieces to a page.
+/// Adds the HTML of these pieces to a page.
 pub(crate) fn render(page: &mut Vec<u8>, pieces: &[Piece]) -> Result<(), AllocError>
     ensures { OnOk result (page.new.items ≡ page.old.items ++ rendered pieces.now) }
 {
@@ -69,7 +69,7 @@ pub(crate) fn render(page: &mut Vec<u8>, pieces: &[Piece]) -> Result<(), AllocEr
     Ok(())
 }
 
-/// Adds what is written of a piece.
+/// Adds the HTML of a piece.
 fn render_piece(page: &mut Vec<u8>, piece: &Piece) -> Result<(), AllocError>
     ensures { OnOk result (page.new.items ≡ page.old.items ++ piece_text piece.now) }
 {

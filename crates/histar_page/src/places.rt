@@ -1,4 +1,4 @@
-//! Where a drawing has its nodes.
+//! The positions of the nodes of a drawing.
 ghost use Rattle.std.specs.Prelude.{◌≡◌, ◌≤◌};
 ghost use Rattle.histar_page.specs.Places.{drawn_height, file_top, NodesAreApart, process_top};
 
@@ -36,7 +36,7 @@ pub(crate) fn file_top(index: usize) -> u64
     FIRST_TOP + FILE_STEP * (index as u64)
 }
 
-/// Returns how high a drawing of so many processes and files is.
+/// Returns the height of a drawing with this many processes and files.
 pub(crate) fn drawn_height(processes: usize, files: usize) -> u64
     requires processes { processes ≤ 100 }
     requires files { files ≤ 100 }
@@ -51,8 +51,8 @@ pub(crate) fn drawn_height(processes: usize, files: usize) -> u64
     }
 }
 
-/// No two nodes of a drawing overlap, and no band of a job overlaps a node but its own. The law is the contract
-/// of a function that does nothing.
+/// Shows that no two nodes of a drawing overlap, and no band of a job overlaps a node but its own. The law is
+/// the contract of a function that does nothing.
 pub fn nodes_are_apart()
     ensures { NodesAreApart }
 {}

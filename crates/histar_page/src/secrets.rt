@@ -1,4 +1,4 @@
-//! The secrets on a page: each file that not everyone may read, and whom it rests on.
+//! The secrets on a page: each file that not everyone may read, and which processes it depends on.
 ghost use Rattle.std.specs.Prelude.{◌≡◌, ◌++◌, ◌∷◌, [], IfOk, OnOk, map};
 ghost use Rattle.std.specs.List.{flat_map};
 ghost use Rattle.histar_script.specs.Lines.{lines_of};
@@ -21,7 +21,7 @@ const TRUSTED: &[u8] = b"trusted";
 /// The word before a process that is confined.
 const CONFINED: &[u8] = b"confined";
 
-/// Returns the pieces of the part of a page that shows secrets: each line behind the first.
+/// Returns the pieces of the part of a page that shows secrets: each line after the first.
 pub(crate) fn secrets_pieces<'a>(
     alloc: Global,
     secrets: &'a [u8],
@@ -114,7 +114,7 @@ fn push_member<'a>(pieces: &mut Vec<Piece<'a>>, member: &'a [u8]) -> Result<(), 
     show(pieces, member_kind(word), or_nothing(name))
 }
 
-/// Returns what a process or a user is to a file, by the word before it.
+/// Returns the role of a process or a user towards a file, by the word before it.
 fn member_kind(word: &[u8]) -> Kind
     ensures { result ≡ member_kind word.now }
 {

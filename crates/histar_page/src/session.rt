@@ -1,4 +1,4 @@
-//! The session on a page: each call with its reply, and behind it its raw calls.
+//! The session on a page: each call with its reply, and then its raw calls.
 ghost use Rattle.std.specs.Prelude.{◌≡◌, ◌≤◌, ◌+◌, ◌++◌, ◌∷◌, [], drop, length, map, take, true, IfOk, OnOk};
 ghost use Rattle.std.specs.List.{flat_map, list_all};
 ghost use Rattle.histar_script.specs.Lines.{lines_of};
@@ -46,7 +46,7 @@ pub(crate) fn session_pieces<'a>(
     Ok(pieces)
 }
 
-/// Adds the calls with their replies, each with what is behind it.
+/// Adds the calls with their replies, each with its raw calls and explanations.
 fn push_session<'a>(
     pieces: &mut Vec<Piece<'a>>,
     script: &[&'a [u8]],
@@ -67,7 +67,8 @@ fn push_session<'a>(
     fix(pieces, Markup::EndSession)
 }
 
-/// Adds the calls with their replies, each with those of these lines that are its own, and then the others.
+/// Adds the calls with their replies, each with its own raw calls and explanations, and then those that are
+/// left.
 fn push_calls<'a>(
     pieces: &mut Vec<Piece<'a>>,
     script: &[&'a [u8]],
@@ -96,7 +97,7 @@ fn push_calls<'a>(
     push_other_explanations(pieces, other_explanations)
 }
 
-/// Returns the lines from a place on that have this word behind their mark, up to the first that hasn't.
+/// Returns the lines from a place on, up to the first with another word after its mark.
 fn own_lines<'b, 'a>(lines: &'b [&'a [u8]], from: usize, word: &[u8]) -> &'b [&'a [u8]]
     requires { from ≤ length lines.now }
     ensures fits { from + length result.now ≤ length lines.entry.now }
@@ -123,7 +124,7 @@ fn push_boot<'a>(pieces: &mut Vec<Piece<'a>>, boot: &[&'a [u8]]) -> Result<(), A
     fix(pieces, Markup::EndCall)
 }
 
-/// Adds a call with its reply, and what is behind it.
+/// Adds a call with its reply, its raw calls and its explanations.
 fn push_call<'a>(
     pieces: &mut Vec<Piece<'a>>,
     script: &[&'a [u8]],
@@ -161,7 +162,7 @@ fn push_answer<'a>(
     show(pieces, reply_kind(line), after_word(line))
 }
 
-/// Returns whether a line is a reply of a call that was made or a refusal.
+/// Returns the kind of a reply: that of a call that was made, or a refusal.
 fn reply_kind(line: &[u8]) -> Kind
     ensures { result ≡ reply_kind line.now }
 {
@@ -222,7 +223,7 @@ fn push_explanations<'a>(pieces: &mut Vec<Piece<'a>>, lines: &[&'a [u8]]) -> Res
     Ok(())
 }
 
-/// Adds raw calls that belong to no reply, each behind its own number.
+/// Adds raw calls that belong to no reply, each after its own number.
 fn push_other_calls<'a>(pieces: &mut Vec<Piece<'a>>, lines: &[&'a [u8]]) -> Result<(), AllocError>
     ensures { OnOk result (items_of pieces.new.items
         ≡ items_of pieces.old.items ++ flat_map other_call_items (texts lines.now)) }
@@ -235,7 +236,7 @@ fn push_other_calls<'a>(pieces: &mut Vec<Piece<'a>>, lines: &[&'a [u8]]) -> Resu
     Ok(())
 }
 
-/// Adds explanations that belong to no reply, each behind its own number.
+/// Adds explanations that belong to no reply, each after its own number.
 fn push_other_explanations<'a>(
     pieces: &mut Vec<Piece<'a>>,
     lines: &[&'a [u8]],
@@ -251,7 +252,7 @@ fn push_other_explanations<'a>(
     Ok(())
 }
 
-/// Adds a line of this kind behind its own number.
+/// Adds a line of this kind after its own number.
 fn push_other<'a>(pieces: &mut Vec<Piece<'a>>, line: &'a [u8], kind: Kind) -> Result<(), AllocError>
     ensures { OnOk result (items_of pieces.new.items ≡ items_of pieces.old.items
         ++ (OtherLine, mark_number line.now) ∷ (kind, line.now) ∷ []) }

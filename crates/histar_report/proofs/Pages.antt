@@ -9,7 +9,7 @@ use Rattle.histar_script.proofs.Inputs.{AreLong, input_known}
 use Rattle.histar_run_explain.proofs.Outputs.{not_long}
 use Rattle.histar_report.specs.Session.{WritesPage}
 
--- what is said of a text that is too long is said of another one
+-- what holds of one text that is too long holds of another
 long_page : (name version : List ℕ) (old new : Option (List ℕ)) (result : Result (Unit {0}) Fault) (taken input : List ℕ)
     → AreLong taken input → WritesPage name version taken old new result → WritesPage name version input old new result
 long_page name version old new (Ok u) taken input long h = absurd (not_long taken long.one (h.is_output.faults))
@@ -19,13 +19,13 @@ long_page name version old new (Err (BadScript n)) taken input long h = let same
 long_page name version old new (Err TooLong) taken input long h = (long.two, h.1)
 long_page name version old new (Err ReadFailed) taken input long h = h
 
--- where reading stopped nothing is said
+-- if reading stopped, nothing is written
 stopped : (name version : List ℕ) (old new : Option (List ℕ)) (fault : Fault) (input : List ℕ) → Keeps old new
     → (fault ≡ OutOfMemory) ⊎ (fault ≡ ReadFailed) → WritesPage name version input old new (Err fault)
 stopped name version old new fault input keeps (inl is) = rw is keeps
 stopped name version old new fault input keeps (inr is) = rw is keeps
 
--- what is said of the bytes that were taken is said of a known input
+-- what holds of the bytes that were taken holds of a known input
 pub page_known : (name version : List ℕ) (left rest old new : Option (List ℕ)) (result : Result (Unit {0}) Fault)
     → RunsInput (WritesPage name version) left rest old new result
     → IfSome left (λ input. WritesPage name version input old new result)

@@ -1,4 +1,4 @@
--- A session that is written as a page, from bytes to bytes.
+-- Writing a session as a page, from bytes to bytes.
 use Rattle.std.specs.Prelude.{◌≡◌, ℕ, true, false, List, [], Option, None, Some, Result, Ok, Err}
 use Rattle.std.specs.Global.{Vec}
 use Rattle.std.specs.Io.KnownBytes.{Appends, Keeps}
@@ -12,20 +12,20 @@ use Rattle.histar_access.specs.Session.{AccessText}
 use Rattle.histar_trust.specs.Session.{SecretsText}
 use Rattle.histar_page.specs.Page.{IsPage}
 
--- a run is asked for its raw calls
+-- the options of the run: it prints its raw calls
 abbrev pub with_trace : Options
 with_trace = record { tree = false; trace = true }
 
--- this is the table of rights after the script that a text is
+-- this is the table of rights after the script in a text
 abbrev pub IsTable : List ℕ → List ℕ → Type 0
 IsTable text table = AccessText None text (Some []) (Some table) (Ok tt)
 
--- these are the lines on the secret files after the script that a text is
+-- these are the lines on the secret files after the script in a text
 abbrev pub AreSecrets : List ℕ → List ℕ → Type 0
 AreSecrets text secrets = SecretsText text (Some []) (Some secrets) (Ok tt)
 
--- A page was written as far as `Writes` says: one that shows the output of the run of the script that a text is, its table of rights, and on
--- whom its secret files rest.
+-- A page was written as far as `Writes` says: one that shows the output of the run of the script in a text, its table of rights, and which
+-- processes have to be trusted with its secret files.
 pub record WritesPageAs (Writes : List ℕ → Type 0) (name version text : List ℕ) : Type 0 where
   pub output : List ℕ
   pub is_output : IsExplainedOutput with_trace text output
@@ -37,8 +37,8 @@ pub record WritesPageAs (Writes : List ℕ → Type 0) (name version text : List
   pub is_page : IsPage (record { name = name; version = version; script = text; output = output; table = table; secrets = secrets }) page
   pub written : Writes page
 
--- A page of the run was written; or the fault of the script is answered, and nothing was written. At a failed write a beginning was written,
--- and where memory runs out nothing.
+-- A page of the run was written; or the fault of the script is returned, and nothing was written. At a failed write a beginning was
+-- written, and if memory runs out nothing.
 abbrev pub WritesPage : List ℕ → List ℕ → List ℕ → Option (List ℕ) → Option (List ℕ) → Result (Unit {0}) Fault → Type 0
 WritesPage name version text old new (Ok u) = WritesPageAs (Appends old new) name version text
 WritesPage name version text old new (Err WriteFailed) = WritesPageAs (AppendsFront old new) name version text

@@ -1,4 +1,4 @@
-//! A session that is written as a page, from bytes to bytes.
+//! Writing a session as a page, from bytes to bytes.
 ghost use Rattle.std.specs.Prelude.{◌≡◌, false, None, IfErr, IfSome};
 ghost use Rattle.histar_io.specs.Device.{CountsFailure};
 ghost use Rattle.histar_script.specs.Runs.{LeavesSink, RunsInput, is_read_failed, is_write_failed};
@@ -14,16 +14,17 @@ use histar_shell::{Counted, Options};
 use histar_trust::secrets;
 use std::alloc::Global;
 
-/// What a run is asked for: its raw calls. The files are in the table of rights.
+/// The options of the run: it prints its raw calls, and no tree, since the table of rights has the files.
 const OPTIONS: Options = Options {
     tree: false,
     trace: true,
 };
 
-/// Reads a script, runs it with explanations, and writes one page that shows the session, who may do what at its
-/// end, and on whom its secret files rest. The name is that of the script's file.
+/// Reads a script, runs it with explanations, and writes one page that shows the session, who may do what at
+/// its end, and which processes have to be trusted with its secret files. The name is that of the script's
+/// file.
 ///
-/// All is written once the script has run. It doesn't flush the sink.
+/// It writes once the script has run. It doesn't flush the sink.
 pub fn report<R: Source, W: Sink>(
     alloc: Global,
     reader: &mut R,
@@ -31,19 +32,19 @@ pub fn report<R: Source, W: Sink>(
     name: &[u8],
     version: &[u8],
 ) -> Result<(), Fault>
-    // After a bad script, one that is too long and a failed read the sink is as it was.
+    // After a bad script, one that is too long or a failed read, the sink is as it was.
     ensures nothing { IfErr result (LeavesSink writer.old writer.new) }
 
-    // A device has failed exactly where its fault is the answer.
+    // A device has failed exactly if its fault is returned.
     ensures reads { CountsFailure (R.failures reader.old) (R.failures reader.new) (is_read_failed result) }
     ensures writes { CountsFailure (W.failures writer.old) (W.failures writer.new) (is_write_failed result) }
 
-    // Whatever the source gives, bytes of it were taken, to its end but never more than 1,048,577, and run: the fault of the script
-    // that they are is answered, or a page of its run is written.
+    // Some bytes of the source were read, to its end but never more than 1,048,577, and run: the fault of
+    // their script is returned, or a page of its run is written.
     ensures runs { RunsInput (WritesPage name.now version.now) (R.left reader.old) (R.left reader.new)
         (W.written writer.old) (W.written writer.new) result }
 
-    // So where the input is known, it is a page of the script of the whole input.
+    // If the input is known, this is the page of the script of the whole input.
     ensures known { IfSome (R.left reader.old) (λ input. WritesPage name.now version.now input
         (W.written writer.old) (W.written writer.new) result) }
 {
@@ -51,7 +52,7 @@ pub fn report<R: Source, W: Sink>(
     report_text(alloc, input.as_slice(), writer, name, version)
 }
 
-/// Runs the script that a text is, and writes its page.
+/// Runs the script in a text, and writes its page.
 fn report_text<W: Sink>(
     alloc: Global,
     text: &[u8],
@@ -82,7 +83,7 @@ fn report_text<W: Sink>(
     Ok(())
 }
 
-/// Returns what `access` writes of the script that a text is.
+/// Returns what `access` writes for the script in a text.
 fn table_of(alloc: Global, text: &[u8]) -> Result<Vec<u8>, Fault>
     ensures { GivesText IsTable text.now result }
 {
@@ -94,7 +95,7 @@ fn table_of(alloc: Global, text: &[u8]) -> Result<Vec<u8>, Fault>
     }
 }
 
-/// Returns what is written of the files that not everyone may read after the script that a text is.
+/// Returns the lines on the files that not everyone may read after the script in a text.
 fn secrets_of(alloc: Global, text: &[u8]) -> Result<Vec<u8>, Fault>
     ensures { GivesText AreSecrets text.now result }
 {

@@ -1,4 +1,4 @@
--- A letter is there exactly where one more line is answered.
+-- A right's letter is there exactly if one more line that uses the right is answered.
 use Rattle.std.specs.Prelude.{◌≡◌, ℕ, ◌↔◌, Bool, true, false, not, ◌&&◌, nat_lt, List, [], ◌∷◌, length, Option, None, Some, is_some, refl}
 use Rattle.std.proofs.Common.{sym, ap, ◌∙◌, subst}
 use Rattle.std.proofs.lemmas.Bool.{true≢false}
@@ -23,7 +23,7 @@ use Rattle.histar_rights.specs.Rights.{reading_call, may_write_at, may_make_in, 
 use Rattle.histar_rights.specs.Laws.{IsAnswered, LettersAre, LettersAreReplies, WritersMakeEntries, is_answer}
 use Rattle.histar_rights.proofs.Passing.{passes, passes_none}
 
--- the tests of a new entry, where there is room and the mode may be made
+-- if there is room and the mode may be made, the tests of a new entry pass exactly if the walk and the right to write do
 made_passes : (w : Option Errno) (free room x made : Bool) → free ≡ true → room ≡ true → made ≡ true
     → passes ((w orelse unless free EEXIST orelse unless room ENOSPC orelse unless x EACCES) orelse unless made EPERM) ≡ (passes w && x)
 made_passes None true true true true h k m = refl
@@ -33,11 +33,11 @@ made_passes w false room x made h k m = absurd (true≢false (sym h))
 made_passes w true false x made h k m = absurd (true≢false (sym k))
 made_passes w true true x false h k m = absurd (true≢false (sym m))
 
--- where there is no refusal, a chain passes
+-- a chain without a refusal passes
 none_passes : (w : Option Errno) → w ≡ None → passes w ≡ true
 none_passes w e = ap passes e
 
--- an entry is made exactly where the directory may be written
+-- an entry is made exactly if the directory may be written
 makes_entries : (accounts : Accounts) (f : Flat) (me : ProcName) (p : Process) (n : Name) (d : Path) (mode : Mode)
     → is_there f (n ∷ d) ≡ false → nat_lt (length (entries_in f d)) most_entries ≡ true → is_some (class_made accounts p mode) ≡ true
     → passes (refused accounts f me p (Create (n ∷ d) mode)) ≡ may_make_in accounts f p d
@@ -45,7 +45,7 @@ makes_entries accounts f me p n d mode free room made =
     made_passes (into accounts f p d) (not (is_there f (n ∷ d))) (nat_lt (length (entries_in f d)) most_entries)
     (writes accounts f p d) (is_some (class_made accounts p mode)) (ap not free) room made
 
--- who may walk into a directory and write it may make an entry of a new name in it, while it has room, and no one else may
+-- a process may make an entry of a new name in a directory with room exactly if it may walk into the directory and write it
 pub writers_make_entries : WritersMakeEntries
 writers_make_entries accounts f me p n d mode free room made =
     let same = makes_entries accounts f me p n d mode free room made in (
@@ -53,7 +53,7 @@ writers_make_entries accounts f me p n d mode free room made =
       (λ e. passes_none (refused accounts f me p (Create (n ∷ d) mode)) (same ∙ e)),
     )
 
--- the first of a list of one
+-- the first elements of equal lists are equal
 first_reply : (a b : RepliedCall) → (a ∷ []) ≡ (b ∷ []) → a ≡ b
 first_reply a b e = ap first e
   where
@@ -61,7 +61,7 @@ first_reply a b e = ap first e
     first [] = a
     first (x ∷ xs) = x
 
--- a refusal is no answer
+-- a reply is an answer exactly if there is no refusal
 answer_passes : (refusal : Option Errno) (reply : Reply) → is_answer (reply_or refusal reply) ≡ true → passes refusal ≡ true
 answer_passes None reply h = refl
 answer_passes (Some e) reply h = absurd (true≢false (sym h))
@@ -82,7 +82,7 @@ module _ (accounts : Accounts) (calls : List CallLine) (me : ProcName) (p : Proc
     reply_is : reply_to accounts end me call ≡ reply_or (refused accounts end me p call) (answer end me p call)
     reply_is = ap (λ o. reply_by accounts end me o call) runs
 
-    -- a call of a right, where its answer is no refusal
+    -- if the answer of a call is one, its reply is one exactly if the call is not refused
     answered_where : is_answer (answer end me p call) ≡ true → (passes (refused accounts end me p call) ≡ true) ↔ IsAnswered accounts calls line
     answered_where answers = (
       (λ h. record {
@@ -121,6 +121,6 @@ module _ (accounts : Accounts) (calls : List CallLine) (me : ProcName) (p : Proc
         some_same : (a b : Process) → Some a ≡ Some b → a ≡ b
         some_same a b e = ap (λ (o : Option Process). elim o [ None ↦ a | Some x ↦ x ]) e
 
--- After the calls of a script, at each path and for each process that runs, a letter is there exactly where one more line is answered.
+-- After the calls of a script, at each path and for each running process, a letter is there exactly if one more line is answered.
 pub letters_are_replies : LettersAreReplies
 letters_are_replies accounts calls me p runs q node at number = letters_are accounts calls me p number runs q node at

@@ -1,4 +1,4 @@
--- The rights at a path are those that its directory gives, and that its class allows the process.
+-- The rights at a path are those that its directory gives and that its class allows the process.
 use Rattle.std.specs.Prelude.{◌≡◌, ℕ, Bool, true, false, not, ◌&&◌, nat_le, List, [], ◌∷◌, ◌++◌, length, Option, None, Some, refl}
 use Rattle.std.specs.List.{list_all}
 use Rattle.std.proofs.Common.{sym, ap, ◌∙◌, append-nil}
@@ -17,7 +17,7 @@ use Rattle.histar_rights.specs.Rights.{rights_at, rights_below, reading_call, ma
 use Rattle.histar_rights.specs.Laws.{HaveFewBytes, DirectoriesGiveRights, rights_above, rights_or}
 use Rattle.histar_rights.proofs.Passing.{passes, passes_one, passes_same, passes_third, passes_then, passes_then_more, passes_second}
 
--- what a process may write it may read
+-- a process may read what it may write
 written_is_read : (accounts : Accounts) (p : Process) (class : Class)
     → (may_read accounts p class && may_write accounts p class) ≡ may_write accounts p class
 written_is_read accounts p (Private owner) = by (same p.user owner) (is_free p)
@@ -45,7 +45,7 @@ walked_written true r x h = h
 walked_written false r x h = refl
 
 module _ (accounts : Accounts) (f : Flat) (tree : IsTree f) (small : HaveFewBytes f) (me : ProcName) (p : Process) where
-  -- what stands at a path, as tests see it
+  -- facts about a path with a node, as tests see it
   module _ (q : Path) (node : Node) (at : get f.files q ≡ Some node) where
     pub there : is_there f q ≡ true
     there = ap (λ o. is_some_and o (λ n. true)) at
@@ -67,7 +67,7 @@ module _ (accounts : Accounts) (f : Flat) (tree : IsTree f) (small : HaveFewByte
         ap (λ b. unless b EFBIG)
         (ap (λ (bs : List ℕ). nat_le (length bs) most_bytes) (append-nil (bytes_at f q)) ∙ le-leb (length (bytes_at f q)) most_bytes (small q))
 
-  -- who walks into a directory walks to it and lists it
+  -- a process that may walk into a directory may walk to it and list it
   lists : (d : Path) (above : Node) → get f.files d ≡ Some above → is_dir above ≡ true
       → is_passed accounts f me p (reading_call d true) ≡ passes (into accounts f p d)
   lists [] above at dir =
@@ -75,7 +75,7 @@ module _ (accounts : Accounts) (f : Flat) (tree : IsTree f) (small : HaveFewByte
       ∙ sym (passes_one None (reads accounts f p []) EACCES)
   lists (m ∷ e) above at dir = refl
 
-  -- the way into a directory
+  -- the way into a directory is open if the way above is, and it may be read
   goes_in : (n : Name) (d : Path) (node : Node) → get f.files (n ∷ d) ≡ Some node → is_dir node ≡ true
       → passes (into accounts f p (n ∷ d)) ≡ (passes (into accounts f p d) && may_read accounts p node.class)
   goes_in n d node at dir =
@@ -83,7 +83,7 @@ module _ (accounts : Accounts) (f : Flat) (tree : IsTree f) (small : HaveFewByte
       ENOTDIR EACCES (there (n ∷ d) node at) (dir_it (n ∷ d) node at ∙ dir)
       ∙ ap (λ b. passes (into accounts f p d) && b) (reads_it (n ∷ d) node at)
 
-  -- the rights below a directory that gives way and gives up so
+  -- the rights at a node are those that its directory gives, with this way into it and this right to write it
   abbrev Given : Bool → Bool → Path → Node → Type 0
   Given way up q node =
       rights_at accounts f me p q node
@@ -94,7 +94,7 @@ module _ (accounts : Accounts) (f : Flat) (tree : IsTree f) (small : HaveFewByte
         remove = up;
       }
 
-  -- at `/`
+  -- the rights at `/`
   root_given : (node : Node) → get f.files [] ≡ Some node → is_dir node ≡ true → Given true false [] node
   root_given node at dir = λ i. record {
     stat = passes_same None (is_there f []) ENOENT (there [] node at) i;
@@ -113,7 +113,7 @@ module _ (accounts : Accounts) (f : Flat) (tree : IsTree f) (small : HaveFewByte
     abbrev way : Bool
     way = passes (into accounts f p d)
 
-    -- what is read
+    -- the right to read is that of the class, after the way
     read_given : (dir : Bool) → is_dir node ≡ dir → is_passed accounts f me p (reading_call (n ∷ d) dir) ≡ (way && may_read accounts p node.class)
     read_given true is = goes_in n d node at is
     read_given false is =
@@ -121,7 +121,7 @@ module _ (accounts : Accounts) (f : Flat) (tree : IsTree f) (small : HaveFewByte
         ENOENT EISDIR EACCES (there (n ∷ d) node at) (file_it (n ∷ d) node at ∙ ap not is)
         ∙ ap (λ b. way && b) (reads_it (n ∷ d) node at)
 
-    -- what is written
+    -- the right to write is that of the class, after the way
     write_given : (dir : Bool) → is_dir node ≡ dir → may_write_at accounts f me p (n ∷ d) dir ≡ (way && may_write accounts p node.class)
     write_given true is =
         (λ i. goes_in n d node at is i && writes_it (n ∷ d) node at i)
@@ -140,7 +140,7 @@ module _ (accounts : Accounts) (f : Flat) (tree : IsTree f) (small : HaveFewByte
       remove = passes_second (into accounts f p d) (is_there f (n ∷ d)) (writes accounts f p d) ENOENT EACCES (there (n ∷ d) node at) i;
     }
 
-    -- by the directory
+    -- the rights by those of the directory
     module _ (above : Node) (over : get f.files d ≡ Some above) where
       is_directory : is_dir above ≡ true
       is_directory = sym (dir_it d above over) ∙ tree.below n d (there (n ∷ d) node at)
@@ -161,7 +161,7 @@ module _ (accounts : Accounts) (f : Flat) (tree : IsTree f) (small : HaveFewByte
         remove = sym up_of i;
       })
 
-  -- the directory of what is there is there
+  -- the rights at a path are those that its directory, which is there, gives
   by_directory : (n : Name) (d : Path) (node : Node) → get f.files (n ∷ d) ≡ Some node → (o : Option Node) → get f.files d ≡ o
       → rights_at accounts f me p (n ∷ d) node
       ≡ rights_below (rights_or accounts f me p d o) (may_read accounts p node.class)
@@ -176,6 +176,6 @@ module _ (accounts : Accounts) (f : Flat) (tree : IsTree f) (small : HaveFewByte
   rights_given [] node at = root_given node at (sym (dir_it [] node at) ∙ tree.root)
   rights_given (n ∷ d) node at = by_directory n d node at (get f.files d) refl
 
--- the rights at a path are those that its directory gives, and that its class allows the process
+-- the rights at a path are those that its directory gives and that its class allows the process
 pub directories_give_rights : DirectoriesGiveRights
 directories_give_rights accounts f tree small me p q node at = rights_given accounts f tree small me p q node at

@@ -36,11 +36,11 @@ by_image h R o =
       congr = λ x y z. o.congr (h x) (h y) (h z);
     }
 
--- the order is total
+-- the order of names is total
 process_cmp_total : IsTotalOrder process_cmp
 process_cmp_total = by_image from_root (slice_cmp nat_cmp) (lists_total nat_cmp_total)
 
--- two names tie only where they are equal
+-- two names tie only if they are equal
 process_cmp_exact : IsAntisymmetric process_cmp
 process_cmp_exact a b e =
     sym (from_root_twice a)
@@ -50,7 +50,7 @@ process_cmp_exact a b e =
 -- ---- entries
 
 module _ (R : ProcName → ProcName → Ordering) where
-  -- this holds of each entry
+  -- the property holds of each entry
   abbrev AllOf : (Named → Type 0) → List Named → Type 0
   AllOf P [] = Unit {0}
   AllOf P (e ∷ es) = P e × AllOf P es
@@ -63,12 +63,12 @@ module _ (R : ProcName → ProcName → Ordering) where
   all_so P Q so [] h = tt
   all_so P Q so (e ∷ es) h = (so e h.0, all_so P Q so es h.1)
 
-  -- what is less than each key is below all
+  -- a key that is less than each key of a list is below all
   below_each : (k : ProcName) (es : List Named) → AllOf (λ e. R k e.0 ≡ Less) es → T (below_all R k es)
   below_each k [] h = tt
   below_each k (e ∷ es) h = both (is_lt (R k e.0)) _ (subst (λ o. T (is_lt o)) (sym h.0) tt) (below_each k es h.1)
 
-  -- two lists rise together where each key of the one is below all of the other
+  -- two lists rise together if each key of the one is below all of the other
   rise_both : (xs ys : List Named) → T (is_sorted R xs) → T (is_sorted R ys)
       → AllOf (λ e. AllOf (λ d. R e.0 d.0 ≡ Less) ys) xs → T (is_sorted R (xs ++ ys))
   rise_both [] ys g h low = h
@@ -92,7 +92,7 @@ module _ (R : ProcName → ProcName → Ordering) where
   in_behind e [] ys h = h
   in_behind e (d ∷ xs) ys h = inr (in_behind e xs ys h)
 
-  -- it is found there, where keys rise
+  -- an entry of a list is found there, if keys rise
   found_in : (total : IsTotalOrder R) (exact : IsAntisymmetric R) (k : ProcName) (x : Process) (es : List Named)
       → T (is_sorted R es) → IsIn (k, x) es → find R k es ≡ Some x
   found_in total exact k x [] s h = absurd h
@@ -101,7 +101,7 @@ module _ (R : ProcName → ProcName → Ordering) where
     | inr t ↦ find_later total exact d.0 d.1 es k x (first (below_all R d.0 es) _ s) (found_in total exact k x es (second (below_all R d.0 es) _ s) t)
   ]
 
-  -- what is found holds as of each entry
+  -- what holds of each entry holds of the one found
   holds_found : (exact : IsAntisymmetric R) (P : Named → Type 0) (k : ProcName) (x : Process) (es : List Named)
       → AllOf P es → find R k es ≡ Some x → P (k, x)
   holds_found exact P k x [] h is = absurd (none-some x is)
@@ -117,7 +117,7 @@ AreGiven f = (me : ProcName) → is_some (f.processes me) ≡ true → is_given 
 
 -- ---- names below a name
 
--- a name ends so, behind those numbers of `me`
+-- the name r ends with these numbers, after those of `me`
 abbrev IsUnder : ProcName → List ℕ → ProcName → Type 0
 IsUnder me ws r = from_root r ≡ reverse_onto ws me
 
@@ -125,7 +125,7 @@ IsUnder me ws r = from_root r ≡ reverse_onto ws me
 ends_order : (me : ProcName) (xs ys : List ℕ) (a b : ProcName) → IsUnder me xs a → IsUnder me ys b → process_cmp a b ≡ slice_cmp nat_cmp xs ys
 ends_order me xs ys a b at bt = (λ i. slice_cmp nat_cmp (at i) (bt i)) ∙ ends_decide nat_cmp nat_cmp_total me xs ys
 
--- a lesser number
+-- a lesser number comes first
 less_number : (n m : ℕ) → n < m → nat_cmp n m ≡ Less
 less_number n m h = by (nat_cmp n m) refl
   where
@@ -133,19 +133,19 @@ less_number n m h = by (nat_cmp n m) refl
     by o e = grind arith
 
 module _ (f : Flat) where
-  -- an entry stands below a name
+  -- the entry's name is `me`, or below it
   record IsBelow (me : ProcName) (e : Named) : Type 0 where
     ends : List ℕ
     is : IsUnder me ends e.0
 
-  -- or below a child of it, of this number or a later one
+  -- the entry's name is at or below a child of `me`, of this number or a later one
   record IsBelowChild (me : ProcName) (from : ℕ) (e : Named) : Type 0 where
     number : ℕ
     ends : List ℕ
     late : from ≤ number
     is : IsUnder me (number ∷ ends) e.0
 
-  -- the names rise, and stand below a name
+  -- the names rise, and are at or below `me`
   record RiseBelow (me : ProcName) (es : List Named) : Type 0 where
     rise : T (is_sorted process_cmp es)
     below : AllOf process_cmp (IsBelow me) es
@@ -157,7 +157,7 @@ module _ (f : Flat) where
   later_child : (me : ProcName) (from next : ℕ) → from ≤ next → (e : Named) → IsBelowChild me next e → IsBelowChild me from e
   later_child me from next h e b = let late = b.late in record { number = b.number; ends = b.ends; late = omega arith; is = b.is }
 
-  -- children, one after another
+  -- the lists of children rise together, one after another
   children_rise : (child : ℕ → List Named) (me : ProcName) → ((n : ℕ) → RiseBelow (n ∷ me) (child n)) → (count from : ℕ)
       → RiseBelowChildren me from (flat_map child (range_with_len from count))
   children_rise child me each zero from = record { rise = tt; below = tt }
@@ -180,7 +180,7 @@ module _ (f : Flat) where
             (all_so process_cmp (IsBelowChild me (from + 1)) (IsBelowChild me from) (later_child me from (from + 1) (omega arith)) others rest.below);
       }
 
-  -- a process, and then its children
+  -- a process in front of its children rises with them
   with_itself : (me : ProcName) (o : Option Process) (others : List Named) → RiseBelowChildren me 1 others → RiseBelow me (itself me o ++ others)
   with_itself me None others rest = record {
     rise = rest.rise;
@@ -207,7 +207,7 @@ module _ (f : Flat) where
       by (Some p) each = with_itself me (if_running (Some p)) (flat_map (λ n. running_from levels f (n ∷ me)) (range_with_len 1 p.born))
           (children_rise (λ n. running_from levels f (n ∷ me)) me each p.born 1)
 
-  -- each entry runs
+  -- the entry is of a process that runs
   abbrev Runs : Named → Type 0
   Runs e = running f e.0 ≡ Some e.1
 
@@ -231,7 +231,7 @@ module _ (f : Flat) where
           all_both process_cmp Runs (itself me (if_running (Some p))) (flat_map (λ n. running_from levels f (n ∷ me)) (range_with_len 1 p.born))
           (itself_runs me (if_running (Some p)) (ap if_running e)) (children_run (λ n. running_from levels f (n ∷ me)) each (range_with_len 1 p.born))
 
-  -- the names above one that was given were given
+  -- if a name was given, the names above it were given
   given_above : (ws : List ℕ) (me : ProcName) → is_given f.processes (reverse_onto me ws) ≡ true → is_given f.processes me ≡ true
   given_above [] me h = h
   given_above (n ∷ ws) me h = (and_parts (was_given (f.processes me) n) (is_given f.processes me) (given_above ws (n ∷ me) h)).1
@@ -241,7 +241,7 @@ module _ (f : Flat) where
   there_above joined [] me h = h
   there_above joined (n ∷ ws) me h = joined (n ∷ me) (there_above joined ws (n ∷ me) h)
 
-  -- what one of these children has, all together have
+  -- an entry of the list of one child is in the lists of all
   in_children : (child : ℕ → List Named) (e : Named) (n : ℕ) → IsIn process_cmp e (child n) → (count from : ℕ)
       → from ≤ n → n < from + count → IsIn process_cmp e (flat_map child (range_with_len from count))
   in_children child e n h zero from low high = absurd (omega arith)
@@ -261,7 +261,7 @@ module _ (f : Flat) where
           by true e = inr (leb-true (a + 1) b e)
           by false e = inl (grind arith)
 
-  -- the process at the end of these numbers is listed where it runs
+  -- the process at the end of these numbers is listed if it runs
   listed : AreJoined f → (levels : ℕ) (ws : List ℕ) (me : ProcName) (p : Process) → length ws < levels
       → running f (reverse_onto me ws) ≡ Some p → is_given f.processes (reverse_onto me ws) ≡ true
       → IsIn process_cmp (reverse_onto me ws, p) (running_from levels f me)
@@ -291,7 +291,7 @@ module _ (f : Flat) where
           (flat_map (λ k. running_from levels f (k ∷ me)) (range_with_len 1 r.born))
           (in_children (λ k. running_from levels f (k ∷ me)) (reverse_onto (n ∷ me) ws, p) n (inner (omega arith)) r.born 1 low (omega arith))
 
-  -- a name has as many numbers turned round
+  -- a reversed name has as many numbers
   as_long : (ws me : List ℕ) → length (reverse_onto ws me) ≡ length ws + length me
   as_long ws [] = omega arith
   as_long ws (n ∷ me) = as_long (n ∷ ws) me ∙ omega arith
@@ -300,7 +300,7 @@ module _ (f : Flat) (named : HaveShownNames f) (joined : AreJoined f) (given : A
   abbrev levels : ℕ
   levels = suc most_numbers
 
-  -- who runs is found
+  -- a running process is found
   finds : (me : ProcName) (p : Process) → running f me ≡ Some p → find process_cmp me (running_from levels f []) ≡ Some p
   finds me p runs =
       let ws = from_root me in
@@ -312,7 +312,7 @@ module _ (f : Flat) (named : HaveShownNames f) (joined : AreJoined f) (given : A
       found_in process_cmp process_cmp_total process_cmp_exact me p (running_from levels f []) (running_rise f levels []).rise
       (subst (λ (k : ProcName). IsIn process_cmp (k, p) (running_from levels f [])) back entry)
 
-  -- and no other
+  -- a process is found exactly if it runs
   finds_as : (me : ProcName) (o : Option Process) → running f me ≡ o → (r : Option Process)
       → find process_cmp me (running_from levels f []) ≡ r → r ≡ o
   finds_as me (Some p) e r is = sym is ∙ finds me p e

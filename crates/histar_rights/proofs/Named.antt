@@ -26,14 +26,14 @@ use Rattle.histar_flat.proofs.Changes.{runs_is_there}
 use Rattle.histar_rights.specs.Running.{HaveShownNames}
 use Rattle.histar_rights.specs.Laws.{ProcessesHaveShownNames}
 
--- a process that is put under a short name
+-- names stay such that they can be shown when a process is put under a short name
 named_with : (f : Flat) (me : ProcName) (p : Process) → HaveShownNames f → length me ≤ most_numbers → HaveShownNames (with_process f me p)
 named_with f me p named short q at = elim (same_name_found me q) [
   | inl t ↦ subst (λ (r : ProcName). length r ≤ most_numbers) t.1 short
   | inr t ↦ named q (sym (ap (λ b. is_some (cond b (Some p) (f.processes q))) t.0) ∙ at)
 ]
 
--- processes that are taken away
+-- names stay such that they can be shown when processes are removed
 named_without : (f : Flat) (name : ProcName) → HaveShownNames f → HaveShownNames (without_process f name)
 named_without f name named q at = by (under_process name q) at
   where
@@ -41,16 +41,16 @@ named_without f name named q at = by (under_process name q) at
     by true h = absurd (true≢false (sym h))
     by false h = named q h
 
--- the process that a process is a child of is there; process 0 is no child
+-- the parent of a process is there; process 0 has none
 abbrev pub IsOver : Flat → ProcName → Type 0
 IsOver f [] = Unit {0}
 IsOver f (n ∷ me) = is_some (f.processes me) ≡ true
 
--- each process that is there is the child of one that is there
+-- the parent of each process that is there is there
 abbrev pub AreJoined : Flat → Type 0
 AreJoined f = (me : ProcName) → is_some (f.processes me) ≡ true → IsOver f me
 
--- what is there stays there
+-- a process that is there stays there
 stays_with : (f : Flat) (me : ProcName) (p : Process) (q : ProcName) → is_some (f.processes q) ≡ true
     → is_some ((with_process f me p).processes q) ≡ true
 stays_with f me p q at = by (same me q)
@@ -78,7 +78,7 @@ joined_without f name joined (n ∷ q) at = by (same name (n ∷ q)) (under_proc
     by false true h = absurd (true≢false (sym h))
     by false false h = joined (n ∷ q) h
 
--- a child may be born below a name that has room
+-- a child may be born if the name has room for a number
 room_for_child : (me : ProcName) (p : Process) → no_child me p ≡ None → length me + 1 ≤ most_numbers
 room_for_child me p h =
     less (nat_lt (length me) most_numbers) refl
@@ -105,13 +105,13 @@ joined_child f me p chain joined over =
     itself_there true e = refl
     itself_there false e = absurd (true≢false (sym e))
 
--- names that can be shown, of processes each of which is the child of one that is there
+-- each process that is there has a name that can be shown, and a parent that is there
 pub record AreInPlace (f : Flat) : Type 0 where
   pub named : HaveShownNames f
   pub joined : AreJoined f
 
 module _ (accounts : Accounts) (f : Flat) (placed : AreInPlace f) (me : ProcName) where
-  -- the change of a call that is not refused
+  -- the change of a call that is not refused keeps this
   after_change : (p : Process) → length me ≤ most_numbers → IsOver f me → (call : UnixCall)
       → refused accounts f me p call ≡ None → AreInPlace (changed accounts f me p call)
   after_change p short over Spawn passes =
@@ -146,7 +146,7 @@ module _ (accounts : Accounts) (f : Flat) (placed : AreInPlace f) (me : ProcName
   by_refusal p short over call None is = after_change p short over call is
   by_refusal p short over call (Some e) is = placed
 
-  -- and so after each call
+  -- each call keeps this
   pub placed_after : (call : UnixCall) → AreInPlace (flat_after accounts f me call)
   placed_after call = by (running f me) refl
     where
@@ -157,7 +157,7 @@ module _ (accounts : Accounts) (f : Flat) (placed : AreInPlace f) (me : ProcName
           (placed.joined me (ap is_some (runs_is_there (f.processes me) p e))) call (refused accounts f me p call)
           refl
 
--- at the start there is process 0 alone
+-- this holds at the start, with process 0 alone
 placed_at_start : (accounts : Accounts) → AreInPlace (boot accounts)
 placed_at_start accounts =
     let none : Flat = record { files = (boot accounts).files; processes = λ q. None } in
@@ -172,7 +172,7 @@ placed_at_end accounts f placed (c ∷ calls) =
     placed_at_end accounts (flat_after accounts f c.process c.call) (placed_after accounts f placed c.process c.call)
     calls
 
--- after the calls of a script processes are in their places
+-- this holds after the calls of a script
 pub calls_place : (accounts : Accounts) (calls : List CallLine) → AreInPlace (flat_end accounts (boot accounts) calls)
 calls_place accounts calls = placed_at_end accounts (boot accounts) (placed_at_start accounts) calls
 

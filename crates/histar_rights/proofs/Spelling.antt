@@ -7,7 +7,7 @@ use Rattle.histar_rights.specs.declared.rights.Rights.{Rights}
 use Rattle.histar_rights.specs.Rights.{right_spelled, rights_by, rights_spelled, rights_text}
 use Rattle.histar_rights.specs.Laws.{LettersSpellRights}
 
--- letters that are read are the letters
+-- the letters of rights are read as these rights
 text_back : (r : Rights) → rights_spelled (rights_text r) ≡ Some r
 unfolding rights_spelled
 text_back r = by r.stat r.read r.write r.remove
@@ -69,13 +69,13 @@ letters_back (s ∷ t ∷ w ∷ d ∷ []) r e =
     refl refl refl e
 letters_back (s ∷ t ∷ w ∷ d ∷ b ∷ bs) r e = absurd (none-some r e)
 
--- a text spells rights exactly where it is their letters
+-- a text spells rights exactly if it is their letters
 pub letters_spell_rights : LettersSpellRights
 letters_spell_rights text r = (letters_back text r, λ e. ap rights_spelled e ∙ text_back r)
 
 -- ---- the parts
 
--- a text of four bytes, by each of them
+-- a text of four bytes is the list of these bytes
 pub spelled_by_four : (text : List ℕ) → 4 ≤ length text → length text < 5
     → rights_spelled text
     ≡ rights_by (right_spelled 115 (get_or text 0 0)) (right_spelled 114 (get_or text 1 0))
@@ -98,7 +98,7 @@ not_spelled_below (s ∷ t ∷ []) below = refl
 not_spelled_below (s ∷ t ∷ w ∷ []) below = refl
 not_spelled_below (s ∷ t ∷ w ∷ d ∷ bs) below = absurd (omega arith)
 
--- and no longer one
+-- no longer text spells rights
 pub not_spelled_above : (text : List ℕ) → 5 ≤ length text → rights_spelled text ≡ None
 unfolding rights_spelled
 not_spelled_above [] above = absurd (omega arith)

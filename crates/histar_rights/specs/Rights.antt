@@ -1,4 +1,4 @@
--- The rights of a process at a path, by the calls that are not refused.
+-- The rights of a process at a path, defined by the calls that are not refused.
 use Rattle.std.specs.Prelude.{ℕ, Bool, true, false, not, ◌&&◌, ◌==◌, List, [], ◌∷◌, ◌++◌, codes, Option, Some, None, is_some, if◌then◌else◌}
 use Rattle.histar_flat.specs.declared.calls.UnixCall.{UnixCall}
 use Rattle.histar_flat.specs.declared.calls.UnixCall.TheVariants.{Append, Read, List as ListCall, Stat, Rmtree}
@@ -13,7 +13,7 @@ use Rattle.histar_rights.specs.declared.rights.Rights.{Rights}
 abbrev pub is_passed : Accounts → Flat → ProcName → Process → UnixCall → Bool
 is_passed accounts f me p call = not (is_some (refused accounts f me p call))
 
--- the call that reads what stands at a path
+-- the call that reads what is at a path
 abbrev pub reading_call : Path → Bool → UnixCall
 reading_call q true = ListCall q
 reading_call q false = Read q
@@ -22,12 +22,12 @@ reading_call q false = Read q
 abbrev pub may_make_in : Accounts → Flat → Process → Path → Bool
 may_make_in accounts f p d = not (is_some (into accounts f p d)) && writes accounts f p d
 
--- the process may write what stands at a path: make something in a directory, or append nothing to a file
+-- the process may write what is at a path: make something in a directory, or append nothing to a file
 abbrev pub may_write_at : Accounts → Flat → ProcName → Process → Path → Bool → Bool
 may_write_at accounts f me p q true = may_make_in accounts f p q
 may_write_at accounts f me p q false = is_passed accounts f me p (Append q [])
 
--- the rights of the process p, whose name is me, at a path where this stands
+-- the rights of the process p, whose name is me, at a path with this node
 abbrev pub rights_at : Accounts → Flat → ProcName → Process → Path → Node → Rights
 rights_at accounts f me p q node = record {
   stat = is_passed accounts f me p (Stat q);
@@ -36,12 +36,12 @@ rights_at accounts f me p q node = record {
   remove = is_passed accounts f me p (Rmtree q);
 }
 
--- as if `/` lay in a directory to which each process may walk, and that no process may write
+-- the rights above `/`: those of a directory to which each process may walk, and which no process may write
 abbrev pub above_root : Rights
 above_root = record { stat = true; read = true; write = false; remove = false }
 
--- The rights at what lies in a directory, by those at the directory and by what labels allow: who lists the directory may walk to it,
--- and who writes the directory may take it away.
+-- The rights at an entry of a directory, by those at the directory and by what labels allow: a process that may list the directory may walk
+-- to the entry, and one that may write the directory may remove the entry.
 abbrev pub rights_below : Rights → Bool → Bool → Rights
 rights_below directory observes modifies = record {
   stat = directory.read;
@@ -50,7 +50,7 @@ rights_below directory observes modifies = record {
   remove = directory.write;
 }
 
--- the letter of a right, and a hyphen where it is not there
+-- the letter of a right, or a hyphen if it is withheld
 abbrev pub letter : Bool → List ℕ → List ℕ
 letter has text = if has then text else codes "-"
 
@@ -58,16 +58,16 @@ letter has text = if has then text else codes "-"
 abbrev pub rights_text : Rights → List ℕ
 rights_text r = letter r.stat (codes "s") ++ letter r.read (codes "r") ++ letter r.write (codes "w") ++ letter r.remove (codes "d")
 
--- whether a right is there, by the byte in its place: its letter, or a hyphen
+-- whether a right is given, by the byte in its place: its letter, or a hyphen
 abbrev pub right_spelled : ℕ → ℕ → Option Bool
 right_spelled letter byte = if byte == letter then Some true else (if byte == 45 then Some false else None)
 
--- rights, where each of the four is there or is not
+-- the rights, if each of the four is given or withheld
 abbrev pub rights_by : Option Bool → Option Bool → Option Bool → Option Bool → Option Rights
 rights_by (Some stat) (Some read) (Some write) (Some remove) = Some (record { stat = stat; read = read; write = write; remove = remove })
 rights_by _ _ _ _ = None
 
--- the rights that a text spells: `s`, `r`, `w` and `d`, with a hyphen in the place of each one that is not there
+-- the rights that a text spells: `s`, `r`, `w` and `d`, with a hyphen in the place of each one that is withheld
 unfoldable pub rights_spelled : List ℕ → Option Rights
 rights_spelled (s ∷ r ∷ w ∷ d ∷ []) = rights_by (right_spelled 115 s) (right_spelled 114 r) (right_spelled 119 w) (right_spelled 100 d)
 rights_spelled _ = None

@@ -1,4 +1,4 @@
--- Who may do what: a line for each path, with the rights of each process that runs.
+-- The table of rights: a line for each path, with the rights of each running process.
 use Rattle.std.specs.Prelude.{ℕ, List, ◌++◌, codes, map}
 use Rattle.std.specs.List.{flat_map}
 use Rattle.histar_flat.specs.declared.replies.Stat.{Stat}
@@ -16,7 +16,7 @@ pub record Cell : Type 0 where
   pub process : ProcName
   pub rights : Rights
 
--- a path, what is shown of what stands there, and the rights of processes
+-- a path, what `stat` shows there, and the rights of processes
 pub record AccessLine : Type 0 where
   pub path : Path
   pub stat : Stat
@@ -27,7 +27,7 @@ module _ (accounts : Accounts) (f : Flat) where
   abbrev pub cell_at : Path × Node → Named → Cell
   cell_at e c = record { process = c.0; rights = rights_at accounts f c.0 c.1 e.0 e.1 }
 
-  -- what stands at a path, and the rights of these processes
+  -- a path, what `stat` shows there, and the rights of these processes
   abbrev pub line_of : List Named → Path × Node → AccessLine
   line_of running e = record {
     path = e.0;
@@ -35,18 +35,18 @@ module _ (accounts : Accounts) (f : Flat) where
     cells = map (cell_at e) running;
   }
 
-  -- the table: each path, in the order of paths, with the rights of each process that runs, in the order of names
+  -- the table: each path, in the order of paths, with the rights of each running process, in the order of names
   abbrev pub access_table : List AccessLine
   access_table = map (line_of (running_in f)) f.files.entries
 
--- a space, the process, a colon and the letters of its rights
+-- the text of a cell: a space, the process, a colon and the letters of its rights
 abbrev pub cell_text : Cell → List ℕ
 cell_text c = codes " " ++ process_text c.process ++ codes ":" ++ rights_text c.rights
 
--- a path, what stands there, its owner and its mode, the rights of each process, and a line end
+-- the text of a line: the path, its kind, its owner and its mode, the rights of each process, and a line end
 abbrev pub access_line_text : AccessLine → List ℕ
 access_line_text l = path_text l.path ++ codes " " ++ stat_text l.stat ++ flat_map cell_text l.cells ++ codes "\n"
 
--- the lines of a table
+-- the text of a table
 abbrev pub access_text : List AccessLine → List ℕ
 access_text lines = flat_map access_line_text lines

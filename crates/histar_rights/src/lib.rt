@@ -1,5 +1,4 @@
-//! What a process may do with what stands at a path: the rights by which calls are answered or
-//! refused.
+//! What a process may do with what is at a path: the rights by which calls are answered or refused.
 #![tactic(auto)]
 
 mod rights;

@@ -1,11 +1,11 @@
-//! Rights.
+//! Rights of a process at a path, and their letters.
 ghost use Rattle.std.specs.Prelude.{◌≡◌, ◌++◌, OnOk};
 ghost use Rattle.histar_rights.specs.Rights.{right_spelled, rights_below, rights_spelled};
 ghost use Rattle.histar_rights.specs.Rights.{rights_text};
 
 use std::alloc::AllocError;
 
-/// What a process may do with what stands at a path.
+/// What a process may do with what is at a path.
 #[derive(Clone, Copy, Debug, PartialEq, Eq)]
 pub struct Rights {
     /// It may ask for its owner and its mode.
@@ -14,12 +14,13 @@ pub struct Rights {
     pub read: bool,
     /// It may write it, or make something in it where it is a directory.
     pub write: bool,
-    /// It may take it away.
+    /// It may remove it.
     pub remove: bool,
 }
 
 impl Rights {
-    /// As if `/` lay in a directory to which each process may walk, and that no process may write.
+    /// The rights above `/`: those of a directory to which each process may walk, and which no process may
+    /// write.
     pub const ABOVE_ROOT: Rights = Rights {
         stat: true,
         read: true,
@@ -27,7 +28,7 @@ impl Rights {
         remove: false,
     };
 
-    /// No right, as where nothing is at a path, or a process doesn't run.
+    /// No right, as at a path with nothing, or of a process that doesn't run.
     pub const NONE: Rights = Rights {
         stat: false,
         read: false,
@@ -35,7 +36,7 @@ impl Rights {
         remove: false,
     };
 
-    /// Returns the rights at what lies in this directory, by what labels allow.
+    /// Returns the rights at an entry of this directory, given what its label allows.
     pub fn below(self, observes: bool, modifies: bool) -> Rights
         ensures { result ≡ rights_below self observes modifies }
     {
@@ -47,7 +48,7 @@ impl Rights {
         }
     }
 
-    /// Adds the letters of the rights, and a hyphen for each one that is not there.
+    /// Adds the letters of the rights, with a hyphen for each one that is withheld.
     pub fn push_letters(self, line: &mut Vec<u8>) -> Result<(), AllocError>
         ensures { OnOk result (line.new.items ≡ line.old.items ++ rights_text self) }
     {
@@ -58,7 +59,7 @@ impl Rights {
     }
 }
 
-/// Reads the letters of rights, with a hyphen for each one that is not there.
+/// Reads the letters of rights, with a hyphen for each one that is withheld.
 #[tactic(auto, using(crate::proofs::Spelling::spelled_by_four, crate::proofs::Spelling::not_spelled_below, crate::proofs::Spelling::not_spelled_above))]
 pub fn read_rights(text: &[u8]) -> Option<Rights>
     ensures { result ≡ rights_spelled text.now }
@@ -74,7 +75,7 @@ pub fn read_rights(text: &[u8]) -> Option<Rights>
     })
 }
 
-/// Returns whether a right is there, by its letter or a hyphen in its place.
+/// Returns whether a right is given, by its letter or a hyphen in its place, or `None` for another byte.
 fn right_spelled(letter: u8, byte: u8) -> Option<bool>
     ensures { result ≡ right_spelled letter byte }
 {

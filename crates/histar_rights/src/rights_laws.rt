@@ -1,35 +1,35 @@
-//! What rights come to. Each law is the contract of a function that does nothing.
+//! What rights mean. Each law is the contract of a function that does nothing.
 ghost use Rattle.histar_rights.specs.Laws.{DirectoriesGiveRights, LettersAreReplies, LettersSpellRights};
 ghost use Rattle.histar_rights.specs.Laws.{ProcessesHaveShownNames, RunningAreListed, WritersMakeEntries};
 
-/// The rights at a path are those that its directory gives, and that its class allows the process.
+/// Shows that the rights at a path are those that its directory gives and that its class allows the process.
 pub fn directories_give_rights()
     ensures { DirectoriesGiveRights }
 {}
 
-/// A process has a right exactly where a script with one more line, by which the process uses it, has
+/// Shows that a process has a right exactly if a script with one more line, by which the process uses it, has
 /// that line answered and not refused.
 pub fn letters_are_replies()
     ensures { LettersAreReplies }
 {}
 
-/// A process has the right to write a directory exactly where it is not refused to make a new entry
-/// in it, while the directory has room.
+/// Shows that a process has the right to write a directory exactly if it is not refused a new entry in it,
+/// while the directory has room.
 pub fn writers_make_entries()
     ensures { WritersMakeEntries }
 {}
 
-/// The processes of a table are exactly those that run, in the order of their names.
+/// Shows that the processes of a table are exactly those that run, in the order of their names.
 pub fn running_are_listed()
     ensures { RunningAreListed }
 {}
 
-/// After the calls of a script each process has a name that can be shown.
+/// Shows that after the calls of a script each process has a name that can be shown.
 pub fn processes_are_named()
     ensures { ProcessesHaveShownNames }
 {}
 
-/// A text is read as rights exactly where it is their letters, as `push_letters` adds them.
+/// Shows that a text is read as rights exactly if it is their letters, as `push_letters` adds them.
 pub fn letters_spell_rights()
     ensures { LettersSpellRights }
 {}

@@ -1,4 +1,4 @@
--- What `read_script` answers.
+-- What follows from the result of `read_script`.
 use Rattle.std.proofs.Common.{◌≡◌, ℕ, List, length, Result, Ok, Err, sym, subst, ◌∙◌}
 use Rattle.std.specs.Prelude.{IfOk}
 use Rattle.histar_script.specs.declared.fault.Fault.{Fault}
@@ -12,11 +12,11 @@ use Rattle.histar_script.proofs.ScriptsBack.{found_from, again_from}
 use Rattle.histar_script.proofs.Kept.{is_declared, numbered}
 use Rattle.histar_script.proofs.FirstBad.{first_bad}
 
--- what reading a script answers
+-- the result of reading a script
 abbrev Answer : Type 0
 Answer = Result ScriptModel Fault
 
--- a script that was read
+-- the result for a script that was read
 abbrev read_as : ScriptModel → Answer
 read_as script = Ok script
 
@@ -25,11 +25,11 @@ pub is_found : (r : Answer) (text : List ℕ) → Gives r (reading text) → IfO
 is_found (Ok script) text given = found_from text script given
 is_found (Err f) text given = tt
 
--- a script is read
+-- a text that is a script is read, unless memory runs out
 pub is_read : (r : Answer) (text : List ℕ) (script : ScriptModel) → Gives r (reading text) → IsScript text script → Gives r (Ok script)
 is_read r text script given is = subst (Gives r) (again_from text script is) given
 
--- one answer has one script
+-- one result has one script
 same_script : (a b : ScriptModel) → read_as a ≡ read_as b → a ≡ b
 same_script a b e = cc
 
@@ -41,12 +41,12 @@ one_script text a b p q = same_script a b (sym (again_from text a p) ∙ again_f
 pub is_first_bad : (r : Answer) (text : List ℕ) (n : ℕ) → Gives r (reading text) → r ≡ Err (BadScript n) → IsFirstBad text n
 is_first_bad r text n given e = first_bad text n (subst (λ (x : Answer). Gives x (reading text)) e given)
 
--- the users and the groups of what is read
+-- the users and the groups of a script that was read are declared as the grammar says
 pub declares : (r : Answer) (text : List ℕ) → Gives r (reading text) → IfOk r (λ script. IsDeclared script.accounts)
 declares (Ok script) text given = is_declared text script (found_from text script given)
 declares (Err f) text given = tt
 
--- the numbers of what is read
+-- the calls of a script that was read are numbered by its lines
 pub is_numbered : (r : Answer) (text : List ℕ) → Gives r (reading text) → IfOk r (λ script. IsNumbered (length (lines_of text)) script.calls)
 is_numbered (Ok script) text given = numbered text script (found_from text script given)
 is_numbered (Err f) text given = tt

@@ -19,7 +19,7 @@ use Rattle.histar_script.proofs.PathsBack.{path_lacks_space, path_takes, path_ag
 use Rattle.histar_script.proofs.ProcessesBack.{process_lacks_space, process_takes, process_again}
 use Rattle.histar_script.proofs.WordsBack.{bytes_lack, name_lacks_space, user_name_is_name, mode_takes, mode_again}
 
--- a value that is read is spelled so
+-- a text that is read as a value spells it
 pub value_takes : (a : Argument) (text : List ℕ) (x : Value a) → value_of a text ≡ Some x → Spells a text x
 value_takes a_path text x e = path_takes text x e
 value_takes a_mode text x e = mode_takes text x e
@@ -34,7 +34,7 @@ abbrev pub is_bounded : Argument → Bool
 is_bounded (a_number greatest) = ltb greatest (2 ^ 64)
 is_bounded a = true
 
--- and a value that is spelled is read
+-- a text that spells a value is read as it
 pub value_again : (a : Argument) (text : List ℕ) (x : Value a) → is_bounded a ≡ true → Spells a text x → value_of a text ≡ Some x
 value_again a_path text x bounded h = ap path_of h.0 ∙ path_again x h.1
 value_again a_mode text x bounded h = ap mode_of h.0 ∙ mode_again x h.1
@@ -78,7 +78,7 @@ value_lacks_space (a_number greatest) text x word bounded h =
     let small = ltb-true greatest (2 ^ 64) bounded in
     ap (lacks 32) h.0 ∙ bytes_lack is_digit 32 (decimal x) refl (decimal_digits x (omega (arith, small, h.1)))
 
--- so it ends at the space after it
+-- a word ends at the space after it
 pub split_value : (a : Argument) (text rest : List ℕ) (x : Value a) → is_word a ≡ true → is_bounded a ≡ true → Spells a text x
     → split_word (text space rest) ≡ (text, Some rest)
 split_value a text rest x word bounded h = split_before 32 text rest (value_lacks_space a text x word bounded h)

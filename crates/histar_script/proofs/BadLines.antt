@@ -1,4 +1,4 @@
--- A first bad line by the grammar is the one that reading answers, and each text is a script or has one.
+-- A first bad line by the grammar is the one that reading reports, and each text is a script or has one.
 use Rattle.std.proofs.Common.{◌≡◌, ℕ, ◌+◌, ◌-◌, ◌<◌, ◌≤◌, ◌⊎◌, Bool, true, false, cond, eqb, List, [], ◌∷◌, length, take, Option, Some, None, Result}
 use Rattle.std.proofs.Common.{Ok, Err, refl, sym, ap, subst, ◌∙◌, inl, inr, arith}
 use Rattle.std.proofs.lemmas.Bool.{cases_lt}
@@ -12,16 +12,16 @@ use Rattle.histar_script.specs.Grammar.{TakesLines, IsScript, IsFirstBad}
 use Rattle.histar_script.proofs.ScriptsBack.{after, line_again, found_from}
 use Rattle.histar_script.proofs.FirstBad.{first_bad}
 
--- reading has answered a script, or a bad line
+-- reading has returned a script, or a bad line
 abbrev IsAnswered : Result ScriptModel Fault → Type 0
 IsAnswered r = ((t : ScriptModel) × (r ≡ Ok t)) ⊎ ((n : ℕ) × (r ≡ Err (BadScript n)))
 
--- the last answer is one of the two
+-- the last result is one of the two
 ended_so : (b : Bool) (n : ℕ) (s : ScriptModel) → IsAnswered (cond b (Err (BadScript n)) (Ok s))
 ended_so true n s = inr (n, refl)
 ended_so false n s = inl (s, refl)
 
--- and so is what follows a line
+-- the result after a line is one of the two
 after_so : (n : ℕ) (rest : ScriptModel → Result ScriptModel Fault) (o : Option ScriptModel)
     → ((m : ScriptModel) → IsAnswered (rest m)) → IsAnswered (after n rest o)
 after_so n rest None later = inr (n, refl)
@@ -38,7 +38,7 @@ answered : (text : List ℕ) → IsAnswered (reading text)
 unfolding reading
 answered text = lines_so nothing_read 0 (lines_of text)
 
--- lines that are taken without a user are bad after their last
+-- lines without a user are bad after the last one
 userless : (s : ScriptModel) (n : ℕ) (lines : List (List ℕ)) (t : ScriptModel) → TakesLines s n lines t
     → t.accounts.users ≡ [] → with_lines s n lines ≡ Err (BadScript (n + length lines + 1))
 unfolding with_lines
@@ -52,7 +52,7 @@ userless s n (line ∷ lines) t taken none =
     ∙ userless taken.0 (n + 1) lines t taken.2 none
     ∙ ap (λ (k : ℕ). Err (BadScript k)) number
 
--- a first bad line comes after the ones before which no script begins so
+-- no first bad line is less than another
 not_before : (text : List ℕ) (n m : ℕ) → IsFirstBad text n → IsFirstBad text m → m < n → ⊥
 not_before text n m later sooner lt =
     let front = take (n - 1) (lines_of text) in
@@ -65,7 +65,7 @@ not_before text n m later sooner lt =
     ∙ take-take m (n - 1) (lines_of text) le in
     sooner.none (omega arith) later.some.0 later.some.1 same later.some.3
 
--- a text has one first bad line at most
+-- a text has at most one first bad line
 one_first_bad : (text : List ℕ) (n m : ℕ) → IsFirstBad text n → IsFirstBad text m → m ≡ n
 one_first_bad text n m a b =
     elim (cases_lt m n) [
@@ -73,7 +73,7 @@ one_first_bad text n m a b =
       | inr le ↦ elim (cases_lt n m) [ inl lt ↦ absurd (not_before text m n b a lt) | inr ge ↦ omega arith ]
     ]
 
--- a first bad line after the last line is answered
+-- a first bad line after the last line is reported
 bad_at_end : (text : List ℕ) (n : ℕ) → IsFirstBad text n → length (lines_of text) < n → reading text ≡ Err (BadScript n)
 unfolding reading
 bad_at_end text n bad past =
@@ -83,12 +83,12 @@ bad_at_end text n bad past =
     let number : 0 + length (lines_of text) + 1 ≡ n = omega arith in
     userless nothing_read 0 (lines_of text) bad.before.0 taken (bad.before.2 past) ∙ ap (λ (k : ℕ). Err (BadScript k)) number
 
--- a script has a first bad line nowhere but after its last line
+-- a script has no first bad line among its lines
 bad_in_script : (text : List ℕ) (n : ℕ) (script : ScriptModel) → IsFirstBad text n → IsScript text script → length (lines_of text) < n
 bad_in_script text n script bad is =
     elim (cases_lt (length (lines_of text)) n) [ inl lt ↦ lt | inr le ↦ absurd (bad.none (omega arith) text script refl is) ]
 
--- a first bad line is answered
+-- a first bad line is reported
 pub bad_again : (text : List ℕ) (n : ℕ) → IsFirstBad text n → reading text ≡ Err (BadScript n)
 bad_again text n bad =
     elim (answered text) [

@@ -14,11 +14,11 @@ use Rattle.histar_script.specs.Lines.{lines_of, is_plain, is_plain_byte, most_li
 use Rattle.histar_script.specs.Script.{ScriptModel, IsMembership, nothing_read}
 use Rattle.histar_script.specs.Grammar.{Says, Adds, Takes, TakesLines, BeginsSome}
 
--- a byte that ends no line
+-- the byte ends no line
 abbrev is_no_end : ℕ → Bool
 is_no_end b = not (eqb b 10)
 
--- bytes that no line end parts
+-- the bytes are one line
 abbrev IsOneLine : List ℕ → Type 0
 IsOneLine line = list_all is_no_end line ≡ true
 
@@ -26,7 +26,7 @@ IsOneLine line = list_all is_no_end line ≡ true
 abbrev with_ends : List (List ℕ) → List ℕ
 with_ends lines = flat_map (λ line. line ++ 10 ∷ []) lines
 
--- a line ends where its end stands
+-- a line ends at its line end
 line_back : (line rest : List ℕ) → IsOneLine line → lines_of (line ++ 10 ∷ rest) ≡ line ∷ lines_of rest
 unfolding lines_of
 line_back [] rest h = refl
@@ -35,7 +35,7 @@ line_back (b ∷ bs) rest h =
     let no_end : eqb b 10 ≡ false = not-true (eqb b 10) p.0 in
     rw (no_end, line_back bs rest p.1) refl
 
--- the lines of a text come back
+-- the lines of a text that is made of lines are these lines
 lines_back : (lines : List (List ℕ)) (rest : List ℕ) → AllByRecursion IsOneLine lines → lines_of (with_ends lines ++ rest) ≡ lines ++ lines_of rest
 lines_back [] rest h = refl
 lines_back (line ∷ lines) rest h =
@@ -57,18 +57,18 @@ plain_bytes : (line : List ℕ) → list_all is_plain_byte line ≡ true → IsO
 plain_bytes [] h = refl
 plain_bytes (b ∷ bs) h = let p = and_parts (is_plain_byte b) (list_all is_plain_byte bs) h in rw (plain_is_no_end b p.0, plain_bytes bs p.1) refl
 
--- what says something is one line
+-- a line that says something is one line
 said_is_one_line : (line : List ℕ) (i : Item) → Says line i → IsOneLine line
 unfolding is_plain
 said_is_one_line line i (inl h) = rw h.0 refl
 said_is_one_line line i (inr h) = plain_bytes line (and_parts (leb (length line) most_line_bytes) (list_all is_plain_byte line) h.0).1
 
--- lines that are taken are lines each
+-- each line that is taken is one line
 taken_are_lines : (s : ScriptModel) (k : ℕ) (lines : List (List ℕ)) (t : ScriptModel) → TakesLines s k lines t → AllByRecursion IsOneLine lines
 taken_are_lines s k [] t h = tt
 taken_are_lines s k (line ∷ lines) t h = (said_is_one_line line h.1.0 h.1.1, taken_are_lines h.0 (k + 1) lines t h.2)
 
--- one more line is taken after the others
+-- one more line can be taken after the others
 pub takes_on : (s : ScriptModel) (k n : ℕ) (lines : List (List ℕ)) (t : ScriptModel) (line : List ℕ) (u : ScriptModel)
     → TakesLines s k lines t → n ≡ k + length lines + 1 → Takes t n line u → TakesLines s k (lines ++ line ∷ []) u
 takes_on s k n [] t line u h is next =
@@ -81,11 +81,11 @@ takes_on s k n [] t line u h is next =
     )
 takes_on s k n (first ∷ lines) t line u h is next = (h.0, h.1, takes_on h.0 (k + 1) n lines t line u h.2 (omega arith) next)
 
--- where there is no user, there is no call and no group
+-- without a user, there is no call and no group
 abbrev IsBlank : ScriptModel → Type 0
 IsBlank s = s.accounts.users ≡ [] → (s.calls ≡ []) × (s.accounts.groups ≡ [])
 
--- no group has members where there is no user
+-- no group has members if there is no user
 no_members : (users : List User) (g : Group) → users ≡ [] → IsMembership users g → ⊥
 no_members users g none is =
     let some : 0 < length g.members = is.some in
@@ -94,7 +94,7 @@ no_members users g none is =
     let len : length users ≡ 0 = ap length none in
     omega arith
 
--- an item that adds no user adds no call and no group where there is no user
+-- an item that adds no user adds no call and no group if there is no user
 still : (s t : ScriptModel) (n : ℕ) (i : Item) → IsBlank s → Adds s n i t → IsBlank t
 still s t n items.Comment here added = subst IsBlank (sym added) here
 still s t n (items.User u) here added =
@@ -125,11 +125,11 @@ user_line = codes "user a a"
 abbrev user_a : User
 user_a = record { name = codes "a"; password = codes "a" }
 
--- what was read, with this user
+-- a script with this user added
 abbrev with_a : ScriptModel → ScriptModel
 with_a t = record { accounts = with_user t.accounts user_a; calls = t.calls }
 
--- the user line is taken where there is no user
+-- the user line is taken if there is no user
 takes_user : (t : ScriptModel) (n : ℕ) → t.accounts.users ≡ [] → IsBlank t → Takes t n user_line (with_a t)
 unfolding is_plain is_name is_user_name is_password
 takes_user t n none blank = (
@@ -148,7 +148,7 @@ no_lines_left : lines_of [] ≡ []
 unfolding lines_of
 no_lines_left = refl
 
--- where there is no user yet, the user line makes a script
+-- without a user, the lines and the user line make a script
 begun_without : (lines : List (List ℕ)) (t : ScriptModel) → TakesLines nothing_read 0 lines t → t.accounts.users ≡ [] → BeginsSome lines
 begun_without lines t h none =
     let is : lines_of (with_ends lines ++ user_line) ≡ lines ++ user_line ∷ [] =
@@ -166,7 +166,7 @@ begun_without lines t h none =
       ),
     )
 
--- where there is a user, the lines are a script
+-- with a user, the lines make a script
 begun_with : (lines : List (List ℕ)) (t : ScriptModel) → TakesLines nothing_read 0 lines t → 0 < length t.accounts.users → BeginsSome lines
 begun_with lines t h some =
     let is : lines_of (with_ends lines ++ []) ≡ lines ++ [] =

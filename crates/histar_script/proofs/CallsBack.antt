@@ -15,7 +15,7 @@ use Rattle.histar_flat.proofs.Options.{bind_some}
 
 -- ---- NAME PASSWORD of a user line
 
--- a user of this name and password
+-- the user of this name and password
 abbrev made_user : List ℕ → List ℕ → User
 made_user name password = record { name = name; password = password }
 
@@ -23,7 +23,7 @@ made_user name password = record { name = name; password = password }
 abbrev SpellsUser : List ℕ → User → Type 0
 SpellsUser text u = (text ≡ u.name space u.password) × IsTrue (is_user_name u.name) × IsTrue (is_password u.password)
 
--- a user that is read is spelled so
+-- a text that is read as a user spells the user
 pub user_takes : (text : List ℕ) (u : User) → user_of text ≡ Some u → SpellsUser text u
 unfolding user_of
 user_takes text u e =
@@ -40,7 +40,7 @@ user_takes text u e =
       ap is_password (sym password.1) ∙ password.0,
     )
 
--- and the other way
+-- a text that spells a user is read as the user
 pub user_again : (name password : List ℕ) → is_user_name name ≡ true → is_password password ≡ true
     → user_of (name space password) ≡ Some (made_user name password)
 unfolding user_of
@@ -48,14 +48,14 @@ user_again name password h k = rw (split_name name password (user_name_is_name n
 
 -- ---- calls
 
--- a call that is read is spelled so
+-- a text that is read as a call spells the call
 pub call_takes : (text : List ℕ) (c : UnixCall) → call_of text ≡ Some c → IsCallText text c
 unfolding call_of
 call_takes text c e =
     let w = split_word text in
     subst (λ (l : List ℕ). IsCallText l c) (sym (rest_makes text w.1 refl)) (among_takes call_forms w.0 w.1 c e)
 
--- and a call that is spelled is read
+-- a text that spells a call is read as the call
 pub call_again : (text : List ℕ) (c : UnixCall) → IsCallText text c → call_of text ≡ Some c
 unfolding call_of
 call_again text c h =

@@ -9,15 +9,15 @@ pub mapped : {A B : Type 0} (o : Option A) (f : A → B) (y : B) → option_map 
 mapped None f y e = absurd cc
 mapped (Some x) f y e = (x, refl, cc)
 
--- no element
+-- a list of length 0 is empty
 pub none_left : {X : Type 0} (xs : List X) → eqb (length xs) 0 ≡ true → xs ≡ []
 none_left xs h = nil_from_length xs (eqb-true (length xs) 0 h)
 
--- some element
+-- a list of another length is not empty
 pub some_left : {X : Type 0} (xs : List X) → eqb (length xs) 0 ≡ false → 0 < length xs
 some_left [] h = absurd cc
 some_left (x ∷ xs) h = omega arith
 
--- not without element
+-- a list that is not empty has another length
 pub not_empty : {X : Type 0} (xs : List X) → 0 < length xs → eqb (length xs) 0 ≡ false
 not_empty xs h = ne_eqb (length xs) 0 (λ e. omega arith)

@@ -1,4 +1,4 @@
--- Which line is the first bad one.
+-- The line that reading reports as bad is the first bad one.
 use Rattle.std.proofs.Common.{◌≡◌, ℕ, zero, suc, ◌+◌, ◌-◌, ◌<◌, ◌≤◌, eqb, List, [], ◌∷◌, length, take, Option, Some, None, Result, Ok, Err, refl, sym}
 use Rattle.std.proofs.Common.{ap, ◌∙◌, inl, inr, arith}
 use Rattle.histar_flat.proofs.Options.{either_chosen}
@@ -12,26 +12,26 @@ use Rattle.histar_script.proofs.Chains.{none_left}
 use Rattle.histar_script.proofs.ScriptsBack.{line_takes, after, taken, lines_again}
 use Rattle.histar_script.proofs.Beginnings.{begun}
 
--- what reading lines answers
+-- the result of reading lines
 abbrev pub Answer : Type 0
 Answer = Result ScriptModel Fault
 
--- line n is bad
+-- the result that line n is bad
 abbrev pub failed : ℕ → Answer
 failed n = Err (BadScript n)
 
--- one answer has one bad line
+-- one result has one bad line
 same_line : (n k : ℕ) → failed n ≡ failed k → n ≡ k
 same_line n k e = cc
 
--- a bad line is after the lines before it, by one more line
+-- a bad line comes after those before it: one step
 bad_step : (s : ScriptModel) (k n : ℕ) (lines : List (List ℕ)) (o : Option ScriptModel)
     → after (k + 1) (λ m. with_lines m (k + 1) lines) o ≡ failed n
     → ((m : ScriptModel) → with_lines m (k + 1) lines ≡ failed n → k + 1 < n) → k < n
 bad_step s k n lines None e later = let same : k + 1 ≡ n = same_line (k + 1) n e in omega arith
 bad_step s k n lines (Some m) e later = omega (arith, later m e)
 
--- a bad line is after the lines before it
+-- a bad line comes after those before it
 pub later_bad : (s : ScriptModel) (k : ℕ) (lines : List (List ℕ)) (n : ℕ) → with_lines s k lines ≡ failed n → k < n
 unfolding with_lines
 later_bad s k [] n e =
@@ -39,7 +39,7 @@ later_bad s k [] n e =
     [ inl h ↦ let same : k + 1 ≡ n = same_line (k + 1) n h.1 in omega arith | inr h ↦ absurd cc ]
 later_bad s k (line ∷ lines) n e = bad_step s k n lines (with_line s (k + 1) line) e (λ m h. later_bad m (k + 1) lines n h)
 
--- what begins with the same lines as a text whose line n is bad is no script
+-- a text that begins with the same lines as one whose line n is bad is no script
 no_script : (s : ScriptModel) (k : ℕ) (lines others : List (List ℕ)) (n j : ℕ) (t : ScriptModel)
     → with_lines s k lines ≡ failed n → n ≡ k + j → j ≤ length lines → take j others ≡ take j lines
     → with_lines s k others ≡ Ok t → ⊥
@@ -62,7 +62,7 @@ begins_none text n bad le other script same is =
     no_script nothing_read 0 (lines_of text) (lines_of other) n n script bad (omega arith) le same
     (lines_again nothing_read 0 (lines_of other) script is.0 is.1)
 
--- the lines before a bad line are right, by one more line
+-- the lines before a bad line are right: one step
 before_step : (s : ScriptModel) (k : ℕ) (line : List ℕ) (lines : List (List ℕ)) (n j : ℕ) (o : Option ScriptModel)
     → with_line s (k + 1) line ≡ o → after (k + 1) (λ m. with_lines m (k + 1) lines) o ≡ failed n → n ≡ k + suc (suc j)
     → ((m : ScriptModel) → with_lines m (k + 1) lines ≡ failed n
@@ -92,7 +92,7 @@ before_bad s k (line ∷ lines) n (suc j) bad is =
     before_step s k line lines n j (with_line s (k + 1) line) refl bad is
     (λ m h. before_bad m (k + 1) lines n j h (omega arith))
 
--- a line that is found bad is the first bad one
+-- a line that is reported as bad is the first bad one
 pub first_bad : (text : List ℕ) (n : ℕ) → reading text ≡ Err (BadScript n) → IsFirstBad text n
 unfolding reading
 first_bad text n bad =

@@ -1,4 +1,4 @@
--- What a form of calls makes of a text is spelled by it, and a text that it spells makes the call.
+-- A call that a form makes of a text is spelled by the text, and a text that spells a call makes it.
 use Rattle.std.proofs.Common.{rules, ◌≡◌, ◌⊎◌, ℕ, zero, suc, ◌<◌, Bool, true, false, not, cond, ◌&&◌, List, [], ◌∷◌, ◌++◌, length, get_or, Option}
 use Rattle.std.proofs.Common.{Some, None, refl, sym, ap, subst, ◌∙◌, inl, inr, arith}
 use Rattle.std.specs.List.{Any, AllByRecursion, list_all}
@@ -22,19 +22,19 @@ use Rattle.histar_script.proofs.Parting.{parted, split_part}
 use Rattle.histar_script.proofs.WordsBack.{same_bytes}
 use Rattle.histar_script.proofs.ArgumentsBack.{is_bounded, is_word, value_takes, value_again, split_value}
 
--- ---- a form
+-- ---- one form
 
 -- a word, and what follows it after a space, if anything does
 abbrev pub word_and : List ℕ → Option (List ℕ) → List ℕ
 word_and word None = word
 word_and word (Some rest) = word space rest
 
--- a text is its first word, and what follows it
+-- a text is its first word and the rest
 pub rest_makes : (text : List ℕ) (rest : Option (List ℕ)) → (split_word text).1 ≡ rest → text ≡ word_and (split_word text).0 rest
 rest_makes text None end = split_part 32 text end
 rest_makes text (Some rest) on = parted text (split_word text).0 rest refl on
 
--- two values that are read are spelled, with a space between their texts
+-- the text spells two values, with a space between their texts
 record SpellTwo (a b : Argument) (text : List ℕ) (w : Value a × Value b) : Type 0 where
   pub first : List ℕ
   pub second : List ℕ
@@ -70,13 +70,13 @@ form_takes (two word a b make) (Some rest) c e =
     let is = two_values_take a b rest m.0 m.1 in
     (is.first, is.second, m.0.0, m.0.1, ap (λ (l : List ℕ). word space l) is.parts, is.spelled.0, is.spelled.1, sym m.2)
 
--- the numbers of a form have bounds, and an argument before another one is a word
+-- the form can be read: its numbers have bounds, and an argument before another one is a word
 abbrev is_readable : CallForm → Bool
 is_readable (alone word call) = true
 is_readable (one word a make) = is_bounded a
 is_readable (two word a b make) = is_bounded a && is_bounded b && is_word a
 
--- a text is read as the call: it begins with the word of the form, which makes the call of what follows
+-- the text makes the call: it begins with the word of the form, which makes the call of what follows
 record MakesCall (form : CallForm) (text : List ℕ) (c : UnixCall) : Type 0 where
   pub rest : Option (List ℕ)
   pub parts : split_word text ≡ (form_word form, rest)
@@ -116,11 +116,11 @@ first_or_other {X} P x xs (k, y, lt, is, p) = by k lt is
     by zero lt is = inl (subst P (sym is) p)
     by (suc k) lt is = inr (k, y, omega arith, is, p)
 
--- the first element has it
+-- the first element has the property
 pub any_first : {X : Type 0} (P : X → Type 0) (x : X) (xs : List X) → P x → Any P (x ∷ xs)
 any_first P x xs p = (0, x, omega arith, refl, p)
 
--- one of the others has it
+-- one of the others has the property
 pub any_other : {X : Type 0} (P : X → Type 0) (x : X) (xs : List X) → Any P xs → Any P (x ∷ xs)
 any_other P x xs (k, y, lt, is, p) = (suc k, y, omega arith, is, p)
 
@@ -146,7 +146,7 @@ abbrev are_readable : List CallForm → Bool
 are_readable [] = true
 are_readable (form ∷ forms) = lacks 32 (form_word form) && is_readable form && is_new_word (form_word form) forms && are_readable forms
 
--- a text is read as the call by one of the forms, whose word is none that is new to the list
+-- the text makes the call by one of the forms, whose word is not new to the list
 pub record MakesAmong (forms : List CallForm) (text : List ℕ) (c : UnixCall) : Type 0 where
   pub word : List ℕ
   pub rest : Option (List ℕ)
@@ -187,19 +187,19 @@ among_again (form ∷ forms) text c right h =
 
 -- ---- what holds of each call of the table
 
--- P holds of the calls that the form makes
+-- the property holds of the calls that the form makes
 abbrev pub IsRightForm : (UnixCall → Type 0) → CallForm → Type 0
 IsRightForm P (alone word call) = P call
 IsRightForm P (one word a make) = (s : List ℕ) (x : Value a) → Spells a s x → P (make x)
 IsRightForm P (two word a b make) = (s t : List ℕ) (x : Value a) (y : Value b) → Spells a s x → Spells b t y → P (make x y)
 
--- it holds of a call that the form spells
+-- the property holds of a call that the form spells
 form_makes : (P : UnixCall → Type 0) (text : List ℕ) (c : UnixCall) (form : CallForm) → IsRightForm P form → SpellsCall text c form → P c
 form_makes P text c (alone word call) right h = subst P (sym h.1) right
 form_makes P text c (one word a make) right h = subst P (sym h.4) (right h.0 h.1 h.3)
 form_makes P text c (two word a b make) right h = subst P (sym h.7) (right h.0 h.1 h.2 h.3 h.5 h.6)
 
--- it holds of a call that a form of the list spells
+-- the property holds of a call that a form of the list spells
 forms_make : (P : UnixCall → Type 0) (text : List ℕ) (c : UnixCall) (forms : List CallForm) → AllByRecursion (IsRightForm P) forms
     → Any (SpellsCall text c) forms → P c
 forms_make P text c [] right (k, y, lt, is, p) = absurd (omega arith)
@@ -217,24 +217,24 @@ spelled_is P right text c h = forms_make P text c call_forms right h
 forms_are_right : AllByRecursion (IsRightForm IsCall) call_forms
 forms_are_right = assumption refl
 
--- so is each call that a text spells
+-- each call that a text spells is one that a script can have
 pub spelled_is_call : (text : List ℕ) (c : UnixCall) → IsCallText text c → IsCall c
 spelled_is_call = spelled_is IsCall forms_are_right
 
 -- ---- each call has a form
 
--- one element after another may have it
+-- some element has the property, tested one after another
 abbrev AnyByRecursion : {X : Type 0} → (X → Type 0) → List X → Type 0
 AnyByRecursion P [] = ⊥
 AnyByRecursion P (x ∷ xs) = P x ⊎ AnyByRecursion P xs
 
--- then some element has it
+-- if one has it by recursion, some element has it
 any_from_recursion : {X : Type 0} (P : X → Type 0) (xs : List X) → AnyByRecursion P xs → Any P xs
 any_from_recursion P [] h = absurd h
 any_from_recursion P (x ∷ xs) (inl h) = any_first P x xs h
 any_from_recursion P (x ∷ xs) (inr h) = any_other P x xs (any_from_recursion P xs h)
 
--- each call has a form, which is found by a search; where the table lacks one, the search fails and names the call
+-- each call has a form, which is found by a search; if the table lacks one, the search fails and names the call
 some_form : (call : UnixCall) → AnyByRecursion (Makes call) call_forms
 some_form Spawn = search rules
 some_form _ = search rules
@@ -251,13 +251,13 @@ has_argument (alone word call) = false
 has_argument (one word a make) = true
 has_argument (two word a b make) = true
 
--- such a form makes no call of nothing
+-- a form with an argument makes no call of a word alone
 form_needs : (form : CallForm) → has_argument form ≡ true → call_by form None ≡ None
 form_needs (alone word call) h = absurd cc
 form_needs (one word a make) h = refl
 form_needs (two word a b make) h = refl
 
--- nor does a list of them
+-- a list of such forms makes no call of a word alone
 forms_need : (forms : List CallForm) (word : List ℕ) → list_all has_argument forms ≡ true → call_among forms word None ≡ None
 forms_need [] word h = refl
 forms_need (form ∷ forms) word h =

@@ -15,15 +15,15 @@ use Rattle.histar_script.proofs.Members.{members_after}
 use Rattle.histar_script.proofs.Parting.{parted, split_part}
 use Rattle.histar_script.proofs.WordsBack.{split_name, name_lacks_space, user_name_is_name}
 
--- ---- what is read is spelled so
+-- ---- what is read is spelled
 
--- members that are read behind others, a space before each of them in the text
+-- the members that are read after others are spelled in the text, with a space before each
 abbrev AreFound : ℕ → List Name → List ℕ → List Name → Type 0
 AreFound most before text members =
     (names : List Name) × (members ≡ before ++ names) × (32 ∷ text ≡ spaced names)
     × (list_all is_user_name names ≡ true) × (0 < length names) × (length names ≤ most)
 
--- a member, and what follows it
+-- a member and what follows it are spelled
 found_step : (most : ℕ) (before : List Name) (text : List ℕ) (name : Name) (members : List Name)
     (after : Option (List ℕ)) → is_user_name name ≡ true → (split_word text).0 ≡ name → (split_word text).1 ≡ after
     → ((rest : List ℕ) → members_from most (before ++ name ∷ []) rest ≡ Some members → AreFound most (before ++ name ∷ []) rest members)
@@ -46,7 +46,7 @@ found_step most before text name members (Some rest) named word on later e =
       omega (arith, r.5),
     )
 
--- members that are read are spelled so
+-- members that are read are spelled
 found : (most : ℕ) (before : List Name) (text : List ℕ) (members : List Name)
     → members_from most before text ≡ Some members → AreFound most before text members
 unfolding members_from
@@ -58,7 +58,7 @@ found (suc most) before text members e =
     found_step most before text a.0 members w.1 (ap is_user_name (sym name.1) ∙ name.0) name.1 refl
     (λ rest. found most (before ++ a.0 ∷ []) rest members) a.2
 
--- a group of this name and these members
+-- the group of this name and these members
 abbrev pub made_group : Name → List Name → Group
 made_group name members = record { name = name; members = members }
 
@@ -68,7 +68,7 @@ SpellsGroup text g =
     (text ≡ g.name ++ spaced g.members) × (is_user_name g.name ≡ true) × (list_all is_user_name g.members ≡ true)
     × (0 < length g.members) × (length g.members ≤ most_members)
 
--- a group of members that are found is spelled so
+-- a group with the members that are found is spelled
 found_group : (text rest : List ℕ) (name : Name) (members : List Name) → text ≡ name space rest
     → is_user_name name ≡ true → AreFound most_members [] rest members → SpellsGroup text (made_group name members)
 found_group text rest name members spelled named is = (
@@ -79,7 +79,7 @@ found_group text rest name members spelled named is = (
   subst (λ (names : List Name). length names ≤ most_members) (sym is.1) is.5,
 )
 
--- a group that is read is spelled so
+-- a text that is read as a group spells the group
 pub group_takes : (text : List ℕ) (g : Group) → group_of text ≡ Some g → SpellsGroup text g
 unfolding group_of
 group_takes text g e =
@@ -118,7 +118,7 @@ members_again (suc most) before name (next ∷ names) h le =
     ∙ ap (λ (l : List Name). Some l) (append_assoc before (name ∷ []) (next ∷ names))
     )
 
--- and a group that is spelled is read
+-- a text that spells a group is read as the group
 pub group_again : (name : Name) (members : List Name) → is_user_name name ≡ true → list_all is_user_name members ≡ true
     → 0 < length members → length members ≤ most_members
     → group_of (name ++ spaced members) ≡ Some (made_group name members)

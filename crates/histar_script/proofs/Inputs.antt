@@ -1,4 +1,4 @@
--- What is said of the bytes that a run took is said of the whole input, where that is known.
+-- From the bytes that a run took to the whole input, if that is known.
 use Rattle.std.proofs.Common.{◌≡◌, ℕ, ◌<◌, ltb, true, List, ◌++◌, length, Option, Some, None, Result, Ok, Err, sym, ap, subst, ◌∙◌, ◌⊎◌, inl, inr}
 use Rattle.std.proofs.Common.{refl, arith, rules, tests, append-nil}
 use Rattle.std.specs.Prelude.{IfSome}
@@ -12,7 +12,7 @@ use Rattle.histar_script.specs.Lines.{most_script_bytes}
 use Rattle.histar_script.specs.Reading.{script_of}
 use Rattle.histar_script.specs.Runs.{Running, RunsInput, RunsTaken, StopsReading}
 
--- a text of more bytes than a script may have is too long
+-- a text with more bytes than a script may have is too long
 long_is : (text : List ℕ) → most_script_bytes < length text → script_of text ≡ Err TooLong
 long_is text lt = let e : ltb most_script_bytes (length text) ≡ true = search (rules, tests) in rw e refl
 
@@ -36,7 +36,7 @@ taken_whole input (Some rest) taken takes =
     ]
 
 module _ {A : Type 0} (Runs : Running A) (old new : Option (List ℕ)) where
-  -- a known input that was taken was run
+  -- if a known input was taken, it was run
   pub taken_known : (left rest : Option (List ℕ)) (result : Result A Fault)
       → ((taken input : List ℕ) → AreLong taken input → Runs taken old new result → Runs input old new result)
       → RunsTaken Runs left rest old new result → IfSome left (λ input. Runs input old new result)
@@ -47,13 +47,13 @@ module _ {A : Type 0} (Runs : Running A) (old new : Option (List ℕ)) where
         | inr both ↦ long h.taken input both h.runs
       ]
 
-  -- a known input of which some was taken was run as far as that
+  -- if a known input was taken in part, it was run as far as that
   pub stopped_known : (left rest : Option (List ℕ)) (result : Result A Fault) → ((input : List ℕ) → Keeps old new → Runs input old new result)
       → StopsReading left rest old new → IfSome left (λ input. Runs input old new result)
   stopped_known None rest result runs h = tt
   stopped_known (Some input) rest result runs h = runs input h.keeps
 
-  -- a known input was run
+  -- if the input is known, it was run
   pub input_known : (left rest : Option (List ℕ)) (result : Result A Fault)
       → ((fault : Fault) (input : List ℕ) → result ≡ Err fault → Keeps old new
       → (fault ≡ OutOfMemory) ⊎ (fault ≡ ReadFailed) → Runs input old new (Err fault))

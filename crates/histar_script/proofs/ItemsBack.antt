@@ -1,4 +1,4 @@
--- Lines say by reading what they say by the grammar.
+-- Lines are read as what they say by the grammar.
 use Rattle.std.proofs.Common.{◌≡◌, ℕ, true, false, cond, eqb, List, [], ◌∷◌, ◌++◌, Option, Some, None, codes, refl, sym, ap, subst, ◌∙◌, inl, inr}
 use Rattle.std.specs.Str.{bytes_eq}
 use Rattle.std.proofs.lemmas.Bool.{eqb-true}
@@ -20,7 +20,7 @@ use Rattle.histar_script.proofs.ProcessesBack.{process_begins, process_takes, pr
 use Rattle.histar_script.proofs.CallsBack.{user_takes, user_again, call_takes, call_again}
 use Rattle.histar_script.proofs.GroupsBack.{group_takes, group_again}
 
--- a user line that is read is spelled so
+-- a user line that is read spells its user
 user_line_takes : (line rest : List ℕ) (i : Item) → line ≡ codes "user" space rest → user_item rest ≡ Some i → SaysInWords line i
 user_line_takes line rest i spelled e =
     let a = bind_some (user_of rest) (λ user. Some (items.User user)) i e in
@@ -29,7 +29,7 @@ user_line_takes line rest i spelled e =
     let is : IsUserText line a.0 = record { spelled = spelled ∙ ap (λ (l : List ℕ). codes "user" space l) u.0; name = u.1; password = u.2 } in
     subst (SaysInWords line) same is
 
--- a group line that is read is spelled so
+-- a group line that is read spells its group
 group_line_takes : (line rest : List ℕ) (i : Item) → line ≡ codes "group" space rest → group_item rest ≡ Some i → SaysInWords line i
 group_line_takes line rest i spelled e =
     let a = bind_some (group_of rest) (λ group. Some (items.Group group)) i e in
@@ -44,7 +44,7 @@ group_line_takes line rest i spelled e =
     } in
     subst (SaysInWords line) same is
 
--- a call line that is read is spelled so
+-- a call line that is read spells its call
 call_line_takes : (line word rest : List ℕ) (i : Item) → line ≡ word space rest → call_item word rest ≡ Some i → SaysInWords line i
 call_line_takes line word rest i spelled e =
     let a = bind_some (process_of word) (λ process. call_of rest >>= λ call. Some (items.Call process call)) i e in
@@ -53,15 +53,15 @@ call_line_takes line word rest i spelled e =
     let same : items.Call a.0 b.0 ≡ i = cc in
     subst (SaysInWords line) same (rest, spelled ∙ ap (λ (w : List ℕ). w space rest) p.0, p.1, call_takes rest b.0 b.1)
 
--- what a line that is no user's says by its word and what follows it
+-- the item of a line other than a user's, by its word and what follows it
 abbrev group_or_call : List ℕ → List ℕ → Option Item
 group_or_call word rest = cond (bytes_eq word (codes "group")) (group_item rest) (call_item word rest)
 
--- what a line says by its word and what follows it
+-- the item of a line, by its word and what follows it
 abbrev line_by : List ℕ → List ℕ → Option Item
 line_by word rest = cond (bytes_eq word (codes "user")) (user_item rest) (group_or_call word rest)
 
--- a line of words that is read is spelled so
+-- a line of words that is read says its item
 words_take : (line : List ℕ) (i : Item) → words_item line ≡ Some i → SaysInWords line i
 unfolding words_item
 words_take line i e =
@@ -75,7 +75,7 @@ words_take line i e =
       ]
     ]
 
--- what a line says by reading, it says by the grammar
+-- a line that is read as an item says it by the grammar
 pub item_takes : (line : List ℕ) (i : Item) → item_of line ≡ Some i → Says line i
 unfolding item_of
 item_takes [] i e = inl (refl, cc)
@@ -96,15 +96,15 @@ zero_item : (line rest : List ℕ) → line ≡ codes "0" ++ rest → is_plain l
 unfolding item_of
 zero_item line rest begins plain = ap item_of begins ∙ rw (ap is_plain (sym begins) ∙ plain) (ap words_item (sym begins))
 
--- a process is no `user`
+-- the text of a process is not `user`
 no_user : (process : ProcName) → bytes_eq (process_text process) (codes "user") ≡ false
 no_user process = ap (λ (l : List ℕ). bytes_eq l (codes "user")) (process_begins process).1
 
--- a process is no `group`
+-- the text of a process is not `group`
 no_group : (process : ProcName) → bytes_eq (process_text process) (codes "group") ≡ false
 no_group process = ap (λ (l : List ℕ). bytes_eq l (codes "group")) (process_begins process).1
 
--- what a line of words says by its parts
+-- the item of a line of words, by its parts
 abbrev item_by : List ℕ × Option (List ℕ) → Option Item
 item_by w = w.1 >>= line_by w.0
 
@@ -122,7 +122,7 @@ call_line_again process rest c plain named said =
     ∙ ap (λ o. o >>= λ p. call_of rest >>= λ call. Some (items.Call p call)) (process_again process named)
     ∙ ap (λ o. o >>= λ call. Some (items.Call process call)) (call_again rest c said)
 
--- and the other way
+-- a line of words that says an item is read as it
 words_again : (line : List ℕ) (i : Item) → is_plain line ≡ true → SaysInWords line i → item_of line ≡ Some i
 unfolding item_of words_item split_at_first
 words_again line items.Comment plain h = ap item_of h.1 ∙ rw (ap is_plain (sym h.1) ∙ plain) refl
@@ -138,7 +138,7 @@ words_again line (items.Group g) plain h =
     ) refl
 words_again line (items.Call process c) plain h = ap item_of h.1 ∙ call_line_again process h.0 c (ap is_plain (sym h.1) ∙ plain) h.2 h.3
 
--- and the other way
+-- a line that says an item by the grammar is read as it
 pub item_again : (line : List ℕ) (i : Item) → Says line i → item_of line ≡ Some i
 unfolding item_of
 item_again line i (inl h) = ap item_of h.0 ∙ ap (λ (x : Item). Some x) (sym h.1)

@@ -1,4 +1,4 @@
--- What holds of all that was read, line by line.
+-- Invariants of reading, line by line.
 use Rattle.std.proofs.Common.{◌≡◌, ◌≢◌, ℕ, ◌+◌, ◌<◌, ◌≤◌, List, [], ◌∷◌, ◌++◌, length, refl, sym, subst, arith, length-append, IsTrue}
 use Rattle.std.specs.Prelude.{All, AllPairs}
 use Rattle.std.proofs.lemmas.List.Elements.{All-nil, All-push}
@@ -14,15 +14,15 @@ use Rattle.histar_script.specs.Script.{ScriptModel, nothing_read, IsMembership, 
 use Rattle.histar_script.specs.Grammar.{Says, Adds, TakesLines, IsScript}
 use Rattle.histar_script.proofs.ItemsBack.{spells_user, spells_group}
 
--- a user whose name may be one
+-- the user's name is valid
 abbrev IsNamed : User → Type 0
 IsNamed u = IsTrue (is_user_name u.name)
 
--- users of two names
+-- two users have different names
 abbrev Differ : User → User → Type 0
 Differ u v = u.name ≢ v.name
 
--- a group whose name has the form of a user's
+-- the group's name is valid
 abbrev IsNamedGroup : Group → Type 0
 IsNamedGroup g = IsTrue (is_user_name g.name)
 
@@ -30,21 +30,21 @@ IsNamedGroup g = IsTrue (is_user_name g.name)
 abbrev IsNoUser : List User → Name → Type 0
 IsNoUser users name = All (λ u. u.name ≢ name) users
 
--- groups of two names
+-- two groups have different names
 abbrev GroupsDiffer : Group → Group → Type 0
 GroupsDiffer g h = g.name ≢ h.name
 
--- calls one after the other
+-- one call comes before the other
 abbrev Precedes : CallLine → CallLine → Type 0
 Precedes c d = c.line < d.line
 
--- a call of one of the first n lines
+-- the call is on one of the first n lines
 abbrev IsAmong : ℕ → CallLine → Type 0
 IsAmong n c = (0 < c.line) × (c.line ≤ n)
 
 -- ---- groups
 
--- where no group is declared, the groups are in order
+-- if no group is declared, the groups are valid
 no_groups : (accounts : Accounts) → accounts.groups ≡ [] → AreGroups accounts
 no_groups accounts none = record {
   few = rw none (omega arith);
@@ -54,7 +54,7 @@ no_groups accounts none = record {
   members = rw none (All-nil (IsMembership accounts.users));
 }
 
--- one group more, of a new name and with users as its members
+-- the groups stay valid with one more, of a new name and with users as its members
 one_more : (accounts : Accounts) (g : Group) → AreGroups accounts → length accounts.groups < 8 → IsNamedGroup g
     → IsNoUser accounts.users g.name → All (λ h. h.name ≢ g.name) accounts.groups → IsMembership accounts.users g
     → AreGroups (with_group accounts g)
@@ -68,7 +68,7 @@ one_more accounts g k room named no_user new members = record {
 
 -- ---- lines
 
--- what was read in the first n lines is in order
+-- what was read in the first n lines is valid
 record Kept (s : ScriptModel) (n : ℕ) : Type 0 where
   most : length s.accounts.users ≤ most_users
   named : All IsNamed s.accounts.users
@@ -77,7 +77,7 @@ record Kept (s : ScriptModel) (n : ℕ) : Type 0 where
   rising : AllPairs Precedes s.calls
   within : All (IsAmong n) s.calls
 
--- it is so before the first line
+-- this holds before the first line
 kept_at_first : Kept nothing_read 0
 kept_at_first = record {
   most = omega arith;
@@ -92,7 +92,7 @@ kept_at_first = record {
 among_more : (n : ℕ) (calls : List CallLine) → All (IsAmong n) calls → All (IsAmong (n + 1)) calls
 among_more n calls h = λ k d lt. let w = h k d lt in (w.0, omega (arith, w.1))
 
--- a line that adds nothing
+-- this holds after a line that adds nothing
 kept_later : (s : ScriptModel) (n : ℕ) → Kept s n → Kept s (n + 1)
 kept_later s n k = record {
   most = k.most;
@@ -103,7 +103,7 @@ kept_later s n k = record {
   within = among_more n s.calls k.within;
 }
 
--- an item that is added
+-- this holds after an item is added
 kept_item : (s : ScriptModel) (n : ℕ) (line : List ℕ) (i : Item) (t : ScriptModel) → Kept s n → Says line i → Adds s (n + 1) i t → Kept t (n + 1)
 kept_item s n line items.Comment t k said added = subst (λ (r : ScriptModel). Kept r (n + 1)) (sym added) (kept_later s n k)
 kept_item s n line (items.User u) t k said added =
@@ -139,18 +139,18 @@ kept_item s n line (items.Call p c) t k said added =
     } in
     subst (λ (r : ScriptModel). Kept r (n + 1)) (sym added.2) is
 
--- all lines
+-- this holds after all lines
 kept_all : (s : ScriptModel) (n : ℕ) (lines : List (List ℕ)) (t : ScriptModel) → TakesLines s n lines t → Kept s n → Kept t (n + length lines)
 kept_all s n [] t h k = let end : n ≡ n + 0 = omega arith in subst (λ (m : ℕ). Kept t m) end (subst (λ (r : ScriptModel). Kept r n) (sym h) k)
 kept_all s n (line ∷ lines) t h k =
     let far : n + 1 + length lines ≡ n + length (line ∷ lines) = omega arith in
     subst (λ (m : ℕ). Kept t m) far (kept_all h.0 (n + 1) lines t h.2 (kept_item s n line h.1.0 h.0 k h.1.1 h.1.2))
 
--- what a script says
+-- this holds of a script
 kept_script : (text : List ℕ) (script : ScriptModel) → IsScript text script → Kept script (0 + length (lines_of text))
 kept_script text script is = kept_all nothing_read 0 (lines_of text) script is.0 kept_at_first
 
--- the users and the groups of a script
+-- the users and the groups of a script are declared as the grammar says
 pub is_declared : (text : List ℕ) (script : ScriptModel) → IsScript text script → IsDeclared script.accounts
 is_declared text script is =
     let k = kept_script text script is in
@@ -159,7 +159,7 @@ is_declared text script is =
       groups = k.groups;
     }
 
--- the numbers of a script's calls
+-- the calls of a script are numbered by its lines
 pub numbered : (text : List ℕ) (script : ScriptModel) → IsScript text script → IsNumbered (length (lines_of text)) script.calls
 numbered text script is =
     let k = kept_script text script is in record { rising = k.rising; within = λ i d lt. let w = k.within i d lt in (w.0, omega (arith, w.1)) }

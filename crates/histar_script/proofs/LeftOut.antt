@@ -21,39 +21,39 @@ unfolding is_plain
 hash = inr (refl, ([], refl))
 
 module _ (job : ProcName) where
-  -- what is left of a script
+  -- a script without the job's calls
   abbrev left : ScriptModel → ScriptModel
   left = without_job job
 
-  -- a line stays where its item is none of the job's
+  -- a line stays if its item is not the job's
   line_stays : (line : List ℕ) (item : Item) → Says line item → is_job_item job (Some item) ≡ false → line_without job line ≡ line
   line_stays line item says other = ap (λ (b : Bool). cond b (codes "#") line) (ap (is_job_item job) (item_again line item says) ∙ other)
 
-  -- and is `#` where it is the job's
+  -- a line becomes `#` if its item is the job's
   line_goes : (line : List ℕ) (item : Item) → Says line item → is_job_item job (Some item) ≡ true → line_without job line ≡ codes "#"
   line_goes line item says own = ap (λ (b : Bool). cond b (codes "#") line) (ap (is_job_item job) (item_again line item says) ∙ own)
 
-  -- a call of the job more leaves what is left as it was
+  -- one more call of the job doesn't change the calls without the job's
   call_goes : (calls : List CallLine) (c : CallLine) → under_process job c.process ≡ true → without job (calls ++ c ∷ []) ≡ without job calls
   call_goes calls c own =
       filter-append (λ x. not (under_process job x.process)) calls (c ∷ [])
       ∙ ap (λ (t : Bool). without job calls ++ (cond (not t) (c ∷ []) [])) own ∙ append-nil (without job calls)
 
-  -- another call more is one more
+  -- one more call of another process is one more call without the job's
   call_stays : (calls : List CallLine) (c : CallLine) → under_process job c.process ≡ false
       → without job (calls ++ c ∷ []) ≡ without job calls ++ c ∷ []
   call_stays calls c other =
       filter-append (λ x. not (under_process job x.process)) calls (c ∷ [])
       ∙ ap (λ (t : Bool). without job calls ++ (cond (not t) (c ∷ []) [])) other
 
-  -- what stays is taken as it was
+  -- a line that stays is taken as before
   stays : (old mid : ScriptModel) (n : ℕ) (line : List ℕ) (item : Item) → Says line item
       → is_job_item job (Some item) ≡ false → Adds (left old) n item (left mid)
       → Takes (left old) n (line_without job line) (left mid)
   stays old mid n line item says other adds =
       subst (λ (l : List ℕ). Takes (left old) n l (left mid)) (sym (line_stays line item says other)) (item, says, adds)
 
-  -- a call line that is taken is taken as it is left
+  -- a call line that is taken is taken without the job too
   call_taken : (old mid : ScriptModel) (n : ℕ) (line : List ℕ) (p : ProcName) (c : UnixCall)
       → Says line (items.Call p c) → Adds old n (items.Call p c) mid → (b : Bool) → under_process job p ≡ b
       → Takes (left old) n (line_without job line) (left mid)
@@ -70,7 +70,7 @@ module _ (job : ProcName) where
       (call_stays old.calls (record { line = n; process = p; call = c }) other) in
       stays old mid n line (items.Call p c) says other (adds.0, adds.1, more)
 
-  -- a line that is taken is taken as it is left
+  -- a line that is taken is taken without the job too
   taken : (old mid : ScriptModel) (n : ℕ) (line : List ℕ) → Takes old n line mid → Takes (left old) n (line_without job line) (left mid)
   taken old mid n line (items.Comment, says, adds) = stays old mid n line items.Comment says refl (ap left adds)
   taken old mid n line (items.User u, says, adds) =
@@ -80,13 +80,13 @@ module _ (job : ProcName) where
       (ap (without job) adds.0, adds.1, adds.2, adds.3, adds.4, ap left adds.5)
   taken old mid n line (items.Call p c, says, adds) = call_taken old mid n line p c says adds (under_process job p) refl
 
-  -- and so are all lines
+  -- all lines that are taken are taken without the job too
   all_taken : (old new : ScriptModel) (n : ℕ) (lines : List (List ℕ)) → TakesLines old n lines new
       → TakesLines (left old) n (map (line_without job) lines) (left new)
   all_taken old new n [] e = ap left e
   all_taken old new n (line ∷ lines) (mid, takes, rest) = (left mid, taken old mid (n + 1) line takes, all_taken mid new (n + 1) lines rest)
 
--- so the script of these lines is what is left
+-- the script of these lines is the script without the job's calls
 pub comments_leave_out : CommentsLeaveOut
 comments_leave_out job text other s is same = (
   subst (λ (lines : List (List ℕ)). TakesLines nothing_read 0 lines (without_job job s)) (sym same)

@@ -1,4 +1,4 @@
--- Where a line ends, and what the rest of the text says.
+-- Where a line ends, and the lines of the rest of the text.
 use Rattle.std.proofs.Common.{◌≡◌, ℕ, zero, suc, ◌<◌, List, [], ◌∷◌, length, take, drop, refl, arith}
 use Rattle.memchr.specs.Find.{Nowhere, Passes, is_byte}
 use Rattle.histar_script.specs.Lines.{lines_of}

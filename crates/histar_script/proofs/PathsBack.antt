@@ -12,9 +12,9 @@ use Rattle.histar_script.specs.Lines.{split_word, ◌space◌}
 use Rattle.histar_script.proofs.Parting.{split_parts, split_part}
 use Rattle.histar_script.proofs.WordsBack.{name_lacks_space, name_lacks_slash, name_has_bytes}
 
--- ---- what is read is spelled so
+-- ---- what is read is spelled
 
--- a path that is found below a directory
+-- the path that is found below a directory is spelled
 abbrev IsFound : Path → ℕ → List ℕ → Path → Type 0
 IsFound directory most bs path =
     (names_text directory ++ slash ∷ bs ≡ path_text path) × (list_all is_name path ≡ true)
@@ -24,22 +24,22 @@ IsFound directory most bs path =
 entry_text : (directory : Path) (name : List ℕ) → names_text (name ∷ directory) ≡ names_text directory ++ slash ∷ name
 entry_text directory name = append_assoc (names_text directory) (codes "/") name
 
--- a name with a slash before it, behind a directory
+-- a directory, a slash and a name, before more
 with_name : (directory : Path) (name rest : List ℕ)
     → names_text directory ++ slash ∷ (name ++ slash ∷ rest) ≡ names_text (name ∷ directory) ++ slash ∷ rest
 with_name directory name rest =
     sym (ap (λ (l : List ℕ). l ++ slash ∷ rest) (entry_text directory name)
     ∙ append_assoc (names_text directory) (slash ∷ name) (slash ∷ rest))
 
--- the name that stands before the first slash
+-- the name before the first slash
 abbrev first_name : List ℕ → Name
 first_name bs = (split_at_first slash bs).0
 
--- what follows the name of a directory
+-- the path that what follows a directory's name leads to
 abbrev rest_from : ℕ → Path → Name → Option (List ℕ) → Option Path
 rest_from most directory name rest = elim rest [ None ↦ Some (name ∷ directory) | Some names ↦ path_from most (name ∷ directory) names ]
 
--- a name, and what follows it
+-- a name and what follows it are spelled
 found_step : (most : ℕ) (directory : Path) (bs : List ℕ) (path : Path) (after : Option (List ℕ))
     → list_all is_name directory ≡ true → is_name (first_name bs) ≡ true → (split_at_first slash bs).1 ≡ after
     → ((rest : List ℕ) → list_all is_name (first_name bs ∷ directory) ≡ true
@@ -58,7 +58,7 @@ found_step most directory bs path (Some rest) right name on later e =
     let spelled = ap (λ l. names_text directory ++ slash ∷ l) (split_parts slash bs rest on) ∙ with_name directory (first_name bs) rest in
     (spelled ∙ below.0, below.1, omega (arith, below.2))
 
--- names that are read are spelled so
+-- names that are read are spelled
 found : (most : ℕ) (directory : Path) (bs : List ℕ) (path : Path) → list_all is_name directory ≡ true
     → path_from most directory bs ≡ Some path → IsFound directory most bs path
 unfolding path_from
@@ -70,14 +70,14 @@ found (suc most) directory bs path right e =
       | inr h ↦ absurd cc
     ]
 
--- what stands behind the first slash of a path is spelled so
+-- what follows the first slash of a path is spelled
 root_takes : (bs : List ℕ) (path : Path) → path_from_root bs ≡ Some path → (slash ∷ bs ≡ path_text path) × (is_path path ≡ true)
 root_takes [] path e = let same : [] ≡ path = cc in subst (λ (q : Path). (slash ∷ [] ≡ path_text q) × (is_path q ≡ true)) same (refl, refl)
 root_takes (b ∷ bs) path e =
     let f = found most_names [] (b ∷ bs) path refl e in
     (f.0, rw (le-leb (length path) most_names f.2, f.1) refl)
 
--- a path that is read is spelled so
+-- a text that is read as a path spells the path
 pub path_takes : (text : List ℕ) (path : Path) → path_of text ≡ Some path → (text ≡ path_text path) × (is_path path ≡ true)
 path_takes [] path e = absurd cc
 path_takes (b ∷ bs) path e =
@@ -93,7 +93,7 @@ abbrev joined : Path → List ℕ → List ℕ
 joined [] rest = rest
 joined (n ∷ d) rest = joined d (n ++ slash ∷ rest)
 
--- with a slash before them they are its text
+-- with a slash before them these names are the directory's text
 joined_text : (directory : Path) (rest : List ℕ) → slash ∷ joined directory rest ≡ names_text directory ++ slash ∷ rest
 joined_text [] rest = refl
 joined_text (n ∷ d) rest = joined_text d (n ++ slash ∷ rest) ∙ with_name d n rest
@@ -116,12 +116,12 @@ read_last : (most : ℕ) (directory : Path) (name : Name) → is_name name ≡ t
 unfolding path_from
 read_last most directory name h = let split = split_alone slash name (name_lacks_slash name h) in rw (split, h, split) refl
 
--- what is not empty is no `/`
+-- a text with bytes after its slash is not `/`
 some_names : (bs : List ℕ) → 0 < length bs → path_from_root bs ≡ path_from most_names [] bs
 some_names [] some = absurd (omega arith)
 some_names (b ∷ bs) some = refl
 
--- a path of names that is spelled is read
+-- a text that spells a path with names is read as the path
 names_again : (name : Name) (directory : Path) → is_path (name ∷ directory) ≡ true → path_of (path_text (name ∷ directory)) ≡ Some (name ∷ directory)
 names_again name directory h =
     let parts = and_parts (leb (length (name ∷ directory)) most_names) (list_all is_name (name ∷ directory)) h in
@@ -138,7 +138,7 @@ names_again name directory h =
     ∙ read_on directory (suc (7 - length directory)) name names.1
     ∙ read_last (7 - length directory) directory name names.0
 
--- and a path that is spelled is read
+-- a text that spells a path is read as the path
 pub path_again : (path : Path) → is_path path ≡ true → path_of (path_text path) ≡ Some path
 path_again [] h = refl
 path_again (n ∷ d) h = names_again n d h

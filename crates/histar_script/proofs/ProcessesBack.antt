@@ -27,29 +27,29 @@ after_dot (Some rest) = dot ∷ rest
 child_text : (above : ProcName) (n : ℕ) → process_text (n ∷ above) ≡ process_text above ++ dot ∷ decimal n
 child_text above n = append_assoc (process_text above) (codes ".") (decimal n)
 
--- a number with a dot before it, behind a process
+-- a process, a dot and a number, before more
 with_number : (above : ProcName) (n : ℕ) (rest : List ℕ) → process_text above ++ dot ∷ (decimal n ++ rest) ≡ process_text (n ∷ above) ++ rest
 with_number above n rest = sym (ap (λ (l : List ℕ). l ++ rest) (child_text above n) ∙ append_assoc (process_text above) (dot ∷ decimal n) rest)
 
--- a text is what stands before its first dot, and what follows it
+-- a text is what comes before its first dot, and what follows it
 parts_make : (bs : List ℕ) (after : Option (List ℕ)) → (split_at_first dot bs).1 ≡ after → bs ≡ (split_at_first dot bs).0 ++ after_dot after
 parts_make bs None end = split_part dot bs end ∙ sym (append-nil (split_at_first dot bs).0)
 parts_make bs (Some rest) on = split_parts dot bs rest on
 
--- what has no dot ends at the dot after it, if there is one
+-- a word without a dot ends at the dot after it, if there is one
 split_dot : (word : List ℕ) (after : Option (List ℕ)) → lacks dot word ≡ true → split_at_first dot (word ++ after_dot after) ≡ (word, after)
 split_dot word None h = ap (split_at_first dot) (append-nil word) ∙ split_alone dot word h
 split_dot word (Some rest) h = split_before dot word rest h
 
--- ---- what is read is spelled so
+-- ---- what is read is spelled
 
--- a process that is found below another one
+-- the process that is found below another one is spelled
 abbrev IsFound : ProcName → ℕ → Option (List ℕ) → ProcName → Type 0
 IsFound above most after process =
     (process_text above ++ after_dot after ≡ process_text process) × (list_all is_child_number process ≡ true)
     × (length process ≤ length above + most)
 
--- where nothing follows, the process itself is found
+-- if nothing follows, the process itself is found
 found_itself : (most : ℕ) (above process : ProcName) → list_all is_child_number above ≡ true
     → process_from most above None ≡ Some process → IsFound above most None process
 found_itself most above process right e =
@@ -57,7 +57,7 @@ found_itself most above process right e =
     let same : above ≡ process = cc in
     subst (IsFound above most None) same (append-nil (process_text above), right, omega arith)
 
--- a number, and what follows it
+-- a number and what follows it are spelled
 found_step : (most : ℕ) (above : ProcName) (bs : List ℕ) (process : ProcName) (number : Option ℕ)
     → list_all is_child_number above ≡ true → number_of is_child_number (split_at_first dot bs).0 ≡ number
     → ((n : ℕ) → list_all is_child_number (n ∷ above) ≡ true
@@ -74,7 +74,7 @@ found_step most above bs process (Some n) right is later e =
     let spelled = ap (λ l. process_text above ++ dot ∷ l) parts ∙ with_number above n rest in
     (spelled ∙ below.0, below.1, omega (arith, below.2))
 
--- numbers that are read are spelled so
+-- numbers that are read are spelled
 found : (most : ℕ) (above : ProcName) (after : Option (List ℕ)) (process : ProcName)
     → list_all is_child_number above ≡ true → process_from most above after ≡ Some process
     → IsFound above most after process
@@ -85,7 +85,7 @@ found (suc most) above (Some bs) process right e =
     found_step most above bs process (number_of is_child_number (split_at_first dot bs).0) right refl
     (λ n. found most (n ∷ above) (split_at_first dot bs).1 process) (sym (from_first most above bs) ∙ e)
 
--- a process that is read is spelled so
+-- a text that is read as a process spells the process
 pub process_takes : (text : List ℕ) (process : ProcName) → process_of text ≡ Some process
     → (text ≡ process_text process) × (is_process process ≡ true)
 process_takes text process e =
@@ -105,7 +105,7 @@ abbrev joined : ProcName → Option (List ℕ) → Option (List ℕ)
 joined [] after = after
 joined (n ∷ p) after = joined p (Some (decimal n ++ after_dot after))
 
--- with 0 before them they are its text
+-- with 0 before them these numbers are the process's text
 joined_text : (process : ProcName) (after : Option (List ℕ)) → process_text process ++ after_dot after ≡ codes "0" ++ after_dot (joined process after)
 joined_text [] after = refl
 joined_text (n ∷ p) after = sym (with_number p n (after_dot after)) ∙ joined_text p (Some (decimal n ++ after_dot after))
@@ -131,11 +131,11 @@ read_on (n ∷ p) most after right =
     ∙ next_number (suc most) p text n (omega arith) is
     ∙ (λ i. process_from (less i) (n ∷ p) (split i).1)
 
--- behind the 0 numbers are read
+-- numbers are read after the 0
 behind_zero : (after : Option (List ℕ)) → process_of (codes "0" ++ after_dot after) ≡ process_from most_numbers [] after
 behind_zero after = ap (λ w. cond (bytes_eq w.0 (codes "0")) (process_from most_numbers [] w.1) None) (split_dot (codes "0") after refl)
 
--- and a process that is spelled is read
+-- a text that spells a process is read as the process
 pub process_again : (process : ProcName) → is_process process ≡ true → process_of (process_text process) ≡ Some process
 process_again process h =
     let parts = and_parts (leb (length process) most_numbers) (list_all is_child_number process) h in

@@ -7,7 +7,7 @@ use Rattle.histar_script.specs.Lines.{lines_of}
 use Rattle.histar_script.specs.Reading.{with_lines}
 use Rattle.histar_script.proofs.LineLemmas.{no_lines}
 
--- after the last line
+-- reading ends after the last line
 pub at_end : (s : ScriptModel) (n : ℕ) (rest : List ℕ) (total : Result ScriptModel Fault) → length rest ≡ 0
     → with_lines s n (lines_of rest) ≡ total
     → total ≡ cond (eqb (length s.accounts.users) 0) (Err (BadScript (n + 1))) (Ok s)

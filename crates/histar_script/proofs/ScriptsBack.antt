@@ -1,4 +1,4 @@
--- Lines are taken by reading as by the grammar, one after another.
+-- Reading takes lines as the grammar does, one after another.
 use Rattle.std.proofs.Common.{◌≡◌, ℕ, ◌+◌, ◌<◌, Bool, true, false, not, cond, eqb, ltb, ◌&&◌, List, [], ◌∷◌, ◌++◌, length, Option, Some, None, Result}
 use Rattle.std.proofs.Common.{Ok, Err, refl, sym, ap, subst, ◌∙◌}
 use Rattle.std.proofs.lemmas.Option.{cond_some}
@@ -30,7 +30,7 @@ has_members line users g is known apart =
       distinct = all_distinct g.members apart;
     }
 
--- an item that is taken adds to what was read
+-- an item that reading takes adds to the script by the grammar
 adds : (s : ScriptModel) (n : ℕ) (line : List ℕ) (i : Item) (t : ScriptModel) → Says line i → with_item s n i ≡ Some t → Adds s n i t
 unfolding with_item
 adds s n line items.Comment t said e = cc
@@ -69,7 +69,7 @@ adds s n line (items.Call p c) t said e =
     let parts = and_parts (not (is_empty s.accounts.users)) (is_declared_call s.accounts c) g.0 in
     (some_left s.accounts.users (not-true (is_empty s.accounts.users) parts.0), parts.1, sym g.1)
 
--- and the other way
+-- an item that adds to the script by the grammar is taken by reading
 adds_again : (s : ScriptModel) (n : ℕ) (i : Item) (t : ScriptModel) → Adds s n i t → with_item s n i ≡ Some t
 unfolding with_item
 adds_again s n items.Comment t h = ap (λ (x : ScriptModel). Some x) (sym h)
@@ -94,7 +94,7 @@ adds_again s n (items.Group g) t h =
     ) (ap (λ (x : ScriptModel). Some x) (sym h.5))
 adds_again s n (items.Call p c) t h = rw (not_empty s.accounts.users h.0, h.1) (ap (λ (x : ScriptModel). Some x) (sym h.2))
 
--- a line that is taken
+-- a line that reading takes is taken by the grammar
 pub line_takes : (s : ScriptModel) (n : ℕ) (line : List ℕ) (t : ScriptModel) → with_line s n line ≡ Some t → Takes s n line t
 unfolding with_line
 line_takes s n line t e =
@@ -102,12 +102,12 @@ line_takes s n line t e =
     let said = item_takes line a.0 a.1 in
     (a.0, said, adds s n line a.0 t said a.2)
 
--- and the other way
+-- a line that the grammar takes is taken by reading
 pub line_again : (s : ScriptModel) (n : ℕ) (line : List ℕ) (t : ScriptModel) → Takes s n line t → with_line s n line ≡ Some t
 unfolding with_line
 line_again s n line t h = rw (item_again line h.0 h.1) (adds_again s n h.0 t h.2)
 
--- what follows a line
+-- the result after a line
 abbrev pub after : ℕ → (ScriptModel → Result ScriptModel Fault) → Option ScriptModel → Result ScriptModel Fault
 after n rest o = elim o [ None ↦ Err (BadScript n) | Some t ↦ rest t ]
 
@@ -117,7 +117,7 @@ pub taken : (o : Option ScriptModel) (n : ℕ) (rest : ScriptModel → Result Sc
 taken None n rest t e = absurd cc
 taken (Some m) n rest t e = (m, refl, e)
 
--- the last answer is a script
+-- if the last result is a script, it is this one
 ended : (b : Bool) (f : Fault) (s t : ScriptModel) → cond b (Err f) (Ok s) ≡ Ok t → (b ≡ false) × (s ≡ t)
 ended true f s t e = absurd cc
 ended false f s t e = (refl, cc)

@@ -21,14 +21,14 @@ use Rattle.histar_script.proofs.Parting.{split_parts}
 
 -- ---- names
 
--- a name has its bytes
+-- a name is not empty
 pub name_has_bytes : (name : List ℕ) → is_name name ≡ true → 0 < length name
 unfolding is_name
 name_has_bytes name h =
     let short = and_parts (ltb 0 (length name) && leb (length name) 32) (list_all is_name_byte name) (and_parts _ (not (is_dots name)) h).0 in
     ltb-true 0 (length name) (and_parts (ltb 0 (length name)) (leb (length name) 32) short.0).0
 
--- each of them is one that a name may have
+-- each byte of a name is one that a name may have
 name_bytes : (name : List ℕ) → is_name name ≡ true → list_all is_name_byte name ≡ true
 unfolding is_name
 name_bytes name h = (and_parts _ (list_all is_name_byte name) (and_parts _ (not (is_dots name)) h).0).1
@@ -62,7 +62,7 @@ user_name_is_name name h =
     (and_parts (is_name name) (begins_with_letter name)
     (and_parts (is_name name && begins_with_letter name) (not (bytes_eq name (codes "nobody"))) h).0).0
 
--- the same bytes
+-- bytes that are found equal are equal
 pub same_bytes : (xs ys : List ℕ) → bytes_eq xs ys ≡ true → xs ≡ ys
 same_bytes xs ys h = (bytes_eq-Decides xs ys).0 h
 
@@ -72,7 +72,7 @@ same_bytes xs ys h = (bytes_eq-Decides xs ys).0 h
 abbrev IsSpelled : List ℕ → Mode → Type 0
 IsSpelled text mode = (text ≡ mode_text mode) × (is_line_mode mode ≡ true)
 
--- the mode of a group that is read is spelled so
+-- a text that is read as a group's mode spells the mode
 group_mode_takes : (text : List ℕ) (mode : Mode) → group_mode_of text ≡ Some mode → IsSpelled text mode
 unfolding group_mode_of
 group_mode_takes text mode e =
@@ -88,7 +88,7 @@ group_mode_takes text mode e =
       | inr h ↦ absurd cc
     ]
 
--- a mode that is read is spelled so, and a line can name it
+-- a text that is read as a mode spells it, and a line can name it
 pub mode_takes : (text : List ℕ) (mode : Mode) → mode_of text ≡ Some mode → (text ≡ mode_text mode) × (is_line_mode mode ≡ true)
 mode_takes text mode e =
     elim (either_chosen (bytes_eq text (codes "private")) (Some Private) (cond (bytes_eq text (codes "readable")) (Some Readable)
@@ -105,7 +105,7 @@ mode_takes text mode e =
           ]
     ]
 
--- and a mode that is spelled is read, where a line can name it
+-- a text that spells a mode is read as it, if a line can name it
 pub mode_again : (mode : Mode) → is_line_mode mode ≡ true → mode_of (mode_text mode) ≡ Some mode
 unfolding group_mode_of split_at_first
 mode_again Private h = refl

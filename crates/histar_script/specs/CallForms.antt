@@ -9,7 +9,7 @@ use Rattle.histar_flat.specs.Words.{Name, Password, Path, ProcName, greatest_sta
 use Rattle.histar_flat.specs.Modes.{is_line_mode}
 use Rattle.histar_flat.specs.Texts.{path_text, process_text, mode_text}
 
--- what an argument of a call can be; a number has a greatest one
+-- the kinds of arguments of calls; a number has a greatest one
 pub data Argument : Type 0 where
   a_path a_mode any_bytes a_name a_password a_process : Argument
   a_number : ℕ → Argument
@@ -45,7 +45,7 @@ pub data CallForm : Type 0 where
 abbrev pub lone_calls : List CallForm
 lone_calls = alone (codes "spawn") Spawn ∷ alone (codes "whoami") Whoami ∷ []
 
--- those that make a file or a directory, or write
+-- the calls that make a file or a directory, or write
 abbrev pub writing_calls : List CallForm
 writing_calls =
     two (codes "create") a_path a_mode Create
@@ -53,14 +53,14 @@ writing_calls =
     ∷ two (codes "write") a_path any_bytes Write
     ∷ two (codes "append") a_path any_bytes Append ∷ []
 
--- those that only read
+-- the calls that only read
 abbrev pub reading_calls : List CallForm
 reading_calls =
     one (codes "read") a_path Read
     ∷ one (codes "list") a_path ListCall
     ∷ one (codes "stat") a_path Stat ∷ []
 
--- those that take an entry away or give it another name, and the one that starts a job
+-- the calls that remove or rename an entry, and the one that starts a job
 abbrev pub entry_calls : List CallForm
 entry_calls =
     one (codes "unlink") a_path Unlink
@@ -69,7 +69,7 @@ entry_calls =
     ∷ two (codes "rename") a_path a_name Rename
     ∷ one (codes "wrap") a_path Wrap ∷ []
 
--- those of processes
+-- the calls of processes
 abbrev pub process_calls : List CallForm
 process_calls =
     one (codes "exit") (a_number greatest_status) Exit

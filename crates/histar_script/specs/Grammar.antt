@@ -12,7 +12,7 @@ use Rattle.histar_script.specs.Lines.{lines_of, is_plain, ◌space◌}
 use Rattle.histar_script.specs.CallForms.{Value, Spells, CallForm, alone, one, two, call_forms}
 use Rattle.histar_script.specs.Script.{ScriptModel, IsMembership, nothing_read, is_declared_call}
 
--- `user NAME PASSWORD`, the name being one that a user may have
+-- `user NAME PASSWORD`, where NAME may be a user's
 pub record IsUserText (text : List ℕ) (u : User) : Type 0 where
   pub spelled : text ≡ codes "user" space u.name space u.password
   pub name : IsTrue (is_user_name u.name)
@@ -22,7 +22,7 @@ pub record IsUserText (text : List ℕ) (u : User) : Type 0 where
 abbrev pub spaced : List (List ℕ) → List ℕ
 spaced words = flat_map (λ word. 32 ∷ word) words
 
--- `group NAME USER..`: the name of the group and those of 1 to 16 members, each of the form of a user's
+-- `group NAME USER..`: the name of the group and those of 1 to 16 members, each of which may be a user's
 pub record IsGroupText (text : List ℕ) (g : Group) : Type 0 where
   pub spelled : text ≡ codes "group" space (g.name ++ spaced g.members)
   pub name : IsTrue (is_user_name g.name)
@@ -70,11 +70,11 @@ Adds old n (items.Call p c) new =
     ≡ record
     { accounts = old.accounts; calls = old.calls ++ (record { line = n; process = p; call = c }) ∷ [] })
 
--- line n says an item that adds to what was read
+-- line n says an item that adds to the script so far
 abbrev pub Takes : ScriptModel → ℕ → List ℕ → ScriptModel → Type 0
 Takes old n line new = (item : Item) × Says line item × Adds old n item new
 
--- the lines after the first n, one after another
+-- these lines, after the first n, are taken one after another
 abbrev pub TakesLines : ScriptModel → ℕ → List (List ℕ) → ScriptModel → Type 0
 TakesLines old n [] new = new ≡ old
 TakesLines old n (line ∷ lines) new = (mid : ScriptModel) × Takes old (n + 1) line mid × TakesLines mid (n + 1) lines new

@@ -1,4 +1,4 @@
--- What reading comes to, whatever memory does: the grammar, and its first bad lines.
+-- What reading guarantees, whatever memory does: the grammar, and its first bad lines.
 use Rattle.std.specs.Prelude.{◌≡◌, ◌↔◌, ◌⊎◌, ℕ, Bool, false, Any, List, map, codes, Option, None, Some, Ok, Err, if◌then◌else◌}
 use Rattle.histar_flat.specs.declared.calls.UnixCall.{UnixCall}
 use Rattle.histar_flat.specs.Words.{ProcName}
@@ -22,23 +22,23 @@ Makes call (two word a b make) = (x : Value a) × (y : Value b) × (call ≡ mak
 abbrev pub EachCallHasForm : Type 0
 EachCallHasForm = (call : UnixCall) → Any (Makes call) call_forms
 
--- a text is read as a script exactly where it is this script by the grammar
+-- a text is read as a script exactly if it is this script by the grammar
 abbrev pub ReadingIsGrammar : Type 0
 ReadingIsGrammar = (text : List ℕ) (s : ScriptModel) → (reading text ≡ Ok s) ↔ IsScript text s
 
--- line n is answered as the bad one exactly where it is the first bad line by the grammar
+-- line n is reported as the bad one exactly if it is the first bad line by the grammar
 abbrev pub BadLineIsFirst : Type 0
 BadLineIsFirst = (text : List ℕ) (n : ℕ) → (reading text ≡ Err (BadScript n)) ↔ IsFirstBad text n
 
--- each text is a script of the grammar or has a first bad line
+-- each text is a script by the grammar or has a first bad line
 abbrev pub ScriptOrBadLine : Type 0
 ScriptOrBadLine = (text : List ℕ) → ((s : ScriptModel) × IsScript text s) ⊎ ((n : ℕ) × IsFirstBad text n)
 
--- a text is one script at most
+-- a text is at most one script
 abbrev pub OneReading : Type 0
 OneReading = (text : List ℕ) (a b : ScriptModel) → IsScript text a → IsScript text b → a ≡ b
 
--- what a line says is a call of the job: of its first process, or of one below that
+-- the item is a call of the job: of its first process, or of one below that
 abbrev pub is_job_item : ProcName → Option Item → Bool
 is_job_item job (Some (items.Call p c)) = under_process job p
 is_job_item job (Some (items.User u)) = false
@@ -46,7 +46,7 @@ is_job_item job (Some (items.Group g)) = false
 is_job_item job (Some items.Comment) = false
 is_job_item job None = false
 
--- the line, or `#` where it is a call of the job
+-- the line, or `#` if it is a call of the job
 abbrev pub line_without : ProcName → List ℕ → List ℕ
 line_without job line = if is_job_item job (item_of line) then codes "#" else line
 

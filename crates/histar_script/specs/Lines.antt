@@ -3,12 +3,12 @@ use Rattle.std.specs.Prelude.{ℕ, ◌||◌, ◌&&◌, Bool, List, [], ◌∷◌
 use Rattle.std.specs.List.{list_all}
 use Rattle.histar_flat.specs.Words.{split_at_first}
 
--- a byte before the first line of what follows
+-- the lines with one more byte in front of the first
 abbrev pub onto_line : ℕ → List (List ℕ) → List (List ℕ)
 onto_line b [] = (b ∷ []) ∷ []
 onto_line b (line ∷ lines) = (b ∷ line) ∷ lines
 
--- the lines: each is ended by the byte 10, which the last may lack
+-- the lines: each ends with the byte 10, which the last may lack
 unfoldable pub lines_of : List ℕ → List (List ℕ)
 lines_of [] = []
 lines_of (b ∷ bs) = if b == 10 then [] ∷ lines_of bs else onto_line b (lines_of bs)
@@ -25,7 +25,7 @@ most_script_lines = 16384
 abbrev pub most_line_bytes : ℕ
 most_line_bytes = 1024
 
--- more bytes or more lines than a script may have
+-- the text has more bytes or more lines than a script may have
 abbrev pub is_too_long : List ℕ → Bool
 is_too_long text = nat_lt most_script_bytes (length text) || nat_lt most_script_lines (length (lines_of text))
 
@@ -42,6 +42,6 @@ infixr 60 ◌space◌
 abbrev pub ◌space◌ : List ℕ → List ℕ → List ℕ
 word space rest = word ++ 32 ∷ rest
 
--- the bytes before the first space, and those after it where there is one
+-- the bytes before the first space, and those after it if there is one
 abbrev pub split_word : List ℕ → List ℕ × Option (List ℕ)
 split_word = split_at_first 32

@@ -1,4 +1,4 @@
--- What a script says.
+-- What a script contains: accounts and calls.
 use Rattle.std.specs.Prelude.{◌≡◌, ◌≢◌, ℕ, ◌<◌, ◌≤◌, Bool, true, List, [], length, IsTrue, All, AllPairs}
 use Rattle.std.specs.List.{Any}
 use Rattle.histar_flat.specs.declared.calls.User.{User}
@@ -9,12 +9,12 @@ use Rattle.histar_flat.specs.Words.{Name, ProcName, is_user_name}
 use Rattle.histar_flat.specs.Meaning.{without}
 use Rattle.histar_flat.specs.Accounts.{Accounts, Group, most_users, most_groups, most_members, no_accounts, is_declared_mode}
 
--- the users and the groups in their order, and the calls with the numbers of their lines
+-- the accounts, and the calls with the numbers of their lines
 pub record ScriptModel : Type 0 where
   pub accounts : Accounts
   pub calls : List CallLine
 
--- what was read before the first line
+-- the script before the first line
 abbrev pub nothing_read : ScriptModel
 nothing_read = record { accounts = no_accounts; calls = [] }
 
@@ -40,7 +40,7 @@ pub record IsMembership (users : List User) (group : Group) : Type 0 where
   pub declared : All (IsUserOf users) group.members
   pub distinct : AllPairs (λ a b. a ≢ b) group.members
 
--- the groups of a script: at most 8, each with users as its members and a name of the form of a user's that no user and no other group has
+-- the groups of a script: at most 8, each with users as its members and a valid name that no user and no other group has
 pub record AreGroups (accounts : Accounts) : Type 0 where
   pub few : length accounts.groups ≤ most_groups
   pub named : All (λ g. IsTrue (is_user_name g.name)) accounts.groups
@@ -53,13 +53,13 @@ pub record IsDeclared (accounts : Accounts) : Type 0 where
   pub users : IsUserList accounts.users
   pub groups : AreGroups accounts
 
--- the mode that a call names, if it names one, is for a user or for a group that is declared
+-- the group of the mode that a call names is declared; other modes and calls always pass
 abbrev pub is_declared_call : Accounts → UnixCall → Bool
 is_declared_call accounts (Create path mode) = is_declared_mode accounts mode
 is_declared_call accounts (Mkdir path mode) = is_declared_mode accounts mode
 is_declared_call accounts call = true
 
--- the calls of a script of so many lines: their numbers rise, and are numbers of lines
+-- the calls of a script with this many lines: their numbers rise, and are numbers of lines
 pub record IsNumbered (lines : ℕ) (calls : List CallLine) : Type 0 where
   pub rising : AllPairs (λ c d. c.line < d.line) calls
   pub within : All (λ c. (0 < c.line) × (c.line ≤ lines)) calls

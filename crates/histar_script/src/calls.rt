@@ -1,5 +1,5 @@
-//! Reading what a line says. `Ok(None)` is a bad line; paths, the bytes of a `write` or an `append` and the members of a group are
-//! copied, so memory may run out.
+//! Reading a line of a script. `Ok(None)` is a bad line. Paths, the bytes of a `write` or an `append` and the
+//! members of a group are copied, and memory may run out.
 ghost use Rattle.std.specs.Prelude.{◌≡◌, ◌++◌, Some, IfOk};
 ghost use Rattle.std.specs.Option.{option_copied};
 ghost use Rattle.histar_script.specs.CallForms.{a_path, a_mode, any_bytes, a_name, a_password, writing_calls, reading_calls};
@@ -16,7 +16,7 @@ use histar_flat::{
 };
 use std::alloc::{AllocError, Global};
 
-/// Reads `NAME PASSWORD`, the name being one that a user may have.
+/// Reads `NAME PASSWORD`, where NAME may be a user's.
 #[tactic(auto, unfolding(crate::specs::Reading::user_of))]
 fn read_user(text: &[u8]) -> Option<User>
     ensures { result ≡ user_of text.now }
@@ -84,7 +84,7 @@ fn read_name_and_password(text: &[u8]) -> Option<(Name, Password)>
     Some((name, password))
 }
 
-/// Reads a call: its word, and what follows it, if anything does.
+/// Reads a call: its word, and its arguments.
 #[tactic(auto, unfolding(crate::specs::Reading::call_of), using(crate::proofs::FormsBack::none_without_argument))]
 pub fn read_call(alloc: Global, text: &[u8]) -> Result<Option<UnixCall>, AllocError>
     ensures { IfOk result (λ call. call ≡ call_of text.now) }
@@ -102,7 +102,7 @@ pub fn read_call(alloc: Global, text: &[u8]) -> Result<Option<UnixCall>, AllocEr
     }
 }
 
-/// Returns a call that has no argument, unless something follows its word.
+/// Returns a call that has no argument, or `None` if something follows its word.
 fn lone_call(call: UnixCall, rest: Option<&[u8]>) -> Option<UnixCall>
     ensures { result ≡ lone_call_of call (option_copied rest.entry) }
 {
@@ -112,7 +112,8 @@ fn lone_call(call: UnixCall, rest: Option<&[u8]>) -> Option<UnixCall>
     }
 }
 
-/// Reads what follows the word of a call that has arguments, and of those that write first.
+/// Reads the arguments of a call whose word is `word`, if it is a call that writes, or one of the later
+/// groups.
 fn writing_call(alloc: Global, word: &[u8], rest: &[u8]) -> Result<Option<UnixCall>, AllocError>
     ensures { IfOk result (λ call.
         call ≡ call_among (writing_calls ++ reading_calls ++ entry_calls ++ process_calls) word.now (Some rest.now)) }
@@ -134,7 +135,8 @@ fn writing_call(alloc: Global, word: &[u8], rest: &[u8]) -> Result<Option<UnixCa
     }
 }
 
-/// Reads what follows the word of a call that doesn't write, and of those that read first.
+/// Reads the arguments of a call whose word is `word`, if it is a call that reads, or one of the later
+/// groups.
 fn reading_call(alloc: Global, word: &[u8], rest: &[u8]) -> Result<Option<UnixCall>, AllocError>
     ensures { IfOk result (λ call.
         call ≡ call_among (reading_calls ++ entry_calls ++ process_calls) word.now (Some rest.now)) }
@@ -150,7 +152,7 @@ fn reading_call(alloc: Global, word: &[u8], rest: &[u8]) -> Result<Option<UnixCa
     }
 }
 
-/// Reads what follows the word of a call on an entry, or of a process.
+/// Reads the arguments of a call whose word is `word`, if it is a call on an entry, or of a process.
 fn entry_call(alloc: Global, word: &[u8], rest: &[u8]) -> Result<Option<UnixCall>, AllocError>
     ensures { IfOk result (λ call.
         call ≡ call_among (entry_calls ++ process_calls) word.now (Some rest.now)) }
@@ -171,7 +173,7 @@ fn entry_call(alloc: Global, word: &[u8], rest: &[u8]) -> Result<Option<UnixCall
     }
 }
 
-/// Reads what follows the word of a call of processes.
+/// Reads the arguments of a call whose word is `word`, if it is a call of processes.
 fn process_call(word: &[u8], rest: &[u8]) -> Option<UnixCall>
     ensures { result ≡ call_among process_calls word.now (Some rest.now) }
 {
@@ -213,7 +215,7 @@ fn read_words(alloc: Global, line: &[u8]) -> Result<Option<Item>, AllocError>
     Ok(Some(Item::Call(process, call)))
 }
 
-/// Returns what a line says, unless it is bad.
+/// Returns what a line says, or `None` if the line is bad.
 #[tactic(auto, unfolding(crate::specs::Reading::item_of))]
 pub fn read_item(alloc: Global, line: &[u8]) -> Result<Option<Item>, AllocError>
     ensures { IfOk result (λ item. item ≡ item_of line.now) }

@@ -1,4 +1,4 @@
-//! What is asked of the users and the groups that are declared before a line.
+//! Checks of names and modes against the users and groups declared so far.
 ghost use Rattle.std.specs.Prelude.{◌≡◌};
 ghost use Rattle.histar_flat.specs.Accounts.{has as list_has, is_declared_mode as declared_mode};
 ghost use Rattle.histar_script.specs.Script.{is_declared_call as declared_call};
@@ -6,28 +6,28 @@ ghost use Rattle.histar_script.specs.Reading.{has_user as user_known, are_users 
 
 use histar_flat::{Accounts, Mode, Name, UnixCall, User};
 
-/// Whether a user has this name.
+/// Returns whether a user has this name.
 pub fn has_user(users: &[User], name: Name) -> bool
     ensures { result ≡ user_known users.now name }
 {
     users.iter().any(|user| user.name == name)
 }
 
-/// Whether no user and no group has this name.
+/// Returns whether no user and no group has this name.
 pub fn is_new_name(accounts: &Accounts, name: Name) -> bool
     ensures { result ≡ new_name accounts.now name }
 {
     !has_user(accounts.users(), name) && !accounts.has_group(name)
 }
 
-/// Whether each name is a user's.
+/// Returns whether each name is a user's.
 pub fn are_users(users: &[User], names: &[Name]) -> bool
     ensures { result ≡ users_named users.now names.now }
 {
     names.iter().all(|name| has_user(users, *name))
 }
 
-/// Whether no name is there twice.
+/// Returns whether no name occurs twice.
 pub fn are_distinct(names: &[Name]) -> bool
     ensures { result ≡ distinct names.now }
 {
@@ -47,7 +47,7 @@ fn has(names: &[Name], name: Name) -> bool
     names.iter().any(|other| name == *other)
 }
 
-/// Whether the mode that a call names, if it names one, is for a user or for a group that is declared.
+/// Returns whether the group of the mode that a call names is declared; other modes and calls always pass.
 pub fn is_declared_call(accounts: &Accounts, call: &UnixCall) -> bool
     ensures { result ≡ declared_call accounts.now call.now }
 {

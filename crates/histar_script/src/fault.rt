@@ -1,4 +1,4 @@
-//! What can go wrong.
+//! Faults: why a script is not read, or why its run stops.
 ghost use Rattle.std.specs.Prelude.{◌≡◌};
 ghost use Rattle.histar_script.specs.declared.fault.Fault.TheVariants.{OutOfMemory, WriteFailed};
 ghost use Rattle.histar_script.specs.Outcome.{input_fault};
@@ -10,7 +10,7 @@ use thiserror::Error;
 /// Why a script was not read, or its run stopped.
 #[derive(Clone, Copy, Debug, PartialEq, Eq, Error)]
 pub enum Fault {
-    /// The line, counted from 1, is the first bad one; a text that lacks users is bad one past its last line.
+    /// The number of the first bad line, from 1 on; a text without users is bad one line past its last.
     #[error("bad script at line {0}")]
     BadScript(u32),
     /// The script has more than 1,048,576 bytes or more than 16,384 lines.

@@ -1,4 +1,5 @@
-//! Reading what a line declares as a group. Names are put into a list, so memory may run out; `Ok(None)` is a bad line.
+//! Reading the declaration of a group. Names are put into a list, and memory may run out; `Ok(None)` is a bad
+//! line.
 ghost use Rattle.std.specs.Prelude.{◌≡◌, ◌≤◌, length, option_map, IfOk, IfSome};
 ghost use Rattle.histar_flat.specs.Accounts.{most_members};
 ghost use Rattle.histar_script.specs.Reading.{group_of, members_of};
@@ -10,7 +11,7 @@ use std::alloc::{AllocError, Global};
 /// The most members of a group.
 const MOST_MEMBERS: usize = 16;
 
-/// `NAME USER..`, each name being one that a user may have.
+/// Reads `NAME USER..`, where each name may be a user's.
 #[tactic(auto, unfolding(crate::specs::Reading::group_of))]
 pub fn read_group(alloc: Global, text: &[u8]) -> Result<Option<Group>, AllocError>
     ensures { IfOk result (λ group. group ≡ group_of text.now) }
@@ -26,7 +27,7 @@ pub fn read_group(alloc: Global, text: &[u8]) -> Result<Option<Group>, AllocErro
     Ok(members.map(|members| Group::new(name, members)))
 }
 
-/// The 1 to 16 names of users that the bytes are, with a space between two.
+/// Reads 1 to 16 names of users, with one space between two.
 fn read_members(alloc: Global, text: &[u8]) -> Result<Option<Vec<Name>>, AllocError>
     ensures names { IfOk result (λ members. option_map (λ names. names.items) members ≡ members_of text.now) }
     ensures few { IfOk result (λ members. IfSome members (λ names. length names.items ≤ most_members)) }

@@ -1,4 +1,4 @@
-//! What lines say.
+//! Items: what the lines of a script say.
 use histar_flat::{Group, ProcName, UnixCall, User};
 
 /// What one line says.

@@ -10,7 +10,7 @@ use memchr::memchr;
 /// The most bytes of a line.
 const MOST_LINE_BYTES: usize = 1_024;
 
-/// The first line of a text that is not empty, and what follows it.
+/// Returns the first line of a text that is not empty, and what follows it.
 pub fn split_line(text: &[u8]) -> (&[u8], &[u8])
     requires { 0 < length text.now }
     ensures first { lines_of text.now ≡ result.0.now ∷ lines_of result.1.now }
@@ -22,7 +22,7 @@ pub fn split_line(text: &[u8]) -> (&[u8], &[u8])
     }
 }
 
-/// How many lines a text has.
+/// Returns how many lines a text has.
 pub fn count_lines(text: &[u8]) -> usize
     ensures { result ≡ length (lines_of text.now) }
 {
@@ -36,7 +36,7 @@ pub fn count_lines(text: &[u8]) -> usize
     count
 }
 
-/// The bytes before the first space, and those after it where there is one.
+/// Returns the bytes before the first space, and those after it if there is one.
 pub fn split_word(text: &[u8]) -> (&[u8], Option<&[u8]>)
     ensures word { result.0.now ≡ (word_split text.now).0 }
     ensures rest { option_copied result.1 ≡ (word_split text.now).1 }
@@ -44,7 +44,7 @@ pub fn split_word(text: &[u8]) -> (&[u8], Option<&[u8]>)
     split_at_first(text, b' ')
 }
 
-/// Whether a line is short enough and printable.
+/// Returns whether a line is short enough and printable.
 #[tactic(auto, unfolding(crate::specs::Lines::is_plain))]
 pub fn is_plain(line: &[u8]) -> bool
     ensures { result ≡ plain line.now }
@@ -52,8 +52,8 @@ pub fn is_plain(line: &[u8]) -> bool
     line.len() <= MOST_LINE_BYTES && has_plain_bytes(line)
 }
 
-// Whether all bytes are printable. It goes on behind one that isn't, which is rare, so that many bytes are
-// looked at at once.
+// Returns whether all bytes are printable. It doesn't stop at one that isn't, which is rare, and can then
+// test many bytes at once.
 fn has_plain_bytes(line: &[u8]) -> bool
     ensures { result ≡ list_all plain_byte line.now }
 {

@@ -27,7 +27,7 @@ const MOST_USERS: usize = 16;
 /// The most groups of a script.
 const MOST_GROUPS: usize = 8;
 
-/// The session that a script declares, and its calls.
+/// A script: the accounts that it declares, and its calls.
 #[derive(Drop)]
 pub struct Script {
     accounts: Accounts,
@@ -43,14 +43,14 @@ impl Model for Script {
 }
 
 impl Script {
-    /// The users and the groups, each in the order of their lines.
+    /// Returns the users and the groups, each in the order of their lines.
     pub fn accounts(&self) -> &Accounts
         ensures { result.now ≡ self.now.accounts }
     {
         &self.accounts
     }
 
-    /// The session, and the calls, to be taken one by one.
+    /// Returns the accounts and the calls as values of their own.
     pub fn into_parts(self) -> (Accounts, Vec<CallLine>)
         ensures accounts { result.0 ≡ self.accounts }
         ensures calls { result.1.items ≡ self.calls }
@@ -58,7 +58,7 @@ impl Script {
         (self.accounts, self.calls)
     }
 
-    /// The script in which each line of a job, of its first process or of one below it, is a comment.
+    /// Returns the script in which each line of a job, of its first process or of one below it, is a comment.
     pub fn without(self, job: &ProcName) -> Script
         ensures { result ≡ without_job job.now self }
     {
@@ -70,7 +70,7 @@ impl Script {
         Script { accounts, calls }
     }
 
-    /// Returns what is read before the first line: nothing.
+    /// Returns the script of no lines.
     pub fn new(alloc: Global) -> Script
         ensures { result ≡ nothing_read }
     {
@@ -80,7 +80,7 @@ impl Script {
         }
     }
 
-    /// Takes line `line`, which says `item`.
+    /// Adds the item of a line, or returns its fault.
     #[tactic(auto, unfolding(crate::specs::ScriptModel::with_item))]
     pub fn add(&mut self, line: u32, item: Item) -> Result<(), Fault>
         ensures { GivesNext line result self.new (with_item self.old line item) }
@@ -141,26 +141,26 @@ impl Script {
     }
 }
 
-/// Whether a script is over a limit: more than 1,048,576 bytes, or more than 16,384 lines.
+/// Returns whether a script is over a limit: more than 1,048,576 bytes, or more than 16,384 lines.
 pub fn is_too_long(text: &[u8]) -> bool
     ensures { result ≡ too_long text.now }
 {
     text.len() > MOST_SCRIPT_BYTES || count_lines(text) > MOST_SCRIPT_LINES
 }
 
-/// The script that the bytes are. The whole text is read before anything is made of it. At `OutOfMemory` nothing
-/// more is said; `ReadFailed` and `WriteFailed` are never answered here.
+/// Reads the script that the bytes are. The whole text is read before anything is made of it. `OutOfMemory`
+/// implies nothing about the text; `ReadFailed` and `WriteFailed` are never returned here.
 pub fn read_script(alloc: Global, text: &[u8]) -> Result<Script, Fault>
-    // What the text is, unless memory runs out.
+    // The result is that of the text, unless memory runs out.
     ensures exact { Gives result (script_of text.now) }
-    // Its length is looked at first, and takes no memory.
+    // The limits are checked first, which takes no memory.
     ensures long { IsTrue (too_long text.now) → IsErrOf result Fault.TooLong }
-    // What is read is a script of the grammar.
+    // A script that is read is one by the grammar.
     ensures found { IfOk result (IsScript text.now) }
     // A script of the grammar within the limits is read, unless memory runs out.
     ensures only { (script : ScriptModel) → too_long text.now ≡ false → IsScript text.now script
         → Gives result (Ok script) }
-    // The users and the groups are those of a script.
+    // The users and the groups are valid together.
     ensures declared { IfOk result (λ script. IsDeclared script.accounts) }
     // The numbers of the calls rise, and are numbers of lines.
     ensures numbered { IfOk result (λ script. IsNumbered (length (lines_of text.now)) script.calls) }

@@ -1,4 +1,4 @@
--- What others may not change stays as it is.
+-- What a process may not change stays as it is in its calls.
 use Rattle.std.specs.Prelude.{◌≡◌, Bool, true, false, not, ◌||◌, cond, List, [], ◌∷◌, ◌++◌, Some, None, refl}
 use Rattle.std.proofs.Common.{ap, sym, ◌∙◌, subst, inl, inr}
 use Rattle.std.proofs.lemmas.Bool.{true≢false, and_parts, not-true, or_cases, cases_Bool}
@@ -34,11 +34,11 @@ module _ (accounts : Accounts) (f : Flat) (path : Path) where
   abbrev pub IsWayKept : Flat → Type 0
   IsWayKept s = (r : Path) → under_path r path ≡ true → get s.files r ≡ get f.files r
 
-  -- who runs and is no changer by its name may not change what is there
+  -- a running process that is no changer by its name may not change what is at the path
   abbrev pub OthersMayNot : Flat → Type 0
   OthersMayNot s = (x : ProcName) (p : Process) → running s x ≡ Some p → is_changer accounts f path x ≡ false → may_change accounts f p path ≡ false
 
-  -- a later state
+  -- the facts that hold in a later state
   pub record IsKept (s : Flat) : Type 0 where
     pub tree : IsTree s
     pub given : (x : ProcName) → is_given f.processes x ≡ true → is_given s.processes x ≡ true
@@ -54,7 +54,7 @@ module _ {accounts : Accounts} {f : Flat} {path : Path} (names : NamesAreGiven f
     mine : may_change accounts f p path ≡ false
     mine = kept.others me p runs silent
 
-    -- what p writes is not on the way
+    -- what p writes is not on the way to the path
     not_written : (r : Path) → writes accounts s p r ≡ true → under_path r path ≡ false
     not_written r w = elim (cases_Bool (under_path r path)) [
       | inl u ↦
@@ -63,7 +63,7 @@ module _ {accounts : Accounts} {f : Flat} {path : Path} (names : NamesAreGiven f
       | inr u ↦ u
     ]
 
-    -- and neither is what lies in it
+    -- neither is an entry of what p writes
     not_in_written : (n : Name) (d : Path) → writes accounts s p d ≡ true → (r : Path) → under_path r path ≡ true → under_path (n ∷ d) r ≡ false
     not_in_written n d w r u = elim (cases_Bool (under_path (n ∷ d) r)) [
       | inl v ↦
@@ -105,7 +105,7 @@ module _ {accounts : Accounts} {f : Flat} {path : Path} (names : NamesAreGiven f
           put_elsewhere (n ∷ d) (record { class = Scratch p.user (inner_chain me p); content = Dir }) r u (not_in_written n d w r u);
     }
 
-    -- the new job is carried by no class that was there
+    -- no class that was there carries the new job
     not_carried : (r : Path) (node : Node) → get f.files r ≡ Some node → carries (next_child me p) node.class ≡ true → ⊥
     not_carried r node at c =
         true≢false (sym (kept.given (next_child me p) (names.of_carried_jobs r node (next_child me p) at c)) ∙ next_is_new s me p here)
@@ -216,7 +216,7 @@ module _ {accounts : Accounts} {f : Flat} {path : Path} (names : NamesAreGiven f
     others = λ x p runs c. sym (ap (λ o. is_some_and o (λ q. may_change accounts f q path)) runs) ∙ c;
   }
 
--- What is at the path stays while none who may change it calls anything.
+-- What is at a path stays as it is while no changer calls anything.
 pub others_change_nothing : OthersChangeNothing
 others_change_nothing accounts f reached path node at calls silent quiet =
     let names = subst NamesAreGiven reached.1 (names_are_given_once.old accounts reached.0) in

@@ -1,4 +1,5 @@
--- Who knows a job after a call knew it before, or is of a job that was started just now; and what holds of the jobs of each state.
+-- A process that knows a job after a call belongs to a user that knew it before, or to a job started by the call; and facts about jobs in
+-- each state.
 use Rattle.std.specs.Prelude.{◌≡◌, ◌≢◌, ◌⊎◌, Bool, true, false, ◌||◌, List, [], ◌∷◌, ◌++◌, Some, None, refl}
 use Rattle.std.proofs.Common.{ap, sym, ◌∙◌, subst, inl, inr}
 use Rattle.std.proofs.lemmas.Bool.{true≢false, or_cases}
@@ -32,7 +33,7 @@ pub record IsKnown (f : Flat) (job : ProcName) (user : Name) : Type 0 where
   pub known : knows process job ≡ true
   pub of_user : process.user ≡ user
 
--- the job was started just now, by a call of `me`
+-- the call of `me` has just started the job
 pub record IsNew (f g : Flat) (me : ProcName) (job : ProcName) (user : Name) : Type 0 where
   pub process : Process
   pub there : f.processes me ≡ Some process
@@ -40,7 +41,7 @@ pub record IsNew (f g : Flat) (me : ProcName) (job : ProcName) (user : Name) : T
   pub of_user : process.user ≡ user
   pub started : IsStarted job g
 
--- who knows a job after a call knew it before, or is of a job that the caller started
+-- for a job that a process knows after a call, its user knew it before, or the caller has started it
 abbrev pub KnowsWhatItKnew : Flat → ProcName → Flat → Type 0
 KnowsWhatItKnew f me g = IsTree g → NamesAreGiven g → (x : ProcName) (y : Process) (job : ProcName) → g.processes x ≡ Some y → knows y job ≡ true
     → IsKnown f job y.user ⊎ IsNew f g me job y.user
@@ -52,7 +53,7 @@ free_knows_none [] job h = refl
 free_knows_none (k ∷ ks) job h = absurd (true≢false (sym h))
 
 module _ (accounts : Accounts) (f : Flat) (names : NamesAreGiven f) (me : ProcName) (p : Process) (here : f.processes me ≡ Some p) where
-  -- a job that p knows
+  -- p's user knows a job that p knows
   by_caller : (y : Process) (job : ProcName) → p.user ≡ y.user → knows p job ≡ true → IsKnown f job y.user
   by_caller y job user k = record { name = me; process = p; there = here; known = k; of_user = user }
 
@@ -63,7 +64,7 @@ module _ (accounts : Accounts) (f : Flat) (names : NamesAreGiven f) (me : ProcNa
   knows_chain : (job : ProcName) → has p.chain job ≡ true → knows p job ≡ true
   knows_chain job h = ap (λ b. b || has p.held job) h
 
-  -- where one process changed
+  -- the fact holds after one process changed and knows no more
   one_changed : (q : Process) → p.user ≡ q.user → ((job : ProcName) → knows q job ≡ true → knows p job ≡ true)
       → KnowsWhatItKnew f me (with_process f me q)
   one_changed q user less tree given x y job there k = elim (put_cases f me q x y there) [
@@ -71,14 +72,14 @@ module _ (accounts : Accounts) (f : Flat) (names : NamesAreGiven f) (me : ProcNa
     | inr t ↦ inl (by_old x y job t k)
   ]
 
-  -- where p logged in, and so knows nothing
+  -- the fact holds after p logged in, and knows no job
   logged_in : (name : Name) → is_free p ≡ true → KnowsWhatItKnew f me (with_process f me (login_of p name))
   logged_in name free tree given x y job there k = elim (put_cases f me (login_of p name) x y there) [
     | inl t ↦ absurd (true≢false (sym (ap (λ z. knows z job) t.1 ∙ k) ∙ free_knows_none p.chain job free))
     | inr t ↦ inl (by_old x y job t k)
   ]
 
-  -- where a child was born in the same jobs
+  -- the fact holds after a child was born in the same jobs
   spawned : KnowsWhatItKnew f me (with_child f me p p.chain)
   spawned tree given x y job there k = elim (born_cases f me (grown p) (next_child me p) (child_of p p.chain) x y there) [
     | inl t ↦ inl (by_caller y job (ap (λ z. z.user) t.1) (knows_chain job (in_chain p.chain job (ap (λ z. knows z job) t.1 ∙ k))))
@@ -88,12 +89,12 @@ module _ (accounts : Accounts) (f : Flat) (names : NamesAreGiven f) (me : ProcNa
     ]
   ]
 
-  -- where a job was started
+  -- the fact holds after a job was started
   module _ (n : Name) (d : Path) (started : IsStarted (next_child me p) (changed accounts f me p (Wrap (n ∷ d)))) where
     abbrev Found : Process → ProcName → Type 0
     Found y job = IsKnown f job y.user ⊎ IsNew f (changed accounts f me p (Wrap (n ∷ d))) me job y.user
 
-    -- a list of jobs with the new one
+    -- for a list of jobs with the new one the fact holds too
     longer : (jobs : List ProcName) (y : Process) (job : ProcName) → p.user ≡ y.user → (has jobs job ≡ true → knows p job ≡ true)
         → has (jobs ++ next_child me p ∷ []) job ≡ true → Found y job
     longer jobs y job user less h = elim (longer_has jobs (next_child me p) job h) [
@@ -137,16 +138,16 @@ module _ (accounts : Accounts) (f : Flat) (names : NamesAreGiven f) (me : ProcNa
     wraps = λ n d is walked free w named tree given. wrapped_now n d (started_now accounts f names me p here n d tree given);
   }
 
--- what holds of the jobs of each state that calls lead to
+-- the facts that hold of the jobs in each state that calls lead to
 pub record AreJobs (f : Flat) : Type 0 where
   pub tree : IsTree f
   pub names : NamesAreGiven f
   -- each job that a process knows was started
   pub started : (x : ProcName) (y : Process) (job : ProcName) → f.processes x ≡ Some y → knows y job ≡ true → IsStarted job f
-  -- all that know a job are of one user
+  -- all processes that know a job are of one user
   pub one_user : (x x' : ProcName) (y y' : Process) (job : ProcName) → f.processes x ≡ Some y → knows y job ≡ true → f.processes x' ≡ Some y'
       → knows y' job ≡ true → y.user ≡ y'.user
-  -- process 0 is no job
+  -- process 0 is no process of a job
   pub child : (x : ProcName) (y : Process) (job : ProcName) → f.processes x ≡ Some y → knows y job ≡ true → job ≢ []
 
 -- a process that is there knows the job
@@ -154,7 +155,7 @@ pub record IsKnower (f : Flat) (name : ProcName) (process : Process) (job : Proc
   pub there : f.processes name ≡ Some process
   pub known : knows process job ≡ true
 
--- Who knows a job after a line knew it before, or is of a job that was started.
+-- A job that a process knows after a line was known to a process of its user before, or was started by the line.
 pub known_after : (accounts : Accounts) {f : Flat} → AreJobs f → (me : ProcName) (call : UnixCall) {x : ProcName} {y : Process} {job : ProcName}
     → IsKnower (flat_after accounts f me call) x y job → IsKnown f job y.user ⊎ IsNew f (flat_after accounts f me call) me job y.user
 known_after accounts {f} h me call {x} {y} {job} knower =
@@ -163,11 +164,11 @@ known_after accounts {f} h me call {x} {y} {job} knower =
     (λ p runs. known_changes accounts f h.names me p (runs_is_there (f.processes me) p runs) call)
     (tree_after f h.tree accounts me call) (given_after accounts f me call h.tree h.names) x y job knower.there knower.known
 
--- a job that is known was given, and so is not new
+-- a job that is known was given, and is not new
 pub not_new : (f g : Flat) (me : ProcName) (job : ProcName) (user : Name) → is_given f.processes job ≡ true → IsNew f g me job user → ⊥
 not_new f g me job user given new = true≢false (sym given ∙ ap (is_given f.processes) new.named ∙ next_is_new f me new.process new.there)
 
--- What holds of the jobs holds after each line.
+-- The facts about jobs hold after each line.
 pub jobs_after : (accounts : Accounts) (f : Flat) → AreJobs f → (me : ProcName) (call : UnixCall) → AreJobs (flat_after accounts f me call)
 jobs_after accounts f h me call = record {
   tree = tree_after f h.tree accounts me call;
@@ -197,7 +198,7 @@ jobs_after accounts f h me call = record {
         let one : t.process ≡ u.process = cc in
         sym t.of_user ∙ ap (λ z. z.user) one ∙ u.of_user
 
--- at the start nobody knows a job
+-- at the start no process knows a job
 knows_none : (accounts : Accounts) (x : ProcName) (y : Process) (job : ProcName) → (boot accounts).processes x ≡ Some y → knows y job ≡ true → ⊥
 knows_none accounts [] y job e k =
     let found : Some first_process ≡ Some y = e in
@@ -214,7 +215,7 @@ jobs_at_start accounts = record {
   child = λ x y job there k. absurd (knows_none accounts x y job there k);
 }
 
--- and so in each state that calls lead to
+-- the facts about jobs hold in each state that calls lead to
 pub jobs_at_end : (accounts : Accounts) (calls : List CallLine) → AreJobs (flat_end accounts (boot accounts) calls)
 jobs_at_end accounts calls = from calls (boot accounts) (jobs_at_start accounts)
   where

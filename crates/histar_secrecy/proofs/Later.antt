@@ -1,4 +1,4 @@
--- Who is trusted, confined or an outsider stays so: what the names of processes say in one state they say in all later ones.
+-- The role of a process stays the same: what its name determines in one state it determines in all later ones.
 use Rattle.std.specs.Prelude.{◌≡◌, Bool, true, false, not, ◌&&◌, ◌||◌, nat_eq, [], ◌∷◌, ◌++◌, Option, Some, refl}
 use Rattle.std.specs.List.{list_all}
 use Rattle.std.proofs.Common.{ap, sym, ◌∙◌, subst, inl, inr}
@@ -25,27 +25,27 @@ use Rattle.histar_secrecy.proofs.Names.{IsQuiet, by_quiet_line, child_of, grown,
 use Rattle.histar_secrecy.proofs.Readers.{bound_inside, bound_parts, first_job, in_a_job, in_chain, is_bound_by, reads_as}
 use Rattle.histar_secrecy.proofs.Roots.{AreReaders, HasRoot, longer_keeps, root_after}
 
--- what a test of a process that runs says
+-- the result of a test of a process that runs
 passes : (o : Option Process) (p : Process) (test : Process → Bool) → o ≡ Some p → is_some_and o test ≡ test p
 passes o p test e = ap (λ x. is_some_and x test) e
 
 module _ (accounts : Accounts) (class : Class) (f : Flat) where
-  -- what a process of this name is, by what the name says in f
+  -- the role of a process of this name is the one that the name has in f
   pub record IsRole (x : ProcName) (p : Process) : Type 0 where
     pub confined : is_confined accounts class f x ≡ true → is_bound accounts class p ≡ true
     pub outside : is_confined accounts class f x ≡ false → is_trusted accounts class f x ≡ false → may_read accounts p class ≡ false
 
-  -- each process that runs is what its name says
+  -- each running process has the role of its name
   abbrev pub HaveRoles : Flat → Type 0
   HaveRoles s = (x : ProcName) (p : Process) → running s x ≡ Some p → IsRole x p
 
-  -- a later state
+  -- the facts that hold in a later state
   pub record IsLater (s : Flat) : Type 0 where
     pub given : (x : ProcName) → is_given f.processes x ≡ true → is_given s.processes x ≡ true
     pub root : is_scratch class ≡ true → HasRoot accounts s class
     pub role : HaveRoles s
 
--- Who is of the same user, in the jobs that the other is in, and knows no more of the jobs of the class, is what the other is.
+-- A process has the role of another of the same user, if it is in the same jobs and knows no more of the jobs of the class.
 is_as : {accounts : Accounts} {class : Class} {f : Flat} {x : ProcName} {a : Process} (b : Process) → IsRole accounts class f x a → a.user ≡ b.user
     → ((job : ProcName) → has a.chain job ≡ true → has b.chain job ≡ true)
     → ((job : ProcName) → carries job class ≡ true → knows b job ≡ true → knows a job ≡ true) → IsRole accounts class f x b
@@ -57,7 +57,7 @@ is_as {accounts} {class} {f} {x} {a} b is user more less = record {
   ];
 }
 
--- a state from which two runs go on: what holds of its jobs, the jobs of the class were given, and the class has a root if it is scratch
+-- two runs can go on from this state: the facts about jobs hold, the jobs of the class were given, and a scratch class has a root
 pub record IsBegun (accounts : Accounts) (class : Class) (f : Flat) : Type 0 where
   pub jobs : AreJobs f
   pub given : (job : ProcName) → carries job class ≡ true → is_given f.processes job ≡ true
@@ -76,7 +76,7 @@ module _ {accounts : Accounts} {class : Class} {f : Flat} (begun : IsBegun accou
     not_of_next : (job : ProcName) → carries job class ≡ true → job ≡ next_child me p → ⊥
     not_of_next job c e = true≢false (sym (later.given job (begun.given job c)) ∙ ap (is_given s.processes) e ∙ next_is_new s me p here)
 
-    -- a child is what its parent is
+    -- a child has its parent's role
     child_is : (child : Process) → IsRole accounts class f me child → IsRole accounts class f (next_child me p) child
     child_is child is =
         let none : runs_bound accounts class f (next_child me p) ≡ false =
@@ -109,7 +109,7 @@ module _ {accounts : Accounts} {class : Class} {f : Flat} (begun : IsBegun accou
       ];
     }
 
-    -- the starter of a job, and the first process of the job
+    -- the process that starts a job keeps its role, and the first process of the job gets the right one
     starter_is : IsRole accounts class f me (starter_of me p)
     starter_is = is_as (starter_of me p) mine refl (λ job h. h) less
       where
@@ -150,7 +150,7 @@ module _ {accounts : Accounts} {class : Class} {f : Flat} (begun : IsBegun accou
           (child_of p (inner_chain me p)) starter_is newborn_is;
     }
 
-  -- a state after a later one is a later one
+  -- the state after a call is a later one too
   pub later_after : (call : UnixCall) → (is_confined accounts class f me ≡ false → logs_in_as_reader accounts class call ≡ false)
       → IsLater accounts class f (flat_after accounts s me call)
   later_after call quiet = record {
@@ -160,7 +160,7 @@ module _ {accounts : Accounts} {class : Class} {f : Flat} (begun : IsBegun accou
         (λ p runs unread. role_changes p runs call unread);
   }
 
--- who is confined is a process that is bound, or below one
+-- a confined process is bound, or below a bound one
 confined_by : (accounts : Accounts) (class : Class) (f : Flat) (x : ProcName) → is_confined accounts class f x ≡ true
     → (y : ProcName) × (under_process y x ≡ true) × (runs_bound accounts class f y ≡ true)
 confined_by accounts class f [] c = ([], under_itself nat_eq same_name_found [], c)
@@ -169,7 +169,7 @@ confined_by accounts class f (n ∷ above) c = elim (or_cases (runs_bound accoun
   | inr t ↦ let found = confined_by accounts class f above t in (found.0, under_child nat_eq same_name_found found.0 above n found.1, found.2)
 ]
 
--- A process that is bound is in a job that all that know it may read the class.
+-- A process that is bound is in a job of which all that know it may read the class.
 pub bound_job : {accounts : Accounts} {class : Class} {s : Flat} → AreJobs s → (is_scratch class ≡ true → HasRoot accounts s class)
     → (x : ProcName) (p : Process) → s.processes x ≡ Some p
     → is_bound accounts class p ≡ true → (job : ProcName) × (has p.chain job ≡ true) × AreReaders accounts class job s
@@ -210,7 +210,7 @@ bound_job {accounts} {class} {s} jobs root x p there bound = by (is_scratch clas
           },
         )
 
--- So a state in which the class has its root is later than itself.
+-- A state in which the class has its root is later than itself.
 pub later_itself : {accounts : Accounts} {class : Class} {f : Flat} → IsBegun accounts class f → IsLater accounts class f f
 later_itself {accounts} {class} {f} begun = record {
   given = λ x h. h;

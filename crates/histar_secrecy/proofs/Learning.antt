@@ -1,4 +1,4 @@
--- Outsiders learn nothing: a run of all calls, and one of the outsiders' calls alone, have the same replies to outsiders.
+-- Outsiders learn nothing: a run of all calls gives outsiders the same replies as a run of the outsiders' calls alone.
 use Rattle.std.specs.Prelude.{◌≡◌, ℕ, Bool, true, false, not, ◌&&◌, cond, List, [], ◌∷◌, Some, filter, map, refl}
 use Rattle.std.specs.List.{list_all}
 use Rattle.std.proofs.Common.{ap, sym, ◌∙◌, subst, inl, inr}
@@ -29,12 +29,12 @@ use Rattle.histar_secrecy.proofs.Roots.{AreRooted, HasRoot, rooted_at_end}
 use Rattle.histar_secrecy.proofs.Readers.{bound_parts, reads_holding, same_class, same_class_itself}
 use Rattle.histar_secrecy.proofs.Later.{IsBegun, IsLater, later_itself}
 
--- the replies to calls, one after another
+-- the replies to calls, made one after another
 abbrev pub replies_from : Accounts → Flat → List (ProcName × UnixCall) → List Reply
 replies_from accounts f [] = []
 replies_from accounts f (c ∷ calls) = reply_to accounts f c.0 c.1 ∷ replies_from accounts (flat_after accounts f c.0 c.1) calls
 
--- In a run of all calls outsiders have the replies of a run of their calls alone.
+-- A run of all calls gives outsiders the replies of a run of their calls alone.
 pub one_run : {accounts : Accounts} {class : Class} {f : Flat} → IsBegun accounts class f → (calls : List CallLine) (us : List Flat) (s t : Flat)
     → IsLed accounts class f s → IsChain accounts class f s us t → trusted_are_silent accounts class f calls ≡ true
     → no_reader_logs_in accounts class f calls ≡ true
@@ -70,7 +70,7 @@ one_run {accounts} {class} {f} begun (c ∷ calls) us s t h chain silent away = 
     untrusted : is_trusted accounts class f c.process ≡ false
     untrusted = not-true (is_trusted accounts class f c.process) parts.0
 
-    -- the calls of outsiders, and the replies to them, where the first line is one of them or not
+    -- the calls of outsiders and their replies; the flag says whether the first line is an outsider's
     shown_calls : Bool → List (ProcName × UnixCall)
     shown_calls b =
         map (λ (c : CallLine). (c.process, c.call)) (cond b (c ∷ filter (λ (c : CallLine). is_outsider accounts class f c.process) calls)
@@ -86,7 +86,7 @@ one_run {accounts} {class} {f} begun (c ∷ calls) us s t h chain silent away = 
     none_logs_in : List (ProcName × UnixCall) → Bool
     none_logs_in calls = list_all (λ (c : ProcName × UnixCall). not (logs_in_as_reader accounts class c.1)) calls
 
--- Two runs may go on from a state that calls lead to, and that has something at a path.
+-- Two runs may go on from a state that calls lead to, with a node at a path.
 pub begun_there : (accounts : Accounts) (f : Flat) → IsReached accounts f → (path : Path) (node : Node) → get f.files path ≡ Some node
     → IsBegun accounts node.class f
 begun_there accounts f reached path node at = record {
@@ -98,7 +98,7 @@ begun_there accounts f reached path node at = record {
     jobs : AreJobs f
     jobs = subst AreJobs reached.1 (jobs_at_end accounts reached.0)
 
--- two states that differ in secret bytes alone are like a third one
+-- being alike but for secret bytes is symmetric
 turned : {secret : Class → Bool} {f g : Flat} → IsAlikeBut secret f g → IsAlikeBut secret g f
 turned r = record { files = λ q. sym (r.files q); processes = sym r.processes }
 
@@ -115,7 +115,7 @@ module _ {accounts : Accounts} {class : Class} {f : Flat} (begun : IsBegun accou
     abbrev new : Node
     new = record { class = class_of (get f.files path); content = File other }
 
-    -- the new bytes are of the class that the old ones were of
+    -- the new bytes have the class of the old ones
     was_carried : (job : ProcName) → carries job new.class ≡ true → carries job class ≡ true
     was_carried job c = ap (λ o. carries job (class_of o)) (sym file.1) ∙ c
 
@@ -127,7 +127,7 @@ module _ {accounts : Accounts} {class : Class} {f : Flat} (begun : IsBegun accou
         by (n ∷ d) e = put_into f begun.jobs.tree n d (record { class = class_of (get f.files (n ∷ d)); content = File other })
             (begun.jobs.tree.below n d (ap (λ o. is_some_and o (λ x. true)) e)) (λ h. absurd (true≢false (sym h ∙ ap (λ o. is_some_and o is_dir) e)))
 
-    -- the same holds of the jobs
+    -- the facts about jobs hold with the other bytes too
     jobs_with : AreJobs (with_bytes f path other)
     jobs_with = record {
       tree = tree_with;
@@ -160,7 +160,7 @@ module _ {accounts : Accounts} {class : Class} {f : Flat} (begun : IsBegun accou
       to : (b : List ℕ) → IsAlikeBut (same_class class) f (with_bytes f path b)
       to b = other_bytes_alike (same_class class) f path class file.0 b (same_class_itself class) file.1
 
-  -- with any bytes in the file outsiders have the replies of a run of their calls alone, with the first bytes
+  -- with any bytes in the file outsiders have the replies of a run of their calls alone with the first bytes
   pub replies_are : (one other : List ℕ) (calls : List CallLine) → trusted_are_silent accounts class f calls ≡ true
       → no_reader_logs_in accounts class f calls ≡ true
       → outside_replies accounts class f (with_bytes f path other) calls
@@ -183,7 +183,7 @@ pub outsiders_learn_nothing : OutsidersLearnNothing
 outsiders_learn_nothing accounts f reached path class file one other calls others same =
     learn_nothing (begun_there accounts f reached path (record { class = class; content = File file.0 }) file.1) path file one other calls others same
 
--- Who is trusted, confined or an outsider is seen from each process alone.
+-- The role of a process can be computed from the process alone.
 module _ (accounts : Accounts) (class : Class) (f : Flat) (l : IsLater accounts class f f) (me : ProcName) (p : Process)
     (runs : running f me ≡ Some p) where
   trusted_is : is_trusted accounts class f me ≡ (may_read accounts p class && not (is_bound accounts class p))

@@ -1,4 +1,4 @@
--- Two states that are the same outside a readers' job; what a line of an outsider, and one of a confined process, does to them.
+-- Two states that are the same outside a readers' job, and how a line of an outsider, or of a confined process, changes them.
 use Rattle.std.specs.Prelude.{◌≡◌, ◌≢◌, ℕ, true, false, ◌||◌, List, [], ◌∷◌, Option, Some, None, map, refl}
 use Rattle.std.proofs.Common.{ap, sym, ◌∙◌, subst, inl, inr}
 use Rattle.std.proofs.lemmas.Bool.{true≢false, cases_Bool}
@@ -33,7 +33,7 @@ pub record AreLinked (accounts : Accounts) (class : Class) (s t : Flat) : Type 0
   pub same : SameOutside (number ∷ above) s t
 
 module _ (accounts : Accounts) (class : Class) (f : Flat) where
-  -- a state that calls lead to from f
+  -- the facts about a state that calls lead to from f
   pub record IsLed (s : Flat) : Type 0 where
     pub jobs : AreJobs s
     pub later : IsLater accounts class f s
@@ -43,14 +43,14 @@ module _ (accounts : Accounts) (class : Class) (f : Flat) where
   IsChain s [] t = IsAlikeBut (same_class class) s t
   IsChain s (u ∷ us) t = AreLinked accounts class s u × IsLed u × IsChain u us t
 
-  -- a line that no trusted process makes, and that logs in no outsider as a reader
+  -- the line is of no trusted process, and logs in no outsider as a reader
   pub record IsUntrusted (me : ProcName) (call : UnixCall) : Type 0 where
     pub silent : is_trusted accounts class f me ≡ false
     pub quiet : is_confined accounts class f me ≡ false → logs_in_as_reader accounts class call ≡ false
 
 module _ {accounts : Accounts} {class : Class} {f : Flat} (begun : IsBegun accounts class f) {me : ProcName} {call : UnixCall}
     (line : IsUntrusted accounts class f me call) where
-  -- a state that calls lead to leads to another one
+  -- the facts hold in the state after a call
   pub led_after : (s : Flat) → IsLed accounts class f s → IsLed accounts class f (flat_after accounts s me call)
   led_after s h = record { jobs = jobs_after accounts s h.jobs me call; later = later_after begun s h.later me line.silent call line.quiet }
 
@@ -90,11 +90,11 @@ module _ {accounts : Accounts} {class : Class} {f : Flat} (begun : IsBegun accou
   -- ---- an outsider
 
   module _ (outside : is_confined accounts class f me ≡ false) where
-    -- an outsider that runs is no reader's
+    -- an outsider that runs is not a reader
     no_reader : (s : Flat) → IsLed accounts class f s → (p : Process) → running s me ≡ Some p → may_read accounts p class ≡ false
     no_reader s h p e = (h.later.role me p e).outside outside line.silent
 
-    -- so it knows no readers' job
+    -- an outsider knows no job of readers
     knows_not : (job : ProcName) (s : Flat) → IsLed accounts class f s → AreReaders accounts class job s → (p : Process) → running s me ≡ Some p
         → knows p job ≡ false
     knows_not job s h readers p e = elim (cases_Bool (knows p job)) [
@@ -102,7 +102,7 @@ module _ {accounts : Accounts} {class : Class} {f : Flat} (begun : IsBegun accou
       | inr k ↦ k
     ]
 
-    -- where the name is of the job, nothing of this name runs
+    -- if the name is one of the job, no process of this name runs
     none_runs : (job : ProcName) (s : Flat) → IsLed accounts class f s → IsStarted job s
         → AreReaders accounts class job s → under_process job me ≡ true
         → running s me ≡ None
@@ -114,7 +114,7 @@ module _ {accounts : Accounts} {class : Class} {f : Flat} (begun : IsBegun accou
             let known = ap (λ b. b || has p.held job) (started.inside me p (runs_is_there (s.processes me) p e) ∙ u) in
             absurd (true≢false (sym known ∙ knows_not job s h readers p e))
 
-    -- what is owed for the line in two states
+    -- what has to be shown of the line in two states
     abbrev IsLineAlike : ProcName → Flat → Flat → Type 0
     IsLineAlike job s t =
         (reply_to accounts s me call ≡ reply_to accounts t me call) × SameOutside job (flat_after accounts s me call) (flat_after accounts t me call)

@@ -1,4 +1,4 @@
--- What a line does to the processes that run, and to their names.
+-- How a line changes the running processes and their names.
 use Rattle.std.specs.Prelude.{◌≡◌, ◌⊎◌, ◌+◌, Bool, true, false, ◌&&◌, cond, is_some, List, [], ◌∷◌, ◌++◌, Option, Some, None, refl}
 use Rattle.std.proofs.Common.{ap, sym, ◌∙◌, subst, inl, inr}
 use Rattle.std.proofs.lemmas.Bool.{true≢false, cases_Bool}
@@ -20,11 +20,11 @@ use Rattle.histar_flat.proofs.FileLemmas.{same_name_found}
 use Rattle.histar_flat.proofs.GivenNames.{next_is_new}
 use Rattle.histar_secrecy.specs.Logins.{is_password_of, logged_in, logs_in_as}
 
--- a process to which one more child was born
+-- a process after the birth of one more child
 abbrev pub grown : Process → Process
 grown p = record p { born = p.born + 1 }
 
--- a child that was just born to a process, in these jobs
+-- a child that was just born to a process, with these jobs
 abbrev pub child_of : Process → List ProcName → Process
 child_of p chain = record { user = p.user; chain = chain; held = []; exited = None; born = 0 }
 
@@ -36,7 +36,7 @@ starter_of me p = record p { held = p.held ++ next_child me p ∷ []; born = p.b
 abbrev pub login_of : Process → Name → Process
 login_of p name = record p { user = name; held = [] }
 
--- what a process that runs is, where one was put
+-- after a process is put, each running one is that one, or ran before
 pub runs_put : (f : Flat) (me : ProcName) (q : Process) (x : ProcName) (y : Process) → running (with_process f me q) x ≡ Some y
     → ((me ≡ x) × (q ≡ y)) ⊎ (running f x ≡ Some y)
 runs_put f me q x y e = elim (same_name_found me x) [
@@ -47,17 +47,17 @@ runs_put f me q x y e = elim (same_name_found me x) [
   | inr t ↦ inr (sym (ap (λ b. if_running (cond b (Some q) (f.processes x))) t.0) ∙ e)
 ]
 
--- what runs after a kill ran before
+-- a process that runs after a kill ran before
 pub runs_kept : (b : Bool) (o : Option Process) (y : Process) → if_running (cond b None o) ≡ Some y → if_running o ≡ Some y
 runs_kept true o y e = absurd (cc)
 runs_kept false o y e = e
 
--- a test that some process passes
+-- if a test of an optional process passes, there is a process
 pub some_process : (o : Option Process) (test : Process → Bool) → is_some_and o test ≡ true → (p : Process) × (o ≡ Some p) × (test p ≡ true)
 some_process None test h = absurd (true≢false (sym h))
 some_process (Some p) test h = (p, refl, h)
 
--- In a state to which all names of f are given, nobody in f had the name of the next child.
+-- If all names of f were given in a state, no process in f has the name of the next child there.
 pub new_name : (f : Flat) → NamesAreGiven f → (s : Flat) → ((x : ProcName) → is_given f.processes x ≡ true → is_given s.processes x ≡ true)
     → (me : ProcName) (p : Process) → s.processes me ≡ Some p → f.processes (next_child me p) ≡ None
 new_name f names s given me p here = by (f.processes (next_child me p)) refl
@@ -84,20 +84,20 @@ wrong_password accounts s me name password wrong (Some p) =
     by None (Some e) = refl
     by (Some e) b = refl
 
--- one of two tests fails where the other passes
+-- one of two tests fails if the other passes and not both do
 other_fails : (a b : Bool) → (a && b) ≡ false → b ≡ true → a ≡ false
 other_fails true b h e = absurd (true≢false (sym e ∙ h))
 other_fails false b h e = refl
 
--- where this is so, the call logs in nobody who passes the test
+-- on the condition, the call logs in no process that passes the test
 abbrev pub IsQuiet : (Process → Bool) → Type 0 → UnixCall → Type 0
 IsQuiet test If call = (name : Name) → (rule call).effect ≡ LogsIn name → If → test (logged_in name) ≡ false
 
--- where this is so, the call is no login, with the right password, as a user who passes the test
+-- on the condition, the call is no login, with the right password, as a user whose process passes the test
 pub record IsQuietLine (accounts : Accounts) (test : Process → Bool) (If : Type 0) (call : UnixCall) : Type 0 where
   pub quiet : If → logs_in_as accounts test call ≡ false
 
--- A line changes nothing, or is a call of a process that runs, and logs in nobody who passes the test.
+-- A line changes nothing, or is a call of a running process that, on the condition, logs in no process that passes the test.
 pub by_quiet_line : {accounts : Accounts} {test : Process → Bool} {If : Type 0} {call : UnixCall} → IsQuietLine accounts test If call
     → (s : Flat) (me : ProcName) (P : Flat → Type 0) → P s
     → ((p : Process) → running s me ≡ Some p → IsQuiet test If call → EachChange accounts s me p call P) → P (flat_after accounts s me call)

@@ -1,4 +1,4 @@
--- Jobs that are known by numbers: a process has the same rights.
+-- A process has the same rights if jobs are known by numbers.
 use Rattle.std.specs.Prelude.{◌≡◌, ℕ, Bool, true, false, not, ◌&&◌, ◌||◌, List, [], ◌∷◌, None, map, nat_eq, refl}
 use Rattle.std.specs.List.{list_all, list_any}
 use Rattle.std.proofs.Common.{ap, sym, ◌∙◌, inl, inr}
@@ -11,7 +11,7 @@ use Rattle.histar_flat.proofs.FileLemmas.{same_itself, same_name_found}
 use Rattle.histar_secrecy.specs.Roles.{holding_none, is_bound}
 use Rattle.histar_secrecy.specs.ShownRoles.{AreNumbered, job_numbered, class_by_number, jobs_by_number, of_groups, with_rights}
 
--- a number is one of these where the job that it names is
+-- a number is in a list exactly if its job is in the list of the jobs
 has_number : (jobs : List ℕ) (job : ℕ) → list_any (nat_eq job) jobs ≡ has (map job_numbered jobs) (job_numbered job)
 has_number [] job = refl
 has_number (k ∷ jobs) job = λ i. by (nat_eq job k) i || has_number jobs job i
@@ -20,13 +20,13 @@ has_number (k ∷ jobs) job = λ i. by (nat_eq job k) i || has_number jobs job i
     by true = refl
     by false = refl
 
--- all numbers are among others where the jobs that they name are
+-- all numbers are among others exactly if their jobs are
 has_numbers : (jobs others : List ℕ)
     → list_all (λ other. list_any (nat_eq other) jobs) others ≡ list_all (has (map job_numbered jobs)) (map job_numbered others)
 has_numbers jobs [] = refl
 has_numbers jobs (k ∷ others) = λ i. has_number jobs k i && has_numbers jobs others i
 
--- a process writes what is scratch where it may read it, and is in no other jobs
+-- a process writes scratch if it may read it, and is in no other jobs
 pub writes_scratch : (accounts : Accounts) (user owner : Name) (jobs held of : List ℕ)
     → (may_read accounts (with_rights user jobs held) (Scratch owner (map job_numbered of))
     && list_all (λ other. list_any (nat_eq other) of) jobs) ≡ may_write accounts (with_rights user jobs held) (Scratch owner (map job_numbered of))
@@ -39,7 +39,7 @@ pub knows_numbers : (user : Name) (jobs held of : List ℕ) → list_all (λ job
 knows_numbers user jobs held [] = refl
 knows_numbers user jobs held (k ∷ of) = λ i. (has_number jobs k i || has_number held k i) && knows_numbers user jobs held of i
 
--- numbers are put in place of jobs at once, or one after the other
+-- replacing jobs by numbers, and numbers by jobs, is replacing jobs by their numbered jobs
 pub in_two_steps : (number : ProcName → ℕ) (jobs : List ProcName) → map job_numbered (map number jobs) ≡ jobs_by_number number jobs
 in_two_steps number [] = refl
 in_two_steps number (job ∷ jobs) = ap (λ rest. job_numbered (number job) ∷ rest) (in_two_steps number jobs)
@@ -49,7 +49,7 @@ module _ (number : ProcName → ℕ) (one : AreNumbered number) where
   abbrev pub named : Process → Process
   named p = record { user = p.user; chain = jobs_by_number number p.chain; held = jobs_by_number number p.held; exited = None; born = 0 }
 
-  -- jobs are the same where their numbers are
+  -- two jobs are the same exactly if their numbers are
   same_numbers : (a b : ProcName) → same (job_numbered (number a)) (job_numbered (number b)) ≡ same a b
   same_numbers a b = elim (same_name_found a b) [
     | inl t ↦ ap (λ x. same (job_numbered (number x)) (job_numbered (number b))) t.1 ∙ same_itself (job_numbered (number b)) ∙ sym t.0
@@ -68,7 +68,7 @@ module _ (number : ProcName → ℕ) (one : AreNumbered number) where
   all_numbers [] test other each = refl
   all_numbers (k ∷ jobs) test other each = λ i. each k i && all_numbers jobs test other each i
 
-  -- a process is in no job, and knows all of some jobs, by names or by numbers
+  -- a process is in no job exactly if it is in none by numbers
   free_by_number : (p : Process) → is_free (named p) ≡ is_free p
   free_by_number p = by p.chain
     where
@@ -80,7 +80,7 @@ module _ (number : ProcName → ℕ) (one : AreNumbered number) where
   knows_by_number : (p : Process) (jobs : List ProcName) → list_all (knows (named p)) (jobs_by_number number jobs) ≡ list_all (knows p) jobs
   knows_by_number p jobs = all_numbers jobs (knows (named p)) (knows p) (λ job i. has_named p.chain job i || has_named p.held job i)
 
-  -- Rights are the same.
+  -- The rights of a process are the same by numbers.
   pub reads_by_number : (accounts : Accounts) (p : Process) (class : Class)
       → may_read (of_groups accounts.groups) (named p) (class_by_number number class) ≡ may_read accounts p class
   reads_by_number accounts p (Private owner) = refl

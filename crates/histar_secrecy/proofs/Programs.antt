@@ -1,4 +1,4 @@
--- Programs learn nothing: two runs that follow one program, and have the same replies to the same calls, have the same calls.
+-- Programs learn nothing: two runs that follow one program, and give the same replies to the same calls, have the same calls.
 use Rattle.std.specs.Prelude.{◌≡◌, List, [], ◌∷◌, length, refl}
 use Rattle.std.proofs.Common.{sym, ◌∙◌, subst, arith}
 use Rattle.histar_flat.specs.declared.calls.UnixCall.{UnixCall}
@@ -11,7 +11,7 @@ use Rattle.histar_flat.specs.FlatCalls.{flat_after, reply_to}
 use Rattle.histar_secrecy.specs.Noninterference.{Follows, OutsideProgram, ProgramsLearnNothing, outside_calls}
 use Rattle.histar_secrecy.proofs.Learning.{begun_there, learn_nothing, replies_are, replies_from}
 
--- two lists of calls that follow one program from one state are the same as far as they go
+-- two lists of calls that follow one program from one state are the same as far as both go
 same_calls : (accounts : Accounts) (program : OutsideProgram) (calls others : List (ProcName × UnixCall)) (f : Flat) (before : List Reply)
     → Follows program before calls (replies_from accounts f calls)
     → Follows program before others (replies_from accounts f others) → length calls ≡ length others → calls ≡ others

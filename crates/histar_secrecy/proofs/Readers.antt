@@ -1,4 +1,4 @@
--- Who may read what is of a class, who is bound by it, and classes compared.
+-- Which processes may read a file of a class, which are bound by the class, and comparison of classes.
 use Rattle.std.specs.Prelude.{◌≡◌, Bool, true, false, not, ◌&&◌, ◌||◌, List, [], ◌∷◌, refl}
 use Rattle.std.specs.List.{list_all}
 use Rattle.std.proofs.Common.{ap, sym, ◌∙◌, inl, inr}
@@ -16,7 +16,7 @@ use Rattle.histar_secrecy.specs.Roles.{holding_none, is_bound}
 use Rattle.histar_secrecy.specs.Noninterference.{BoundWriteForReaders}
 use Rattle.histar_secrecy.proofs.WriteRights.{all_more}
 
--- who is of the same user, and knows the jobs of a class that the other knows, may read what the other may read of it
+-- a process may read a file of a class as another does, if it is of the same user and knows the same jobs of the class
 pub reads_as : (accounts : Accounts) (a b : Process) (class : Class) → a.user ≡ b.user
     → ((job : ProcName) → carries job class ≡ true → knows a job ≡ true → knows b job ≡ true)
     → may_read accounts a class ≡ true → may_read accounts b class ≡ true
@@ -28,18 +28,18 @@ reads_as accounts a b (Scratch owner jobs) user more h =
     λ i. (sym (ap (λ u. same u owner) user) ∙ parts.0) i && all_more jobs (knows a) (knows b) more parts.1 i
 reads_as accounts a b (Grouped group) user more h = sym (ap (λ u. is_member accounts u group) user) ∙ h
 
--- a list of jobs, or of none
+-- a job in a list or in none is in the list
 pub in_chain : (jobs : List ProcName) (job : ProcName) → (has jobs job || false) ≡ true → has jobs job ≡ true
 in_chain jobs job h = elim (or_cases (has jobs job) false h) [ inl t ↦ t | inr t ↦ absurd (true≢false (sym t)) ]
 
--- where it is in the jobs of a process that holds none
+-- the same, for a process that holds no jobs, if it is in the jobs of the class that the other is in
 pub reads_inside : (accounts : Accounts) (a b : Process) (class : Class) → a.user ≡ b.user
     → ((job : ProcName) → has a.chain job ≡ true → has b.chain job ≡ true)
     → may_read accounts (holding_none a) class ≡ true → may_read accounts (holding_none b) class ≡ true
 reads_inside accounts a b class user more h =
     reads_as accounts (holding_none a) (holding_none b) class user (λ job c k. ap (λ x. x || false) (more job (in_chain a.chain job k))) h
 
--- what it may read holding none it may read
+-- a process may read what it may read without the jobs that it holds
 pub reads_holding : (accounts : Accounts) (a : Process) (class : Class) → may_read accounts (holding_none a) class ≡ true
     → may_read accounts a class ≡ true
 reads_holding accounts a class h =
@@ -54,7 +54,7 @@ first_job p = by p.chain
     by [] h = absurd (true≢false h)
     by (k ∷ ks) h = (k, ap (λ b. b || has ks k) (same_itself k))
 
--- who is in a job is not free
+-- a process in a job is not in no job
 pub in_a_job : (p : Process) (job : ProcName) → has p.chain job ≡ true → is_free p ≡ false
 in_a_job p job = by p.chain
   where
@@ -62,18 +62,18 @@ in_a_job p job = by p.chain
     by [] h = absurd (true≢false (sym h))
     by (k ∷ ks) h = refl
 
--- what being bound says
+-- a bound process is in a job, and may read a file of the class by the jobs that it is in
 pub bound_parts : (accounts : Accounts) (class : Class) (p : Process) → is_bound accounts class p ≡ true
     → (is_free p ≡ false) × (may_read accounts (holding_none p) class ≡ true)
 bound_parts accounts class p h =
     let parts = and_parts (not (is_free p)) (may_read accounts (holding_none p) class) h in (not-true (is_free p) parts.0, parts.1)
 
--- who is in a job, and may read by the jobs that it is in, is bound
+-- a process in a job that may read by the jobs that it is in is bound
 pub is_bound_by : (accounts : Accounts) (class : Class) (p : Process) → is_free p ≡ false → may_read accounts (holding_none p) class ≡ true
     → is_bound accounts class p ≡ true
 is_bound_by accounts class p busy reads = λ i. not (busy i) && reads i
 
--- who is of the same user, and in the jobs of who is bound, is bound
+-- a process of the same user, in the jobs of a bound one, is bound
 pub bound_inside : (accounts : Accounts) (class : Class) (a b : Process) → a.user ≡ b.user
     → ((job : ProcName) → has a.chain job ≡ true → has b.chain job ≡ true)
     → is_bound accounts class a ≡ true → is_bound accounts class b ≡ true
@@ -82,7 +82,7 @@ bound_inside accounts class a b user more h =
     let job = first_job a parts.0 in
     is_bound_by accounts class b (in_a_job b job.0 (more job.0 job.1)) (reads_inside accounts a b class user more parts.1)
 
--- the same class
+-- two classes are the same
 abbrev pub same_class : Class → Class → Bool
 same_class (Private u) (Private v) = same u v
 same_class (Readable u) (Readable v) = same u v
@@ -112,7 +112,7 @@ same_class_itself Open = refl
 same_class_itself (Scratch u jobs) = λ i. same_itself u i && same_path_itself jobs i
 same_class_itself (Grouped g) = same_itself g
 
--- what is of the class is kept from who may not read it
+-- a class is kept from processes that may not read it
 pub class_is_kept : (accounts : Accounts) (class : Class) → AreKept accounts (same_class class) (λ p. may_read accounts p class)
 class_is_kept accounts class = record {
   unread = λ p c other h. by p c other h;
@@ -125,14 +125,14 @@ class_is_kept accounts class = record {
       | inr t ↦ ap not t
     ]
 
--- What who is bound may write only those may read who may read the class.
+-- What a bound process may write, only readers of the class may read.
 pub bound_write_for_readers : BoundWriteForReaders
 bound_write_for_readers accounts class written p reader bound writes reads = by class written (parts.1) (written_scratch written writes) reads
   where
     parts : (is_free p ≡ false) × (may_read accounts (holding_none p) class ≡ true)
     parts = bound_parts accounts class p bound
 
-    -- it writes scratch of its user and of all its jobs
+    -- the class is scratch of p's user and of all its jobs
     IsWritten : Class → Type 0
     IsWritten (Scratch owner jobs) = (same p.user owner ≡ true) × (list_all (has jobs) p.chain ≡ true)
     IsWritten _ = ⊥

@@ -1,4 +1,4 @@
--- The jobs that keep what is of a class: all that know such a job may read it. Each scratch class has one.
+-- The jobs that keep a class secret: all processes that know such a job may read the class. Each scratch class has one.
 use Rattle.std.specs.Prelude.{◌≡◌, ◌≢◌, ◌⊎◌, Bool, true, false, not, ◌&&◌, ◌||◌, cond, List, [], ◌∷◌, ◌++◌, Option, Some, None, if◌then◌else◌, refl}
 use Rattle.std.specs.List.{list_all}
 use Rattle.std.proofs.Common.{ap, sym, ◌∙◌, subst, inl, inr}
@@ -34,7 +34,7 @@ use Rattle.histar_secrecy.proofs.Knowing.{AreJobs, jobs_after, jobs_at_start}
 use Rattle.histar_secrecy.proofs.Readers.{in_a_job, reads_as, reads_holding, reads_inside}
 use Rattle.histar_secrecy.proofs.Names.{child_of, grown, login_of, starter_of}
 
--- what was in a list of jobs is in a longer one
+-- a list of jobs with one more keeps its jobs
 pub longer_keeps : (jobs : List ProcName) (last job : ProcName) → has jobs job ≡ true → has (jobs ++ last ∷ []) job ≡ true
 longer_keeps [] last job h = absurd (true≢false (sym h))
 longer_keeps (k ∷ jobs) last job h = elim (or_cases (same job k) (has jobs job) h) [
@@ -42,7 +42,7 @@ longer_keeps (k ∷ jobs) last job h = elim (or_cases (same job k) (has jobs job
   | inr t ↦ ap (λ b. same job k || b) (longer_keeps jobs last job t) ∙ or-true (same job k)
 ]
 
--- what each member of a list passes, all pass
+-- if each member of a list passes a test, all do
 all_if : (jobs : List ProcName) (test : ProcName → Bool) → ((job : ProcName) → has jobs job ≡ true → test job ≡ true) → list_all test jobs ≡ true
 all_if [] test each = refl
 all_if (k ∷ jobs) test each =
@@ -50,20 +50,20 @@ all_if (k ∷ jobs) test each =
     && all_if jobs test (λ job h. each job (ap (λ b. same job k || b) h ∙ or-true (same job k))) i
 
 module _ (accounts : Accounts) (class : Class) (job : ProcName) where
-  -- Who is in the job may read what is of the class by the jobs that it is in, and who holds the job may read it.
+  -- A process in the job may read the class by the jobs that it is in, and one that holds the job may read it.
   pub record AreReaders (s : Flat) : Type 0 where
     pub inside : (x : ProcName) (y : Process) → s.processes x ≡ Some y → has y.chain job ≡ true → may_read accounts (holding_none y) class ≡ true
     pub holding : (x : ProcName) (y : Process) → s.processes x ≡ Some y → has y.held job ≡ true → may_read accounts y class ≡ true
 
 module _ {accounts : Accounts} {class : Class} {job : ProcName} {s : Flat} (h : AreReaders accounts class job s) where
-  -- so all that know it may read it
+  -- all processes that know the job may read the class
   pub knowers_read : (x : ProcName) (y : Process) → s.processes x ≡ Some y → knows y job ≡ true → may_read accounts y class ≡ true
   knowers_read x y there k = elim (or_cases (has y.chain job) (has y.held job) k) [
     | inl t ↦ reads_holding accounts y class (h.inside x y there t)
     | inr t ↦ h.holding x y there t
   ]
 
--- one process more, or another
+-- the fact holds after one process is put
 readers_put : {accounts : Accounts} {class : Class} {job : ProcName} {s : Flat} → AreReaders accounts class job s → (me : ProcName) (q : Process)
     → (has q.chain job ≡ true → may_read accounts (holding_none q) class ≡ true) → (has q.held job ≡ true → may_read accounts q class ≡ true)
     → AreReaders accounts class job (with_process s me q)
@@ -83,7 +83,7 @@ module _ {accounts : Accounts} {class : Class} {job : ProcName} {s : Flat} (h : 
   not_next : job ≢ next_child me p
   not_next e = true≢false (sym given ∙ ap (is_given s.processes) e ∙ next_is_new s me p here)
 
-  -- in the same jobs
+  -- the same holds for a process of the same user in the same jobs
   alike : (q : Process) → p.user ≡ q.user → p.chain ≡ q.chain → has q.chain job ≡ true → may_read accounts (holding_none q) class ≡ true
   alike q user chain i =
       reads_inside accounts p q class user (λ k u. ap (λ c. has c k) (sym chain) ∙ u) (h.inside me p here (ap (λ c. has c job) chain ∙ i))
@@ -94,7 +94,7 @@ module _ {accounts : Accounts} {class : Class} {job : ProcName} {s : Flat} (h : 
   abbrev first : Process
   first = child_of p (inner_chain me p)
 
-  -- a job was started
+  -- the fact holds after a job was started
   readers_wrapped : AreReaders accounts class job (with_process (with_process s me wrapper) (next_child me p) first)
   readers_wrapped =
       readers_put (readers_put h me wrapper (alike wrapper refl refl) holds) (next_child me p) first in_it (λ i. absurd (true≢false (sym i)))
@@ -138,14 +138,14 @@ module _ {accounts : Accounts} {class : Class} {job : ProcName} {s : Flat} (h : 
     wraps = λ n d is walked free w named. record { inside = readers_wrapped.inside; holding = readers_wrapped.holding };
   }
 
--- So it is after each line.
+-- The fact holds after each line.
 pub readers_after : {accounts : Accounts} {class : Class} {job : ProcName} {s : Flat} → AreReaders accounts class job s
     → is_given s.processes job ≡ true
     → (me : ProcName) (call : UnixCall) → AreReaders accounts class job (flat_after accounts s me call)
 readers_after {accounts} {class} {job} {s} h given me call =
     by_line accounts s me call (AreReaders accounts class job) h (λ p runs. readers_changes h given me p (runs_is_there (s.processes me) p runs) call)
 
--- a job that what is of the class is of, such that all that know it may read that
+-- the class has a root: one of its jobs, such that all processes that know it may read the class
 pub record HasRoot (accounts : Accounts) (s : Flat) (class : Class) : Type 0 where
   pub job : ProcName
   pub carried : carries job class ≡ true
@@ -162,12 +162,12 @@ root_after accounts class s h me call = record {
   readers = readers_after h.readers h.given me call;
 }
 
--- each scratch class of what is there has a root, and so has what each process in a job makes
+-- each scratch class of a file or a directory has a root, and so has the one that each process in a job makes
 pub record AreRooted (accounts : Accounts) (s : Flat) : Type 0 where
   pub classes : (q : Path) (n : Node) → get s.files q ≡ Some n → is_scratch n.class ≡ true → HasRoot accounts s n.class
   pub chains : (x : ProcName) (y : Process) → s.processes x ≡ Some y → is_free y ≡ false → HasRoot accounts s (Scratch y.user y.chain)
 
--- the same, where some of these roots were roots before
+-- the same in a later state, where some of these roots were roots before
 record AreRootedFrom (accounts : Accounts) (s g : Flat) : Type 0 where
   classes : (q : Path) (n : Node) → get g.files q ≡ Some n → is_scratch n.class ≡ true → HasRoot accounts s n.class ⊎ HasRoot accounts g n.class
   chains : (x : ProcName) (y : Process) → g.processes x ≡ Some y → is_free y ≡ false
@@ -175,7 +175,7 @@ record AreRootedFrom (accounts : Accounts) (s g : Flat) : Type 0 where
 
 module _ (accounts : Accounts) (s : Flat) (h : AreRooted accounts s) (jobs : AreJobs s) (me : ProcName) (p : Process)
     (here : s.processes me ≡ Some p) where
-  -- what is made, if it is scratch, is that of a process in jobs
+  -- a scratch class that is made is that of a process in jobs
   made_root : (mode : Mode) → is_scratch (class_or_open (class_made accounts p mode)) ≡ true
       → HasRoot accounts s (class_or_open (class_made accounts p mode))
   made_root mode scratch = elim (cases_Bool (is_free p)) [
@@ -198,7 +198,7 @@ module _ (accounts : Accounts) (s : Flat) (h : AreRooted accounts s) (jobs : Are
       plain modes.Readable = by (same p.user nobody) None (Some (Readable p.user)) refl refl
       plain (modes.Group group) = by (is_member accounts p.user group) (Some (Grouped group)) None refl refl
 
-  -- where files alone change
+  -- the fact holds if only files change
   rooted_files : (g : Flat) → g.processes ≡ s.processes
       → ((q : Path) (n : Node) → get g.files q ≡ Some n → is_scratch n.class ≡ true → HasRoot accounts s n.class) → AreRootedFrom accounts s g
   rooted_files g still each = record {
@@ -216,19 +216,19 @@ module _ (accounts : Accounts) (s : Flat) (h : AreRooted accounts s) (jobs : Are
     | inr t ↦ h.classes r n (sym (get_other s.files q x r t.1) ∙ at) scratch
   ]
 
-  -- a file that is written stays of its class
+  -- a file that is written keeps its class
   written_root : (q : Path) (o : Option Node) → get s.files q ≡ o → is_scratch (class_of o) ≡ true → HasRoot accounts s (class_of o)
   written_root q None at scratch = absurd (true≢false (sym scratch))
   written_root q (Some n) at scratch = h.classes q n at scratch
 
-  -- where processes alone change, and each is of a user and in jobs as one was
+  -- the same if only processes change, and each has the user and the jobs of one before
   alike_root : (y z : Process) → y.user ≡ z.user → y.chain ≡ z.chain → (x : ProcName) → s.processes x ≡ Some y → is_free z ≡ false
       → HasRoot accounts s (Scratch z.user z.chain)
   alike_root y z user chain x there busy =
       subst (HasRoot accounts s) (λ i. Scratch (user i) (chain i))
       (h.chains x y there (ap (λ c. let b : Bool = elim c [ [] ↦ true | k ∷ ks ↦ false ] in b) chain ∙ busy))
 
-  -- where one process changed
+  -- the same if one process changed
   rooted_one : (q : Process) → (is_free q ≡ false → HasRoot accounts s (Scratch q.user q.chain)) → AreRootedFrom accounts s (with_process s me q)
   rooted_one q root = record {
     classes = λ r n at scratch. inl (h.classes r n at scratch);
@@ -238,7 +238,7 @@ module _ (accounts : Accounts) (s : Flat) (h : AreRooted accounts s) (jobs : Are
     ];
   }
 
-  -- where a child was born
+  -- the same if a child was born
   rooted_birth : (q child : Process) → p.user ≡ q.user → p.chain ≡ q.chain
       → (is_free child ≡ false → HasRoot accounts s (Scratch child.user child.chain))
       → AreRootedFrom accounts s (with_process (with_process s me q) (next_child me p) child)
@@ -253,7 +253,7 @@ module _ (accounts : Accounts) (s : Flat) (h : AreRooted accounts s) (jobs : Are
     ];
   }
 
-  -- a job that was started keeps what it makes
+  -- a job that was started is a root of what it makes
   module _ (n : Name) (d : Path) (names : NamesAreGiven (changed accounts s me p (Wrap (n ∷ d)))) where
     abbrev after : Flat
     after = changed accounts s me p (Wrap (n ∷ d))
@@ -264,7 +264,7 @@ module _ (accounts : Accounts) (s : Flat) (h : AreRooted accounts s) (jobs : Are
     abbrev newborn : Process
     newborn = child_of p (inner_chain me p)
 
-    -- who was there doesn't know the new job
+    -- no process that was there knows the new job
     unknown : (x : ProcName) (y : Process) → s.processes x ≡ Some y → knows y (next_child me p) ≡ true → ⊥
     unknown x y there k = true≢false (sym (jobs.names.of_known_jobs x y (next_child me p) there k) ∙ next_is_new s me p here)
 
@@ -353,7 +353,7 @@ module _ (accounts : Accounts) (s : Flat) (h : AreRooted accounts s) (jobs : Are
     wraps = λ n d is walked free w named names. rooted_wrap n d names;
   }
 
--- So it is after each line.
+-- The fact holds after each line.
 rooted_after : (accounts : Accounts) (s : Flat) → AreRooted accounts s → AreJobs s → (me : ProcName) (call : UnixCall)
     → AreRooted accounts (flat_after accounts s me call)
 rooted_after accounts s h jobs me call = record {
@@ -373,7 +373,7 @@ rooted_after accounts s h jobs me call = record {
         (λ p runs. rooted_changes accounts s h jobs me p (runs_is_there (s.processes me) p runs) call)
         (given_after accounts s me call jobs.tree jobs.names)
 
--- At the start nothing is scratch, and nobody is in a job.
+-- At the start nothing is scratch, and no process is in a job.
 rooted_at_start : (accounts : Accounts) → AreRooted accounts (boot accounts)
 rooted_at_start accounts = record { classes = none; chains = free }
   where
@@ -396,7 +396,7 @@ rooted_at_start accounts = record { classes = none; chains = free }
         absurd (true≢false (ap is_free one ∙ busy))
     free (m ∷ x) y at busy = let gone : None ≡ Some y = at in absurd (cc)
 
--- In each state that calls lead to each scratch class has a root.
+-- In each state that calls lead to, each scratch class has a root.
 pub rooted_at_end : (accounts : Accounts) (calls : List CallLine) → AreRooted accounts (flat_end accounts (boot accounts) calls)
 rooted_at_end accounts calls = go calls (boot accounts) (jobs_at_start accounts) (rooted_at_start accounts)
   where

@@ -1,4 +1,4 @@
--- What is shown of processes and users is so.
+-- The roles of the processes and users that are shown are those of the flat state.
 use Rattle.std.specs.Prelude.{◌≡◌, ℕ, Bool, true, false, not, ◌&&◌, ◌||◌, List, [], ◌∷◌, Option, Some, None, map, if◌then◌else◌, refl}
 use Rattle.std.specs.List.{list_any}
 use Rattle.std.proofs.Common.{ap, sym, ◌∙◌}
@@ -22,7 +22,7 @@ use Rattle.histar_secrecy.proofs.Learning.{roles_are_shown}
 use Rattle.histar_secrecy.proofs.NumberedJobs.{bound_by_number, in_two_steps, named, reads_by_number, writes_by_number}
 use Rattle.histar_secrecy.proofs.Readers.{bound_parts, reads_holding}
 
--- standings by two tests
+-- the role by two tests
 by_tests : (reads bound trusted confined : Bool) → trusted ≡ (reads && not bound) → confined ≡ bound → (bound ≡ true → reads ≡ true)
     → (let s : Role = if reads then (if bound then Confined else Trusted) else Outside in s)
     ≡ (let s : Role = if trusted then Trusted else if confined then Confined else Outside in s)
@@ -48,7 +48,7 @@ module _ (number : ProcName → ℕ) (one : AreNumbered number) (accounts : Acco
     born = 0;
   })
 
-  -- a process writes what is there where it may write what is of the class
+  -- a process may write what is there exactly if it may write the class
   writes_is : (p : Process) (o : Option Node) (class : FileClass) → IsOfClass number o class
       → may_write (of_groups accounts.groups) (named number one p) (flat_class class) ≡ is_some_and o (λ n. may_write accounts p n.class)
   writes_is p None class e = absurd (cc)
@@ -64,7 +64,7 @@ module _ (number : ProcName → ℕ) (one : AreNumbered number) (accounts : Acco
       || list_any (λ class. may_write (of_groups accounts.groups) (named number one p) (flat_class class)) (h.1 i)
   changes_is p (n ∷ d) (c ∷ classes) h = λ i. writes_is p (get f.files (n ∷ d)) c h.0 i || changes_is p d classes h.1 i
 
--- a process that is shown has the standing of the one that runs
+-- a process that is shown has the role of the one that runs
 role_is : {number : ProcName → ℕ} (one : AreNumbered number) {accounts : Accounts} {f : Flat} {c : Class} (class : FileClass)
     → class_by_number number c ≡ flat_class class → {m : Member} {p : Process} → IsShownProcess number f m p → ShowsRole accounts c f m.name p
     → member_role accounts.groups (flat_class class) m ≡ role_in accounts c f m.name

@@ -1,4 +1,4 @@
--- Worked sessions: who is trusted, confined and an outsider, and that each premise of the laws is needed.
+-- Worked scripts: which processes are trusted, confined and outsiders, and that each premise of the laws is needed.
 use Rattle.std.specs.Prelude.{◌≡◌, true, false, List, [], ◌∷◌, ◌++◌, None, Some, codes, filter, map, refl}
 use Rattle.histar_flat.specs.declared.calls.CallLine.{CallLine}
 use Rattle.histar_flat.specs.declared.calls.Mode.TheVariants as modes
@@ -43,7 +43,7 @@ file_is_there : get state.files letter ≡ Some (record { class = mine; content 
 unfolding state before letter mine
 file_is_there = refl
 
--- 0.1 is trusted with it, 0.1.1 is confined, and so is each process below it; 0 and 0.2 are outsiders
+-- 0.1 is trusted with the file, 0.1.1 is confined, and each process below it too; 0 and 0.2 are outsiders
 trusted : is_trusted three_users mine state (1 ∷ []) ≡ true
 unfolding state before mine
 trusted = refl
@@ -56,7 +56,7 @@ outside : is_outsider three_users mine state (2 ∷ []) ≡ true
 unfolding state before mine
 outside = refl
 
--- what bob's process calls
+-- the calls of bob's process
 bobs : List CallLine
 bobs =
     line_of 20 (2 ∷ []) (ListCall (codes "tmp" ∷ [])) ∷
@@ -75,7 +75,7 @@ jobs =
     line_of 18 (1 ∷ 1 ∷ []) (Login (codes "alice") (codes "aa")) ∷
     line_of 19 (1 ∷ 1 ∷ []) (Exit 7) ∷ []
 
--- so bob's process has the same replies with the job's lines and without them, whatever is in the file
+-- bob's process has the same replies with the job's lines and without them, whatever is in the file
 bob_learns_nothing : outside_replies three_users mine state (with_bytes state letter (codes "one")) (jobs ++ bobs)
     ≡ outside_replies three_users mine state (with_bytes state letter (codes "other")) bobs
 unfolding state before letter mine jobs bobs file_is_there
@@ -83,7 +83,7 @@ bob_learns_nothing =
     outsiders_learn_nothing three_users state (before, refl) letter mine (codes "secret", file_is_there) (codes "one") (codes "other")
     (jobs ++ bobs) bobs (record { silent = refl; others_silent = refl; alike = refl; no_login = refl })
 
--- and these are its replies
+-- these are its replies
 bobs_replies : outside_replies three_users mine state (with_bytes state letter (codes "one")) (jobs ++ bobs)
     ≡ Entries ((codes "j", true) ∷ (codes "s", false) ∷ []) ∷ Refused EACCES ∷ Refused EACCES ∷ Refused EACCES ∷ []
 unfolding state before letter mine jobs bobs
@@ -118,28 +118,28 @@ it_reads : outside_replies three_users mine state (with_bytes state letter (code
 unfolding state before letter mine as_alice
 it_reads = refl
 
--- another password does no harm
+-- a wrong password does no harm
 guessed : no_reader_logs_in three_users mine state (line_of 13 (2 ∷ []) (Login (codes "alice") (codes "xx")) ∷ []) ≡ true
 unfolding state before mine
 guessed = refl
 
--- ---- who may change the letter: its owner, and all that may write /tmp; the job may not
+-- ---- the processes that may change the letter: its owner's, and all that may write /tmp; the job may not
 
 changers : map (is_changer three_users state letter) ([] ∷ (1 ∷ []) ∷ (2 ∷ []) ∷ (1 ∷ 1 ∷ []) ∷ []) ≡ (true ∷ true ∷ true ∷ false ∷ [])
 unfolding state before letter
 changers = refl
 
--- bob's process takes it away
+-- bob's process removes it
 taken : get (flat_end three_users state (line_of 13 (2 ∷ []) (Rmtree (codes "s" ∷ codes "tmp" ∷ [])) ∷ [])).files letter ≡ None
 unfolding state before letter
 taken = refl
 
--- and so does the job's once it is alice's, in no job: but it can't log in
+-- the job is silent: it can't log in to change the letter
 jobs_are_silent : changers_are_silent three_users state letter jobs ≡ true
 unfolding state before letter jobs
 jobs_are_silent = refl
 
--- ---- a file that the job makes: who started the job may read it, and another process of alice's may not
+-- ---- a file that the job makes: the process that started the job may read it, and another process of alice's may not
 
 in_the_job : Path
 in_the_job = codes "x" ∷ codes "j" ∷ codes "tmp" ∷ []
@@ -163,13 +163,13 @@ roles : map (role_in three_users scratch with_scratch) ((1 ∷ []) ∷ (1 ∷ 1 
 unfolding with_scratch before scratch
 roles = refl
 
--- a login as alice shows nothing of it
+-- a login as alice reveals nothing of it
 no_login_reads_it : no_reader_logs_in three_users scratch with_scratch (line_of 16 (2 ∷ []) (Login (codes "alice") (codes "aa")) ∷ []) ≡ true
 unfolding with_scratch before scratch
 no_login_reads_it = refl
 
--- ---- a file of an inner job: who is in the outer job and started the inner one is trusted with it, since it may write what others in the
--- outer job read; who started the outer job is an outsider
+-- ---- a file of an inner job: the process that is in the outer job and started the inner one is trusted with it, since it may write what
+-- others in the outer job read; the process that started the outer job is an outsider
 
 inner_file : Path
 inner_file = codes "z" ∷ codes "k" ∷ codes "j" ∷ codes "tmp" ∷ []
@@ -191,7 +191,7 @@ inner_roles : map (role_in three_users inner with_inner) ((1 ∷ []) ∷ (1 ∷ 
 unfolding with_inner before inner
 inner_roles = refl
 
--- ---- what is shown of the letter, where the job has the number 7: of 0.1, which holds it, of its first process, and of 0.2
+-- ---- the roles towards the letter, where the job has the number 7: of 0.1, which holds it, of its first process, and of 0.2
 
 three : List Process
 three = with_rights (codes "alice") [] (7 ∷ []) ∷ with_rights (codes "alice") (7 ∷ []) [] ∷ with_rights (codes "bob") [] [] ∷ []
@@ -204,13 +204,13 @@ readers : filter (is_login_reader [] mine) (codes "alice" ∷ codes "bob" ∷ []
 unfolding mine
 readers = refl
 
--- of a file that the job makes its number is shown: another job's process is an outsider
+-- the roles towards a file that the job makes: a process of another job is an outsider
 shown_scratch : map (role_of [] (Scratch (codes "alice") (map job_numbered (7 ∷ []))))
     (with_rights (codes "alice") [] (7 ∷ []) ∷ with_rights (codes "alice") (7 ∷ 9 ∷ []) [] ∷ with_rights (codes "alice") (8 ∷ []) [] ∷ [])
     ≡ Trusted ∷ Confined ∷ Outside ∷ []
 shown_scratch = refl
 
--- in a directory of bob's alice and bob log in as changers, and the job changes nothing
+-- in a directory of bob's, alice and bob can log in as changers, and the job changes nothing
 way : List FileClass
 way = classes.Private (codes "alice") ∷ classes.Readable (codes "bob") ∷ []
 

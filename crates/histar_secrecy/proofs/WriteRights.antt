@@ -1,4 +1,4 @@
--- Rights to what is on the way to a path: where they are of use, and who has no more of them than another.
+-- Rights on the way to a path: which of them let a process change what is there, and which processes have no more of them than others.
 use Rattle.std.specs.Prelude.{◌≡◌, Bool, true, false, ◌&&◌, ◌||◌, List, [], ◌∷◌, Option, Some, None, refl}
 use Rattle.std.specs.List.{list_all}
 use Rattle.std.proofs.Common.{ap, sym, ◌∙◌, inl, inr}
@@ -16,7 +16,7 @@ use Rattle.histar_flat.proofs.JobLaws.{writes_of_job}
 use Rattle.histar_flat.proofs.Under.{under_child, under_itself}
 use Rattle.histar_secrecy.specs.Changers.{may_change, writes_above}
 
--- who writes a directory on the way to a path writes one above it
+-- a process that may write a directory on the way to a path may write one above it
 pub writes_on_the_way : (accounts : Accounts) (f : Flat) (p : Process) (n : Name) (d path : Path) → under_path (n ∷ d) path ≡ true
     → writes accounts f p d ≡ true → writes_above accounts f p path ≡ true
 writes_on_the_way accounts f p n d [] u w = absurd (true≢false (sym u))
@@ -27,7 +27,7 @@ writes_on_the_way accounts f p n d (k ∷ e) u w = elim (same_path_found (n ∷ 
       ∙ or-true (writes accounts f p e)
 ]
 
--- who writes a path, or a directory on the way to one below it, may change what is there
+-- a process that may write a path, or a directory on the way to one below it, may change what is there
 pub writes_it_or_above : (accounts : Accounts) (f : Flat) (p : Process) (r path : Path) → under_path r path ≡ true → writes accounts f p r ≡ true
     → may_change accounts f p path ≡ true
 writes_it_or_above accounts f p r path u w = by path u
@@ -58,7 +58,7 @@ no_more_above accounts f a b (n ∷ d) less h = elim (or_cases (writes accounts 
       ∙ or-true (writes accounts f b d)
 ]
 
--- so it may not change what the other may not change
+-- a process with no more rights may not change what the other may not change
 pub no_more_changes : (accounts : Accounts) (f : Flat) (a b : Process) (path : Path) → HasNoMore accounts f path a b
     → may_change accounts f b path ≡ false → may_change accounts f a path ≡ false
 no_more_changes accounts f a b path less h = elim (cases_Bool (may_change accounts f a path)) [
@@ -71,7 +71,7 @@ no_more_changes accounts f a b path less h = elim (cases_Bool (may_change accoun
       ]
 ]
 
--- what all of a list pass by one test, they pass by one that it implies for them
+-- if all of a list pass one test, they pass another that it implies for them
 pub all_more : (jobs : List ProcName) (one other : ProcName → Bool) → ((job : ProcName) → has jobs job ≡ true → one job ≡ true → other job ≡ true)
     → list_all one jobs ≡ true → list_all other jobs ≡ true
 all_more [] one other more h = refl
@@ -80,7 +80,7 @@ all_more (k ∷ jobs) one other more h =
     λ i. more k (ap (λ b. b || has jobs k) (same_itself k)) parts.0 i
     && all_more jobs one other (λ job u. more job (ap (λ b. same job k || b) u ∙ or-true (same job k))) parts.1 i
 
--- the process is of the same user, in the same jobs, and knows no more of the jobs of the class
+-- a process of the same user, in the same jobs, that knows no more of the jobs of the class, writes no more of it
 pub writes_no_more : (accounts : Accounts) (a b : Process) (class : Class) → a.user ≡ b.user → a.chain ≡ b.chain
     → ((job : ProcName) → carries job class ≡ true → knows a job ≡ true → knows b job ≡ true) → may_write accounts a class ≡ true
     → may_write accounts b class ≡ true
@@ -106,12 +106,12 @@ writes_no_more accounts a b (Grouped group) user chain more h = sym (λ i. is_me
     free : List ProcName → Bool
     free jobs = let b : Bool = elim jobs [ [] ↦ true | k ∷ ks ↦ false ] in b
 
--- who is in a job that the class doesn't carry doesn't write it
+-- a process in a job that the class doesn't carry may not write the class
 pub writes_not : (accounts : Accounts) (p : Process) (class : Class) (job : ProcName) → has p.chain job ≡ true → carries job class ≡ false
     → may_write accounts p class ≡ true → ⊥
 writes_not accounts p class job inside out h = true≢false (sym (writes_of_job accounts p job inside class h) ∙ out)
 
--- rights by the classes of what is there
+-- no more rights, class by class of what is on the way
 pub no_more_by_class : (accounts : Accounts) (f : Flat) (path : Path) (a b : Process)
     → ((r : Path) (node : Node) → get f.files r ≡ Some node → may_write accounts a node.class ≡ true → may_write accounts b node.class ≡ true)
     → HasNoMore accounts f path a b

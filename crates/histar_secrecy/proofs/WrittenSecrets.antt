@@ -1,4 +1,4 @@
--- What is written to a file stays secret.
+-- Whatever is written to a file stays secret.
 use Rattle.std.specs.Prelude.{◌≡◌, ℕ, List}
 use Rattle.std.proofs.Common.{ap, sym, ◌∙◌}
 use Rattle.histar_flat.specs.declared.calls.UnixCall.TheVariants.{Write}

@@ -18,7 +18,7 @@ abbrev pub writes_above : Accounts → Flat → Process → Path → Bool
 writes_above accounts f p [] = false
 writes_above accounts f p (n ∷ d) = writes accounts f p d || writes_above accounts f p d
 
--- the process may change what is at the path: it may write that, or a directory on the way
+-- the process may change what is at the path: it may write the path, or a directory on the way
 abbrev pub may_change : Accounts → Flat → Process → Path → Bool
 may_change accounts f p path = writes accounts f p path || writes_above accounts f p path
 
@@ -30,16 +30,16 @@ is_changer accounts f path me = is_some_and (running f me) (λ p. may_change acc
 abbrev pub changers_are_silent : Accounts → Flat → Path → List CallLine → Bool
 changers_are_silent accounts f path calls = list_all (λ (c : CallLine). not (is_changer accounts f path c.process)) calls
 
--- a login as a changer: as a user who may change what is at the path, with the user's password
+-- the call logs in as a changer: as a user who may change what is at the path, with the user's password
 abbrev pub logs_in_as_changer : Accounts → Flat → Path → UnixCall → Bool
 logs_in_as_changer accounts f path call = logs_in_as accounts (λ p. may_change accounts f p path) call
 
--- nobody logs in as a changer
+-- no call logs in as a changer
 abbrev pub no_changer_logs_in : Accounts → Flat → Path → List CallLine → Bool
 no_changer_logs_in accounts f path calls = list_all (λ (c : CallLine). not (logs_in_as_changer accounts f path c.call)) calls
 
--- From a state on that has this at the path, while the changers are silent and nobody logs in as one, it stays there, with its class and
--- its bytes.
+-- From a state on that has this node at the path, while the changers are silent and no call logs in as one, the node stays there, with its
+-- class and its bytes.
 abbrev pub OthersChangeNothing : Type 0
 OthersChangeNothing = (accounts : Accounts) (f : Flat) → IsReached accounts f → (path : Path) (node : Node) → get f.files path ≡ Some node
     → (calls : List CallLine) → changers_are_silent accounts f path calls ≡ true → no_changer_logs_in accounts f path calls ≡ true

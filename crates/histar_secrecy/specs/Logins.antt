@@ -1,4 +1,4 @@
--- Logins, and what a process may do that has just logged in.
+-- Logins, and the rights of a process that has just logged in.
 use Rattle.std.specs.Prelude.{Bool, false, ◌&&◌}
 use Rattle.histar_flat.specs.declared.calls.UnixCall.{UnixCall}
 use Rattle.histar_flat.specs.declared.calls.UnixCall.TheVariants.{Login}
@@ -17,7 +17,7 @@ is_password_of accounts name password = is_some_and (user_named accounts.users n
 abbrev pub logged_in : Name → Process
 logged_in name = record first_process { user = name }
 
--- a login with the user's password, as a user whose processes pass the test when they have just logged in
+-- the call is a login with the user's password, as a user whose processes pass the test right after it
 abbrev pub logs_in_as : Accounts → (Process → Bool) → UnixCall → Bool
 logs_in_as accounts test (Login name password) = test (logged_in name) && is_password_of accounts name password
 logs_in_as accounts test _ = false

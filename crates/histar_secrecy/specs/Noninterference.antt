@@ -1,4 +1,4 @@
--- Noninterference: outsiders learn nothing of what is in a file while those are silent who are trusted with it.
+-- Noninterference: outsiders learn nothing of what is in a file while the processes that are trusted with it are silent.
 use Rattle.std.specs.Prelude.{◌≡◌, ℕ, Bool, true, not, ◌&&◌, List, [], ◌∷◌, length, Some, filter, map}
 use Rattle.std.specs.List.{list_all}
 use Rattle.histar_flat.specs.declared.calls.CallLine.{CallLine}
@@ -28,40 +28,41 @@ HasFile f path class = (bytes : List ℕ) × (get f.files path ≡ Some (record 
 abbrev pub trusted_are_silent : Accounts → Class → Flat → List CallLine → Bool
 trusted_are_silent accounts class f calls = list_all (λ (c : CallLine). not (is_trusted accounts class f c.process)) calls
 
--- what outsiders call: which process, and which call
+-- the calls of outsiders, each with its process
 abbrev pub outside_calls : Accounts → Class → Flat → List CallLine → List (ProcName × UnixCall)
 outside_calls accounts class f calls =
     map (λ (c : CallLine). (c.process, c.call)) (filter (λ (c : CallLine). is_outsider accounts class f c.process) calls)
 
--- no outsider logs in as a reader
+-- no outsider's call logs in as a reader
 abbrev pub no_reader_logs_in : Accounts → Class → Flat → List CallLine → Bool
 no_reader_logs_in accounts class f calls =
     list_all (λ (c : ProcName × UnixCall). not (logs_in_as_reader accounts class c.1)) (outside_calls accounts class f calls)
 
--- the replies to those who are outsiders in f, where calls are made from the state s on
+-- the replies to the outsiders of f, when calls are made from the state s on
 abbrev pub outside_replies : Accounts → Class → Flat → Flat → List CallLine → List Reply
 outside_replies accounts class f s calls =
     map (λ (a : RepliedCall). a.reply) (filter (λ (a : RepliedCall). is_outsider accounts class f a.call.process) (answered_from accounts s calls))
 
--- In two lists of calls the trusted are silent, and outsiders call the same, and log in as no reader. What the confined call is left open.
+-- In both lists of calls the trusted are silent, and outsiders make the same calls, and log in as no reader; the confined may do anything.
 pub record OutsidersCallTheSame (accounts : Accounts) (class : Class) (f : Flat) (calls others : List CallLine) : Type 0 where
   pub silent : trusted_are_silent accounts class f calls ≡ true
   pub others_silent : trusted_are_silent accounts class f others ≡ true
   pub alike : outside_calls accounts class f calls ≡ outside_calls accounts class f others
   pub no_login : no_reader_logs_in accounts class f calls ≡ true
 
--- Two runs go on from a state that has the file, at first with any two strings of bytes in it. Where the trusted are silent, and
--- outsiders call the same in both, and log in as no reader, outsiders have the same replies, whatever the confined call in each.
+-- Two runs go on from a state that has the file, with any two strings of bytes in it. If the trusted are silent, and outsiders make the
+-- same calls in both, and log in as no reader, outsiders have the same replies, whatever the confined call in each.
 abbrev pub OutsidersLearnNothing : Type 0
 OutsidersLearnNothing = (accounts : Accounts) (f : Flat) → IsReached accounts f → (path : Path) (class : Class) → HasFile f path class
     → (one other : List ℕ) (calls others : List CallLine) → OutsidersCallTheSame accounts class f calls others
     → outside_replies accounts class f (with_bytes f path one) calls ≡ outside_replies accounts class f (with_bytes f path other) others
 
--- the process writes these bytes to the file, and has the reply that it is done
+-- the process writes these bytes to the file, and the write is done
 abbrev pub Writes : Accounts → Flat → ProcName → Path → List ℕ → Type 0
 Writes accounts f writer path bytes = reply_to accounts f writer (Write path bytes) ≡ Done
 
--- So it is for what is written: in the same state a process writes one string of bytes to the file in one run, and another in the other.
+-- The same holds of what is written: in the same state a process writes one string of bytes to the file in one run, and another in the
+-- other.
 abbrev pub WhatIsWrittenStaysSecret : Type 0
 WhatIsWrittenStaysSecret = (accounts : Accounts) (f : Flat) → IsReached accounts f → (path : Path) (class : Class) → HasFile f path class
     → (writer : ProcName) (one other : List ℕ) → Writes accounts f writer path one → Writes accounts f writer path other
@@ -69,24 +70,24 @@ WhatIsWrittenStaysSecret = (accounts : Accounts) (f : Flat) → IsReached accoun
     → outside_replies accounts class f (flat_after accounts f writer (Write path one)) calls
     ≡ outside_replies accounts class f (flat_after accounts f writer (Write path other)) others
 
--- What all outsiders together do as a program: by the replies so far, the latest first, which process calls next, and what.
+-- The outsiders together, as a program: from the replies so far, the latest first, it determines the next process and its call.
 abbrev pub OutsideProgram : Type 0
 OutsideProgram = List Reply → ProcName × UnixCall
 
--- these calls are those of the program, where these are the replies to them, and those the replies before
+-- the calls are those of the program, given the replies to them and the replies before
 abbrev pub Follows : OutsideProgram → List Reply → List (ProcName × UnixCall) → List Reply → Type 0
 Follows program before [] replies = Unit {0}
 Follows program before (c ∷ calls) [] = Unit {0}
 Follows program before (c ∷ calls) (r ∷ replies) = (c ≡ program before) × Follows program (r ∷ before) calls replies
 
--- In the calls from the state s on the trusted are silent, and outsiders follow the program, and log in as no reader.
+-- In the calls from the state s on, the trusted are silent, and outsiders follow the program, and log in as no reader.
 pub record OutsidersFollow (accounts : Accounts) (class : Class) (f s : Flat) (program : OutsideProgram) (calls : List CallLine) : Type 0 where
   pub silent : trusted_are_silent accounts class f calls ≡ true
   pub no_login : no_reader_logs_in accounts class f calls ≡ true
   pub follows : Follows program [] (outside_calls accounts class f calls) (outside_replies accounts class f s calls)
 
--- So it is for programs, that decide by the replies: where outsiders follow the same program in two such runs, and come equally far, they
--- call the same, and have the same replies.
+-- The same holds of programs, which decide by the replies: if outsiders follow the same program in two such runs, and make equally many
+-- calls, they make the same calls, and have the same replies.
 abbrev pub ProgramsLearnNothing : Type 0
 ProgramsLearnNothing = (accounts : Accounts) (f : Flat) → IsReached accounts f → (path : Path) (class : Class) → HasFile f path class
     → (one other : List ℕ) (calls others : List CallLine) (program : OutsideProgram)
@@ -96,19 +97,19 @@ ProgramsLearnNothing = (accounts : Accounts) (f : Flat) → IsReached accounts f
     → (outside_calls accounts class f calls ≡ outside_calls accounts class f others)
     × (outside_replies accounts class f (with_bytes f path one) calls ≡ outside_replies accounts class f (with_bytes f path other) others)
 
--- Why a process that is bound is confined: what it may write only those may read who may read what is of the class.
+-- Why a bound process is confined: what it may write, only readers of the class may read.
 abbrev pub BoundWriteForReaders : Type 0
 BoundWriteForReaders = (accounts : Accounts) (class written : Class) (p reader : Process)
     → is_bound accounts class p ≡ true → may_write accounts p written ≡ true → may_read accounts reader written ≡ true
     → may_read accounts reader class ≡ true
 
--- a process that runs is confined exactly where it is bound, and an outsider exactly where it may not read what is of the class
+-- the process is confined exactly if it is bound, and an outsider exactly if it may not read the class
 pub record ShowsRole (accounts : Accounts) (class : Class) (f : Flat) (me : ProcName) (p : Process) : Type 0 where
   pub trusted : is_trusted accounts class f me ≡ (may_read accounts p class && not (is_bound accounts class p))
   pub confined : is_confined accounts class f me ≡ is_bound accounts class p
   pub outside : is_outsider accounts class f me ≡ not (may_read accounts p class)
 
--- In each state that calls lead to, each process that runs shows by itself whether it is trusted, confined or an outsider.
+-- In each state that calls lead to, the role of each running process can be computed from the process alone.
 abbrev pub RolesAreShown : Type 0
 RolesAreShown = (accounts : Accounts) (f : Flat) → IsReached accounts f → (path : Path) (node : Node) → get f.files path ≡ Some node
     → (me : ProcName) (p : Process) → running f me ≡ Some p → ShowsRole accounts node.class f me p

@@ -1,4 +1,4 @@
--- What is shown of processes and users: their standings to a file, and which are changers. Jobs are known by numbers.
+-- Computed roles: the role of each process and user towards a file, and which are changers. Jobs are known by numbers.
 use Rattle.std.specs.Prelude.{◌≡◌, ℕ, Bool, true, false, List, [], ◌∷◌, None, Option, Some, map, option_map, if◌then◌else◌}
 use Rattle.std.specs.List.{list_any}
 use Rattle.histar_flat.specs.Words.{Name, Path, ProcName}
@@ -18,7 +18,7 @@ use Rattle.histar_secrecy.specs.Roles.{is_bound, is_confined, is_trusted}
 use Rattle.histar_secrecy.specs.Noninterference.{IsReached}
 use Rattle.histar_secrecy.specs.Changers.{is_changer, may_change}
 
--- a session with these groups: what a process may read and write depends on nothing else that is declared
+-- accounts with these groups: what a process may read and write depends on nothing else that is declared
 abbrev pub of_groups : List Group → Accounts
 of_groups groups = record { users = []; groups = groups }
 
@@ -30,7 +30,7 @@ job_numbered number = number ∷ []
 abbrev pub with_rights : Name → List ℕ → List ℕ → Process
 with_rights user jobs held = record { user = user; chain = map job_numbered jobs; held = map job_numbered held; exited = None; born = 0 }
 
--- the class as the rules have it, with each job by its number
+-- the class in the flat rules, with each job by its number
 abbrev pub flat_class : FileClass → Class
 flat_class (classes.Private owner) = Private owner
 flat_class (classes.Readable owner) = Readable owner
@@ -38,23 +38,23 @@ flat_class classes.Open = Open
 flat_class (classes.Scratch owner jobs) = Scratch owner (map job_numbered jobs.items)
 flat_class (classes.Grouped group) = Grouped group
 
--- the standing of a process that runs, to what is of the class
+-- the role of a running process towards the class
 abbrev pub role_of : List Group → Class → Process → Role
 role_of groups class p =
     if may_read (of_groups groups) p class then (if is_bound (of_groups groups) class p then Confined else Trusted) else Outside
 
--- the standing of a process that is shown
+-- the role of a process that is shown
 abbrev pub member_role : List Group → Class → Member → Role
 member_role groups class m = role_of groups class (with_rights m.user m.jobs.items m.held.items)
 
--- two standings are the same
+-- two roles are the same
 abbrev pub is_same_role : Role → Role → Bool
 is_same_role Trusted Trusted = true
 is_same_role Confined Confined = true
 is_same_role Outside Outside = true
 is_same_role one other = false
 
--- a process that is shown has this standing
+-- the process that is shown has this role
 abbrev pub has_role : List Group → Class → Role → Member → Bool
 has_role groups class role m = is_same_role role (member_role groups class m)
 
@@ -62,23 +62,23 @@ has_role groups class role m = is_same_role role (member_role groups class m)
 abbrev pub with_user : Member → ProcName × Name
 with_user m = (m.name, m.user)
 
--- a process that logs in as this user may read what is of the class
+-- a process that logs in as this user may read the class
 abbrev pub is_login_reader : List Group → Class → Name → Bool
 is_login_reader groups class user = may_read (of_groups groups) (logged_in user) class
 
--- a process may write what is of one of these classes
+-- the process may write one of these classes
 abbrev pub changes_one : List Group → Process → List FileClass → Bool
 changes_one groups p classes = list_any (λ class. may_write (of_groups groups) p (flat_class class)) classes
 
--- a process that is shown may write what is of one of these classes
+-- the process that is shown may write one of these classes
 abbrev pub is_shown_changer : List Group → List FileClass → Member → Bool
 is_shown_changer groups classes m = changes_one groups (with_rights m.user m.jobs.items m.held.items) classes
 
--- and so may a process that logs in as this user
+-- a process that logs in as this user may write one of these classes
 abbrev pub is_login_changer : List Group → List FileClass → Name → Bool
 is_login_changer groups classes user = changes_one groups (logged_in user) classes
 
--- the standing of the process of this name in a state, to what is of the class
+-- the role of the process of this name in a state, towards the class
 abbrev pub role_in : Accounts → Class → Flat → ProcName → Role
 role_in accounts class f me = if is_trusted accounts class f me then Trusted else if is_confined accounts class f me then Confined else Outside
 
@@ -96,7 +96,7 @@ module _ (number : ProcName → ℕ) where
   class_by_number (Scratch owner jobs) = Scratch owner (jobs_by_number jobs)
   class_by_number class = class
 
-  -- what is there is of this class
+  -- the node has this class
   abbrev pub IsOfClass : Option Node → FileClass → Type 0
   IsOfClass there class = option_map (λ (n : Node). class_by_number n.class) there ≡ Some (flat_class class)
 
@@ -113,8 +113,8 @@ module _ (number : ProcName → ℕ) where
     pub jobs : map number p.chain ≡ m.jobs.items
     pub held : map number p.held ≡ m.held.items
 
-  -- What is shown is so in a state: of each process that runs its standing to a file, where calls lead to the state, and whether it is a
-  -- changer of what is at a path; and of each user whether it logs in as a reader, and as a changer.
+  -- What is shown is that of the state: the role of each running process towards a file, if calls lead to the state, and whether it is a
+  -- changer of what is at a path; and for each user, whether a login makes a reader or a changer.
   pub record ShowsAState (accounts : Accounts) (f : Flat) : Type 0 where
     pub role : IsReached accounts f → (path : Path) (node : Node) (class : FileClass) → get f.files path ≡ Some node
         → class_by_number node.class ≡ flat_class class → (m : Member) (p : Process) → IsShownProcess f m p
@@ -126,6 +126,6 @@ module _ (number : ProcName → ℕ) where
     pub changer_login : (path : Path) (classes : List FileClass) → AreClassesTo f path classes
         → (user : Name) → is_login_changer accounts.groups classes user ≡ may_change accounts f (logged_in user) path
 
--- What is shown is so in each state, however the jobs are numbered.
+-- What is shown is that of each state, however the jobs are numbered.
 abbrev pub ShownIsSo : Type 0
 ShownIsSo = (accounts : Accounts) (f : Flat) (number : ProcName → ℕ) → AreNumbered number → ShowsAState number accounts f

@@ -1,4 +1,4 @@
-//! Who may change what is at a path.
+//! The processes and users that may change what is at a path.
 ghost use Rattle.std.specs.Prelude.{◌≡◌, IfOk, filter, map};
 ghost use Rattle.histar_secrecy.specs.ShownRoles.{changes_one, is_login_changer, is_shown_changer, with_rights, with_user};
 
@@ -8,8 +8,8 @@ use crate::role::Member;
 use histar_flat::{Group, Name, ProcName};
 use std::alloc::{AllocError, Global};
 
-/// Returns those of these processes that may change what is at a path, each with its user, where these are
-/// the classes of what is there and of each directory above it.
+/// Returns the processes that may change what is at a path, each with its user. The classes are those of what
+/// is at the path, and of each directory above it.
 pub fn changers_of(
     alloc: Global,
     groups: &[Group],
@@ -29,7 +29,7 @@ pub fn changers_of(
         .collect(alloc)
 }
 
-/// Returns those of these users as whom a process that logs in may change what is at the path.
+/// Returns the users as whom a process that logs in may change what is at the path.
 pub fn login_changers(
     alloc: Global,
     groups: &[Group],

@@ -1,8 +1,8 @@
-//! Whose a file is, and for whom.
+//! Classes of files: the owner of a file, and who may read and write it.
 use histar_flat::Name;
 
-/// Whose a file or a directory is, and for whom. A job is known by a number that no other job has, as
-/// that of its category.
+/// The class of a file or a directory: its owner, and who may read and write it. A job is known by a number
+/// that no other job has, such as that of its category.
 #[derive(Drop)]
 pub enum FileClass {
     /// For its owner alone.

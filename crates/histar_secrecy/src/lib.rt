@@ -1,4 +1,4 @@
-//! Secrecy: on whom it depends that a file stays secret, and that it stays as it is.
+//! Secrecy and integrity of a file: which processes have to be trusted to keep it secret and unchanged.
 #![tactic(auto)]
 
 mod changers;

@@ -1,4 +1,4 @@
-//! Who may read and write what is of a class.
+//! The rights of processes to files of a class.
 ghost use Rattle.std.specs.Prelude.{◌≡◌, ◌||◌, nat_eq};
 ghost use Rattle.std.specs.List.{list_all, list_any};
 ghost use Rattle.histar_flat.specs.Accounts.{is_member};
@@ -46,14 +46,14 @@ pub fn may_write(
     }
 }
 
-/// Checks whether each of these jobs is one of those.
+/// Checks whether each of `others` is one of these jobs.
 fn has_all(jobs: &[u64], others: &[u64]) -> bool
     ensures { result ≡ list_all (λ other. list_any (nat_eq other) jobs.now) others.now }
 {
     others.iter().all(|other| has(jobs, *other))
 }
 
-/// Checks whether a process that is in some jobs and holds some knows each of these.
+/// Checks whether a process that is in some jobs and holds some knows each of the jobs `of`.
 fn knows_all(jobs: &[u64], held: &[u64], of: &[u64]) -> bool
     ensures { result ≡ list_all
         (λ job. list_any (nat_eq job) jobs.now || list_any (nat_eq job) held.now) of.now }

@@ -1,4 +1,4 @@
-//! Who is trusted with a file, who is confined, and who is an outsider.
+//! The role of a process towards a file: trusted, confined or an outsider.
 ghost use Rattle.std.specs.Prelude.{◌≡◌, IfOk, filter, map};
 ghost use Rattle.histar_secrecy.specs.ShownRoles.{flat_class, has_role, is_login_reader, is_same_role, member_role, with_user};
 
@@ -7,19 +7,19 @@ use crate::rights::may_read;
 use histar_flat::{Group, Name, ProcName};
 use std::alloc::{AllocError, Global};
 
-/// The standing of a process that runs, to what is in a file.
+/// The role of a process that runs, towards what is in a file.
 #[derive(Clone, Copy)]
 pub enum Role {
     /// It may read the file, and nothing confines it: it is trusted with what is in the file.
     Trusted,
-    /// It may read the file, and what it may write only those may read who may read the file.
+    /// It may read the file, and whatever it may write, only readers of the file may read.
     Confined,
     /// It may not read the file.
     Outside,
 }
 
-/// A process that runs: its user, the jobs that it is in, and those that it holds, by numbers. No two
-/// jobs have the same number.
+/// A process that runs: its user, the jobs that it is in, and those that it holds, by numbers. No two jobs
+/// have the same number.
 #[derive(Drop)]
 pub struct Member {
     pub name: ProcName,
@@ -28,7 +28,7 @@ pub struct Member {
     pub held: Vec<u64>,
 }
 
-/// Returns the standing of a process to a file of the class.
+/// Returns the role of a process towards a file of the class.
 fn role_of(groups: &[Group], class: &FileClass, member: &Member) -> Role
     ensures { result ≡ member_role groups.now (flat_class class.now) member.now }
 {
@@ -42,7 +42,7 @@ fn role_of(groups: &[Group], class: &FileClass, member: &Member) -> Role
     }
 }
 
-/// Checks whether two standings are the same.
+/// Checks whether two roles are the same.
 fn is_same(one: Role, other: Role) -> bool
     ensures { result ≡ is_same_role one other }
 {
@@ -53,7 +53,7 @@ fn is_same(one: Role, other: Role) -> bool
     }
 }
 
-/// Returns those of these processes that have this standing to a file of the class, each with its user.
+/// Returns the processes that have this role towards a file of the class, each with its user.
 pub fn with_role(
     alloc: Global,
     groups: &[Group],
@@ -71,7 +71,7 @@ pub fn with_role(
         .collect(alloc)
 }
 
-/// Returns those of these users as whom a process that logs in may read a file of the class.
+/// Returns the users as whom a process that logs in may read a file of the class.
 pub fn login_readers(
     alloc: Global,
     groups: &[Group],

@@ -13,7 +13,7 @@ use Rattle.histar_test.specs.declared.steps.Step.TheVariants.{Makes, Expects, As
 use Rattle.histar_test.specs.Checks.{check_text, checks_from, checks_text, is_met}
 use Rattle.histar_test.specs.Running.{check_at, flat_at, last_at, tally_with}
 
--- the lines of some checks, and of those behind them
+-- the text of some checks and of those after them
 pub checks_text-append : (file : List ℕ) (k : ℕ) (front more : List Check)
     → checks_text file k (front ++ more) ≡ checks_text file k front ++ checks_text file (k + length front) more
 checks_text-append file k [] more = ap (λ (n : ℕ). checks_text file n more) (sym (add-zero k))
@@ -23,7 +23,7 @@ checks_text-append file k (c ∷ front) more =
     (checks_text-append file (k + 1) front more ∙ ap (λ (n : ℕ). checks_text file (k + 1) front ++ checks_text file n more) on)
     ∙ sym (append_assoc (check_text file k c) (checks_text file (k + 1) front) (checks_text file (k + length (c ∷ front)) more))
 
--- tests in a row
+-- `&&` is associative
 and_assoc : (a b c : Bool) → ((a && b) && c) ≡ (a && (b && c))
 and_assoc true b c = refl
 and_assoc false b c = refl
@@ -32,11 +32,11 @@ and_true : (a : Bool) → a ≡ (a && true)
 and_true true = refl
 and_true false = refl
 
--- no check more
+-- the tally without further checks
 pub tally_none : (t : Tally) → t ≡ tally_with t []
 tally_none t = λ i. record { count = sym (add-zero t.count) i; are_met = and_true t.are_met i }
 
--- some checks, and those behind them
+-- the tally with some checks and those after them
 pub tally_more : (t : Tally) (front more : List Check) → tally_with (tally_with t front) more ≡ tally_with t (front ++ more)
 tally_more t front more =
     let counted : (t.count + length front) + length more ≡ t.count + length (front ++ more) = omega (arith, length-append front more) in
@@ -45,7 +45,7 @@ tally_more t front more =
     ∙ ap (λ (b : Bool). t.are_met && b) (sym (list_all-append is_met front more)) in
     λ i. record { count = counted i; are_met = met i }
 
--- the check of a step, and then those behind it
+-- the checks of steps are that of the first, and then those of the others
 pub check_first : (accounts : Accounts) (f : Flat) (last : Option Made) (step : Step) (later : List Step)
     → checks_from accounts f last (step ∷ later)
     ≡ check_at accounts f last step ++ checks_from accounts (flat_at accounts f step) (last_at accounts f last step) later

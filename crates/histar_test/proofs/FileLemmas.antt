@@ -1,4 +1,4 @@
--- Files one after another: which tests they are, and what is written of them.
+-- Files one after another: their tests, and the text that is written of them.
 use Rattle.std.proofs.Common.{◌≡◌, ℕ, ◌+◌, ◌<◌, Bool, true, false, List, [], ◌∷◌, ◌++◌, length, take, drop, get_or, Option, Result, Ok, Err, ◌&&◌}
 use Rattle.std.proofs.Common.{refl, sym, ap, ◌∙◌, subst, append-nil, append_assoc, arith, inl, inr, add-zero, length-append, take-append-drop}
 use Rattle.std.specs.Prelude.{IfErr, IfOk, OnErr, OnOk, map}
@@ -28,7 +28,7 @@ use Rattle.histar_test.proofs.StepLaws.{test_counted}
 
 -- ---- the files that are read
 
--- the files of some tests have their checks
+-- files with these tests have their checks
 pub each_checked : (files : List TestFile) (tests : List NamedTest) → AllZip IsTestOf files tests → AllZip IsChecked files (map checked_of tests)
 each_checked [] [] each = tt
 each_checked [] (test ∷ tests) each = absurd each
@@ -42,7 +42,7 @@ each_checked (file ∷ files) (test ∷ tests) each = (
   each_checked files tests each.1,
 )
 
--- the checks of some tests are as many as their expectations
+-- tests have as many checks as expectations
 pub counted : (files : List TestFile) (tests : List NamedTest) → AllZip IsTestOf files tests
     → expectations_in tests ≡ check_count (map checked_of tests)
 counted [] [] each = refl
@@ -57,7 +57,7 @@ counted (file ∷ files) (test ∷ tests) each =
     length-append (checks_of test.test) (flat_map (λ (c : Checked). c.checks) (map checked_of tests)) in
     omega (arith, own, later, one, two)
 
--- one more file was read
+-- one more file is read
 pub more_files : (files : List TestFile) (i : ℕ) (file : TestFile) (tests : List NamedTest) (named : NamedTest)
     → (i < length files) × (file ≡ get_or files i file) → AllZip IsTestOf (take i files) tests → IsTestOf file named
     → AllZip IsTestOf (take (i + 1) files) (tests ++ named ∷ [])
@@ -67,14 +67,14 @@ more_files files i file tests named here each is =
     subst (λ (l : List TestFile). AllZip IsTestOf l (tests ++ named ∷ [])) (sym front)
     (all_zipped_more IsTestOf (take i files) tests file named each is)
 
--- the files before a place, the one there and those after it
+-- the files are those before a place, the one there and those after it
 pub file_at : (files : List TestFile) (i : ℕ) (file : TestFile) → i < length files → file ≡ get_or files i file
     → files ≡ take i files ++ file ∷ drop (i + 1) files
 file_at files i file lt is =
     sym (take-append-drop i files)
     ∙ ap (λ (l : List TestFile). take i files ++ l) (drop_more files i file lt ∙ ap (λ (x : TestFile). x ∷ drop (i + 1) files) (sym is))
 
--- the file at a place that is no test is the first one
+-- a file that is no test, after files that are tests, is the first one
 pub first_fault : (fault : Fault) (files : List TestFile) (i : ℕ) (file : TestFile) (tests : List NamedTest)
     → files ≡ take i files ++ file ∷ drop (i + 1) files → AllZip IsTestOf (take i files) tests
     → Gives {A = Test} (Err fault) (test_of file.text.items) → ReadsFiles files (Err fault)
@@ -102,11 +102,11 @@ first_fault WriteFailed files i file tests parts each bad = absurd bad
 
 -- ---- what is written
 
--- the checks of one file, and of those behind it
+-- the checks of files are as many as those of the first and those of the others
 count_first : (file : Checked) (files : List Checked) → check_count (file ∷ files) ≡ length file.checks + check_count files
 count_first file files = length-append file.checks (flat_map (λ (c : Checked). c.checks) files)
 
--- the lines of some files, and of one behind them
+-- the lines of some files, and of one more
 files_text-push : (k : ℕ) (files : List Checked) (file : Checked)
     → files_text k (files ++ file ∷ []) ≡ files_text k files ++ checks_text file.name (k + check_count files) file.checks
 files_text-push k [] file = append-nil _ ∙ ap (λ (n : ℕ). checks_text file.name n file.checks) (sym (add-zero k))
@@ -118,7 +118,7 @@ files_text-push k (first ∷ files) file =
     ∙ ap (λ (n : ℕ). files_text (k + length first.checks) files ++ checks_text file.name n file.checks) on)
     ∙ sym (append_assoc own (files_text (k + length first.checks) files) (checks_text file.name (k + check_count (first ∷ files)) file.checks))
 
--- the lines of some files, and of those behind them
+-- the lines of some files, and of those after them
 files_text-append : (k : ℕ) (files more : List Checked) → files_text k (files ++ more) ≡ files_text k files ++ files_text (k + check_count files) more
 files_text-append k [] more = ap (λ (n : ℕ). files_text n more) (sym (add-zero k))
 files_text-append k (first ∷ files) more =
@@ -129,12 +129,12 @@ files_text-append k (first ∷ files) more =
     ∙ ap (λ (n : ℕ). files_text (k + length first.checks) files ++ files_text n more) on)
     ∙ sym (append_assoc own (files_text (k + length first.checks) files) (files_text (k + check_count (first ∷ files)) more))
 
--- how many checks files have, with one behind them
+-- the number of checks of some files, and of one more
 count_push : (files : List Checked) (file : Checked) → check_count (files ++ file ∷ []) ≡ check_count files + length file.checks
 count_push [] file = omega (arith, count_first file [])
 count_push (first ∷ files) file = omega (arith, count_first first (files ++ file ∷ []), count_first first files, count_push files file)
 
--- each is met, with one behind them
+-- all are met in some files and one more
 met_push : (files : List Checked) (file : Checked) → are_met (files ++ file ∷ []) ≡ (are_met files && list_all is_met file.checks)
 met_push files file =
     list_all-append (λ (c : Checked). list_all is_met c.checks) files (file ∷ [])
@@ -150,11 +150,11 @@ pub record AreRun (tests : List NamedTest) (tally : Tally) (before after : Optio
   pub count : tally.count ≡ check_count (map checked_of tests)
   pub met : tally.are_met ≡ are_met (map checked_of tests)
 
--- before the first test
+-- this holds before the first test
 pub none_run : (w : Option (List ℕ)) → AreRun [] (record { count = 0; are_met = true }) w w
 none_run w = record { written = Appends-nil w; count = refl; met = refl }
 
--- one more test was run
+-- one more test has been run
 pub more_run : {tests : List NamedTest} {tally : Tally} {a b : Option (List ℕ)} → (test : NamedTest) (after : Tally) (c : Option (List ℕ))
     → AreRun tests tally a b → Appends b c (checks_text test.name (tally.count + 1) (checks_of test.test))
     → after ≡ tally_with tally (checks_of test.test) → AreRun (tests ++ test ∷ []) after a c
@@ -175,7 +175,7 @@ more_run {tests = tests} {tally = tally} {a = a} {b = b} test after c run more i
           ∙ sym (ap are_met all ∙ met_push front file);
     }
 
--- one more was begun
+-- one more test has been begun
 pub begun_run : {tests : List NamedTest} {tally : Tally} {a b : Option (List ℕ)} → (all later : List NamedTest) (test : NamedTest)
     (c : Option (List ℕ)) → all ≡ tests ++ test ∷ later → AreRun tests tally a b
     → AppendsFront b c (checks_text test.name (tally.count + 1) (checks_of test.test)) → AppendsFront a c (files_text 1 (map checked_of all))
@@ -194,12 +194,12 @@ begun_run {tests = tests} {tally = tally} {a = a} {b = b} all later test c parts
 
 -- ---- the whole report
 
--- the line that says how many checks there are
+-- the plan is that of the files' checks
 pub planned : (tests slice : List NamedTest) (total : ℕ) → AreTests tests → slice ≡ tests → total ≡ expectations_in slice
     → plan_text total ≡ plan_text (check_count (map checked_of tests))
 planned tests slice total are same is = ap plan_text (is ∙ ap expectations_in same ∙ counted are.0 tests are.1)
 
--- a beginning of the first text is one of both
+-- a beginning of the first text is a beginning of both
 pub front_first : (a b : Option (List ℕ)) (first second : List ℕ) → AppendsFront a b first → AppendsFront a b (first ++ second)
 front_first a b first second begun = (
   begun.0 ++ second,
@@ -216,7 +216,7 @@ pub both_written : (a b c : Option (List ℕ)) (result : Result Bool Fault) (fir
 both_written a b c (Ok met) first second one two = Appends-trans a b c first second one two
 both_written a b c (Err f) first second one two = tt
 
--- or a beginning of the second
+-- the first text was written, and then a beginning of the second
 pub both_begun : (a b c : Option (List ℕ)) (result : Result Bool Fault) (first second : List ℕ) → Appends a b first
     → OnErr result (AppendsFront b c second) → OnErr result (AppendsFront a c (first ++ second))
 both_begun a b c (Ok met) first second one two = tt
@@ -229,9 +229,9 @@ both_begun a b c (Err f) first second one two = (
   },
 )
 
--- ---- what is answered
+-- ---- the result
 
--- What the tests were reported to be: their text was written, or a beginning of it, and the answer is whether each is met.
+-- The tests were reported: their text was written, or a beginning of it, and the result is whether all are met.
 pub record AreReported (tests : List NamedTest) (old new : Option (List ℕ)) (result : Result Bool Fault) : Type 0 where
   pub written : OnOk result (Appends old new (report_text (map checked_of tests)))
   pub met : IfOk result (λ met. met ≡ are_met (map checked_of tests))
@@ -263,7 +263,7 @@ files_tested (Err WriteFailed) files tests each are = record {
   holds = tt;
 }
 
--- a file that is no test was answered, and nothing written
+-- the fault of a file that is no test is returned, and nothing written
 pub files_unread : (fault : Fault) (files : List TestFile) (w : Option (List ℕ)) → ReadsFiles files (Err fault) → TestsFiles files w w (Err fault)
 files_unread (BadScript n) files w reads = (reads, Keeps-refl w)
 files_unread TooLong files w reads = (reads, Keeps-refl w)
@@ -271,7 +271,7 @@ files_unread OutOfMemory files w reads = inl (Keeps-refl w)
 files_unread ReadFailed files w reads = absurd reads
 files_unread WriteFailed files w reads = absurd reads
 
--- no write failed there
+-- no write has failed then
 pub unread_unwritten : (fault : Fault) (files : List TestFile) → ReadsFiles files (Err fault) → is_write_failed {A = Bool} (Err fault) ≡ false
 unread_unwritten (BadScript n) files reads = refl
 unread_unwritten TooLong files reads = refl
@@ -279,7 +279,7 @@ unread_unwritten OutOfMemory files reads = refl
 unread_unwritten ReadFailed files reads = refl
 unread_unwritten WriteFailed files reads = absurd reads
 
--- the sink where the tests were run
+-- the sink after the tests were run is as the contract says
 pub sink_after : {W : Type 0} (old new : W) (result : Result Bool Fault) → IfErr result IsOutputFault → IfErr result (LeavesSink old new)
 sink_after old new (Ok met) fault = tt
 sink_after old new (Err f) fault = sink_called old new f fault

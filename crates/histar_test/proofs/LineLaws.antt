@@ -1,4 +1,4 @@
--- Each line that expects or asks has its check, which is of what the script means.
+-- Each line with an expectation or a question has its check, which is of the script's meaning.
 use Rattle.std.proofs.Common.{◌≡◌, ℕ, ◌+◌, ◌<◌, ◌≤◌, Bool, true, false, List, [], ◌∷◌, ◌++◌, Option, Some, None, Result, Ok, ltb, ◌||◌}
 use Rattle.std.proofs.Common.{refl, sym, ap, ◌∙◌, subst, append_assoc, arith, rules, tests}
 use Rattle.std.specs.Prelude.{MatchOption, is_some, option_to_list, if◌then◌else◌}
@@ -43,27 +43,27 @@ abbrev AreBefore : ℕ → List CallLine → Type 0
 AreBefore n [] = Unit {0}
 AreBefore n (c ∷ calls) = (c.line < n) × AreBefore n calls
 
--- none is
+-- no call is on a line before this one
 abbrev AreFrom : ℕ → List CallLine → Type 0
 AreFrom n [] = Unit {0}
 AreFrom n (c ∷ calls) = (n ≤ c.line) × AreFrom n calls
 
--- so they are before the next line
+-- calls before a line are before the next line
 before_next : (n : ℕ) (calls : List CallLine) → AreBefore n calls → AreBefore (n + 1) calls
 before_next n [] before = tt
 before_next n (c ∷ calls) before = (omega (arith, before.0), before_next n calls before.1)
 
--- with one more
+-- they stay so with one more call
 before_more : (n : ℕ) (calls : List CallLine) (c : CallLine) → AreBefore n calls → c.line < n → AreBefore n (calls ++ c ∷ [])
 before_more n [] c before lt = (lt, tt)
 before_more n (d ∷ calls) c before lt = (before.0, before_more n calls c before.1 lt)
 
--- none that is behind the next line is before this one
+-- calls from the next line on are from this line on
 from_next : (n : ℕ) (calls : List CallLine) → AreFrom (n + 1) calls → AreFrom n calls
 from_next n [] from = tt
 from_next n (c ∷ calls) from = (omega (arith, from.0), from_next n calls from.1)
 
--- nor with others
+-- they stay so with other such calls
 from_both : (n : ℕ) (a b : List CallLine) → AreFrom n a → AreFrom n b → AreFrom n (a ++ b)
 from_both n [] b h k = k
 from_both n (c ∷ a) b h k = (h.0, from_both n a b h.1 k)
@@ -76,7 +76,7 @@ none_before_line n (c ∷ calls) from =
     let no : ltb c.line n ≡ false = search (rules, tests) in
     ap (λ (b : Bool). if b then c ∷ calls_before (Some n) calls else calls_before (Some n) calls) no ∙ none_before_line n calls from.1
 
--- the calls before a line, where those behind it follow
+-- the calls before a line, followed by calls from it on
 before_line : (n : ℕ) (done more : List CallLine) → AreBefore n done → AreFrom n more → calls_before (Some n) (done ++ more) ≡ done
 before_line n [] more before from = none_before_line n more from
 before_line n (c ∷ done) more before from =
@@ -85,7 +85,7 @@ before_line n (c ∷ done) more before from =
     ap (λ (b : Bool). if b then c ∷ calls_before (Some n) (done ++ more) else calls_before (Some n) (done ++ more)) yes
     ∙ ap (λ (calls : List CallLine). c ∷ calls) (before_line n done more before.1 from)
 
--- a call has the number of its line
+-- the call on a line has the number of the line
 line_of_call : (n : ℕ) (item : Option Item) (c : CallLine) → call_in n item ≡ Some c → c.line ≡ n
 line_of_call n None c e = absurd (none-some c e)
 line_of_call n (Some (items.User u)) c e = absurd (none-some c e)
@@ -93,12 +93,12 @@ line_of_call n (Some (items.Group g)) c e = absurd (none-some c e)
 line_of_call n (Some items.Comment) c e = absurd (none-some c e)
 line_of_call n (Some (items.Call p u)) c e = sym (ap (λ (d : CallLine). d.line) (same_Some (record { line = n; process = p; call = u }) c e))
 
--- so has that of a step
+-- the call of a line's step has it too
 line_of_step : (n : ℕ) (line : List ℕ) (c : CallLine) (said : List ℕ) → step_of n line ≡ Ok (Some (Makes c said)) → c.line ≡ n
 line_of_step n line c said is =
     line_of_call n (item_of line) c (call_wanted n line (asked_of line) (expectation_of line) (call_in n (item_of line)) c said is).2
 
--- no call of lines is before the first
+-- no call of these lines is before the first of them
 step_from : (n : ℕ) (line : List ℕ) (step : Option Step) → step_of n line ≡ Ok step → AreFrom n (calls_by step)
 step_from n line None is = tt
 step_from n line (Some (Makes c said)) is = (omega (arith, line_of_step n line c said is), tt)
@@ -117,7 +117,7 @@ lines_from n is_open (line ∷ lines) steps read =
 
 -- ---- line by line
 
--- a line that wants nothing, or something
+-- a line without an expectation or a question is passed over
 passed_over : (n : ℕ) (line : List ℕ) (lines : List (List ℕ)) → wants line ≡ false → wanting_from n (line ∷ lines) ≡ wanting_from (n + 1) lines
 passed_over n line lines is =
     ap (λ (b : Bool). if b then record { number = n; text = line } ∷ wanting_from (n + 1) lines else wanting_from (n + 1) lines) is
@@ -128,7 +128,7 @@ listed n line lines is =
     ap (λ (b : Bool). if b then record { number = n; text = line } ∷ wanting_from (n + 1) lines else wanting_from (n + 1) lines) is
 
 module _ (script : ScriptModel) where
-  -- what a line wants, and what the script means there
+  -- the check is of what the line expects, and of the script's meaning there
   abbrev IsCheckOf : NumberedLine → Check → Type 0
   IsCheckOf line check = IsExpectedOn line check × IsOfTheMeaning script line check
 
@@ -136,23 +136,23 @@ module _ (script : ScriptModel) where
   abbrev flat : List CallLine → Flat
   flat done = flat_end script.accounts (boot script.accounts) done
 
-  -- the call that is open is the last of these
+  -- the open call is the last of these
   abbrev HasLast : List CallLine → Option Made → Type 0
   HasLast done None = Unit {0}
   HasLast done (Some made) = IsLastAnswer made (meaning script.accounts done)
 
-  -- these lines have their checks, behind these calls
+  -- the lines have their checks, after these calls
   abbrev AreOfLines : ℕ → List (List ℕ) → List CallLine → Option Made → List Step → Type 0
   AreOfLines n lines done last steps = AllZip IsCheckOf (wanting_from n lines) (checks_from script.accounts (flat done) last steps)
 
   module _ (n : ℕ) (is_open opened : Bool) (line : List ℕ) (lines : List (List ℕ)) (done : List CallLine) (rest : List Step) where
-    -- so have those behind a line, whatever calls come before them and is open there
+    -- the same for the lines after a line, whatever calls come before them and whichever call is open there
     abbrev Later : Type 0
     Later = (calls : List CallLine) (last : Option Made) → script.calls ≡ calls ++ calls_in rest → AreBefore (n + 1) calls → is_some last ≡ opened
         → HasLast calls last → AreOfLines (n + 1) lines calls last rest
 
     module _ (at : calls_before (Some n) script.calls ≡ done) (before : AreBefore n done) (later : Later) where
-      -- a line that expects
+      -- the case of a line with an expectation
       expected : (text : List ℕ) (last : Option Made) → step_of n line ≡ Ok (Some (Expects text)) → open_after is_open (Expects text) ≡ Some opened
           → script.calls ≡ done ++ calls_in rest → is_some last ≡ is_open → HasLast done last
           → AreOfLines n (line ∷ lines) done last (Expects text ∷ rest)
@@ -174,7 +174,7 @@ module _ (script : ScriptModel) where
             later done None calls (before_next n done before) shut tt,
           )
 
-      -- a line that asks
+      -- the case of a line with a question
       asked_there : (q : Question) (last : Option Made) → step_of n line ≡ Ok (Some (Asks q)) → open_after is_open (Asks q) ≡ Some opened
           → script.calls ≡ done ++ calls_in rest → is_some last ≡ is_open → HasLast done last → AreOfLines n (line ∷ lines) done last (Asks q ∷ rest)
       asked_there q last is opens calls was has =
@@ -197,7 +197,7 @@ module _ (script : ScriptModel) where
             later done last calls (before_next n done before) (was ∙ same_Some is_open opened opens) has,
           )
 
-      -- a line that makes a call
+      -- the case of a line with a call
       called_there : (c : CallLine) (said : List ℕ) (last : Option Made) → step_of n line ≡ Ok (Some (Makes c said)) → Some true ≡ Some opened
           → script.calls ≡ done ++ c ∷ calls_in rest → AreOfLines n (line ∷ lines) done last (Makes c said ∷ rest)
       called_there c said last is opens calls =
@@ -219,7 +219,7 @@ module _ (script : ScriptModel) where
           (later (done ++ c ∷ []) (Some made) (calls ∙ sym (append_assoc done (c ∷ []) (calls_in rest)))
           (before_more (n + 1) done c (before_next n done before) lt) (same_Some true opened opens) answered))
 
-      -- whatever step the line is
+      -- the case of a line with any step, or none
       line_checked : (step : Option Step) (last : Option Made) → step_of n line ≡ Ok step → OpensTo is_open step opened
           → script.calls ≡ done ++ (calls_by step ++ calls_in rest) → is_some last ≡ is_open → HasLast done last
           → AreOfLines n (line ∷ lines) done last (option_to_list step ++ rest)
@@ -252,7 +252,7 @@ module _ (script : ScriptModel) where
 
 -- ---- whole texts
 
--- so have those of a test
+-- the lines of a test have their checks
 test_checked : (text : List ℕ) (script : ScriptModel) (test : Test) → script_of text ≡ Ok script → test_of text ≡ Ok test
     → AllZip (IsCheckOf script) (wanting_in text) (checks_of test)
 test_checked text script test is reads =
@@ -260,21 +260,21 @@ test_checked text script test is reads =
     subst (λ (s : Accounts). AllZip (IsCheckOf script) (wanting_in text) (checks_from s (boot s) None test.steps)) (sym makes.0)
     (lines_checked script 1 false (lines_of text) test.steps [] None (read_as text test reads).are_steps (sym makes.1) tt refl tt)
 
--- what holds of two lists, one by one, where more does
+-- what holds of two lists element by element follows from what is stronger
 each_of : {A B : Type 0} (P Q : A → B → Type 0) → ((x : A) (y : B) → P x y → Q x y) → (xs : List A) (ys : List B) → AllZip P xs ys → AllZip Q xs ys
 each_of P Q holds [] [] each = tt
 each_of P Q holds [] (y ∷ ys) each = absurd each
 each_of P Q holds (x ∷ xs) [] each = absurd each
 each_of P Q holds (x ∷ xs) (y ∷ ys) each = (holds x y each.0, each_of P Q holds xs ys each.1)
 
--- each line that expects or asks is checked
+-- each line with an expectation or a question is checked
 pub expectations_are_checked : ExpectationsAreChecked
 expectations_are_checked text test reads =
     let is = read_as text test reads in
     each_of (IsCheckOf is.script) IsExpectedOn (λ line check both. both.0) (wanting_in text) (checks_of test)
     (test_checked text is.script test is.is_script reads)
 
--- and each check is of what the script means
+-- each check is of the script's meaning
 pub checks_are_of_the_meaning : ChecksAreOfTheMeaning
 checks_are_of_the_meaning text script test is reads =
     each_of (IsCheckOf script) (IsOfTheMeaning script) (λ line check both. both.1) (wanting_in text) (checks_of test)
@@ -282,12 +282,12 @@ checks_are_of_the_meaning text script test is reads =
 
 -- ---- rights
 
--- letters are of one list of rights
+-- rights with the same letters are the same
 same_letters : (a b : Rights) → rights_text a ≡ rights_text b → a ≡ b
 same_letters a b e =
     same_Some a b (sym ((letters_spell_rights (rights_text a) a).1 refl) ∙ (letters_spell_rights (rights_text a) b).1 e)
 
--- a question is met exactly where four lines more would be answered so
+-- a question is met exactly if four more lines would give its answers
 pub questions_are_of_replies : QuestionsAreOfReplies
 questions_are_of_replies script n q =
     let letters = rights_of script.accounts (state_before (Some n) script) q.path q.process in

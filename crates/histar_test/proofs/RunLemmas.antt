@@ -34,7 +34,7 @@ use Rattle.histar_test.specs.Running.{AsksMachine, BeginsStep, BeginsSteps, Coun
 use Rattle.histar_test.specs.Running.{check_at, flat_at, last_at, reply_check, step_text, tally_with}
 use Rattle.histar_test.proofs.CheckLemmas.{check_first, checks_text-append, tally_more, tally_none}
 
--- a machine that answered a call made it
+-- a machine that returned a reply made the call
 pub call_made : (old new : MachineModel) (call : CallLine) (said text : List ℕ) (reply : Reply)
     → FollowsMeaning old new call.line call.process call.call (Ok reply) → text ≡ reply_text reply
     → MakesCall old new call said (record { line = call.line; said = said; reply = text })
@@ -45,14 +45,14 @@ call_made old new call said text reply means is accounts f shows =
       is = ap (λ (t : List ℕ). let made : Made = record { line = call.line; said = said; reply = t } in made) (is ∙ ap reply_text as_meant.is_reply);
     }
 
--- a call that was made is a step that was taken
+-- making a call is taking its step
 pub call_taken : (old new : Run) (call : CallLine) (said : List ℕ) (made : Made) → MakesCall old.machine new.machine call said made
     → new.last ≡ Some made → new.tally ≡ old.tally → TakesStep old new (Makes call said)
 call_taken old new call said made makes last tally accounts f shows =
     let is = makes accounts f shows in
     record { shows = is.shows; last = last ∙ ap (λ (m : Made). Some m) is.is; tally = tally ∙ tally_none old.tally }
 
--- an expectation is a step that was taken
+-- checking an expectation is taking its step
 pub text_taken : (old new : Run) (wanted : List ℕ) → new.machine ≡ old.machine → new.last ≡ None
     → new.tally ≡ tally_with old.tally (reply_check old.last wanted) → TakesStep old new (Expects wanted)
 text_taken old new wanted same none tally accounts f shows = record {
@@ -61,7 +61,7 @@ text_taken old new wanted same none tally accounts f shows = record {
   tally = tally;
 }
 
--- so is a question
+-- checking a question is taking its step
 pub rights_taken : (old new : Run) (q : Question) (check : Check) → AsksMachine old.machine q check → CountsCheck old new check
     → TakesStep old new (Asks q)
 rights_taken old new q check asks counts accounts f shows = record {
@@ -70,7 +70,7 @@ rights_taken old new q check asks counts accounts f shows = record {
   tally = counts.tally ∙ ap (λ (c : Check). tally_with old.tally (c ∷ [])) (asks accounts f shows);
 }
 
--- the check of a question, by the rights that were found
+-- the check of a question, given the rights that were found
 pub asked_so : (machine : MachineModel) (q : Question) (rights : Rights) (path : Path) (reply wanted : List ℕ) → path ≡ q.path
     → AreRightsOf machine path q.process rights → reply ≡ rights_text rights → wanted ≡ rights_text q.wanted
     → AsksMachine machine q (record { made = record { line = q.line; said = q.said; reply = reply }; wanted = wanted })
@@ -85,25 +85,25 @@ reply_lines file k last made wanted is =
     sym (append-nil (check_text file k (record { made = made; wanted = wanted })))
     ∙ ap (λ (l : Option Made). checks_text file k (reply_check l wanted)) (sym is)
 
--- and of that of a question
+-- the lines of the check of a question
 pub rights_lines : (accounts : Accounts) (f : Flat) (file : List ℕ) (k : ℕ) (q : Question) (check : Check) → check ≡ question_check accounts f q
     → check_text file k check ≡ checks_text file k (question_check accounts f q ∷ [])
 rights_lines accounts f file k q check is =
     sym (append-nil (check_text file k check)) ∙ ap (λ (c : Check). checks_text file k (c ∷ [])) is
 
--- what was written of a question
+-- the lines of a question's check are written
 pub rights_written : (a b : Option (List ℕ)) (file : List ℕ) (old : Run) (q : Question) (check : Check) → AsksMachine old.machine q check
     → Appends a b (check_text file (old.tally.count + 1) check) → WritesStep file old (Asks q) a b
 rights_written a b file old q check asks written accounts f shows =
     subst (Appends a b) (rights_lines accounts f file (old.tally.count + 1) q check (asks accounts f shows)) written
 
--- or begun
+-- a beginning of the lines of a question's check is written
 pub rights_begun : (a b : Option (List ℕ)) (file : List ℕ) (old : Run) (q : Question) (check : Check) → AsksMachine old.machine q check
     → AppendsFront a b (check_text file (old.tally.count + 1) check) → BeginsStep file old (Asks q) a b
 rights_begun a b file old q check asks begun accounts f shows =
     subst (AppendsFront a b) (rights_lines accounts f file (old.tally.count + 1) q check (asks accounts f shows)) begun
 
--- an expectation is a step that was taken, where the open call has its check counted
+-- checking an expectation takes its step, if the check of the open call is counted
 pub text_counted : (old new : Run) (made : Made) (wanted : List ℕ) (left : Option Made) → old.last ≡ Some made → left ≡ None
     → CountsCheck (record { machine = old.machine; last = left; tally = old.tally }) new (record { made = made; wanted = wanted })
     → TakesStep old new (Expects wanted)
@@ -111,19 +111,19 @@ text_counted old new made wanted left is none counts =
     text_taken old new wanted counts.machine (counts.last ∙ none)
     (counts.tally ∙ ap (λ (last : Option Made). tally_with old.tally (reply_check last wanted)) (sym is))
 
--- what was written of an expectation
+-- the lines of an expectation's check are written
 pub text_written : (a b : Option (List ℕ)) (file : List ℕ) (old : Run) (made : Made) (wanted : List ℕ) → old.last ≡ Some made
     → Appends a b (check_text file (old.tally.count + 1) (record { made = made; wanted = wanted })) → WritesStep file old (Expects wanted) a b
 text_written a b file old made wanted is written accounts f shows =
     subst (Appends a b) (reply_lines file (old.tally.count + 1) old.last made wanted is) written
 
--- or begun
+-- a beginning of the lines of an expectation's check is written
 pub text_begun : (a b : Option (List ℕ)) (file : List ℕ) (old : Run) (made : Made) (wanted : List ℕ) → old.last ≡ Some made
     → AppendsFront a b (check_text file (old.tally.count + 1) (record { made = made; wanted = wanted })) → BeginsStep file old (Expects wanted) a b
 text_begun a b file old made wanted is begun accounts f shows =
     subst (AppendsFront a b) (reply_lines file (old.tally.count + 1) old.last made wanted is) begun
 
--- where no call is open nothing is checked
+-- without an open call nothing is written
 pub nothing_written : (file : List ℕ) (old : Run) (wanted : List ℕ) (w : Option (List ℕ)) → old.last ≡ None → WritesStep file old (Expects wanted) w w
 nothing_written file old wanted w none accounts f shows =
     subst (λ (last : Option Made). Appends w w (checks_text file (old.tally.count + 1) (reply_check last wanted))) (sym none) (Appends-nil w)
@@ -141,11 +141,11 @@ call_written file old call said w accounts f shows = Appends-nil w
 pub call_begun : (file : List ℕ) (old : Run) (call : CallLine) (said : List ℕ) (w : Option (List ℕ)) → BeginsStep file old (Makes call said) w w
 call_begun file old call said w accounts f shows = (_, sent_none w [])
 
--- nor is anything of a question, before it is asked
+-- before a question is asked nothing of it is written
 pub rights_unwritten : (file : List ℕ) (old : Run) (q : Question) (w : Option (List ℕ)) → BeginsStep file old (Asks q) w w
 rights_unwritten file old q w accounts f shows = (_, sent_none w _)
 
--- what holds after an answer, where more does
+-- what holds of a result without a fault follows from what is stronger
 pub after_ok : {P Q : Type 0} → (r : Result (Unit {0}) Fault) → (P → Q) → OnOk r P → OnOk r Q
 after_ok (Ok done) holds p = holds p
 after_ok (Err fault) holds p = tt
@@ -154,7 +154,7 @@ pub after_err : {P Q : Type 0} → (r : Result (Unit {0}) Fault) → (P → Q) �
 after_err (Ok done) holds p = tt
 after_err (Err fault) holds p = holds p
 
--- what always holds
+-- what always holds, holds of a result without a fault
 pub always_ok : {Q : Type 0} → (r : Result (Unit {0}) Fault) → Q → OnOk r Q
 always_ok (Ok done) q = q
 always_ok (Err fault) q = tt
@@ -165,7 +165,7 @@ always_err (Err fault) q = q
 
 -- ---- steps one after another
 
--- Where a run has come from a flat state: the machine represents one, and whatever steps come next, their checks stand behind those that were
+-- The state of a run, starting from a flat state: the machine represents one, and the checks of further steps come after those that were
 -- written and counted.
 pub record IsAt (accounts : Accounts) (f : Flat) (file : List ℕ) (start now : Run) (steps : List Step) (before after : Option (List ℕ)) : Type 0 where
   pub flat : Flat
@@ -175,11 +175,11 @@ pub record IsAt (accounts : Accounts) (f : Flat) (file : List ℕ) (start now : 
   pub written : Appends before after (checks_text file (start.tally.count + 1) done)
   pub tally : now.tally ≡ tally_with start.tally done
 
--- So it has from whatever flat state the machine represented.
+-- The same for every flat state that the machine represented.
 pub record HasCome (file : List ℕ) (start now : Run) (steps : List Step) (before after : Option (List ℕ)) : Type 0 where
   pub from : (accounts : Accounts) (f : Flat) → Shows accounts start.machine f → IsAt accounts f file start now steps before after
 
--- before the first step
+-- this holds before the first step
 pub at_start : (file : List ℕ) (run : Run) (w : Option (List ℕ)) → HasCome file run run [] w w
 at_start file run w = record {
   from = λ accounts f shows. record {
@@ -192,7 +192,7 @@ at_start file run w = record {
   };
 }
 
--- the lines of some checks, and then of those that are counted on behind them
+-- the lines of some checks, and then of those that are numbered on from them
 text_on : (file : List ℕ) (start now : Tally) (done more : List Check) → now ≡ tally_with start done
     → checks_text file (start.count + 1) (done ++ more) ≡ checks_text file (start.count + 1) done ++ checks_text file (now.count + 1) more
 text_on file start now done more is =
@@ -200,7 +200,7 @@ text_on file start now done more is =
     let on : (start.count + 1) + length done ≡ now.count + 1 = omega arith in
     checks_text-append file (start.count + 1) done more ∙ ap (λ (n : ℕ). checks_text file (start.count + 1) done ++ checks_text file n more) on
 
--- the checks of some steps, of one more and of those behind it
+-- the checks of some steps, of one more and of those after it
 goes_further : {accounts : Accounts} {f : Flat} {file : List ℕ} {start now : Run} {steps : List Step} {before after : Option (List ℕ)} → (step : Step)
     (later : List Step) (at : IsAt accounts f file start now steps before after)
     → checks_from accounts f start.last (steps ++ step ∷ later)
@@ -210,7 +210,7 @@ goes_further : {accounts : Accounts} {f : Flat} {file : List ℕ} {start now : R
 goes_further {accounts = accounts} {now = now} step later at =
     at.goes_on (step ∷ later) ∙ ap (λ (cs : List Check). at.done ++ cs) (check_first accounts at.flat now.last step later)
 
--- one more step was taken
+-- one more step has been taken
 pub at_more : {file : List ℕ} {start now new : Run} {steps : List Step} {step : Step} {a b : Option (List ℕ)} → (c : Option (List ℕ))
     → HasCome file start now steps a b → TakesStep now new step → WritesStep file now step b c
     → HasCome file start new (steps ++ step ∷ []) a c
@@ -235,7 +235,7 @@ at_more {file = file} {start = start} {now = now} {new = new} {steps = steps} {s
       };
 }
 
--- one more was begun
+-- one more step has been begun
 pub at_front : {file : List ℕ} {start now : Run} {steps : List Step} {a b : Option (List ℕ)} → (step : Step) (all later : List Step)
     (c : Option (List ℕ)) → all ≡ steps ++ step ∷ later → HasCome file start now steps a b → BeginsStep file now step b c
     → BeginsSteps file start all a c
@@ -254,7 +254,7 @@ at_front {file = file} {start = start} {now = now} {a = a} {b = b} step all late
     subst (AppendsFront a c) (sym text) (front_after a b c (checks_text file k at.done) text_now more at.written
     (begun accounts at.flat at.shows))
 
--- after the last step
+-- all steps have been taken at the end
 pub at_end : {file : List ℕ} {start now : Run} {steps : List Step} {a b : Option (List ℕ)} → HasCome file start now steps a b
     → TakesSteps file start now steps a b
 at_end {file = file} {start = start} {steps = steps} {a = a} {b = b} come accounts f shows =
@@ -280,7 +280,7 @@ test_taken {accounts = accounts} {now = now} a b file steps starts takes =
     × (now.tally ≡ tally_with at.1 (checks_from accounts (boot accounts) at.0 steps)) in
     subst Taken (λ i. (starts.last i, starts.tally i)) (taken.written, taken.tally)
 
--- or some of them
+-- some steps of a test were taken, and a beginning of the last was written
 pub test_begun : {accounts : Accounts} {tally : Tally} {start : Run} (a b : Option (List ℕ)) (file : List ℕ) (steps : List Step)
     → Starts accounts tally start → BeginsSteps file start steps a b
     → AppendsFront a b (checks_text file (tally.count + 1) (checks_from accounts (boot accounts) None steps))
@@ -288,7 +288,7 @@ test_begun {accounts = accounts} a b file steps starts begins =
     subst (λ (at : Option Made × Tally). AppendsFront a b (checks_text file (at.1.count + 1) (checks_from accounts (boot accounts) at.0 steps)))
     (λ i. (starts.last i, starts.tally i)) (begins accounts (boot accounts) starts.shows)
 
--- a list is what comes before a place, what stands there, and what comes after it
+-- a list is the part before a place, the element there, and the part after it
 pub parts_at : {X : Type 0} → (all front : List X) (x : X) → front ≡ take (length front) all
     → (length front < length all) × (x ≡ get_or all (length front) x) → all ≡ front ++ x ∷ drop (length front + 1) all
 parts_at {X} all front x begins here =

@@ -31,21 +31,21 @@ use Rattle.histar_test.specs.Steps.{Test, asked_of, asking_step, call_in, call_o
 use Rattle.histar_test.specs.Steps.{question_of, step_by, step_of, step_then, steps_before, steps_by, steps_from, test_by, test_of}
 use Rattle.histar_test.proofs.StepLemmas.{Read, by_step}
 
--- ---- what a step says of its line
+-- ---- the step of a line, and the line
 
--- a line that asks is no other step
+-- the step of a line with a question is that question
 asks_alone : (n : ℕ) (o : Option Question) (step : Option Step) → asking_step n o ≡ Ok step → (q : Question) × (step ≡ Some (Asks q)) × (o ≡ Some q)
 asks_alone n (Some q) step e = (q, cc, refl)
 asks_alone n None step e = absurd cc
 
--- nothing is asked or expected where a line is no step
+-- a line without a step has no question and no expectation
 pub none_wanted : (n : ℕ) (line : List ℕ) (asked text : Option (List ℕ)) (call : Option CallLine) → step_by n line asked text call ≡ Ok None
     → (asked ≡ None) × (text ≡ None)
 none_wanted n line (Some a) text call e = let alone = asks_alone n (question_of n a) None e in absurd cc
 none_wanted n line None (Some text) call e = absurd cc
 none_wanted n line None None call e = (refl, refl)
 
--- nor where it makes a call
+-- a line with a call has no question and no expectation
 pub call_wanted : (n : ℕ) (line : List ℕ) (asked text : Option (List ℕ)) (call : Option CallLine) (c : CallLine) (said : List ℕ)
     → step_by n line asked text call ≡ Ok (Some (Makes c said)) → (asked ≡ None) × (text ≡ None) × (call ≡ Some c)
 call_wanted n line (Some a) text call c said e = let alone = asks_alone n (question_of n a) (Some (Makes c said)) e in absurd cc
@@ -53,7 +53,7 @@ call_wanted n line None (Some text) call c said e = absurd cc
 call_wanted n line None None (Some d) c said e = (refl, refl, cc)
 call_wanted n line None None None c said e = absurd cc
 
--- what is expected is on the line
+-- the text of an expectation is on its line
 pub text_wanted : (n : ℕ) (line : List ℕ) (asked text : Option (List ℕ)) (call : Option CallLine) (wanted : List ℕ)
     → step_by n line asked text call ≡ Ok (Some (Expects wanted)) → (asked ≡ None) × (text ≡ Some wanted)
 text_wanted n line (Some a) text call wanted e = let alone = asks_alone n (question_of n a) (Some (Expects wanted)) e in absurd cc
@@ -61,7 +61,7 @@ text_wanted n line None (Some text) call wanted e = (refl, cc)
 text_wanted n line None None (Some d) wanted e = absurd cc
 text_wanted n line None None None wanted e = absurd cc
 
--- so is what is asked
+-- the question is on its line
 pub rights_wanted : (n : ℕ) (line : List ℕ) (asked text : Option (List ℕ)) (call : Option CallLine) (q : Question)
     → step_by n line asked text call ≡ Ok (Some (Asks q)) → (a : List ℕ) × (asked ≡ Some a) × (question_of n a ≡ Some q)
 rights_wanted n line (Some a) text call q e =
@@ -74,13 +74,13 @@ rights_wanted n line None None None q e = absurd cc
 
 -- ---- the steps of lines, one line after another
 
--- a step that may be there, and what was read of the lines behind it
+-- a step that may be there, and the steps of the lines after it
 read_on : (step : Step) (later : Read) (steps : List Step) → steps_before (step ∷ []) later ≡ Ok steps
     → (rest : List Step) × (later ≡ Ok rest) × (steps ≡ step ∷ rest)
 read_on step (Ok rest) steps e = (rest, refl, cc)
 read_on step (Err m) steps e = absurd cc
 
--- whether a call is open behind a line, by its step
+-- the call is open after a line, by its step
 abbrev pub OpensTo : Bool → Option Step → Bool → Type 0
 OpensTo is_open None opened = opened ≡ is_open
 OpensTo is_open (Some step) opened = open_after is_open step ≡ Some opened
@@ -96,7 +96,7 @@ pub record IsOn (n : ℕ) (is_open : Bool) (line : List ℕ) (lines : List (List
   pub parts : steps ≡ option_to_list step ++ rest
 
 module _ (n : ℕ) (is_open : Bool) (line : List ℕ) (lines : List (List ℕ)) (steps : List Step) where
-  -- where the first line is this step
+  -- the case that the first line has this step
   on_step : (step : Step) → step_of n line ≡ Ok (Some step) → (o : Option Bool) → open_after is_open step ≡ o
       → step_then n step o (λ opened. steps_from (n + 1) opened lines) ≡ Ok steps → IsOn n is_open line lines steps
   on_step step is None opens read = absurd cc
@@ -104,25 +104,25 @@ module _ (n : ℕ) (is_open : Bool) (line : List ℕ) (lines : List (List ℕ)) 
       let on = read_on step (steps_from (n + 1) opened lines) steps read in
       record { step = Some step; is_step = is; opened = opened; opens = opens; rest = on.0; is_rest = on.1; parts = on.2 }
 
-  -- or whatever it is
+  -- the case of any step of the first line, or none
   by_read : (step : Result (Option Step) ℕ) → step_of n line ≡ step
       → steps_by n is_open step (λ opened. steps_from (n + 1) opened lines) ≡ Ok steps → IsOn n is_open line lines steps
   by_read (Err m) is read = absurd cc
   by_read (Ok None) is read = record { step = None; is_step = is; opened = is_open; opens = refl; rest = steps; is_rest = read; parts = refl }
   by_read (Ok (Some step)) is read = on_step step is (open_after is_open step) refl read
 
-  -- so they are
+  -- the steps of lines have this form
   pub on_line : steps_from n is_open (line ∷ lines) ≡ Ok steps → IsOn n is_open line lines steps
   on_line read = by_read (step_of n line) refl (sym (by_step n is_open line lines (step_of n line) refl) ∙ read)
 
 -- ---- how many checks there are
 
--- each expectation among steps has a call before it, where one is open before them or not
+-- each expectation among the steps has a call before it, given whether one is open before them
 abbrev pub is_in_order : Bool → List Step → Bool
 is_in_order is_open [] = true
 is_in_order is_open (step ∷ steps) = elim (open_after is_open step) [ None ↦ false | Some opened ↦ is_in_order opened steps ]
 
--- how many expectations there are behind one step
+-- the number of expectations of a step and of those after it
 counted_on : (step : Step) (rest : List Step) → expectation_count (step ∷ rest) ≡ expectation_count (step ∷ []) + expectation_count rest
 counted_on step rest = sum_by-append _ (step ∷ []) rest
 
@@ -144,7 +144,7 @@ steps_counted accounts f last (Asks q ∷ steps) ordered =
     let one : expectation_count (Asks q ∷ steps) ≡ 1 + expectation_count steps = counted_on (Asks q) steps ∙ omega arith in
     omega (arith, on, one)
 
--- a step that opens so, and steps in their order behind it
+-- a step that opens or closes the call, and steps in their order after it
 ordered_on : (is_open opened : Bool) (step : Option Step) (rest : List Step) → OpensTo is_open step opened → is_in_order opened rest ≡ true
     → is_in_order is_open (option_to_list step ++ rest) ≡ true
 ordered_on is_open opened None rest opens ordered = ap (λ (b : Bool). is_in_order b rest) (sym opens) ∙ ordered
@@ -167,7 +167,7 @@ in_order n is_open (line ∷ lines) steps read =
 abbrev pub calls_by : Option Step → List CallLine
 calls_by step = calls_in (option_to_list step)
 
--- the calls of a step and of those behind it
+-- the calls of a step and of those after it
 pub calls_on : (step : Option Step) (rest : List Step) → calls_in (option_to_list step ++ rest) ≡ calls_by step ++ calls_in rest
 calls_on step rest = filter_map-append call_of_step (option_to_list step) rest
 
@@ -176,7 +176,7 @@ abbrev is_comment : List ℕ → Bool
 is_comment [] = false
 is_comment (b ∷ bs) = b == 35
 
--- such a line makes no call
+-- a line that is a comment makes no call
 call_says : (line : List ℕ) (p : ProcName) (c : UnixCall) → item_of line ≡ Some (items.Call p c) → is_comment line ≡ false
 unfolding item_of
 call_says [] p c is = refl
@@ -189,7 +189,7 @@ call_says (b ∷ bs) p c is = by (b == 35) (is_plain (b ∷ bs)) is
     by true false i = absurd cc
     by false plain i = refl
 
--- and any other asks and expects nothing
+-- a line that is no comment has no question and no expectation
 no_comment : (line : List ℕ) → is_comment line ≡ false → (asked_of line ≡ None) × (expectation_of line ≡ None)
 no_comment [] is = (refl, refl)
 no_comment (b ∷ bs) is = (
@@ -197,24 +197,24 @@ no_comment (b ∷ bs) is = (
   ap (λ (hash : Bool). if hash && bytes_eq (take 2 bs) (codes "= ") then Some (drop 2 bs) else None) is,
 )
 
--- what asks or expects makes no call
+-- a line with a question or an expectation makes no call
 no_call : (n : ℕ) (line : List ℕ) (asked text : Option (List ℕ)) (step : Option Step) → step_by n line asked text None ≡ Ok step → calls_by step ≡ []
 no_call n line (Some a) text step e = let alone = asks_alone n (question_of n a) step e in ap calls_by alone.1
 no_call n line None (Some text) step e = let same : step ≡ Some (Expects text) = cc in ap calls_by same
 no_call n line None None step e = let same : step ≡ None = cc in ap calls_by same
 
--- the call of a line that asks and expects nothing
+-- the call of a line without a question and an expectation
 own_call : (n : ℕ) (line : List ℕ) (asked text : Option (List ℕ)) (c : CallLine) (step : Option Step) → asked ≡ None → text ≡ None
     → step_by n line asked text (Some c) ≡ Ok step → calls_by step ≡ c ∷ []
 own_call n line (Some a) text c step none nothing e = absurd cc
 own_call n line None (Some text) c step none nothing e = absurd cc
 own_call n line None None c step none nothing e = let same : step ≡ Some (Makes c line) = cc in ap calls_by same
 
--- what is read, if it may be
+-- the script, if it may be read
 abbrev read_if : Bool → ScriptModel → Option ScriptModel
 read_if b t = if b then Some t else None
 
--- it is that
+-- a script that is read is this one
 is_read : (b : Bool) (t u : ScriptModel) → read_if b t ≡ Some u → u ≡ t
 is_read true t u e = cc
 is_read false t u e = absurd cc
@@ -252,7 +252,7 @@ calls_at s t n line (Some item) step says reads is =
     calls_at_item s t n line item step says reads
     (sym (ap (λ (i : Option Item). step_by n line (asked_of line) (expectation_of line) (call_in n i)) says) ∙ is)
 
--- what a script has read, if it has
+-- the script after the first line is read on to the whole one
 read_lines : (s : ScriptModel) (n : ℕ) (lines : List (List ℕ)) (line : Option ScriptModel) (script : ScriptModel)
     → ◌≡◌ {A = Result ScriptModel Fault} (elim line [ None ↦ Err (BadScript (n + 1)) | Some t ↦ with_lines t (n + 1) lines ]) (Ok script)
     → (t : ScriptModel) × (line ≡ Some t) × (with_lines t (n + 1) lines ≡ Ok script)
@@ -281,14 +281,14 @@ same_calls s script n is_open (line ∷ lines) steps reads read =
 
 -- ---- whole texts
 
--- The text is a script with these steps, and the test has them and the session.
+-- The text is a script with these steps, and the test has them and the accounts.
 pub record IsReadAs (text : List ℕ) (test : Test) : Type 0 where
   pub script : ScriptModel
   pub is_script : script_of text ≡ Ok script
   pub are_steps : steps_from 1 false (lines_of text) ≡ Ok test.steps
   pub accounts : test.accounts ≡ script.accounts
 
--- a test is read from both
+-- a test is read if the script and the steps are
 read_by : (text : List ℕ) (test : Test) (script : Result ScriptModel Fault) (steps : Read) → script_of text ≡ script
     → steps_from 1 false (lines_of text) ≡ steps
     → test_by script steps ≡ Ok test → IsReadAs text test
@@ -303,11 +303,11 @@ read_by text test (Ok script) (Ok steps) is are e =
       accounts = ap (λ (t : Test). t.accounts) (sym same);
     }
 
--- so is the test that a text is
+-- the test of a text is read in this way
 pub read_as : (text : List ℕ) (test : Test) → test_of text ≡ Ok test → IsReadAs text test
 read_as text test is = read_by text test (script_of text) (steps_from 1 false (lines_of text)) refl refl is
 
--- a script that is no longer than that is read by its lines
+-- a script within the limits is read by its lines
 by_lines : (text : List ℕ) (script : ScriptModel) → script_of text ≡ Ok script → with_lines nothing_read 0 (lines_of text) ≡ Ok script
 unfolding reading
 by_lines text script is = by (is_too_long text) is
@@ -317,7 +317,7 @@ by_lines text script is = by (is_too_long text) is
     by true e = absurd cc
     by false e = e
 
--- one answer has one script
+-- one result has one script
 same_script : (a b : ScriptModel) → (let read : Result ScriptModel Fault = Ok a in read) ≡ Ok b → a ≡ b
 same_script a b e = cc
 
@@ -330,7 +330,7 @@ tests_make_the_calls text script test is reads =
       sym (same_calls nothing_read script 0 false (lines_of text) test.steps (by_lines text script is) as_read.are_steps),
     )
 
--- the checks of a test are as many as its expectations
+-- a test has as many checks as expectations
 pub test_counted : (text : List ℕ) (test : Test) → test_of text ≡ Ok test → length (checks_of test) ≡ expectation_count test.steps
 test_counted text test reads =
     let is = read_as text test reads in

@@ -13,35 +13,35 @@ use Rattle.histar_test.specs.declared.steps.Step.{Step}
 use Rattle.histar_test.specs.Steps.{AddsLine, GivesStep, GivesSteps, TakesLine, Test, open_after, step_of, step_then, steps_before, steps_by}
 use Rattle.histar_test.specs.Steps.{steps_from, test_by}
 
--- what reading steps gives
+-- the result of reading steps
 abbrev pub Read : Type 0
 Read = Result (List Step) ℕ
 
--- no steps before others
+-- no steps in front of others
 pub none_before : (read : Read) → steps_before [] read ≡ read
 none_before (Ok steps) = refl
 none_before (Err n) = refl
 
--- steps before steps that are before others
+-- steps in front of steps that are in front of others
 pub before_before : (front more : List Step) (read : Read) → steps_before front (steps_before more read) ≡ steps_before (front ++ more) read
 before_before front more (Ok steps) = ap (λ (all : List Step). let read : Read = Ok all in read) (sym (append_assoc front more steps))
 before_before front more (Err n) = refl
 
 module _ (n : ℕ) (is_open : Bool) (line : List ℕ) (lines : List (List ℕ)) where
-  -- the steps of the line and of those behind it, by its own
+  -- the steps of the line and of those after it, by its own step
   pub by_step : (step : Result (Option Step) ℕ) → step_of n line ≡ step
       → steps_from n is_open (line ∷ lines) ≡ steps_by n is_open step (λ opened. steps_from (n + 1) opened lines)
   unfolding steps_from
   by_step step is = ap (λ (s : Result (Option Step) ℕ). steps_by n is_open s (λ opened. steps_from (n + 1) opened lines)) is
 
-  -- by whether a call is open behind it
+  -- the same, by whether a call is open after it
   by_open : (step : Step) (opened : Option Bool) → step_of n line ≡ Ok (Some step) → open_after is_open step ≡ opened
       → steps_from n is_open (line ∷ lines) ≡ step_then n step opened (λ o. steps_from (n + 1) o lines)
   by_open step opened is may =
       by_step (Ok (Some step)) is ∙ ap (λ (o : Option Bool). step_then n step o (λ o. steps_from (n + 1) o lines)) may
 
 module _ (n : ℕ) (is_open : Bool) (line : List ℕ) where
-  -- a line that is no step was taken
+  -- a line without a step was taken
   pub nothing_added : (old : List Step) → step_of n line ≡ Ok None → AddsLine n is_open line old old is_open
   nothing_added old none = record {
     added = [];
@@ -49,7 +49,7 @@ module _ (n : ℕ) (is_open : Bool) (line : List ℕ) where
     goes_on = λ lines. by_step n is_open line lines (Ok None) none ∙ sym (none_before (steps_from (n + 1) is_open lines));
   }
 
-  -- a step was
+  -- a line with a step was taken
   pub step_added : (old : List Step) (step : Step) (opened : Bool) → step_of n line ≡ Ok (Some step) → open_after is_open step ≡ Some opened
       → AddsLine n is_open line old (old ++ step ∷ []) opened
   step_added old step opened is may = record {
@@ -58,12 +58,12 @@ module _ (n : ℕ) (is_open : Bool) (line : List ℕ) where
     goes_on = λ lines. by_open n is_open line lines step (Some opened) is may;
   }
 
-  -- a step that may not be there was not
+  -- a step that may not be there is refused
   pub step_refused : (step : Step) → step_of n line ≡ Ok (Some step) → open_after is_open step ≡ None
       → (lines : List (List ℕ)) → steps_from n is_open (line ∷ lines) ≡ Err n
   step_refused step is may lines = by_open n is_open line lines step None is may
 
-  -- nor was a bad line
+  -- a bad line is refused
   pub line_refused : (fault : Fault) → GivesStep n (Err fault) (step_of n line) → (old new : List Step)
       → TakesLine n is_open line old new (Err fault)
   line_refused (BadScript k) bad old new = (bad.0, λ lines. by_step n is_open line lines (Err n) bad.1)
@@ -72,19 +72,19 @@ module _ (n : ℕ) (is_open : Bool) (line : List ℕ) where
   line_refused ReadFailed bad old new = absurd bad
   line_refused WriteFailed bad old new = absurd bad
 
--- what was read of a line, where it is this
+-- the step of a line that was read is this one
 pub read_as : {read : Result (Option Step) ℕ} {a b : Option Step} → read ≡ Ok a → a ≡ b → read ≡ Ok b
 read_as is same = is ∙ ap (λ (o : Option Step). let read : Result (Option Step) ℕ = Ok o in read) same
 
--- The steps so far, before those of the lines that are left, are all.
+-- The steps so far, in front of those of the rest of the lines, are all steps.
 pub record IsSoFar (all : Read) (n : ℕ) (is_open : Bool) (lines : List (List ℕ)) (steps : List Step) : Type 0 where
   pub so_far : all ≡ steps_before steps (steps_from n is_open lines)
 
--- before the first line
+-- this holds before the first line
 pub none_so_far : (lines : List (List ℕ)) → IsSoFar (steps_from 1 false lines) 1 false lines []
 none_so_far lines = record { so_far = sym (none_before (steps_from 1 false lines)) }
 
--- a line was taken
+-- this holds after a line was taken
 pub went_on : {all : Read} {n : ℕ} {is_open is_open_after : Bool} {line : List ℕ} {lines : List (List ℕ)} {old new : List Step}
     → (rest : List (List ℕ)) → lines ≡ line ∷ rest → IsSoFar all n is_open lines old → AddsLine n is_open line old new is_open_after
     → IsSoFar all (n + 1) is_open_after rest new
@@ -96,7 +96,7 @@ went_on {all = all} {n = n} {is_open = is_open} {is_open_after = is_open_after} 
           ∙ before_before old adds.added later ∙ ap (λ (steps : List Step). steps_before steps later) (sym adds.steps);
     }
 
--- a line was not taken
+-- a line that was not taken is the first bad one
 pub not_taken : {all : Read} {n : ℕ} {is_open : Bool} {lines : List (List ℕ)} {old : List Step} → (fault : Fault) (line : List ℕ)
     (rest : List (List ℕ)) (new : List Step) → lines ≡ line ∷ rest → IsSoFar all n is_open lines old
     → TakesLine n is_open line old new (Err fault) → GivesSteps (Err fault) all
@@ -118,7 +118,7 @@ all_read {n = n} {is_open = is_open} {steps = steps} rest none is =
 
 -- ---- a whole text
 
--- a text of more bytes than a script may have is none
+-- a text of more bytes than a script may have is too long
 too_long : (text : List ℕ) → most_script_bytes < length text → is_too_long text ≡ true
 too_long text lt = let e : ltb most_script_bytes (length text) ≡ true = search (rules, tests) in rw e refl
 
@@ -142,7 +142,7 @@ script_fault OutOfMemory script steps given = tt
 script_fault ReadFailed script steps given = absurd given
 script_fault WriteFailed script steps given = absurd given
 
--- a line that is no step
+-- the fault of a line whose step is bad
 pub steps_fault : (f : Fault) (script : ScriptModel) (read : Result ScriptModel Fault) (steps : Read) → read ≡ Ok script → GivesSteps (Err f) steps
     → Gives {A = Test} (Err f) (test_by read steps)
 steps_fault (BadScript n) script read steps is bad = λ i. test_by (is i) (bad i)

@@ -1,5 +1,5 @@
--- What a test finds: each expectation beside the reply to its call, each question beside the rights that it asks for, and the text of that
--- in the form of the Test Anything Protocol.
+-- The checks of a test: each expectation beside the reply to its call, each question beside the rights that it asks for, and their text in
+-- the form of the Test Anything Protocol.
 use Rattle.std.specs.Prelude.{ℕ, ◌+◌, Bool, List, [], ◌∷◌, ◌++◌, codes, decimal, Option, None, Some, ◌==◌, ◌||◌, if◌then◌else◌}
 use Rattle.std.specs.List.{flat_map}
 use Rattle.std.specs.Str.{bytes_eq}
@@ -18,7 +18,7 @@ use Rattle.histar_test.specs.declared.steps.Step.{Step}
 use Rattle.histar_test.specs.declared.steps.Step.TheVariants.{Makes, Expects, Asks}
 use Rattle.histar_test.specs.Steps.{Test}
 
--- the check is met: the reply or the rights have the text that is wanted
+-- the check is met: the reply or the rights have the expected text
 abbrev pub is_met : Check → Bool
 is_met c = bytes_eq c.made.reply c.wanted
 
@@ -34,7 +34,7 @@ asked_in accounts f q = record { line = q.line; said = q.said; reply = rights_te
 abbrev pub question_check : Accounts → Flat → Question → Check
 question_check accounts f q = record { made = asked_in accounts f q; wanted = rights_text q.wanted }
 
--- the checks of steps from a flat state on, where this is the call that is open before them, if one is
+-- the checks of steps from a flat state on, given the call that is open before them, if one is
 abbrev pub checks_from : Accounts → Flat → Option Made → List Step → List Check
 checks_from accounts f last [] = []
 checks_from accounts f last (Makes c said ∷ steps) =
@@ -47,7 +47,7 @@ checks_from accounts f last (Asks q ∷ steps) = question_check accounts f q ∷
 abbrev pub checks_of : Test → List Check
 checks_of test = checks_from test.accounts (boot test.accounts) None test.steps
 
--- a byte of a description: a backslash stands before `#`, which would begin a directive, and before a backslash
+-- a byte of a description: a backslash comes before `#`, which would begin a directive, and before a backslash
 abbrev pub escaped_byte : ℕ → List ℕ
 escaped_byte b = if (b == 35) || (b == 92) then 92 ∷ b ∷ [] else b ∷ []
 
@@ -55,7 +55,7 @@ escaped_byte b = if (b == 35) || (b == 92) then 92 ∷ b ∷ [] else b ∷ []
 abbrev pub place_text : List ℕ → Made → List ℕ
 place_text file made = file ++ codes ":" ++ decimal made.line ++ codes ": " ++ made.said
 
--- a description: the place
+-- a description: the place, escaped
 abbrev pub description : List ℕ → Made → List ℕ
 description file made = flat_map escaped_byte (place_text file made)
 
@@ -63,7 +63,7 @@ description file made = flat_map escaped_byte (place_text file made)
 abbrev pub result_line : List ℕ → List ℕ → ℕ → Made → List ℕ
 result_line word file k made = word ++ decimal k ++ codes " - " ++ description file made ++ codes "\n"
 
--- what was expected, and what the reply was, or the rights
+-- the line with the expected text, and the reply or the rights
 abbrev pub difference_text : Check → List ℕ
 difference_text c = codes "# expected " ++ c.wanted ++ codes ", was " ++ c.made.reply ++ codes "\n"
 

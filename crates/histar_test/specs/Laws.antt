@@ -1,4 +1,4 @@
--- What a test amounts to.
+-- What a test guarantees.
 use Rattle.std.specs.Prelude.{◌≡◌, ◌↔◌, ℕ, ◌+◌, ◌||◌, true, Bool, List, [], ◌∷◌, ◌++◌, Option, Some, Ok, MatchOption, is_some, if◌then◌else◌}
 use Rattle.std.specs.List.{AllZip}
 use Rattle.std.specs.Option.{IsSomeAnd}
@@ -31,7 +31,7 @@ pub record NumberedLine : Type 0 where
 abbrev pub wants : List ℕ → Bool
 wants line = is_some (asked_of line) || is_some (expectation_of line)
 
--- those of some lines that do, where the first has the number n
+-- the lines that expect or ask, where the first has the number n
 abbrev pub wanting_from : ℕ → List (List ℕ) → List NumberedLine
 wanting_from n [] = []
 wanting_from n (line ∷ lines) = if wants line then record { number = n; text = line } ∷ wanting_from (n + 1) lines else wanting_from (n + 1) lines
@@ -40,7 +40,7 @@ wanting_from n (line ∷ lines) = if wants line then record { number = n; text =
 abbrev pub wanting_in : List ℕ → List NumberedLine
 wanting_in text = wanting_from 1 (lines_of text)
 
--- the check wants what is on the line: of a reply this text, and of rights these letters
+-- the check expects what is on the line: this text of a reply, or these letters of rights
 abbrev pub IsExpectedOn : NumberedLine → Check → Type 0
 IsExpectedOn line check = MatchOption (asked_of line.text)
     (expectation_of line.text ≡ Some check.wanted)
@@ -61,26 +61,26 @@ pub record IsLastAnswer (made : Made) (answers : List RepliedCall) : Type 0 wher
   pub parts : answers ≡ before ++ last ∷ []
   pub is_answer : IsAnswer made last
 
--- A check is of what the script means: on a line that expects, of the reply to the last call on the lines before it; and on a line that asks,
--- of the rights in the flat state after the calls on the lines before it.
+-- A check is of the script's meaning: for an expectation, of the reply to the last call on the lines before it; for a question, of the
+-- rights in the flat state after the calls on the lines before it.
 abbrev pub IsOfTheMeaning : ScriptModel → NumberedLine → Check → Type 0
 IsOfTheMeaning script line check = MatchOption (asked_of line.text)
     (IsLastAnswer check.made (meaning script.accounts (calls_before (Some line.number) script.calls)))
     (λ asked. IsSomeAnd (question_of line.number asked)
     (λ q. check.made ≡ asked_in script.accounts (state_before (Some line.number) script) q))
 
--- each check is, of its line
+-- each check is of the script's meaning for its line
 abbrev pub ChecksAreOfTheMeaning : Type 0
 ChecksAreOfTheMeaning = (text : List ℕ) (script : ScriptModel) (test : Test) → script_of text ≡ Ok script → test_of text ≡ Ok test
     → AllZip (IsOfTheMeaning script) (wanting_in text) (checks_of test)
 
--- These letters say what the process of a question is answered to the four questions at its path, after the calls on the lines before line n;
--- and the question is met exactly where it wants them.
+-- These letters are the answers to the process of a question at its path, after the calls on the lines before line n; and the question is
+-- met exactly if it expects them.
 pub record IsMetByReplies (script : ScriptModel) (n : ℕ) (q : Question) : Type 0 where
   pub letters : Rights
   pub answered : IsAnsweredBy script.accounts (calls_before (Some n) script.calls) q.process q.path letters
   pub met : (is_met (question_check script.accounts (state_before (Some n) script) q) ≡ true) ↔ (q.wanted ≡ letters)
 
--- a question is met exactly where four lines more would be answered so
+-- a question is met exactly if four more lines would give its answers
 abbrev pub QuestionsAreOfReplies : Type 0
 QuestionsAreOfReplies = (script : ScriptModel) (n : ℕ) (q : Question) → IsMetByReplies script n q

@@ -1,4 +1,4 @@
--- A machine takes the steps of a script, and the checks are written.
+-- Relations of a run of a test: a machine takes its steps, and the checks are written.
 use Rattle.std.specs.Prelude.{◌≡◌, ℕ, ◌+◌, ◌&&◌, List, [], ◌∷◌, length, Option, None, Some}
 use Rattle.std.specs.List.{list_all}
 use Rattle.std.specs.Io.KnownBytes.{Appends}
@@ -20,7 +20,7 @@ use Rattle.histar_test.specs.declared.steps.Step.{Step}
 use Rattle.histar_test.specs.declared.steps.Step.TheVariants.{Makes, Expects, Asks}
 use Rattle.histar_test.specs.Checks.{is_met, made_of, checks_from, checks_text, question_check}
 
--- so many checks more, and whether they are met too
+-- the tally with these checks counted too
 abbrev pub tally_with : Tally → List Check → Tally
 tally_with tally checks = record { count = tally.count + length checks; are_met = tally.are_met && list_all is_met checks }
 
@@ -30,24 +30,24 @@ flat_at accounts f (Makes c said) = flat_after accounts f c.process c.call
 flat_at accounts f (Expects text) = f
 flat_at accounts f (Asks q) = f
 
--- the call that is open after a step, if one is, where this one is before it
+-- the call that is open after a step, if one is, given the one before it
 abbrev pub last_at : Accounts → Flat → Option Made → Step → Option Made
 last_at accounts f last (Makes c said) = Some (made_of accounts f c said)
 last_at accounts f last (Expects text) = None
 last_at accounts f last (Asks q) = last
 
--- the check of an expectation, where this is the open call before it, if one is
+-- the check of an expectation, given the open call before it, if one is
 abbrev pub reply_check : Option Made → List ℕ → List Check
 reply_check None wanted = []
 reply_check (Some made) wanted = record { made = made; wanted = wanted } ∷ []
 
--- the check of a step, if it is one, in a flat state, where this is the open call before it
+-- the check of a step, if it has one, in a flat state, given the open call before it
 abbrev pub check_at : Accounts → Flat → Option Made → Step → List Check
 check_at accounts f last (Makes c said) = []
 check_at accounts f last (Expects text) = reply_check last text
 check_at accounts f last (Asks q) = question_check accounts f q ∷ []
 
--- the lines of the check of a step, if it is one
+-- the lines of the check of a step, if it has one
 abbrev pub step_text : List ℕ → Accounts → Flat → Run → Step → List ℕ
 step_text file accounts f run step = checks_text file (run.tally.count + 1) (check_at accounts f run.last step)
 
@@ -55,13 +55,13 @@ step_text file accounts f run step = checks_text file (run.tally.count + 1) (che
 abbrev pub IsMemory : Fault → Type 0
 IsMemory fault = fault ≡ OutOfMemory
 
--- a run begins: the machine represents the flat start of this session, no call is open, and the checks of earlier files are counted
+-- a run begins: the machine represents the flat start with these accounts, no call is open, and the checks of earlier files are counted
 pub record Starts (accounts : Accounts) (before : Tally) (run : Run) : Type 0 where
   pub shows : ShowsStart accounts run.machine
   pub last : run.last ≡ None
   pub tally : run.tally ≡ before
 
--- a call was made: the machine represents the flat state after it, and the reply is the one that the flat state says
+-- a call was made: the machine represents the flat state after it, and the reply is the one of the flat rules
 pub record IsMade (accounts : Accounts) (f : Flat) (new : MachineModel) (call : CallLine) (said : List ℕ) (made : Made) : Type 0 where
   pub shows : Shows accounts new (flat_after accounts f call.process call.call)
   pub is : made ≡ made_of accounts f call said
@@ -90,12 +90,12 @@ pub record IsTaken (accounts : Accounts) (f : Flat) (old new : Run) (step : Step
 abbrev pub TakesStep : Run → Run → Step → Type 0
 TakesStep old new step = (accounts : Accounts) (f : Flat) → Shows accounts old.machine f → IsTaken accounts f old new step
 
--- and its check was written
+-- the check of the step was written
 abbrev pub WritesStep : List ℕ → Run → Step → Option (List ℕ) → Option (List ℕ) → Type 0
 WritesStep file old step before after =
     (accounts : Accounts) (f : Flat) → Shows accounts old.machine f → Appends before after (step_text file accounts f old step)
 
--- or a beginning of it was
+-- a beginning of the check of the step was written
 abbrev pub BeginsStep : List ℕ → Run → Step → Option (List ℕ) → Option (List ℕ) → Type 0
 BeginsStep file old step before after =
     (accounts : Accounts) (f : Flat) → Shows accounts old.machine f → AppendsFront before after (step_text file accounts f old step)
@@ -111,7 +111,7 @@ abbrev pub TakesSteps : List ℕ → Run → Run → List Step → Option (List 
 TakesSteps file old new steps before after =
     (accounts : Accounts) (f : Flat) → Shows accounts old.machine f → AreTaken accounts f file old new steps before after
 
--- or a beginning of their checks was written
+-- a beginning of the checks of the steps was written
 abbrev pub BeginsSteps : List ℕ → Run → List Step → Option (List ℕ) → Option (List ℕ) → Type 0
 BeginsSteps file old steps before after =
     (accounts : Accounts) (f : Flat) → Shows accounts old.machine f

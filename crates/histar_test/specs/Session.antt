@@ -1,4 +1,4 @@
--- The test of files: their checks, numbered on through all of them.
+-- Testing files: their checks, numbered through all of them.
 use Rattle.std.specs.Prelude.{◌≡◌, ℕ, ◌+◌, ◌⊎◌, Bool, List, [], ◌∷◌, ◌++◌, length, codes, decimal, Option, Result, Ok, Err}
 use Rattle.std.specs.List.{AllZip, flat_map, list_all, sum_by}
 use Rattle.std.specs.Global.{Vec}
@@ -12,7 +12,7 @@ use Rattle.histar_test.specs.declared.session.TestFile.{TestFile}
 use Rattle.histar_test.specs.Steps.{Test, expectation_count, test_of}
 use Rattle.histar_test.specs.Checks.{is_met, checks_of, checks_text}
 
--- a file by its name, with the checks of its test
+-- a file with its name, and the checks of its test
 pub record Checked : Type 0 where
   pub name : List ℕ
   pub checks : List Check
@@ -22,19 +22,19 @@ abbrev pub files_text : ℕ → List Checked → List ℕ
 files_text k [] = []
 files_text k (file ∷ files) = checks_text file.name k file.checks ++ files_text (k + length file.checks) files
 
--- how many checks files have
+-- the number of checks of files
 abbrev pub check_count : List Checked → ℕ
 check_count files = length (flat_map (λ file. file.checks) files)
 
--- the line that says how many checks there are
+-- the line with the number of checks
 abbrev pub plan_text : ℕ → List ℕ
 plan_text count = codes "1.." ++ decimal count ++ codes "\n"
 
--- what is written of files: how many checks they have, and a line or two for each
+-- the text that is written of files: the number of their checks, and a line or two for each
 abbrev pub report_text : List Checked → List ℕ
 report_text files = plan_text (check_count files) ++ files_text 1 files
 
--- each expectation is met
+-- all expectations are met
 abbrev pub are_met : List Checked → Bool
 are_met files = list_all (λ file. list_all is_met file.checks) files
 
@@ -42,7 +42,7 @@ are_met files = list_all (λ file. list_all is_met file.checks) files
 abbrev pub IsChecked : TestFile → Checked → Type 0
 IsChecked file checked = (test : Test) × (test_of file.text.items ≡ Ok test) × (checked ≡ record { name = file.name.items; checks = checks_of test })
 
--- Each file is a test, and what is written of them all was written as far as this says.
+-- Each file is a test, and their text was written as far as the predicate says.
 pub record Reports (written : List ℕ → Type 0) (files : List TestFile) (is : List Checked → Type 0) : Type 0 where
   pub checked : List Checked
   pub each : AllZip IsChecked files checked
@@ -59,8 +59,8 @@ pub record IsFirstFault (files : List TestFile) (fault : Fault) : Type 0 where
   pub each : AllZip IsChecked before right
   pub bad : test_of file.text.items ≡ Err fault
 
--- The checks of all files were written, and the answer is whether each is met; or the fault of the first bad file is answered, and
--- nothing was written. At a failed write a beginning was written, and where memory runs out that or nothing.
+-- The checks of all files were written, and the result is whether all are met; or the fault of the first bad file is returned, and nothing
+-- was written. At a failed write a beginning was written, and if memory runs out that or nothing.
 abbrev pub TestsFiles : List TestFile → Option (List ℕ) → Option (List ℕ) → Result Bool Fault → Type 0
 TestsFiles files old new (Ok met) = Reports (Appends old new) files (λ checked. met ≡ are_met checked)
 TestsFiles files old new (Err (BadScript n)) = IsFirstFault files (BadScript n) × Keeps old new
@@ -71,7 +71,7 @@ TestsFiles files old new (Err ReadFailed) = ⊥
 
 -- ---- the parts
 
--- a test by the name of its file, with its checks
+-- a test with the name of its file, and its checks
 abbrev pub checked_of : NamedTest → Checked
 checked_of named = record { name = named.name; checks = checks_of named.test }
 
@@ -93,6 +93,6 @@ ReadsFiles files (Err OutOfMemory) = Unit {0}
 ReadsFiles files (Err ReadFailed) = ⊥
 ReadsFiles files (Err WriteFailed) = ⊥
 
--- how many expectations tests have
+-- the number of expectations of tests
 abbrev pub expectations_in : List NamedTest → ℕ
 expectations_in tests = sum_by (λ named. expectation_count named.test.steps) tests

@@ -1,4 +1,4 @@
--- The steps of a script that says what it expects: its calls, behind a call what it is to be answered, and questions about rights.
+-- The steps of a script that says what it expects: its calls, the expected replies after them, and questions about rights.
 use Rattle.std.specs.Prelude.{◌≡◌, ℕ, ◌+◌, Bool, true, false, List, [], ◌∷◌, ◌++◌}
 use Rattle.std.specs.Prelude.{take, drop, codes, count_by, not, Option, None, Some, Result, Ok, Err, if◌then◌else◌}
 use Rattle.std.specs.List.{filter_map}
@@ -20,11 +20,11 @@ use Rattle.histar_test.specs.declared.questions.Question.{Question}
 use Rattle.histar_test.specs.declared.steps.Step.{Step}
 use Rattle.histar_test.specs.declared.steps.Step.TheVariants.{Makes, Expects, Asks}
 
--- what a line expects of the call before it: the text behind `#= `
+-- the reply that a line expects of the call before it: the text after `#= `
 abbrev pub expectation_of : List ℕ → Option (List ℕ)
 expectation_of line = if bytes_eq (take 3 line) (codes "#= ") then Some (drop 3 line) else None
 
--- what a line asks: the text behind `#! `
+-- the text of the question on a line, after `#! `
 abbrev pub asked_of : List ℕ → Option (List ℕ)
 asked_of line = if bytes_eq (take 3 line) (codes "#! ") then Some (drop 3 line) else None
 
@@ -36,7 +36,7 @@ process_and_rights_of text = do
   rights ← rights_spelled letters
   Some (process, rights)
 
--- the question that a text on line n is: a path, and behind a space a process and the letters of rights
+-- the question in a text on line n: a path, and after a space a process and the letters of rights
 unfoldable pub question_of : ℕ → List ℕ → Option Question
 question_of n text = do
   path ← path_of (split_word text).0
@@ -63,8 +63,8 @@ is_call (Makes call said) = true
 is_call (Expects text) = false
 is_call (Asks question) = false
 
--- Whether a call is open behind a step, by whether one is before it; an expectation has to have an open call before it. A question leaves
--- the call that is open, if one is.
+-- Whether a call is open after a step, given whether one is before it; an expectation has to have an open call before it. A question leaves
+-- the call open, if one is.
 abbrev pub open_after : Bool → Step → Option Bool
 open_after is_open (Makes call said) = Some true
 open_after true (Expects text) = Some false
@@ -76,50 +76,50 @@ abbrev pub call_step : List ℕ → Option CallLine → Option Step
 call_step line (Some call) = Some (Makes call line)
 call_step line None = None
 
--- the step of line n that asks, or its number where it asks nothing that can be asked
+-- the step of a question on line n, or the line's number if the question can't be read
 abbrev pub asking_step : ℕ → Option Question → Result (Option Step) ℕ
 asking_step n (Some question) = Ok (Some (Asks question))
 asking_step n None = Err n
 
--- the step of line n, which asks this, or else expects this, or else makes this call
+-- the step of line n, which asks this question, or else expects this reply, or else makes this call
 abbrev pub step_by : ℕ → List ℕ → Option (List ℕ) → Option (List ℕ) → Option CallLine → Result (Option Step) ℕ
 step_by n line (Some asked) text call = asking_step n (question_of n asked)
 step_by n line None (Some text) call = Ok (Some (Expects text))
 step_by n line None None call = Ok (call_step line call)
 
--- the step that line n is, if it is one: what it asks or expects, or else the call that it says; or its number, where it is bad
+-- the step of line n, if it has one: its question or expectation, or else its call; or its number, if it is bad
 abbrev pub step_of : ℕ → List ℕ → Result (Option Step) ℕ
 step_of n line = step_by n line (asked_of line) (expectation_of line) (call_in n (item_of line))
 
--- a step and those behind it, where a call is open behind the step or is not; or the number of the step's line, where it may not be there
+-- a step and those after it, given whether a call is open after the step; or the number of the step's line, if it may not be there
 abbrev pub step_then : ℕ → Step → Option Bool → (Bool → Result (List Step) ℕ) → Result (List Step) ℕ
 step_then n step (Some opened) later = steps_before (step ∷ []) (later opened)
 step_then n step None later = Err n
 
--- the step of line n, if it is one, and then those behind it, by whether a call is open there
+-- the step of line n, if it has one, and then those after it, given whether a call is open there
 abbrev pub steps_by : ℕ → Bool → Result (Option Step) ℕ → (Bool → Result (List Step) ℕ) → Result (List Step) ℕ
 steps_by n is_open (Err bad) later = Err bad
 steps_by n is_open (Ok None) later = later is_open
 steps_by n is_open (Ok (Some step)) later = step_then n step (open_after is_open step) later
 
--- The steps of lines, of which the first is line n, or the number of the first bad line: whose expectation has no call, or whose question
--- is none. A call is open until an expectation follows it, and each expectation follows an open call.
+-- The steps of lines, of which the first is line n, or the number of the first bad line: its expectation has no call before it, or its
+-- question can't be read. A call is open until an expectation follows it, and each expectation follows an open call.
 unfoldable pub steps_from : ℕ → Bool → List (List ℕ) → Result (List Step) ℕ
 steps_from n is_open [] = Ok []
 steps_from n is_open (line ∷ lines) = steps_by n is_open (step_of n line) (λ opened. steps_from (n + 1) opened lines)
 
--- a session, and the steps of its script
+-- a test: the accounts of a script, and its steps
 pub record Test : Type 0 where
   pub accounts : Accounts
   pub steps : List Step
 
--- a script with its steps, where neither has a fault; that of the script comes first
+-- a script with its steps, if neither has a fault; that of the script comes first
 abbrev pub test_by : Result ScriptModel Fault → Result (List Step) ℕ → Result Test Fault
 test_by (Err fault) read = Err fault
 test_by (Ok script) (Ok steps) = Ok (record { accounts = script.accounts; steps = steps })
 test_by (Ok script) (Err line) = Err (BadScript line)
 
--- the test that a text is: a script, whose fault comes first, in which each expectation has its call and each question is one
+-- the test in a text: a script, whose fault comes first, in which each expectation has its call and each question can be read
 abbrev pub test_of : List ℕ → Result Test Fault
 test_of text = test_by (script_of text) (steps_from 1 false (lines_of text))
 
@@ -135,7 +135,7 @@ calls_in steps = filter_map call_of_step steps
 
 -- ---- the parts
 
--- how many expectations there are among steps, of replies and of rights
+-- the number of expectations among steps, of replies and of rights
 abbrev pub expectation_count : List Step → ℕ
 expectation_count steps = count_by (λ step. not (is_call step)) steps
 
@@ -157,7 +157,7 @@ GivesStep n (Err TooLong) read = ⊥
 GivesStep n (Err ReadFailed) read = ⊥
 GivesStep n (Err WriteFailed) read = ⊥
 
--- Whatever lines follow line n, their steps stand behind those that it adds, and a call is open there or is not.
+-- Whatever lines follow line n, their steps come after those that it adds, and a call is open there or not.
 pub record AddsLine (n : ℕ) (is_open : Bool) (line : List ℕ) (old new : List Step) (is_open_after : Bool) : Type 0 where
   pub added : List Step
   pub steps : new ≡ old ++ added

@@ -1,5 +1,5 @@
 //! A check: an expectation beside the reply to its call, or a question beside the rights that it asks for,
-//! and the text of that.
+//! and its text.
 ghost use Rattle.std.specs.Prelude.{◌≡◌, ◌++◌, IfOk, OnOk, decimal};
 ghost use Rattle.std.specs.List.{flat_map};
 ghost use Rattle.histar_test.specs.Checks.{check_text, difference_text, escaped_byte};
@@ -14,13 +14,13 @@ use std::alloc::{AllocError, Global};
 pub struct Made {
     /// The number of its line.
     pub line: u32,
-    /// The text of that line, of a question without `#! `.
+    /// The text of that line, without `#! ` in a question.
     pub said: Bytes,
     /// The text of the reply, or the letters of the rights.
     pub reply: Bytes,
 }
 
-/// What a call or a question was to be answered, and what it was.
+/// The expected answer to a call or a question, and the actual one.
 #[derive(Drop)]
 pub struct Check {
     pub made: Made,
@@ -96,7 +96,7 @@ fn result_line(
     Ok(text)
 }
 
-/// Adds a line with what was to be answered, and what was.
+/// Adds a line with the expected answer and the actual one.
 fn push_difference(text: &mut Vec<u8>, check: &Check) -> Result<(), AllocError>
     ensures { OnOk result (text.new.items ≡ text.old.items ++ difference_text check.now) }
 {

@@ -1,8 +1,9 @@
-//! Scripts that say what they expect: the line `#= TEXT` behind a call says which reply that call is to
-//! have, and the line `#! PATH PROC RIGHTS` which rights a process is to have at a path there.
+//! Scripts that say what they expect: the line `#= TEXT` after a call is the expected reply to that call, and
+//! the line `#! PATH PROC RIGHTS` the expected rights of a process at a path there.
 //!
-//! `specs/Steps.antt` says which steps a text is, and `specs/Checks.antt` what is written of each
-//! expectation and question, in the form of the Test Anything Protocol. [`test_laws`] says what a test comes to.
+//! `specs/Steps.antt` defines the steps of a text, and `specs/Checks.antt` what is written of each
+//! expectation and question, in the form of the Test Anything Protocol. [`test_laws`] says what a test
+//! checks.
 #![tactic(auto)]
 
 mod checks;

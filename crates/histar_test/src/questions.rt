@@ -1,4 +1,4 @@
-//! Questions about rights.
+//! Questions about rights, and their answers.
 ghost use Rattle.std.specs.Prelude.{◌≡◌, IfOk};
 ghost use Rattle.std.specs.Option.{option_copied};
 ghost use Rattle.histar_rights.specs.Rights.{rights_text};
@@ -15,20 +15,20 @@ use histar_script::split_word;
 use histar_shell::Machine;
 use std::alloc::{AllocError, Global};
 
-/// Asks for the rights of a process at a path.
+/// A question for the rights of a process at a path.
 #[derive(Drop)]
 pub struct Question {
     /// The number of its line.
     pub line: u32,
-    /// The text of the question, behind `#! `.
+    /// The text of the question, after `#! `.
     pub said: Bytes,
     pub path: OwnedPath,
     pub process: ProcName,
-    /// The rights that it is to have.
+    /// The expected rights.
     pub wanted: Rights,
 }
 
-/// Returns what a line asks, if it does.
+/// Returns the text of the question on a line, if the line is one.
 pub(crate) fn asked_of(line: &[u8]) -> Option<&[u8]>
     ensures { option_copied result ≡ asked_of line.now }
 {
@@ -46,7 +46,7 @@ fn read_process_and_rights(text: &[u8]) -> Option<(ProcName, Rights)>
     Some((process, rights))
 }
 
-/// Reads the question that a text on line `number` is: `PATH PROC RIGHTS`.
+/// Reads the question in the text of line `number`: `PATH PROC RIGHTS`.
 #[tactic(auto, unfolding(crate::specs::Steps::question_of))]
 pub(crate) fn read_question(
     alloc: Global,
@@ -82,8 +82,8 @@ fn letters(alloc: Global, rights: Rights) -> Result<Bytes, AllocError>
     Ok(Bytes::from_vec(text))
 }
 
-/// Returns the check of a question: the rights that the process has in a machine, beside those that are
-/// wanted. No call is made.
+/// Returns the check of a question: the rights that the process has in a machine, beside the expected ones.
+/// No call is made.
 pub(crate) fn ask(
     alloc: Global,
     machine: &Machine<InternStore>,

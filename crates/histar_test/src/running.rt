@@ -23,18 +23,18 @@ use std::alloc::Global;
 /// How many answers of label comparisons are remembered.
 const REMEMBERED_ANSWERS: usize = 256;
 
-/// How many checks there were, and whether each was met.
+/// How many checks there were, and whether all were met.
 #[derive(Clone, Copy)]
 pub(crate) struct Tally {
     pub count: usize,
     pub are_met: bool,
 }
 
-/// How far the run of a script has come.
+/// The state of the run of a script.
 #[derive(Drop)]
 pub(crate) struct Run {
     pub machine: Machine<InternStore>,
-    /// The call that was made last, unless something was expected of it.
+    /// The call that was made last, unless its reply was checked already.
     pub last: Option<Made>,
     pub tally: Tally,
 }
@@ -57,7 +57,7 @@ impl Run {
         })
     }
 
-    /// Has the machine do a call, which is then the last one.
+    /// Makes a call on the machine; it is then the last one.
     fn make_call(&mut self, alloc: Global, call: CallLine, said: Bytes) -> Result<(), Fault>
         ensures ok { OnOk result (TakesStep self.old self.new (Step.Makes call said)) }
         ensures faults { IfErr result IsMemory }
@@ -95,8 +95,7 @@ impl Run {
         Ok(())
     }
 
-    /// Writes whether the reply to the last call has this text, unless something was expected of that
-    /// already.
+    /// Writes whether the reply to the last call has this text. It does so once for each call.
     fn check_reply<W: Sink>(
         &mut self,
         alloc: Global,
@@ -120,7 +119,7 @@ impl Run {
         self.count_check(alloc, file, &check, writer)
     }
 
-    /// Writes whether a process has the rights that a question wants.
+    /// Writes whether a process has the rights that a question expects.
     fn check_rights<W: Sink>(
         &mut self,
         alloc: Global,
@@ -141,7 +140,7 @@ impl Run {
         self.count_check(alloc, file, &check, writer)
     }
 
-    /// Takes a step.
+    /// Takes one step.
     fn take_step<W: Sink>(
         &mut self,
         alloc: Global,
@@ -165,8 +164,8 @@ impl Run {
         }
     }
 
-    /// Takes steps in their order, and writes of each expectation and question whether it is met, as
-    /// soon as that is known.
+    /// Takes steps in their order, and writes for each expectation and question whether it is met, as soon as
+    /// that is known.
     pub(crate) fn take_steps<W: Sink>(
         &mut self,
         alloc: Global,
@@ -189,7 +188,7 @@ impl Run {
     }
 }
 
-/// Has a machine do a call, and returns it with the reply.
+/// Makes a call on a machine, and returns it with the reply.
 fn make_call(
     alloc: Global,
     machine: &mut Machine<InternStore>,

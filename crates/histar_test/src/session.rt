@@ -25,36 +25,35 @@ pub struct TestFile {
     pub text: Vec<u8>,
 }
 
-/// A file that is a test, by its name.
+/// A file that is a test, with its name.
 #[derive(Drop)]
 struct NamedTest {
     name: Bytes,
     test: TestScript,
 }
 
-/// Checks what files expect of the replies to their calls and of rights, and writes of each expectation
-/// whether it is met, in the form of the Test Anything Protocol, numbered on through all files. It
-/// answers whether each is met.
+/// Checks the replies and the rights that files expect, and writes for each expectation whether it is met, in
+/// the form of the Test Anything Protocol, numbered through all files. It returns whether all are met.
 ///
-/// All files are read before the first call of any is made. The lines of a check are written as soon as
-/// the call is done. Each file is run on a machine of its own. It doesn't flush the sink.
+/// All files are read before the first call of any is made. The lines of a check are written as soon as the
+/// call is done. Each file is run on a machine of its own. It doesn't flush the sink.
 pub fn test<W: Sink>(alloc: Global, files: &[TestFile], writer: &mut W) -> Result<bool, Fault>
     // After a file that is no test the sink is as it was.
     ensures nothing { IfErr result (LeavesSink writer.old writer.new) }
 
-    // A write has failed exactly where that is the answer.
+    // A write has failed exactly if that fault is returned.
     ensures writes { CountsFailure (W.failures writer.old) (W.failures writer.new)
         (is_write_failed result) }
 
-    // The fault of the first file that is no test is answered, or exactly the checks of all files are
-    // written, and the answer is whether each is met.
+    // The fault of the first file that is no test is returned, or exactly the checks of all files are
+    // written, and the result is whether all are met.
     ensures tests { TestsFiles files.now (W.written writer.old) (W.written writer.new) result }
 {
     let tests = read_tests(alloc, files)?;
     report(alloc, tests, writer)
 }
 
-/// Reads files that are tests, in their order.
+/// Reads files that have to be tests, in their order.
 fn read_tests(alloc: Global, files: &[TestFile]) -> Result<Vec<NamedTest>, Fault>
     ensures { ReadsFiles files.now result }
 {
@@ -67,7 +66,7 @@ fn read_tests(alloc: Global, files: &[TestFile]) -> Result<Vec<NamedTest>, Fault
     Ok(tests)
 }
 
-/// Writes how many checks tests have, and the lines of each, and answers whether each is met.
+/// Writes how many checks tests have, and the lines of each, and returns whether all are met.
 fn report<W: Sink>(alloc: Global, tests: Vec<NamedTest>, writer: &mut W) -> Result<bool, Fault>
     requires { AreTests tests.items }
     ensures ok { OnOk result (Appends (W.written writer.old) (W.written writer.new)
@@ -87,7 +86,7 @@ fn report<W: Sink>(alloc: Global, tests: Vec<NamedTest>, writer: &mut W) -> Resu
     test_files(alloc, tests, writer)
 }
 
-/// Counts the expectations of tests, where there are not too many to be counted.
+/// Counts the expectations of tests, or returns `None` if they are too many for the type.
 fn count_checks(tests: &[NamedTest]) -> Option<usize>
     ensures { IfSome result (λ total. total ≡ expectations_in tests.now) }
 {
@@ -111,7 +110,7 @@ fn count_expectations(steps: &[Step]) -> usize
     count
 }
 
-/// Returns the line that says how many checks there are.
+/// Returns the line with the number of checks.
 fn plan_text(alloc: Global, total: usize) -> Result<Vec<u8>, AllocError>
     ensures { IfOk result (λ text. text.items ≡ plan_text total) }
 {
@@ -121,7 +120,7 @@ fn plan_text(alloc: Global, total: usize) -> Result<Vec<u8>, AllocError>
     Ok(text)
 }
 
-/// Writes the lines of the checks of tests, and answers whether each is met.
+/// Writes the lines of the checks of tests, and returns whether all are met.
 fn test_files<W: Sink>(alloc: Global, tests: Vec<NamedTest>, writer: &mut W) -> Result<bool, Fault>
     ensures ok { OnOk result (Appends (W.written writer.old) (W.written writer.new)
         (files_text 1 (map checked_of tests.items))) }
@@ -142,7 +141,7 @@ fn test_files<W: Sink>(alloc: Global, tests: Vec<NamedTest>, writer: &mut W) -> 
     Ok(tally.are_met)
 }
 
-/// Writes the lines of the checks of a test, behind so many others, on a machine of its own.
+/// Writes the lines of the checks of a test on a machine of its own, numbered on from the tally.
 fn test_file<W: Sink>(
     alloc: Global,
     named: NamedTest,

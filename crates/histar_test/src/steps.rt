@@ -17,15 +17,15 @@ use std::marker::Model;
 /// One step of a script that says what it expects.
 #[derive(Drop)]
 pub enum Step {
-    /// Makes this call, which a line with this text says.
+    /// Makes this call, which is on a line with this text.
     Makes(CallLine, Bytes),
-    /// Expects that the call before it was answered so.
+    /// Expects this reply to the call before it.
     Expects(Bytes),
     /// Asks for the rights of a process at a path.
     Asks(Question),
 }
 
-/// The session of a script, and its steps.
+/// A test: the accounts of a script, and its steps.
 #[derive(Drop)]
 pub struct TestScript {
     accounts: Accounts,
@@ -51,8 +51,8 @@ impl Step {
         matches!(self, Step::Makes(_, _))
     }
 
-    /// Returns whether a call is open behind this step, by whether one is before it, unless the step may
-    /// not be there.
+    /// Returns whether a call is open after this step, given whether one is before it, or `None` if the step
+    /// may not be there.
     fn open_after(&self, is_open: bool) -> Option<bool>
         ensures { result ≡ open_after is_open self.now }
     {
@@ -73,7 +73,7 @@ impl TestScript {
         self.steps.as_slice()
     }
 
-    /// Returns the session, and the steps to be taken one by one.
+    /// Returns the accounts and the steps as values of their own.
     pub fn into_parts(self) -> (Accounts, Vec<Step>)
         ensures accounts { result.0 ≡ self.accounts }
         ensures steps { result.1.items ≡ self.steps }
@@ -83,8 +83,8 @@ impl TestScript {
     }
 }
 
-/// Reads the test that a text is: a script, whose fault comes first, in which each expectation has its
-/// call and each question is one.
+/// Reads a test: a script, whose fault comes first, in which each expectation has a call before it and each
+/// question can be read.
 pub fn read_test(alloc: Global, text: &[u8]) -> Result<TestScript, Fault>
     ensures { Gives result (test_of text.now) }
 {
@@ -94,7 +94,7 @@ pub fn read_test(alloc: Global, text: &[u8]) -> Result<TestScript, Fault>
     Ok(TestScript { accounts, steps })
 }
 
-/// Reads the steps that the lines of a text are.
+/// Reads the steps of the lines of a text.
 fn read_steps(alloc: Global, text: &[u8]) -> Result<Vec<Step>, Fault>
     requires { length text.now ≤ most_script_bytes }
     ensures { GivesSteps result (steps_from 1 false (lines_of text.now)) }
@@ -112,7 +112,7 @@ fn read_steps(alloc: Global, text: &[u8]) -> Result<Vec<Step>, Fault>
     Ok(steps)
 }
 
-/// Adds the step that a line is, if it is one, and returns whether a call is open behind it.
+/// Adds the step of a line, if it has one, and returns whether a call is open after it.
 fn take_line(
     alloc: Global,
     steps: &mut Vec<Step>,
@@ -132,7 +132,7 @@ fn take_line(
     Ok(is_open)
 }
 
-/// Reads the step that a line is, if it is one.
+/// Reads the step of a line, if it has one.
 fn read_step(alloc: Global, number: u32, line: &[u8]) -> Result<Option<Step>, Fault>
     ensures { GivesStep number result (step_of number line.now) }
 {
@@ -170,7 +170,7 @@ fn call_in(number: u32, item: Item) -> Option<CallLine>
     }
 }
 
-/// Returns what a line expects of the call before it, if it does.
+/// Returns the reply that a line expects of the call before it, if it is an expectation.
 fn expectation_of(line: &[u8]) -> Option<&[u8]>
     ensures { option_copied result ≡ expectation_of line.now }
 {

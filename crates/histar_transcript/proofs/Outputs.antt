@@ -1,4 +1,4 @@
--- The outputs of runs, and what is written of them.
+-- The outputs of runs, and the transcripts that are written of them.
 use Rattle.std.proofs.Common.{◌≡◌, ℕ, List, Option, None, Some, Result, Ok, Err, refl, true, false, subst, ◌⊎◌, inl, inr}
 use Rattle.std.specs.Prelude.{Bool, IfSome, IsOk}
 use Rattle.std.specs.Io.KnownBytes.{Keeps}
@@ -23,7 +23,7 @@ fault_given options explain text OutOfMemory h = tt
 fault_given options explain text ReadFailed h = tt
 fault_given options explain text WriteFailed h = tt
 
--- no device fails where memory is written
+-- no device fails if it is memory
 pub no_device_failed : (options : Options) (explain : Bool) (text : List ℕ) (fault : Fault) → GivesOutput options explain text (Err fault)
     → (is_read_failed {A = Unit {0}} (Err fault) ≡ false) × (is_write_failed {A = Unit {0}} (Err fault) ≡ false)
 no_device_failed options explain text (BadScript n) h = (refl, refl)
@@ -32,12 +32,12 @@ no_device_failed options explain text OutOfMemory h = (refl, refl)
 no_device_failed options explain text ReadFailed h = absurd h
 no_device_failed options explain text WriteFailed h = absurd h
 
--- what is known stays
+-- known bytes stay as they are
 kept : (known : Option (List ℕ)) → Keeps known known
 kept None = tt
 kept (Some bytes) = refl
 
--- where there is no output nothing is written
+-- without an output nothing is written
 pub nothing_written : (options : Options) (explain : Bool) (text : List ℕ) (written : Option (List ℕ)) (fault : Fault)
     → GivesOutput options explain text (Err fault) → WritesTranscript options explain text written written (Err fault)
 nothing_written options explain text written (BadScript n) h = (h, kept written)
@@ -51,7 +51,7 @@ is_script : (options : Options) (explain : Bool) (text output : List ℕ) → Is
 is_script options true text output h = h.faults
 is_script options false text output h = h.1.faults
 
--- what is said of a text that is too long is said of another one
+-- what holds of one text that is too long holds of another
 long_transcript : (options : Options) (explain : Bool) (old new : Option (List ℕ)) (result : Result (Unit {0}) Fault) (taken input : List ℕ)
     → AreLong taken input → WritesTranscript options explain taken old new result → WritesTranscript options explain input old new result
 long_transcript options explain old new (Ok u) taken input long h = absurd (not_long taken long.one (is_script options explain taken h.0 h.1))
@@ -62,13 +62,13 @@ long_transcript options explain old new (Err (BadScript n)) taken input long h =
 long_transcript options explain old new (Err TooLong) taken input long h = (long.two, h.1)
 long_transcript options explain old new (Err ReadFailed) taken input long h = h
 
--- where reading stopped nothing is said
+-- if reading stopped, nothing is written
 stopped : (options : Options) (explain : Bool) (old new : Option (List ℕ)) (fault : Fault) (input : List ℕ) → Keeps old new
     → (fault ≡ OutOfMemory) ⊎ (fault ≡ ReadFailed) → WritesTranscript options explain input old new (Err fault)
 stopped options explain old new fault input keeps (inl is) = rw is keeps
 stopped options explain old new fault input keeps (inr is) = rw is keeps
 
--- what is said of the bytes that were taken is said of a known input
+-- what holds of the bytes that were taken holds of a known input
 pub transcript_known : (options : Options) (explain : Bool) (left rest old new : Option (List ℕ)) (result : Result (Unit {0}) Fault)
     → RunsInput (WritesTranscript options explain) left rest old new result
     → IfSome left (λ input. WritesTranscript options explain input old new result)

@@ -1,4 +1,4 @@
--- A line that begins with a number has its call put in.
+-- A line that begins with a number gets the text of its call.
 use Rattle.std.proofs.Common.{◌≡◌, ℕ, List, [], ◌++◌, ◌-◌, Option, None, Some, codes, ap}
 use Rattle.std.specs.Prelude.{decimal, slice_index_or, unwrap_or}
 use Rattle.histar_script.specs.Lines.{split_word}

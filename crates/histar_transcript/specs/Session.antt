@@ -12,17 +12,17 @@ use Rattle.histar_shell.specs.Run.{RunsText}
 use Rattle.histar_run_explain.specs.Output.{GivesText, IsExplainedOutput}
 use Rattle.histar_transcript.specs.Transcript.{transcript_of}
 
--- this is the output of a run of the script that a text is, with explanations or without
+-- this is the output of a run of the script in a text, with explanations or without
 abbrev pub IsOutput : Options → Bool → List ℕ → List ℕ → Type 0
 IsOutput options true text output = IsExplainedOutput options text output
 IsOutput options false text output = (trace : List TraceEntry) × RunsText options text (Some []) (Some output) (Ok trace)
 
--- the text is run, and the transcript of its output was written as far as this says
+-- the text is run, and the transcript of its output was written as far as the predicate says
 abbrev pub Transcribes : (List ℕ → Type 0) → Options → Bool → List ℕ → Type 0
 Transcribes Writes options explain text = (output : List ℕ) × IsOutput options explain text output × Writes (transcript_of text output)
 
--- The transcript of the output of the run was written; or the fault of the script is answered, and nothing was written. At a failed write a
--- beginning was written, and where memory runs out nothing.
+-- The transcript of the output of the run was written; or the fault of the script is returned, and nothing was written. At a failed write a
+-- beginning was written, and if memory runs out nothing.
 abbrev pub WritesTranscript : Options → Bool → List ℕ → Option (List ℕ) → Option (List ℕ) → Result (Unit {0}) Fault → Type 0
 WritesTranscript options explain text old new (Ok u) = Transcribes (Appends old new) options explain text
 WritesTranscript options explain text old new (Err WriteFailed) = Transcribes (AppendsFront old new) options explain text
@@ -31,6 +31,6 @@ WritesTranscript options explain text old new (Err (BadScript n)) = (script_of t
 WritesTranscript options explain text old new (Err TooLong) = (script_of text ≡ Err TooLong) × Keeps old new
 WritesTranscript options explain text old new (Err ReadFailed) = Keeps old new
 
--- the output of a run of a text is answered, or the fault of the script, or that memory ran out
+-- the result is the output of a run of a text, or the fault of the script, or out of memory
 abbrev pub GivesOutput : Options → Bool → List ℕ → Result (Vec ℕ) Fault → Type 0
 GivesOutput options explain text result = GivesText (IsOutput options explain) text result

@@ -1,4 +1,4 @@
-//! The output of a run with each reply behind its call.
+//! The output of a run with each reply after its call.
 #![tactic(auto)]
 
 mod session;

@@ -11,10 +11,10 @@ use histar_script::Fault;
 use histar_shell::{Counted, Options, run};
 use std::alloc::Global;
 
-/// Reads a script, runs it as `run` does, or with explanations, and writes what that would write, with the text of
-/// its call before each reply.
+/// Reads a script, runs it as `run` does, or with explanations, and writes the output with the text of its
+/// call before each reply.
 ///
-/// All is written once the script has run. It doesn't flush the sink.
+/// It writes once the script has run. It doesn't flush the sink.
 pub fn transcribe<R: Source, W: Sink>(
     alloc: Global,
     reader: &mut R,
@@ -22,19 +22,19 @@ pub fn transcribe<R: Source, W: Sink>(
     options: Options,
     explain: bool,
 ) -> Result<(), Fault>
-    // After a bad script, one that is too long and a failed read the sink is as it was.
+    // After a bad script, one that is too long or a failed read, the sink is as it was.
     ensures nothing { IfErr result (LeavesSink writer.old writer.new) }
 
-    // A device has failed exactly where its fault is the answer.
+    // A device has failed exactly if its fault is returned.
     ensures reads { CountsFailure (R.failures reader.old) (R.failures reader.new) (is_read_failed result) }
     ensures writes { CountsFailure (W.failures writer.old) (W.failures writer.new) (is_write_failed result) }
 
-    // Whatever the source gives, bytes of it were taken, to its end but never more than 1,048,577, and run: the fault of the script
-    // that they are is answered, or the output of its run is written, with each reply behind its call.
+    // Some bytes of the source were read, to its end but never more than 1,048,577, and run: the fault of
+    // their script is returned, or the output of its run is written, with each reply after its call.
     ensures runs { RunsInput (WritesTranscript options explain) (R.left reader.old) (R.left reader.new)
         (W.written writer.old) (W.written writer.new) result }
 
-    // So where the input is known, the script of the whole input was run.
+    // If the input is known, the script of the whole input was run.
     ensures known { IfSome (R.left reader.old) (λ input. WritesTranscript options explain input
         (W.written writer.old) (W.written writer.new) result) }
 {
@@ -42,7 +42,7 @@ pub fn transcribe<R: Source, W: Sink>(
     transcribe_text(alloc, input.as_slice(), writer, options, explain)
 }
 
-/// Runs the script that a text is, and writes the transcript of its output.
+/// Runs the script in a text, and writes the transcript of its output.
 fn transcribe_text<W: Sink>(
     alloc: Global,
     text: &[u8],
@@ -61,7 +61,7 @@ fn transcribe_text<W: Sink>(
     Ok(())
 }
 
-/// Returns the output of a run of the script that a text is, with explanations if they are asked for.
+/// Returns the output of a run of the script in a text, with explanations if they are asked for.
 fn output_of(alloc: Global, text: &[u8], options: Options, explain: bool) -> Result<Vec<u8>, Fault>
     ensures { GivesOutput options explain text.now result }
 {
@@ -72,7 +72,7 @@ fn output_of(alloc: Global, text: &[u8], options: Options, explain: bool) -> Res
     }
 }
 
-/// Returns the output of a run of the script that a text is.
+/// Returns the output of a run of the script in a text.
 fn plain_output(alloc: Global, text: &[u8], options: Options) -> Result<Vec<u8>, Fault>
     ensures { GivesOutput options false text.now result }
 {

@@ -1,4 +1,4 @@
-//! The lines of an output, each reply behind its call.
+//! The lines of an output, each reply after its call.
 ghost use Rattle.std.specs.Prelude.{◌≡◌, ◌++◌, ◌-◌, ℕ, [], codes, decimal, map, IfOk, OnOk, slice_index_or, unwrap_or};
 ghost use Rattle.std.specs.Option.{option_copied};
 ghost use Rattle.histar_script.specs.Lines.{lines_of};
@@ -12,7 +12,7 @@ use std::alloc::{AllocError, Global};
 /// The most lines of a script.
 const MOST_SCRIPT_LINES: u64 = 16_384;
 
-/// Returns the output of a run of a script with each reply behind the text of its call.
+/// Returns the output of a run of a script with each reply after the text of its call.
 pub(crate) fn transcript_of(
     alloc: Global,
     script: &[u8],
@@ -46,7 +46,7 @@ fn lines_in<'a>(alloc: Global, text: &'a [u8]) -> Result<Vec<&'a [u8]>, AllocErr
     Ok(lines)
 }
 
-/// Adds a line of an output to a text, a reply behind its call.
+/// Adds a line of an output to a text, a reply after its call.
 fn push_with_call(text: &mut Vec<u8>, lines: &[&[u8]], line: &[u8]) -> Result<(), AllocError>
     ensures { OnOk result (text.new.items ≡ text.old.items
         ++ with_call (map (λ line. line.now) lines.now) line.now) }
@@ -70,7 +70,7 @@ fn push_reply(text: &mut Vec<u8>, number: u64, call: &[u8], reply: &[u8]) -> Res
     text.extend_from_slice(reply)
 }
 
-/// Returns what is behind a word, or nothing where nothing is.
+/// Returns the text, or an empty one if there is none.
 fn or_nothing(rest: Option<&[u8]>) -> &[u8]
     ensures { result.now ≡ unwrap_or (option_copied rest.entry) [] }
 {
@@ -80,7 +80,7 @@ fn or_nothing(rest: Option<&[u8]>) -> &[u8]
     }
 }
 
-/// Returns the line of this number, or nothing where there is none.
+/// Returns the line of this number, or an empty one if there is none.
 fn call_on<'a>(lines: &[&'a [u8]], number: u64) -> &'a [u8]
     ensures { result.now ≡ slice_index_or (map (λ line. line.now) lines.now) (number - 1) [] }
 {

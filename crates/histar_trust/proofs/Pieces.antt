@@ -1,4 +1,4 @@
--- What is made of items so far, and what a machine's answers say of a path.
+-- Lists that are made item by item, and the classes on the way to a path.
 use Rattle.std.proofs.Common.{◌≡◌, ℕ, zero, suc, ◌+◌, ◌<◌, ◌≤◌, List, [], ◌∷◌, ◌++◌, Option, Some, None, Result, Ok, Err, drop, take, length, get_or}
 use Rattle.std.proofs.Common.{arith, sym, ap, ◌∙◌, refl}
 use Rattle.std.specs.Prelude.{map, option_map, slice_get, IfOk}
@@ -13,7 +13,7 @@ use Rattle.histar_secrecy.specs.declared.role.Member.{Member}
 use Rattle.histar_readout.specs.declared.tree.TreeNode.{TreeNode}
 use Rattle.histar_trust.specs.Findings.{Runner, class_there, classes_to, node_at, runner_of}
 
--- one item more
+-- the items so far with one more
 pub kept_more : {X Y : Type 0} (h : X → Option Y) (xs : List X) (i : ℕ) (x : X) → i < length xs → x ≡ get_or xs i x
     → filter_map h (take (i + 1) xs) ≡ filter_map h (take i xs) ++ cons_option (h x) []
 kept_more h xs i x within is =
@@ -24,14 +24,14 @@ mapped_option : (o : Option Member) → map runner_of (cons_option o []) ≡ con
 mapped_option None = refl
 mapped_option (Some m) = refl
 
--- one member more, where the process runs
+-- the members so far with one more, if the process runs
 pub members_more : (ms : List Member) (o : Option Member) {new : List Member} {was now : List Runner} {r : Option Runner} → map runner_of ms ≡ was
     → option_map runner_of o ≡ r → now ≡ was ++ cons_option r [] → new ≡ ms ++ cons_option o [] → map runner_of new ≡ now
 members_more ms o before one kept pushed =
     ap (map runner_of) pushed ∙ map-append runner_of ms (cons_option o [])
     ∙ (λ j. before j ++ (mapped_option o ∙ ap (λ (x : Option Runner). cons_option x []) one) j) ∙ sym kept
 
--- one name more
+-- the names so far with one more
 named_suc : (users : List User) (i : ℕ) (name : Name) → slice_get users i ≡ Some (called name)
     → take (suc i) (map (λ (u : User). u.name) users) ≡ take i (map (λ (u : User). u.name) users) ++ name ∷ []
 named_suc [] zero name e = absurd (none-some (called name) e)
@@ -45,7 +45,7 @@ names_more users i name new old e before pushed =
     pushed ∙ ap (λ (names : List Name). names ++ name ∷ []) before ∙ sym (named_suc users i name e)
     ∙ ap (λ n. take n (map (λ (u : User). u.name) users)) (let s : suc i ≡ i + 1 = omega arith in s)
 
--- the classes to a path are that of what is there, and those to its directory
+-- the classes to a path are the class of what is there, and those to its directory
 pub classes_rest : (tree : List TreeNode) (names : Path) → 1 ≤ length names → classes_to tree names
     ≡ class_there (node_at names tree) ++ classes_to tree (drop 1 names)
 classes_rest tree [] some = absurd (omega (arith, some))
@@ -55,7 +55,7 @@ pub classes_last : (tree : List TreeNode) (names : Path) → length names < 1 �
 classes_last tree [] none = refl
 classes_last tree (n ∷ d) none = absurd (omega (arith, none))
 
--- what was made is as it has to be, where it was made at all
+-- what holds of a value that was made follows from what is stronger
 pub made_so : {A E : Type 0} {P Q : A → Type 0} (r : Result A E) → ((x : A) → P x → Q x) → IfOk r P → IfOk r Q
 made_so (Ok x) so h = so x h
 made_so (Err e) so h = tt

@@ -29,11 +29,11 @@ use Rattle.histar_readout.specs.TreeLines.{TreeLine, flat_line, line_at, node_st
 use Rattle.histar_trust.specs.Findings.{class_flat, class_there, classes_to, node_at}
 use Rattle.histar_trust.specs.TrustText.{is_for_everyone}
 
--- jobs by the numbers of their categories
+-- the number of a job is that of its category
 abbrev pub number_of : Categories → ProcName → ℕ
 number_of category job = category (OfJob job)
 
--- a class with its jobs by numbers is the same, by way of the labels or at once
+-- a class with its jobs by numbers is the same from the labels and directly
 pub same_class : (category : Categories) (class : FlatClass) → class_flat (numbered_class category class) ≡ class_by_number (number_of category) class
 same_class category (FlatPrivate owner) = refl
 same_class category (FlatReadable owner) = refl
@@ -41,7 +41,7 @@ same_class category FlatOpen = refl
 same_class category (FlatScratch owner jobs) = ap (FlatScratch owner) (in_two_steps (number_of category) jobs)
 same_class category (FlatGrouped group) = refl
 
--- it is as readable
+-- every process may read both or neither
 pub same_everyone : (category : Categories) (class : FlatClass) → is_for_everyone (class_flat (numbered_class category class)) ≡ is_for_everyone class
 same_everyone category (FlatPrivate owner) = refl
 same_everyone category (FlatReadable owner) = refl
@@ -58,14 +58,14 @@ rest_of_list [] = []
 rest_of_list (y ∷ ys) = ys
 
 module _ (s : State) (category : Categories) where
-  -- a node of the tree and what the flat state has at a path
+  -- a node of the tree matches the flat state's node at a path
   pub record IsAt (q : Path) (node : TreeNode) (there : Node) : Type 0 where
     pub path : node.path ≡ q
     pub class : node.class ≡ numbered_class category there.class
     pub kind : is_directory node.target ≡ is_dir there
     pub stat : node_stat node ≡ (flat_line (q, there)).stat
 
-  -- both have something at the path, or neither has
+  -- both have a node at the path, or neither has
   abbrev pub AreAlike : Path → Option TreeNode → Option Node → Type 0
   AreAlike q None None = Unit {0}
   AreAlike q None (Some there) = ⊥
@@ -87,7 +87,7 @@ module _ (s : State) (category : Categories) where
         | inr t ↦ subst (λ b. AreAlike q (if b then Some node else found) (cond b (Some e.1) rest)) (sym t.0) alike
       ])
 
-  -- path by path a tree has what the entries have that show the same
+  -- a tree that shows the same as the entries has the same at each path
   pub alike : (q : Path) (tree : List TreeNode) (es : List (Path × Node)) → map (tree_entry s) tree ≡ map (flat_entry category) es
       → map (line_at s) tree ≡ map flat_line es → AreAlike q (node_at q tree) (find path_cmp q es)
   unfolding first_of_list rest_of_list
@@ -104,7 +104,7 @@ module _ (s : State) (category : Categories) where
 
 module _ (accounts : Accounts) (s : State) (f : Flat) (l : ObjectsMatch accounts s f) (tree : List TreeNode)
     (each : (q : Path) → AreAlike s l.category q (node_at q tree) (get f.files q)) where
-  -- what the tree has where the flat state has something
+  -- the tree has a node if the flat state has one
   pub found_at : (q : Path) (there : Node) → get f.files q ≡ Some there → (node : TreeNode) × (node_at q tree ≡ Some node)
       × IsAt s l.category q node there
   found_at q there at = by (node_at q tree) refl (subst (AreAlike s l.category q (node_at q tree)) at (each q))

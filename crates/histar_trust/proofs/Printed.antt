@@ -19,7 +19,7 @@ use Rattle.histar_shell.specs.Answers.{answer_text, answers_text, calls_of}
 use Rattle.histar_shell.specs.Meaning.{asked_tree, last_state}
 use Rattle.histar_trust.specs.Printed.{OutsidersReadTheSame, PrintsBehind, WritesBehind, outside_texts, state_met, writing}
 
--- the calls that are answered are those that were made
+-- the calls that have replies are those that were made
 calls_answered : (accounts : Accounts) (f : Flat) (calls : List CallLine) → calls_of (answered_from accounts f calls) ≡ calls
 calls_answered accounts f [] = refl
 calls_answered accounts f (c ∷ calls) = ap (λ (cs : List CallLine). c ∷ cs) (calls_answered accounts (flat_after accounts f c.process c.call) calls)
@@ -30,7 +30,7 @@ texts_both [] later = refl
 texts_both (a ∷ first) later = ap (λ t. answer_text a ++ t) (texts_both first later)
     ∙ sym (append_assoc (answer_text a) (answers_text first) (answers_text later))
 
--- one after another
+-- the texts of replies, mapped at once or one after another
 mapped_twice : (answers : List RepliedCall) → map (λ (a : RepliedCall). reply_text a.reply) answers
     ≡ map reply_text (map (λ (a : RepliedCall). a.reply) answers)
 mapped_twice [] = refl

@@ -1,4 +1,4 @@
--- The processes that are found to run are those of the flat state, each with its user and its jobs.
+-- The running processes that are found are those of the flat state, each with its user and its jobs.
 use Rattle.std.specs.Prelude.{◌≡◌, ℕ, zero, suc, Bool, true, false, List, [], ◌∷◌, ◌++◌, map, filter, Option, None, Some, if◌then◌else◌, refl}
 use Rattle.std.specs.List.{cons_option, filter_map, flat_map, range_with_len}
 use Rattle.std.proofs.Common.{ap, sym, ◌∙◌}
@@ -17,11 +17,11 @@ use Rattle.histar_readout.specs.ProcessLines.{ProcessLine, flat_life, flat_proce
 use Rattle.histar_trust.specs.Findings.{Runner, living, runner_of, shown_runner}
 use Rattle.histar_trust.specs.Secrets.{runner_mark, running_mark}
 
--- a shown process, where it runs
+-- a shown process, if it runs
 abbrev pub running_line : ProcessLine → Option Runner
 running_line line = living line.name line.chain line.life
 
--- this holds of each
+-- the property holds of each
 abbrev pub AllOf : {A : Type 0} → (A → Type 0) → List A → Type 0
 AllOf P [] = Unit {0}
 AllOf P (x ∷ xs) = P x × AllOf P xs
@@ -31,7 +31,7 @@ all_both P [] ys h k = k
 all_both P (x ∷ xs) ys h k = (h.0, all_both P xs ys h.1 k)
 
 module _ (f : Flat) (category : Categories) where
-  -- a process of the flat state as it is shown
+  -- a process of the flat state, with its jobs by numbers
   abbrev pub numbered : Named → Runner
   numbered c = record { name = c.0; user = c.1.user; jobs = job_numbers category c.1.chain; held = job_numbers category c.1.held }
 
@@ -53,7 +53,7 @@ module _ (f : Flat) (category : Categories) where
   put_before me p None rest = refl
   put_before me p (Some n) rest = refl
 
-  -- those of the shown processes that run are those that run
+  -- the shown processes that run are the running processes
   pub runners_listed : (levels : ℕ) → IsListed levels
   runners_listed zero me = refl
   runners_listed (suc levels) me = by (f.processes me) (runners_listed levels)
@@ -69,7 +69,7 @@ module _ (f : Flat) (category : Categories) where
           ∙ put_before me p p.exited (map numbered kids)
           ∙ sym (map-append numbered (itself me (if_running (Some p))) kids)
 
-  -- each of them runs
+  -- the process runs
   abbrev pub Runs : Named → Type 0
   Runs c = running f c.0 ≡ Some c.1
 
@@ -121,7 +121,7 @@ module _ (f : Flat) (category : Categories) where
   mapped_named true c cs = refl
   mapped_named false c cs = refl
 
-  -- the members are printed as the processes that run
+  -- the members are printed as the running processes
   pub runners_shown : (ms : List Member) (cs : List Named) → map runner_of ms ≡ map numbered cs
       → flat_map shown_runner ms ≡ flat_map running_mark cs
   unfolding first_runner rest_runners
@@ -132,7 +132,7 @@ module _ (f : Flat) (category : Categories) where
       let one : runner_of m ≡ numbered c = ap (first_runner (runner_of m)) same in
       λ i. runner_mark (one i).name (one i).user ++ runners_shown ms cs (ap rest_runners same) i
 
-  -- those that pass one test are those that pass another, where the tests agree on each
+  -- two tests that agree on each process pick the same processes
   pub picked : (test : Member → Bool) (of_flat : Named → Bool)
       → ((m : Member) (c : Named) → runner_of m ≡ numbered c → Runs c → test m ≡ of_flat c)
       → (ms : List Member) (cs : List Named) → map runner_of ms ≡ map numbered cs → AllOf Runs cs

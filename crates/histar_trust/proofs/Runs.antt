@@ -1,4 +1,4 @@
--- What `trust` says, put together from what its parts say.
+-- The contract of `trust`, put together from those of its parts.
 use Rattle.std.proofs.Common.{◌≡◌, ℕ, ◌<◌, true, false, ltb, List, ◌++◌, length, Option, Some, None, Result, Ok, Err, refl, sym, ap, subst, ◌∙◌}
 use Rattle.std.proofs.Common.{arith, rules, tests, append-nil, inl, inr}
 use Rattle.std.specs.Prelude.{IfSome, MatchResult, is_ok}
@@ -23,7 +23,7 @@ use Rattle.histar_access.specs.Session.{IsMachineOf, calls_before, state_before}
 use Rattle.histar_trust.specs.Findings.{HasState, ShowsReached}
 use Rattle.histar_trust.specs.Session.{WritesAtFault, WritesOf, WritesText}
 
--- what it answers
+-- the result of `trust`
 abbrev Answer : Type 0
 Answer = Result (Unit {0}) Fault
 
@@ -42,7 +42,7 @@ writes_none OutOfMemory read given = refl
 writes_none ReadFailed read given = refl
 writes_none WriteFailed read given = absurd given
 
--- it represents a state that calls lead to
+-- the machine represents a state that calls lead to
 pub shows_reached : (at : Option ℕ) (text : List ℕ) (m : MachineModel) (is : IsMachineOf at text m)
     → ShowsReached is.script.accounts m (state_before at is.script)
 shows_reached at text m is = record { shows = is.shows; reached = (calls_before at is.script.calls, refl) }
@@ -67,14 +67,14 @@ module _ (text_of : ScriptModel → List ℕ) where
   script_fault_writes ReadFailed w read given = absurd given
   script_fault_writes WriteFailed w read given = absurd given
 
-  -- a text in which reading finds a fault
+  -- the contract for a text with a fault
   pub faulty_text : (text : List ℕ) (w : Option (List ℕ)) (f : Fault) → Gives (Err f) (script_of text) → WritesOf text_of text w w (Err f)
   faulty_text text w f given = record {
     faults = script_fault_agrees f (script_of text) given;
     writes = script_fault_writes f w (script_of text) given;
   }
 
-  -- a text for which memory ran out before anything was written
+  -- the contract for a text if memory ran out before anything was written
   pub unwritten_text : (text : List ℕ) (w : Option (List ℕ)) → WritesOf text_of text w w (Err OutOfMemory)
   unwritten_text text w = record { faults = tt; writes = Keeps-refl w }
 
@@ -102,7 +102,7 @@ module _ (text_of : ScriptModel → List ℕ) where
   stops_reading input.OutOfMemory left rest w takes = inl (record { takes = takes; keeps = Keeps-refl w })
   stops_reading input.ReadFailed left rest w takes = record { takes = takes; keeps = Keeps-refl w }
 
-  -- what was taken is run
+  -- what was taken was run
   pub runs_taken : {left rest old new : Option (List ℕ)} {taken text : List ℕ} {result : Answer} → TakesAll left rest taken → text ≡ taken
       → WritesOf text_of text old new result → is_read_failed result ≡ false → RunsInput (WritesOf text_of) left rest old new result
   runs_taken {left} {rest} {old} {new} {taken} {text} {result} takes same runs no_read_failed =
@@ -125,7 +125,7 @@ module _ (text_of : ScriptModel → List ℕ) where
   long_is : (text : List ℕ) → most_script_bytes < length text → script_of text ≡ Err TooLong
   long_is text lt = let e : ltb most_script_bytes (length text) ≡ true = search (rules, tests) in rw e refl
 
-  -- what was taken says what the whole input says
+  -- what was taken is the script of the whole input
   same_script : (input : List ℕ) (rest : Option (List ℕ)) (taken : List ℕ) → TakesAll (Some input) rest taken → script_of taken ≡ script_of input
   same_script input None taken takes = absurd takes.consumed
   same_script input (Some rest) taken takes =
@@ -143,20 +143,20 @@ module _ (text_of : ScriptModel → List ℕ) where
         (WritesAtFault text_of old new read)) same runs.writes;
   }
 
-  -- a known input that was taken was run
+  -- if a known input was taken, it was run
   taken_known : (left rest old new : Option (List ℕ)) (result : Answer) → RunsTaken (WritesOf text_of) left rest old new result
       → IfSome left (λ input. WritesOf text_of input old new result)
   taken_known None rest old new result h = tt
   taken_known (Some input) rest old new result h = same_run input h.taken result (same_script input rest h.taken h.takes) h.runs
 
-  -- a known input of which some was taken was run as far as that
+  -- if a known input was taken in part, it was run as far as that
   stopped_known : (left : Option (List ℕ)) {rest old new : Option (List ℕ)} (result : Answer)
       → ((input : List ℕ) → Keeps old new → WritesOf text_of input old new result)
       → StopsReading left rest old new → IfSome left (λ input. WritesOf text_of input old new result)
   stopped_known None result runs h = tt
   stopped_known (Some input) result runs h = runs input h.keeps
 
-  -- a known input was run
+  -- if the input is known, it was run
   pub input_known : (left rest old new : Option (List ℕ)) (result : Answer) → RunsInput (WritesOf text_of) left rest old new result
       → IfSome left (λ input. WritesOf text_of input old new result)
   input_known left rest old new (Ok done) h = taken_known left rest old new (Ok done) h

@@ -75,7 +75,7 @@ each_found (e ∷ es) h =
 pub adds_none : (users : Accounts) (members : List Member) (text : List ℕ) → AddsSecrets users members [] text text
 adds_none users members text = record { classes = []; are = refl; added = sym (append-nil text) }
 
--- what is printed of one more was added
+-- the text of one more node was added
 pub adds_more : {users : Accounts} {members : List Member} {done one all : List TreeNode} {old mid new : List ℕ} → all ≡ done ++ one
     → AddsSecrets users members done old mid → AddsSecrets users members one mid new → AddsSecrets users members all old new
 adds_more {users} {members} {done} {one} {all} {old} is h k = rw is (record {
@@ -89,13 +89,13 @@ adds_more {users} {members} {done} {one} {all} {old} is h k = rw is (record {
       ∙ ap (λ t. old ++ t) (sym (flat_map-append (shown_secret users members) done one));
 })
 
--- what was added by equal lists
+-- the same was added for equal lists
 pub adds_as : {users others : Accounts} {members all : List Member} {tree nodes : List TreeNode}
     {old older new : List ℕ} → others ≡ users → all ≡ members
     → nodes ≡ tree → older ≡ old → AddsSecrets others all nodes older new → AddsSecrets users members tree old new
 adds_as eu em et eo h = rw (← eu, ← em, ← et, ← eo) h
 
--- what is printed of one was added
+-- the text of one node was added
 pub adds_one : {users : Accounts} {members : List Member} {node : TreeNode} {old new : List ℕ} (class : FileClass)
     → flat_class class ≡ class_flat node.class
     → new ≡ old ++ shown_secret users members node → AddsSecrets users members (node ∷ []) old new
@@ -105,14 +105,14 @@ adds_one {users} {members} {node} {old} class of_node e = record {
   added = e ∙ ap (λ t. old ++ t) (sym (append-nil (shown_secret users members node)));
 }
 
--- of what is no secret nothing is printed
+-- a node that is no secret has no text
 pub none_shown : (users : Accounts) (members : List Member) (node : TreeNode) (class : FileClass) → flat_class class ≡ class_flat node.class
     → is_secret (is_directory node.target) (flat_class class) ≡ false → shown_secret users members node ≡ []
 none_shown users members node class of_node e =
     ap (λ b. if b then path_text node.path ++ shown_members users members (class_flat node.class) ++ codes "\n" else [])
     (ap (is_secret (is_directory node.target)) (sym of_node) ∙ e)
 
--- and of a secret its path and its members
+-- the text of a secret is its path and its members
 pub one_shown : (users : Accounts) (members : List Member) (node : TreeNode) (class : FileClass) → flat_class class ≡ class_flat node.class
     → is_secret (is_directory node.target) (flat_class class) ≡ true
     → shown_secret users members node ≡ path_text node.path ++ shown_members users members (flat_class class) ++ codes "\n"
@@ -121,12 +121,12 @@ one_shown users members node class of_node e =
     (ap (is_secret (is_directory node.target)) (sym of_node) ∙ e)
     ∙ ap (λ c. path_text node.path ++ shown_members users members c ++ codes "\n") (sym of_node)
 
--- what is so where something was done, is so of what was done
+-- what holds of what was done holds if it was done
 pub done_so : {E : Type 0} (new one other : List ℕ) (r : Result (Unit {0}) E) → new ≡ (if is_ok r then one else other) → OnOk r (new ≡ one)
 done_so new one other (Ok u) h = h
 done_so new one other (Err e) h = tt
 
--- where a test fails it does not hold, and where that is so it holds
+-- if `not b` is true, b is false
 pub from_not : (b : Bool) → not b ≡ true → b ≡ false
 from_not true h = sym h
 from_not false h = refl
@@ -135,14 +135,14 @@ pub from_not_false : (b : Bool) → not b ≡ false → b ≡ true
 from_not_false true h = refl
 from_not_false false h = sym h
 
--- what is no secret was passed over
+-- a node that is no secret is passed over
 pub nothing_added : (users : Accounts) (members : List Member) (node : TreeNode) (class : FileClass) (text : List ℕ)
     → flat_class class ≡ class_flat node.class → is_secret (is_directory node.target) (flat_class class) ≡ false
     → AddsSecrets users members (node ∷ []) text text
 nothing_added users members node class text of_node is_none =
     adds_one class of_node (sym (append-nil text) ∙ ap (λ t. text ++ t) (sym (none_shown users members node class of_node is_none)))
 
--- one list behind three others
+-- appending three lists one after another, or at once
 behind_three : (old p m n : List ℕ) → ((old ++ p) ++ m) ++ n ≡ old ++ ((p ++ m) ++ n)
 behind_three old p m n = append_assoc (old ++ p) m n ∙ append_assoc old p (m ++ n) ∙ ap (λ t. old ++ t) (sym (append_assoc p m n))
 
@@ -167,7 +167,7 @@ module _ {accounts : Accounts} {m : MachineModel} {f : Flat} (r : ShowsReached a
   abbrev category : Categories
   category = r.shows.represents.matched.category
 
-  -- who has which standing to a file, and who could log in as a reader
+  -- the members with their roles towards a file, and the login readers, are those of the flat state
   members_are : (e : Path × Node) → get f.files e.0 ≡ Some e.1 → (class : FileClass)
       → class_by_number (number_of category) e.1.class ≡ flat_class class
       → shown_members (without_passwords accounts) members (flat_class class) ≡ members_text accounts f e.1.class
@@ -192,7 +192,7 @@ module _ {accounts : Accounts} {m : MachineModel} {f : Flat} (r : ShowsReached a
       ap (shown_members (without_passwords accounts) members) (sym of_node) ∙ members_are e at class (sym by_number ∙ sym of_node) in
       λ i. if (not (is.kind i) && not (everyone i)) then path_text (is.path i) ++ readers i ++ codes "\n" else []
 
-  -- and so are the lines of all
+  -- the lines of all files are those of the flat state
   secrets_are : (nodes : List TreeNode) (es : List (Path × Node)) → map (tree_entry s) nodes ≡ map (flat_entry category) es
       → map (line_at s) nodes ≡ map flat_line es → AllOf (IsIn f.files.entries) es
       → (classes : List FileClass) → map flat_class classes ≡ map (λ (node : TreeNode). class_flat node.class) nodes

@@ -1,4 +1,4 @@
--- What is read off a machine is what the flat state says that it represents.
+-- What is computed from a machine is what the flat state determines that it represents.
 use Rattle.std.specs.Prelude.{◌≡◌, ℕ, Bool, length, true, false, not, ◌&&◌, List, [], ◌∷◌, ◌++◌, map, filter, codes, Option, None, Some, option_map}
 use Rattle.std.specs.Prelude.{if◌then◌else◌, refl}
 use Rattle.std.specs.List.{filter_map}
@@ -56,7 +56,7 @@ use Rattle.histar_trust.specs.TrustText.{user_lines}
 use Rattle.histar_trust.proofs.Places.{AreAlike, IsAt, alike, classes_are, found_at, number_of, same_class, same_everyone}
 use Rattle.histar_trust.proofs.Runners.{AllOf, Runs, each_runs, numbered, picked, runners_listed, running_line}
 
--- ---- standings
+-- ---- roles
 
 trusted_is : (t c : Bool) → is_same_role Trusted (if t then Trusted else if c then Confined else Outside) ≡ t
 trusted_is true c = refl
@@ -84,13 +84,13 @@ pub same_names : (users : List User) → map (λ (u : User). u.name) (map withou
 same_names [] = refl
 same_names (u ∷ users) = ap (λ (names : List Name). u.name ∷ names) (same_names users)
 
--- the processes of a machine were found, and these members are those of them that run
+-- the processes of a machine were found, and these members are the running ones
 pub record AreMembers (m : MachineModel) (members : List Member) : Type 0 where
   pub processes : List ProcessNode
   pub are : AreProcessesIn m processes
   pub runners : map runner_of members ≡ filter_map running_node processes
 
--- the tree of a machine was found, with this node at the path, and these classes of that and of the directories above
+-- the tree of a machine was found, with this node at the path, and these classes of the node and of the directories above
 pub record IsFound (m : MachineModel) (path : Path) (node : TreeNode) (classes : List FileClass) : Type 0 where
   pub tree : List TreeNode
   pub is : IsTreeIn m tree
@@ -107,7 +107,7 @@ module _ {accounts : Accounts} {m : MachineModel} {f : Flat} (r : ShowsReached a
   abbrev number : ProcName → ℕ
   number = number_of l.category
 
-  -- no two jobs have one number
+  -- no two jobs have the same number
   one_number : AreNumbered number
   one_number a b e = ap (λ (c : CategoryName). (split_category c).1) (l.different (OfJob a) (OfJob b) e)
 
@@ -151,7 +151,7 @@ module _ {accounts : Accounts} {m : MachineModel} {f : Flat} (r : ShowsReached a
     each q = subst (λ (t : List TreeNode). AreAlike s l.category q (node_at q t) (get f.files q)) same_tree
         (alike s l.category q own_tree.tree f.files.entries own_tree.same own_tree.lines)
 
-    -- where nothing is in the tree, the flat state has nothing
+    -- if the tree has nothing at the path, the flat state has nothing there
     pub nothing_there : (path : Path) → node_at path tree ≡ None → codes "no entry\n" ≡ trust_text accounts f path
     nothing_there path none = by (get f.files path) refl
       where
@@ -173,7 +173,7 @@ module _ {accounts : Accounts} {m : MachineModel} {f : Flat} (r : ShowsReached a
         (subst (λ (users : Accounts). AreProcessesOf users s m.roots found_members.processes) r.shows.users found_members.are)))
         own.are_processes
 
-    -- the members are those that run
+    -- the members are the running processes
     pub members_are : map runner_of members ≡ map (numbered f l.category) (running_in f)
     unfolding running_in
     members_are =
@@ -197,7 +197,7 @@ module _ {accounts : Accounts} {m : MachineModel} {f : Flat} (r : ShowsReached a
         held = λ i. (sym same i).held;
       }
 
-      -- it has the standing that the flat state says
+      -- a member has the role of the process in the flat state
       module _ (path : Path) (there : Node) (at : get f.files path ≡ Some there) (class : FileClass)
           (of_class : class_by_number number there.class ≡ flat_class class) where
         role_is : member_role accounts.groups (flat_class class) member ≡ role_in accounts there.class f member.name
@@ -225,14 +225,14 @@ module _ {accounts : Accounts} {m : MachineModel} {f : Flat} (r : ShowsReached a
             ∙ outside_is (is_trusted accounts there.class f member.name) (is_confined accounts there.class f member.name)
             ∙ ap (is_outsider accounts there.class f) name_is
 
-      -- and is a changer where the flat state says so
+      -- a member is a changer exactly if the process is one in the flat state
       changer_same : (path : Path) (classes : List FileClass) → AreClassesTo number f path classes
           → is_shown_changer accounts.groups classes member ≡ is_changer accounts f path c.0
       changer_same path classes to = is_so.changer path classes to member c.1 shown ∙ ap (is_changer accounts f path) name_is
 
     -- ---- what is printed
 
-    -- the members that pass a test are the processes that pass one on their names, where the two tests agree
+    -- the members that pass a test are the processes whose names pass another, if the two tests agree
     pub chosen : (test : Member → Bool) (of_name : ProcName → Bool)
         → ((member : Member) (c : Named) → runner_of member ≡ numbered f l.category c → Runs f l.category c → test member ≡ of_name c.0)
         → map with_user (filter test members) ≡ running_where accounts f of_name
@@ -240,11 +240,11 @@ module _ {accounts : Accounts} {m : MachineModel} {f : Flat} (r : ShowsReached a
 
     module _ (path : Path) (there : Node) (at : get f.files path ≡ Some there) (class : FileClass)
         (of_class : class_by_number number there.class ≡ flat_class class) where
-      -- the members of a standing
+      -- the member has the role
       abbrev has : Role → Member → Bool
       has = has_role accounts.groups (flat_class class)
 
-      -- who has which standing, and who could log in as a reader
+      -- the roles that are printed, and the login readers, are those of the flat state
       readers_are : shown_readers (without_passwords accounts) members (flat_class class) ≡ readers_text accounts f there.class
       readers_are = λ i.
           process_lines (codes "trusted") (chosen (has Trusted) (is_trusted accounts there.class f)
@@ -255,7 +255,7 @@ module _ {accounts : Accounts} {m : MachineModel} {f : Flat} (r : ShowsReached a
           (λ member c same runs. outside_same member c same runs path there at class of_class) i)
           ++ user_lines (codes "login") (filter (λ user. is_so.reader_login there.class class of_class user i) (same_names accounts.users i))
 
-    -- who may change what is there, and as whom one could log in who may
+    -- the changers that are printed, and the login changers, are those of the flat state
     changers_are : (path : Path) (classes : List FileClass) → AreClassesTo number f path classes
         → shown_changers (without_passwords accounts) members classes ≡ changers_text accounts f path
     changers_are path classes to = λ i.
@@ -304,7 +304,7 @@ module _ {accounts : Accounts} {m : MachineModel} {f : Flat} (r : ShowsReached a
             ap (λ (users : Accounts). head_text node ++ shown_roles users members node ++ shown_changers users members classes) r.shows.users
             ∙ (λ i. head_is i ++ roles_are i ++ changers_are path classes to i)
 
-      -- where the tree has something, the text is that of the flat state
+      -- if the tree has a node, the text is that of the flat state
       pub something_there : head_text node ++ shown_roles m.users members node ++ shown_changers m.users members classes
           ≡ trust_text accounts f path
       something_there = by (get f.files path) refl

@@ -1,4 +1,4 @@
--- What a machine shows of the processes that run, and of what is at a path.
+-- What is computed from a machine: its running processes, and their roles towards what is at a path.
 use Rattle.std.specs.Prelude.{◌≡◌, ℕ, ◌++◌, List, [], ◌∷◌, Option, None, Some, codes, filter, map, if◌then◌else◌}
 use Rattle.histar_flat.specs.declared.calls.User.{User}
 use Rattle.histar_flat.specs.Words.{Name, Path, ProcName}
@@ -30,31 +30,31 @@ use Rattle.histar_shell.specs.Meaning.{Shows}
 use Rattle.histar_trust.specs.Secrets.{is_secret, process_mark, runner_mark, secrets_text, user_mark}
 use Rattle.histar_trust.specs.TrustText.{is_for_everyone, process_lines, trust_text, user_lines}
 
--- a process that runs: its user, the jobs that it is in, and those that it holds, by the numbers of their categories
+-- a running process: its user, the jobs that it is in, and those that it holds, by the numbers of their categories
 pub record Runner : Type 0 where
   pub name : ProcName
   pub user : Name
   pub jobs : List ℕ
   pub held : List ℕ
 
--- what is shown of a member
+-- a member as a running process
 abbrev pub runner_of : Member → Runner
 runner_of m = record { name = m.name; user = m.user; jobs = m.jobs.items; held = m.held.items }
 
--- a process of this name in these jobs, where it runs
+-- a process of this name in these jobs, if it runs
 abbrev pub living : ProcName → List ℕ → Life → Option Runner
 living name jobs (Running user held) = Some (record { name = name; user = user; jobs = jobs; held = held })
 living name jobs (Exited number) = None
 
--- what is shown of a process, where it runs
+-- a process, if it runs
 abbrev pub running_node : ProcessNode → Option Runner
 running_node node = living node.name node.chain node.life
 
--- a process that runs and its user, as they are printed
+-- a running process and its user, as they are printed
 abbrev pub shown_runner : Member → List ℕ
 shown_runner m = runner_mark m.name m.user
 
--- the line of the processes that run, as it is printed
+-- the line of the running processes, as it is printed
 abbrev pub shown_runners : List Member → List ℕ
 shown_runners members = codes "running" ++ flat_map shown_runner members ++ codes "\n"
 
@@ -67,7 +67,7 @@ abbrev pub node_at : Path → List TreeNode → Option TreeNode
 node_at path [] = None
 node_at path (node ∷ tree) = if same_path path node.path then Some node else node_at path tree
 
--- a class as the flat rules have it, with each job by the number of its category
+-- a class in the flat rules, with each job by the number of its category
 abbrev pub class_flat : Class → FlatClass
 class_flat (Private owner) = FlatPrivate owner
 class_flat (Readable owner) = FlatReadable owner
@@ -75,7 +75,7 @@ class_flat Open = FlatOpen
 class_flat (Scratch owner jobs) = FlatScratch owner (map job_numbered jobs)
 class_flat (Group group) = FlatGrouped group
 
--- the class of what is there
+-- the class of the node, if there is one
 abbrev pub class_there : Option TreeNode → List FlatClass
 class_there None = []
 class_there (Some node) = class_flat node.class ∷ []
@@ -86,11 +86,11 @@ classes_to tree [] = class_there (node_at [] tree)
 classes_to tree (n ∷ d) = class_there (node_at (n ∷ d) tree) ++ classes_to tree d
 
 module _ (accounts : Accounts) (members : List Member) where
-  -- those of the processes that have this standing to a file of the class
+  -- the processes that have this role towards a file of the class
   abbrev pub those_of : FlatClass → Role → List (ProcName × Name)
   those_of class role = map with_user (filter (has_role accounts.groups class role) members)
 
-  -- who has which standing to a file of the class, as it is printed
+  -- the roles towards a file of the class, as they are printed
   abbrev pub shown_readers : FlatClass → List ℕ
   shown_readers class =
       process_lines (codes "trusted") (those_of class Trusted)
@@ -98,38 +98,38 @@ module _ (accounts : Accounts) (members : List Member) where
       ++ process_lines (codes "outside") (those_of class Outside)
       ++ user_lines (codes "login") (filter (is_login_reader accounts.groups class) (names_of accounts))
 
-  -- and what is printed of a file or a directory of a tree
+  -- the text of the roles towards a file or a directory of a tree
   abbrev pub shown_roles : TreeNode → List ℕ
   shown_roles node =
       let class = class_flat node.class in
       if is_directory node.target then [] else if is_for_everyone class then codes "everyone\n" else shown_readers class
 
-  -- who is trusted with a file of the class, who is confined, and who could log in as a reader, as it is printed on one line
+  -- the trusted and the confined processes and the login readers of a file of the class, as they are printed on one line
   abbrev pub shown_members : FlatClass → List ℕ
   shown_members class =
       flat_map (process_mark (codes "trusted")) (those_of class Trusted)
       ++ flat_map (process_mark (codes "confined")) (those_of class Confined)
       ++ flat_map (user_mark (codes "login")) (filter (is_login_reader accounts.groups class) (names_of accounts))
 
-  -- and what is printed of a file or a directory of a tree
+  -- the text of a file or a directory of a tree among the secrets
   abbrev pub shown_secret : TreeNode → List ℕ
   shown_secret node =
       let class = class_flat node.class in
       if is_secret (is_directory node.target) class then path_text node.path ++ shown_members class ++ codes "\n" else []
 
-  -- what is printed of each of these was added, and their classes are those of files
+  -- the text of each of these was added, and their classes are those of files
   pub record AddsSecrets (tree : List TreeNode) (old new : List ℕ) : Type 0 where
     pub classes : List FileClass
     pub are : map flat_class classes ≡ map (λ (node : TreeNode). class_flat node.class) tree
     pub added : new ≡ old ++ flat_map shown_secret tree
 
-  -- who may change what is of the first of these classes, and lies in directories of the others, as it is printed
+  -- the processes and users that may change what is of the first class, in directories of the others, as they are printed
   abbrev pub shown_changers : List FileClass → List ℕ
   shown_changers classes =
       process_lines (codes "changer") (map with_user (filter (is_shown_changer accounts.groups classes) members))
       ++ user_lines (codes "changer-login") (filter (is_login_changer accounts.groups classes) (names_of accounts))
 
--- the line of a file or a directory, with no process
+-- the line of a file or a directory, without processes
 abbrev pub head_text : TreeNode → List ℕ
 head_text node = access_line_text (record { path = node.path; stat = node_stat node; cells = [] })
 
@@ -142,10 +142,10 @@ pub record ShowsReached (accounts : Accounts) (m : MachineModel) (f : Flat) : Ty
 abbrev pub HasState : MachineModel → Type 0
 HasState m = (accounts : Accounts) × (f : Flat) × ShowsReached accounts m f
 
--- whatever such state a machine represents, this is the text of that for the path
+-- for every such state that a machine represents, this is its text for the path
 abbrev pub ShowsTrust : MachineModel → Path → List ℕ → Type 0
 ShowsTrust m path text = (accounts : Accounts) (f : Flat) → ShowsReached accounts m f → text ≡ trust_text accounts f path
 
--- whatever such state a machine represents, this is the text on its processes and files
+-- for every such state that a machine represents, this is the text on its processes and files
 abbrev pub ShowsSecrets : MachineModel → List ℕ → Type 0
 ShowsSecrets m text = (accounts : Accounts) (f : Flat) → ShowsReached accounts m f → text ≡ secrets_text accounts f

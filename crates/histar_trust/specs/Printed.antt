@@ -25,28 +25,28 @@ module _ (accounts : Accounts) (class : Class) (path : Path) (before : List Call
   abbrev pub state_met : Flat
   state_met = flat_end accounts (boot accounts) before
 
-  -- The script has these users and groups. It begins with these calls, then a process writes these bytes to the file, which it is
-  -- answered it has, and these calls come behind.
+  -- The script has these users and groups. It begins with these calls, then a process writes these bytes to the file, which is done, and
+  -- these calls follow.
   pub record WritesBehind (script : ScriptModel) (writer : ProcName) (bytes : List ℕ) (calls : List CallLine) : Type 0 where
     pub line : ℕ
     pub accounts_is : script.accounts ≡ accounts
     pub calls_are : script.calls ≡ before ++ writing line writer path bytes ∷ calls
     pub writes : Writes accounts state_met writer path bytes
 
-  -- the texts of the replies to those who are outsiders after these calls
+  -- the texts of the replies to the processes that are outsiders after these calls
   abbrev pub outside_texts : List RepliedCall → List (List ℕ)
   outside_texts answers = map (λ (a : RepliedCall). reply_text a.reply)
       (filter (λ (a : RepliedCall). is_outsider accounts class state_met a.call.process) answers)
 
--- These answers, to these calls, are the last ones of a script's meaning; and `run` prints of the script the lines of the first answers,
--- then the lines of these, and then the tree where it is asked for.
+-- These answers, to these calls, are the last ones of a script's meaning; and `run` prints for the script the lines of the first answers,
+-- then the lines of these, and then the tree if it is asked for.
 pub record PrintsBehind (options : Options) (script : ScriptModel) (calls : List CallLine) (answers : List RepliedCall) : Type 0 where
   pub first : List RepliedCall
   pub meant : meaning script.accounts script.calls ≡ first ++ answers
   pub these_calls : calls_of answers ≡ calls
   pub text : meaning_text options script ≡ answers_text first ++ answers_text answers ++ asked_tree options (last_state script)
 
--- The lines that `run` prints of both scripts behind the secret that was written: the replies to outsiders have the same texts in both.
+-- The lines that `run` prints of both scripts after the secret was written: the replies to outsiders have the same texts in both.
 pub record PrintTheSame (options : Options) (accounts : Accounts) (class : Class) (path : Path) (before : List CallLine)
     (one two : ScriptModel) (calls others : List CallLine) : Type 0 where
   pub answers : List RepliedCall
@@ -55,9 +55,9 @@ pub record PrintTheSame (options : Options) (accounts : Accounts) (class : Class
   pub other_prints : PrintsBehind options two others other_answers
   pub alike : outside_texts accounts class path before answers ≡ outside_texts accounts class path before other_answers
 
--- Two inputs are scripts that begin with the same calls, after which a file of the class is at the path. Then a process writes one
--- string of bytes to it in one script, and another in the other. Behind that the trusted are silent in both, and outsiders call the
--- same and log in as no reader. Then `run` prints the same replies to outsiders, whatever the confined call in each.
+-- Two inputs are scripts that begin with the same calls, after which a file of the class is at the path. Then a process writes one string
+-- of bytes to it in one script, and another in the other. After that the trusted are silent in both, and outsiders make the same calls and
+-- log in as no reader. Then `run` prints the same replies to outsiders, whatever the confined call in each.
 abbrev pub OutsidersReadTheSame : Type 0
 OutsidersReadTheSame = (options : Options) (text other : List ℕ) (one two : ScriptModel) → script_of text ≡ Ok one → script_of other ≡ Ok two
     → (accounts : Accounts) (class : Class) (path : Path) (before : List CallLine) → HasFile (state_met accounts class path before) path class

@@ -1,4 +1,4 @@
--- Who runs, and on whom each file rests that not everyone may read: the text of a flat state.
+-- The running processes, and which processes have to be trusted with each file that not everyone may read: the text of a flat state.
 use Rattle.std.specs.Prelude.{ℕ, Bool, not, ◌&&◌, List, [], ◌++◌, codes, None, if◌then◌else◌}
 use Rattle.std.specs.List.{flat_map}
 use Rattle.histar_flat.specs.Words.{Name, Path, ProcName}
@@ -11,39 +11,39 @@ use Rattle.histar_script.specs.Script.{ScriptModel}
 use Rattle.histar_access.specs.Session.{state_before}
 use Rattle.histar_trust.specs.TrustText.{confined_by, is_for_everyone, login_readers, trusted_with}
 
--- what is no directory, and not each process may read
+-- it is no directory, and not every process may read it
 abbrev pub is_secret : Bool → Class → Bool
 is_secret is_directory class = not is_directory && not (is_for_everyone class)
 
--- a process behind a space, a word and a colon
+-- a process after a space, a word and a colon
 abbrev pub process_mark : List ℕ → ProcName × Name → List ℕ
 process_mark word p = codes " " ++ word ++ codes ":" ++ process_text p.0
 
--- a user behind a space, a word and a colon
+-- a user after a space, a word and a colon
 abbrev pub user_mark : List ℕ → Name → List ℕ
 user_mark word user = codes " " ++ word ++ codes ":" ++ user
 
--- a process behind a space, and its user behind a colon
+-- a process after a space, and its user after a colon
 abbrev pub runner_mark : ProcName → Name → List ℕ
 runner_mark process user = codes " " ++ process_text process ++ codes ":" ++ user
 
--- a process that runs, and its user
+-- a running process, and its user
 abbrev pub running_mark : Named → List ℕ
 running_mark c = runner_mark c.0 c.1.user
 
--- the word `running`, and then each process that runs, in the order of names, with its user
+-- the word `running`, and then each running process, in the order of names, with its user
 abbrev pub runners_line : Flat → List ℕ
 runners_line f = codes "running" ++ flat_map running_mark (running_in f) ++ codes "\n"
 
 module _ (accounts : Accounts) (f : Flat) where
-  -- who `trust` says is trusted with what is of the class, who is confined, and who could log in as a reader
+  -- the processes that are trusted with the class, those that are confined, and the users that could log in as readers, as `trust` has them
   abbrev pub members_text : Class → List ℕ
   members_text class =
       flat_map (process_mark (codes "trusted")) (trusted_with accounts f class)
       ++ flat_map (process_mark (codes "confined")) (confined_by accounts f class)
       ++ flat_map (user_mark (codes "login")) (login_readers accounts f class)
 
-  -- of a file that not each process may read its path and these, and of all else nothing
+  -- the path and these members of a file that not every process may read, and nothing for all else
   abbrev pub secret_text : Path × Node → List ℕ
   secret_text e = if is_secret (is_dir e.1) e.1.class then path_text e.0 ++ members_text e.1.class ++ codes "\n" else []
 

@@ -1,4 +1,4 @@
--- What is written of a script that was read: a text of its flat state, as that on one path before a line, or that on all files after all.
+-- The text that is written of a script: that of its flat state for one path before a line, or that of all files after all calls.
 use Rattle.std.specs.Prelude.{◌≡◌, ℕ, List, Option, Result, Ok, MatchResult}
 use Rattle.std.specs.Io.KnownBytes.{Appends, Keeps}
 use Rattle.histar_io.specs.Writing.{AppendsFront}
@@ -13,24 +13,24 @@ use Rattle.histar_trust.specs.Secrets.{secrets_after}
 use Rattle.histar_trust.specs.TrustText.{trust_text}
 
 module _ (text_of : ScriptModel → List ℕ) (old new : Option (List ℕ)) where
-  -- the reading is of a script, and its text was written
+  -- the text was read as a script, and the script's text was written
   pub record WritesText (read : Result ScriptModel Fault) : Type 0 where
     pub script : ScriptModel
     pub is_read : read ≡ Ok script
     pub written : Appends old new (text_of script)
 
-  -- the reading is of a script, and a beginning of its text was written
+  -- the text was read as a script, and a beginning of the script's text was written
   pub record BeginsText (read : Result ScriptModel Fault) : Type 0 where
     pub script : ScriptModel
     pub is_read : read ≡ Ok script
     pub written : AppendsFront old new (text_of script)
 
-  -- at a failed write a beginning of the text was written, and at the other faults nothing
+  -- at a failed write a beginning of the text was written, and at other faults nothing
   abbrev pub WritesAtFault : Result ScriptModel Fault → Fault → Type 0
   WritesAtFault read WriteFailed = BeginsText read
   WritesAtFault read fault = Keeps old new
 
--- A text was read as a script: its fault is answered, or exactly the text of the script was written.
+-- A text was read as a script: its fault is returned, or exactly the text of the script was written.
 pub record WritesOf (text_of : ScriptModel → List ℕ) (text : List ℕ) (old new : Option (List ℕ)) (result : Result (Unit {0}) Fault) : Type 0 where
   pub faults : AgreesWith (script_of text) result
   pub writes : MatchResult result (λ _. WritesText text_of old new (script_of text)) (WritesAtFault text_of old new (script_of text))
@@ -39,10 +39,10 @@ pub record WritesOf (text_of : ScriptModel → List ℕ) (text : List ℕ) (old 
 abbrev pub text_before : Option ℕ → Path → ScriptModel → List ℕ
 text_before at path script = trust_text script.accounts (state_before at script) path
 
--- The text was read as a script: its fault is answered, or exactly the text of its state for a path was written.
+-- The text was read as a script: its fault is returned, or exactly the text of its state for a path was written.
 abbrev pub TrustText : Option ℕ → Path → List ℕ → Option (List ℕ) → Option (List ℕ) → Result (Unit {0}) Fault → Type 0
 TrustText at path = WritesOf (text_before at path)
 
--- The text was read as a script: its fault is answered, or exactly the text on the files after all its calls was written.
+-- The text was read as a script: its fault is returned, or exactly the text on the files after all its calls was written.
 abbrev pub SecretsText : List ℕ → Option (List ℕ) → Option (List ℕ) → Result (Unit {0}) Fault → Type 0
 SecretsText = WritesOf secrets_after

@@ -1,4 +1,4 @@
--- On whom it depends what is at a path: the text of a flat state.
+-- Which processes have to be trusted with what is at a path: the text of a flat state.
 use Rattle.std.specs.Prelude.{ℕ, Bool, true, false, List, [], ◌++◌, None, Some, codes, filter, map, if◌then◌else◌}
 use Rattle.std.specs.List.{flat_map}
 use Rattle.histar_flat.specs.declared.calls.User.{User}
@@ -31,34 +31,34 @@ user_line word user = word ++ codes " " ++ user ++ codes "\n"
 abbrev pub user_lines : List ℕ → List Name → List ℕ
 user_lines word users = flat_map (user_line word) users
 
--- each process may read what is of the class: it is readable or open
+-- every process may read the class: it is readable or open
 abbrev pub is_for_everyone : Class → Bool
 is_for_everyone (Readable owner) = true
 is_for_everyone Open = true
 is_for_everyone class = false
 
 module _ (accounts : Accounts) (f : Flat) where
-  -- the processes that run and whose names pass the test, in the order of names, each with its user
+  -- the running processes whose names pass the test, in the order of names, each with its user
   abbrev pub running_where : (ProcName → Bool) → List (ProcName × Name)
   running_where test = map (λ (c : Named). (c.0, c.1.user)) (filter (λ (c : Named). test c.0) (running_in f))
 
-  -- the users that are declared and pass the test, in the order of the script
+  -- the declared users that pass the test, in the order of the script
   abbrev pub users_where : (Name → Bool) → List Name
   users_where test = filter test (map (λ (u : User). u.name) accounts.users)
 
-  -- who is trusted with what is of the class
+  -- the processes that are trusted with the class
   abbrev pub trusted_with : Class → List (ProcName × Name)
   trusted_with class = running_where (is_trusted accounts class f)
 
-  -- who is confined by it
+  -- the processes that are confined by the class
   abbrev pub confined_by : Class → List (ProcName × Name)
   confined_by class = running_where (is_confined accounts class f)
 
-  -- who could log in as a reader
+  -- the users that could log in as readers
   abbrev pub login_readers : Class → List Name
   login_readers class = users_where (λ user. may_read accounts (logged_in user) class)
 
-  -- who is trusted with what is of the class, who is confined, who is an outsider, and who could log in as a reader
+  -- the lines of the processes that are trusted with the class, confined, and outsiders, and of the users that could log in as readers
   abbrev pub readers_text : Class → List ℕ
   readers_text class =
       process_lines (codes "trusted") (trusted_with class)
@@ -66,17 +66,17 @@ module _ (accounts : Accounts) (f : Flat) where
       ++ process_lines (codes "outside") (running_where (is_outsider accounts class f))
       ++ user_lines (codes "login") (login_readers class)
 
-  -- of a directory nothing, and of a file `everyone` where each process may read it, and else who has which standing
+  -- nothing for a directory; for a file `everyone` if every process may read it, or else the lines of the roles
   abbrev pub roles_text : Node → List ℕ
   roles_text node = if is_dir node then [] else if is_for_everyone node.class then codes "everyone\n" else readers_text node.class
 
-  -- who may change what is at the path, and as whom one could log in who may
+  -- the lines of the processes that may change what is at the path, and of the users that could log in to do so
   abbrev pub changers_text : Path → List ℕ
   changers_text path =
       process_lines (codes "changer") (running_where (is_changer accounts f path))
       ++ user_lines (codes "changer-login") (users_where (λ user. may_change accounts f (logged_in user) path))
 
-  -- `no entry` where nothing is at the path; else its line of the table of rights with no process, the standings, and the changers
+  -- `no entry` if nothing is at the path; else its line of the table of rights without processes, the roles, and the changers
   abbrev pub trust_text : Path → List ℕ
   trust_text path = elim (get f.files path) [
     | None ↦ codes "no entry\n"

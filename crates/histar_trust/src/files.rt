@@ -1,4 +1,4 @@
-//! The line on the processes that run, and the lines on the files that not everyone may read.
+//! The line of the running processes, and the lines of the files that not everyone may read.
 ghost use Rattle.std.specs.Prelude.{◌≡◌, ◌++◌, [], ◌∷◌, codes, IfOk, OnOk};
 ghost use Rattle.std.specs.List.{flat_map};
 ghost use Rattle.histar_layout.specs.Listing.{is_directory};
@@ -20,7 +20,7 @@ use std::alloc::{AllocError, Global};
 /// Returns a line with the processes that run on a machine, and then one for each file that not every process
 /// may read, by rising paths.
 ///
-/// The tree and the processes are read once, and of each such file the standing of each process is looked at.
+/// The tree and the processes are read once, and the role of each process is determined for each such file.
 pub fn secret_lines<S: LabelStore + Drop>(
     alloc: Global,
     machine: &Machine<S>,
@@ -52,7 +52,7 @@ fn push_runners(text: &mut Vec<u8>, members: &[Member]) -> Result<(), AllocError
     text.extend_from_slice(b"\n")
 }
 
-/// Adds each process behind a space, and its user behind a colon.
+/// Adds each process after a space, and its user after a colon.
 fn push_each_runner(text: &mut Vec<u8>, members: &[Member]) -> Result<(), AllocError>
     ensures { OnOk result (text.new.items ≡ text.old.items ++ flat_map shown_runner members.now) }
 {
@@ -62,7 +62,7 @@ fn push_each_runner(text: &mut Vec<u8>, members: &[Member]) -> Result<(), AllocE
     Ok(())
 }
 
-/// Adds a process behind a space, and its user behind a colon.
+/// Adds a process after a space, and its user after a colon.
 fn push_runner(text: &mut Vec<u8>, member: &Member) -> Result<(), AllocError>
     ensures { OnOk result (text.new.items ≡ text.old.items ++ shown_runner member.now) }
 {
@@ -88,7 +88,7 @@ fn push_secrets(
     Ok(())
 }
 
-/// Adds the line of a file, unless each process may read it. Of a directory nothing is added.
+/// Adds the line of a file, unless every process may read it. It adds nothing for a directory.
 fn push_secret(
     alloc: Global,
     text: &mut Vec<u8>,
@@ -108,15 +108,15 @@ fn push_secret(
     text.extend_from_slice(b"\n")
 }
 
-/// Checks whether a node is a file of the class, and not every process may read it.
+/// Checks whether a node is a file of the class that not every process may read.
 fn is_secret(node: &TreeNode, class: &FileClass) -> bool
     ensures { result ≡ is_secret (is_directory node.now.target) (flat_class class.now) }
 {
     !node.stat().is_directory && !is_for_everyone(class)
 }
 
-/// Adds each process that is trusted with a file of the class, each that is confined, and each user as whom
-/// one could log in as a reader.
+/// Adds each process that is trusted with a file of the class, each that is confined, and each user as whom a
+/// process could log in to read it.
 fn push_members(
     alloc: Global,
     text: &mut Vec<u8>,
@@ -137,7 +137,7 @@ fn push_members(
     push_users(text, b"login", readers.as_slice())
 }
 
-/// Adds each process behind a space, the word and a colon.
+/// Adds for each process a space, the word, a colon, and the process.
 fn push_processes(
     text: &mut Vec<u8>,
     word: &[u8],
@@ -153,7 +153,7 @@ fn push_processes(
     Ok(())
 }
 
-/// Adds each user behind a space, the word and a colon.
+/// Adds for each user a space, the word, a colon, and the user.
 fn push_users(text: &mut Vec<u8>, word: &[u8], users: &[Name]) -> Result<(), AllocError>
     ensures { OnOk result (text.new.items
         ≡ text.old.items ++ flat_map (user_mark word.now) users.now) }

@@ -1,5 +1,5 @@
-//! On whom it depends that what is at a path stays secret, and that it stays as it is; and on whom each file
-//! rests that not everyone may read. Both are read off a machine's own objects.
+//! Which processes have to be trusted to keep a file secret and unchanged: for one path, and for each file
+//! that not everyone may read. Both are computed from a machine's own objects.
 #![tactic(auto)]
 
 mod files;

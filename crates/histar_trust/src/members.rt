@@ -1,4 +1,4 @@
-//! The processes that run, and the users.
+//! The running processes of a machine, and its users.
 ghost use Rattle.std.specs.Prelude.{◌≡◌, IfOk, map, option_map, Some};
 ghost use Rattle.std.specs.List.{filter_map};
 ghost use Rattle.histar_access.specs.Shown.{AreProcessesIn, HasProcesses};
@@ -26,7 +26,7 @@ pub fn processes<S: LabelStore + Drop>(
     }
 }
 
-/// Returns those of these processes that run.
+/// Returns the processes that run.
 pub fn members_among(alloc: Global, processes: &[ProcessNode]) -> Result<Vec<Member>, AllocError>
     ensures { IfOk result (λ members.
         map runner_of members.items ≡ filter_map running_node processes.now) }
@@ -40,7 +40,7 @@ pub fn members_among(alloc: Global, processes: &[ProcessNode]) -> Result<Vec<Mem
     Ok(members)
 }
 
-/// Returns a process with its user and its jobs, where it runs.
+/// Returns a process with its user and its jobs, if it runs.
 fn member_of(alloc: Global, process: &ProcessNode) -> Result<Option<Member>, AllocError>
     ensures { IfOk result (λ member. option_map runner_of member ≡ running_node process.now) }
 {

@@ -1,4 +1,4 @@
-//! The lines on who has to be trusted.
+//! The lines on which processes and users have to be trusted.
 ghost use Rattle.std.specs.Prelude.{◌≡◌, ◌++◌, IfOk, OnOk};
 ghost use Rattle.histar_secrecy.specs.ShownRoles.{flat_class};
 ghost use Rattle.histar_trust.specs.Findings.{HasState, ShowsTrust, head_text, shown_changers, shown_readers, shown_roles};
@@ -18,8 +18,8 @@ use std::alloc::{AllocError, Global};
 
 /// Returns the lines on what is at a path of a machine.
 ///
-/// The tree and the processes are gone through once, and then the tree once more for each directory on the
-/// way to the path, of which there are eight at most.
+/// It reads the tree and the processes once, and then the tree once more for each directory on the way to the
+/// path, of which there are at most eight.
 pub fn trust_lines<S: LabelStore + Drop>(
     alloc: Global,
     machine: &Machine<S>,
@@ -59,8 +59,8 @@ fn push_head(text: &mut Vec<u8>, node: &TreeNode) -> Result<(), AllocError>
     text.extend_from_slice(b"\n")
 }
 
-/// Adds what is known of who may read a file: a line for each process by its standing, and for each user who
-/// could log in as a reader, or one line where each process may read it. Of a directory nothing is added.
+/// Adds who may read a file: a line for each process with its role, and one for each user as whom a process
+/// could log in to read it, or a single line if every process may read it. It adds nothing for a directory.
 fn push_roles(
     alloc: Global,
     text: &mut Vec<u8>,
@@ -81,15 +81,15 @@ fn push_roles(
     push_readers(alloc, text, users, members, &class)
 }
 
-/// Checks whether each process may read a file of the class.
+/// Checks whether every process may read a file of the class.
 pub(crate) fn is_for_everyone(class: &FileClass) -> bool
     ensures { result ≡ is_for_everyone (flat_class class.now) }
 {
     matches!(class, FileClass::Readable(_) | FileClass::Open)
 }
 
-/// Adds a line for each process by its standing to a file of the class, and for each user who could log in as
-/// a reader.
+/// Adds a line for each process with its role towards a file of the class, and one for each user as whom a
+/// process could log in to read it.
 fn push_readers(
     alloc: Global,
     text: &mut Vec<u8>,
@@ -113,7 +113,7 @@ fn push_readers(
 }
 
 /// Adds a line for each process that may change what is of the first of these classes and lies in directories
-/// of the others, and for each user as whom one could log in who may.
+/// of the others, and for each user as whom a process could log in to do so.
 fn push_changers(
     alloc: Global,
     text: &mut Vec<u8>,

@@ -1,4 +1,4 @@
-//! Who has to be trusted after the calls of a script, from bytes to bytes.
+//! Which processes have to be trusted after the calls of a script, from bytes to bytes.
 ghost use Rattle.std.specs.Prelude.{◌≡◌, false, IfErr, IfSome};
 ghost use Rattle.histar_io.specs.Device.{CountsFailure};
 ghost use Rattle.histar_script.specs.Runs.{LeavesSink, is_read_failed, is_write_failed, RunsInput};
@@ -12,9 +12,9 @@ use histar_io::{Sink, Source, read_input, write_bytes};
 use histar_script::Fault;
 use std::alloc::Global;
 
-/// Reads a script, runs it on a machine of its own, and writes on whom it depends that what is at a path stays
-/// secret, and on whom that it stays as it is. With a line number the calls on lines before that one are run,
-/// and else all.
+/// Reads a script, runs it on a machine of its own, and writes which processes have to be trusted to keep
+/// what is at a path secret, and unchanged. With a line number it runs the calls on the lines before that
+/// one, and else all.
 ///
 /// The whole script is read and checked before the first call. It doesn't flush the sink.
 pub fn trust<R: Source, W: Sink>(
@@ -24,21 +24,21 @@ pub fn trust<R: Source, W: Sink>(
     writer: &mut W,
     at: Option<u32>,
 ) -> Result<(), Fault>
-    // After a bad script, one that is too long and a failed read the sink is as it was.
+    // After a bad script, one that is too long or a failed read, the sink is as it was.
     ensures nothing { IfErr result (LeavesSink writer.old writer.new) }
 
-    // A device has failed exactly where its fault is the answer.
+    // A device has failed exactly if its fault is returned.
     ensures reads { CountsFailure (R.failures reader.old) (R.failures reader.new)
         (is_read_failed result) }
     ensures writes { CountsFailure (W.failures writer.old) (W.failures writer.new)
         (is_write_failed result) }
 
-    // Whatever is known of the source, bytes of it were taken, to its end but never more than 1,048,577: the fault of the script
-    // that they are is answered, or exactly the text of the flat state after its calls is written.
+    // Some bytes of the source were read, to its end but never more than 1,048,577: the fault of their script
+    // is returned, or exactly the text of the flat state after its calls is written.
     ensures runs { RunsInput (TrustText at path.now) (R.left reader.old) (R.left reader.new)
         (W.written writer.old) (W.written writer.new) result }
 
-    // So where the input is known, this is the text of the script of the whole input.
+    // If the input is known, this is the text of the script of the whole input.
     ensures known { IfSome (R.left reader.old) (λ input.
         TrustText at path.now input (W.written writer.old) (W.written writer.new) result) }
 {
@@ -46,7 +46,7 @@ pub fn trust<R: Source, W: Sink>(
     trust_text(alloc, input.as_slice(), path, writer, at)
 }
 
-/// Writes the lines on what is at a path after the calls of the script that a text is.
+/// Writes the lines on what is at a path after the calls of the script in a text.
 fn trust_text<W: Sink>(
     alloc: Global,
     text: &[u8],
@@ -67,9 +67,9 @@ fn trust_text<W: Sink>(
     Ok(())
 }
 
-/// Reads a script, runs it on a machine of its own, and writes a line with each process that runs then and its
-/// user, and then a line for each file that not everyone may read: its path, each process that is trusted with it, each that is confined, and each user as whom one could
-/// log in as a reader.
+/// Reads a script, runs it on a machine of its own, and writes a line with each process that runs then and
+/// its user, and then a line for each file that not everyone may read: its path, each process that is trusted
+/// with it, each that is confined, and each user as whom a process could log in to read it.
 ///
 /// The whole script is read and checked before the first call. It doesn't flush the sink.
 pub fn secrets<R: Source, W: Sink>(
@@ -77,21 +77,21 @@ pub fn secrets<R: Source, W: Sink>(
     reader: &mut R,
     writer: &mut W,
 ) -> Result<(), Fault>
-    // After a bad script, one that is too long and a failed read the sink is as it was.
+    // After a bad script, one that is too long or a failed read, the sink is as it was.
     ensures nothing { IfErr result (LeavesSink writer.old writer.new) }
 
-    // A device has failed exactly where its fault is the answer.
+    // A device has failed exactly if its fault is returned.
     ensures reads { CountsFailure (R.failures reader.old) (R.failures reader.new)
         (is_read_failed result) }
     ensures writes { CountsFailure (W.failures writer.old) (W.failures writer.new)
         (is_write_failed result) }
 
-    // Whatever is known of the source, bytes of it were taken, to its end but never more than 1,048,577: the fault of the script
-    // that they are is answered, or exactly the lines of the flat state after its calls are written.
+    // Some bytes of the source were read, to its end but never more than 1,048,577: the fault of their script
+    // is returned, or exactly the lines of the flat state after its calls are written.
     ensures runs { RunsInput SecretsText (R.left reader.old) (R.left reader.new)
         (W.written writer.old) (W.written writer.new) result }
 
-    // So where the input is known, these are the lines of the script of the whole input.
+    // If the input is known, these are the lines of the script of the whole input.
     ensures known { IfSome (R.left reader.old) (λ input.
         SecretsText input (W.written writer.old) (W.written writer.new) result) }
 {
@@ -99,7 +99,7 @@ pub fn secrets<R: Source, W: Sink>(
     secrets_text(alloc, input.as_slice(), writer)
 }
 
-/// Writes the lines on the files after the calls of the script that a text is.
+/// Writes the lines of the files after the calls of the script in a text.
 fn secrets_text<W: Sink>(alloc: Global, text: &[u8], writer: &mut W) -> Result<(), Fault>
     ensures nothing { IfErr result (LeavesSink writer.old writer.new) }
     ensures reads { is_read_failed result ≡ false }

@@ -1,4 +1,4 @@
-//! What is at a path, and the directories above it.
+//! What is at a path of a tree, and the directories above it.
 ghost use Rattle.std.specs.Prelude.{◌≡◌, ◌++◌, IfOk, map, OnOk};
 ghost use Rattle.std.specs.Option.{option_copied};
 ghost use Rattle.histar_secrecy.specs.ShownRoles.{flat_class};
@@ -11,7 +11,7 @@ use histar_readout::TreeNode;
 use histar_secrecy::FileClass;
 use std::alloc::{AllocError, Global};
 
-/// Returns what a tree has at the path of these names, of which the last stands first.
+/// Returns what a tree has at the path of these names, of which the last comes first.
 pub fn node_at<'a>(tree: &'a [TreeNode], names: &[Name]) -> Option<&'a TreeNode>
     ensures { option_copied result ≡ node_at names.now tree.now }
 {
@@ -40,7 +40,7 @@ pub fn push_classes(
     push_classes(alloc, tree, above, classes)
 }
 
-/// Adds the class of what is there, if something is.
+/// Adds the class of a node, if there is one.
 fn push_class(
     alloc: Global,
     there: Option<&TreeNode>,
