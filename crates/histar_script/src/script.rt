@@ -81,7 +81,7 @@ impl Script {
     }
 
     /// Adds the item of a line, or returns its fault.
-    #[tactic(auto, unfolding(crate::specs::ScriptModel::with_item))]
+    #[tactic(auto, unfolding(crate::specs::Reading::with_item))]
     pub fn add(&mut self, line: u32, item: Item) -> Result<(), Fault>
         ensures { GivesNext line result self.new (with_item self.old line item) }
     {
@@ -93,7 +93,7 @@ impl Script {
         }
     }
 
-    #[tactic(auto, unfolding(crate::specs::ScriptModel::with_item))]
+    #[tactic(auto, unfolding(crate::specs::Reading::with_item))]
     fn add_user(&mut self, line: u32, user: User) -> Result<(), Fault>
         ensures { GivesNext line result self.new (with_item self.old line (Item.User user)) }
     {
@@ -108,7 +108,7 @@ impl Script {
         Ok(())
     }
 
-    #[tactic(auto, unfolding(crate::specs::ScriptModel::with_item))]
+    #[tactic(auto, unfolding(crate::specs::Reading::with_item))]
     fn add_group(&mut self, line: u32, group: Group) -> Result<(), Fault>
         ensures { GivesNext line result self.new (with_item self.old line (Item.Group group)) }
     {
@@ -124,7 +124,7 @@ impl Script {
         Ok(())
     }
 
-    #[tactic(auto, unfolding(crate::specs::ScriptModel::with_item))]
+    #[tactic(auto, unfolding(crate::specs::Reading::with_item))]
     fn add_call(&mut self, line: u32, process: ProcName, call: UnixCall) -> Result<(), Fault>
         ensures { GivesNext line result self.new (with_item self.old line (Item.Call process call)) }
     {
@@ -173,7 +173,7 @@ pub fn read_script(alloc: Global, text: &[u8]) -> Result<Script, Fault>
     read_lines(alloc, text)
 }
 
-#[tactic(auto, unfolding(crate::specs::ScriptModel::with_lines, crate::specs::ScriptModel::with_line, crate::specs::ScriptModel::reading))]
+#[tactic(auto, unfolding(crate::specs::Reading::with_lines, crate::specs::Reading::with_line, crate::specs::Reading::reading))]
 fn read_lines(alloc: Global, text: &[u8]) -> Result<Script, Fault>
     requires { length text.now ≤ most_script_bytes }
     ensures { Gives result (reading text.now) }
