@@ -19,7 +19,7 @@ use Rattle.histar_explain.specs.Obstacles.{bytes_after, has_next}
 
 -- whether the object that a call names in its container is of the kind that the call needs
 abbrev pub is_wanted : State → RawCall → Bool
-is_wanted s (Enter d o wanted clearance shown) = is_gate (s.objects o)
+is_wanted s (Enter d o wanted clearance verify) = is_gate (s.objects o)
 is_wanted s (Read d o) = is_segment (s.objects o)
 is_wanted s (Write d o keep bytes) = is_segment (s.objects o)
 is_wanted s (LabelOf d o) = not (is_thread (s.objects o))
@@ -33,8 +33,8 @@ passes_ranges s t (MakeSegment d label bytes) = in_range (s.objects t) label && 
 passes_ranges s t (MakeContainer d label) = in_range (s.objects t) label && (known s label && not (has_star label))
 passes_ranges s t (MakeThread d label clearance) = in_span (s.objects t) label clearance && (known s label && known s clearance)
 passes_ranges s t (MakeGate d label clearance entry) = in_span (s.objects t) label clearance && (known s label && known s clearance)
-passes_ranges s t (Enter d o wanted clearance shown) =
-    in_gate (s.objects t) (s.objects o) wanted clearance && (known s wanted && (known s clearance && known s shown))
+passes_ranges s t (Enter d o wanted clearance verify) =
+    in_gate (s.objects t) (s.objects o) wanted clearance && (known s wanted && (known s clearance && known s verify))
 passes_ranges s t call = true
 
 -- P follows, whichever test of a call is the one that fails with a denial
@@ -149,12 +149,12 @@ blame s t (MakeThread d label clearance) x h e = by_orelse x (no_making s t d) _
     (by_four x (in_span (s.objects t) label clearance) (known s label) (known s clearance) (has_number s) h.range h.number) e
 blame s t (MakeGate d label clearance entry) x h e = by_orelse x (no_making s t d) _ (by_making s t (MakeGate d label clearance entry) x h)
     (by_four x (in_span (s.objects t) label clearance) (known s label) (known s clearance) (has_number s) h.range h.number) e
-blame s t (Enter d o wanted clearance shown) x h e =
+blame s t (Enter d o wanted clearance verify) x h e =
     by_orelse x (no_gate s t d o) _
-    (by_kind s t (Enter d o wanted clearance shown) x h (is_gate (s.objects o)) (λ e. e))
+    (by_kind s t (Enter d o wanted clearance verify) x h (is_gate (s.objects o)) (λ e. e))
     (by_orelse x (unless (is_let_in (s.objects t) (s.objects o)) Gate) _ (by_unless x (is_let_in (s.objects t) (s.objects o)) Gate (λ _. h.gate))
-    (by_orelse x (unless (is_own_below (s.objects t) shown) Gate) _ (by_unless x (is_own_below (s.objects t) shown) Gate (λ _. h.gate))
-    (by_ranges x (in_gate (s.objects t) (s.objects o) wanted clearance) (known s wanted) (known s clearance) (known s shown) h.range))) e
+    (by_orelse x (unless (is_own_below (s.objects t) verify) Gate) _ (by_unless x (is_own_below (s.objects t) verify) Gate (λ _. h.gate))
+    (by_ranges x (in_gate (s.objects t) (s.objects o) wanted clearance) (known s wanted) (known s clearance) (known s verify) h.range))) e
 blame s t (Read d o) x h e =
     by_orelse x (no_segment s t d o) _ (by_kind s t (Read d o) x h (is_segment (s.objects o)) (λ e. e))
     (by_unless x (observes (s.objects t) (s.objects o)) Observe (λ _. h.observe)) e

@@ -140,18 +140,18 @@ let_in_is T (Some g) thread gate =
     let has = kind_cleared g.kind (inr gate) in
     rw has.1 (own_below_is T thread has.0)
 
-letting_fails : (T G : Found) (shown : Levels) → is_thread T ≡ true → is_gate G ≡ true
-    → ((is_let_in T G ≡ false) ⊎ (is_own_below T shown ≡ false))
-    → (c : ℕ) × (some_fails_at (letting (label_of_found T) (clearance_of_found G) shown) c ≡ true)
-letting_fails T G shown thread gate (inl out) =
+letting_fails : (T G : Found) (verify : Levels) → is_thread T ≡ true → is_gate G ≡ true
+    → ((is_let_in T G ≡ false) ⊎ (is_own_below T verify ≡ false))
+    → (c : ℕ) × (some_fails_at (letting (label_of_found T) (clearance_of_found G) verify) c ≡ true)
+letting_fails T G verify thread gate (inl out) =
     let at = above_somewhere (label_of_found T) (clearance_of_found G) (sym (let_in_is T G thread gate) ∙ out) in
-    (at.0, ap (λ b. b || (exceeds false (level_of (label_of_found T) at.0) (level_of shown at.0) || false)) at.1)
-letting_fails T G shown thread gate (inr out) =
-    let at = above_somewhere (label_of_found T) shown (sym (own_below_is T thread shown) ∙ out) in
+    (at.0, ap (λ b. b || (exceeds false (level_of (label_of_found T) at.0) (level_of verify at.0) || false)) at.1)
+letting_fails T G verify thread gate (inr out) =
+    let at = above_somewhere (label_of_found T) verify (sym (own_below_is T thread verify) ∙ out) in
     (at.0, or_second (exceeds false (level_of (label_of_found T) at.0) (level_of (clearance_of_found G) at.0)) _ (ap (λ b. b || false) at.1))
 
 gate_rests : (s : State) (t : ℕ) (call : RawCall) → IsGateRefusal s t call → (c : ℕ) × (some_fails_at (tests s t call Gate) c ≡ true)
-gate_rests s t (Enter d o wanted clearance shown) out = letting_fails (s.objects t) (s.objects o) shown out.caller out.gate out.refused
+gate_rests s t (Enter d o wanted clearance verify) out = letting_fails (s.objects t) (s.objects o) verify out.caller out.gate out.refused
 gate_rests s t MakeCategory out = absurd out
 gate_rests s t OwnLabel out = absurd out
 gate_rests s t (SetLabel label) out = absurd out

@@ -61,7 +61,7 @@ module _ (s : State) (t : ℕ) (no : is_thread (s.objects t) ≡ false) where
   caller_refused (MakeContainer d label) = orelse_first (no_making s t d) _ NoThread (making_refused d)
   caller_refused (MakeThread d label clearance) = orelse_first (no_making s t d) _ NoThread (making_refused d)
   caller_refused (MakeGate d label clearance entry) = orelse_first (no_making s t d) _ NoThread (making_refused d)
-  caller_refused (Enter d o wanted clearance shown) = orelse_first (no_gate s t d o) _ NoThread (kind_refused d o _)
+  caller_refused (Enter d o wanted clearance verify) = orelse_first (no_gate s t d o) _ NoThread (kind_refused d o _)
   caller_refused (Read d o) = orelse_first (no_link s t d o orelse unless (is_segment (s.objects o)) BadKind) _ NoThread (kind_refused d o _)
   caller_refused (Write d o keep bytes) =
       orelse_first (no_link s t d o orelse unless (is_segment (s.objects o)) BadKind) _ NoThread (kind_refused d o _)
@@ -76,9 +76,9 @@ caller_is s t call x differ e = elim (is_thread (s.objects t)) as (λ b. is_thre
 ] refl
 
 -- the gate of a call whose labels are refused behind it is a gate
-gate_is : (s : State) (t d o : ℕ) (wanted clearance shown : Levels)
-    → check s t (Enter d o wanted clearance shown) ≡ Some Range → is_gate (s.objects o) ≡ true
-gate_is s t d o wanted clearance shown e =
+gate_is : (s : State) (t d o : ℕ) (wanted clearance verify : Levels)
+    → check s t (Enter d o wanted clearance verify) ≡ Some Range → is_gate (s.objects o) ≡ true
+gate_is s t d o wanted clearance verify e =
     let parts = skip Range (no_gate s t d o) _ (gate_not Range (λ h. cc) (λ h. cc) (λ h. cc) (λ h. cc) s t d o) e in
     unless_none (is_gate (s.objects o)) BadKind (rest (no_link s t d o) _ parts.0)
 
@@ -186,16 +186,16 @@ range_grounds s t (MakeContainer d label) e thread h =
     making_grounds s t thread label (owning_nothing AnyContainer label) (star_fails AnyContainer label _) h
 range_grounds s t (MakeThread d label clearance) e thread h = owner_grounds s t thread label clearance h
 range_grounds s t (MakeGate d label clearance entry) e thread h = owner_grounds s t thread label clearance h
-range_grounds s t (Enter d o wanted clearance shown) e thread h =
+range_grounds s t (Enter d o wanted clearance verify) e thread h =
     elim (one_of_both (rights.in_gate (s.objects t) (s.objects o) wanted clearance) _ h) [
-      | inl out ↦ by_test s _ _ (out_of_gate s t thread o wanted clearance (gate_is s t d o wanted clearance shown e) out)
+      | inl out ↦ by_test s _ _ (out_of_gate s t thread o wanted clearance (gate_is s t d o wanted clearance verify e) out)
       | inr later ↦ elim (one_of_both (known s wanted) _ later) [
-        | inl unknown ↦ by_label s _ _ wanted (first_among wanted (clearance ∷ shown ∷ [])) unknown
+        | inl unknown ↦ by_label s _ _ wanted (first_among wanted (clearance ∷ verify ∷ [])) unknown
         | inr last ↦ elim (one_of_both (known s clearance) _ last) [
-          | inl unknown ↦ by_label s _ _ clearance (later_among wanted clearance (clearance ∷ shown ∷ []) (first_among clearance (shown ∷ []))) unknown
+          | inl unknown ↦ by_label s _ _ clearance (later_among wanted clearance (clearance ∷ verify ∷ []) (first_among clearance (verify ∷ []))) unknown
           | inr unknown ↦
-              by_label s _ _ shown (later_among wanted shown (clearance ∷ shown ∷ [])
-              (later_among clearance shown (shown ∷ []) (first_among shown []))) unknown
+              by_label s _ _ verify (later_among wanted verify (clearance ∷ verify ∷ [])
+              (later_among clearance verify (verify ∷ []) (first_among verify []))) unknown
         ]
       ]
     ]
@@ -208,7 +208,7 @@ range_grounds s t (LabelOf d o) e thread h = absurd (false≢true (sym h))
 
 -- an object of the wrong kind is in the way
 wrong_kind_is : (s : State) (t : ℕ) (call : RawCall) → is_wanted s call ≡ false → IsInTheWay s t call (wrong_kind call)
-wrong_kind_is s t (Enter d o wanted clearance shown) h = h
+wrong_kind_is s t (Enter d o wanted clearance verify) h = h
 wrong_kind_is s t (Read d o) h = h
 wrong_kind_is s t (Write d o keep bytes) h = h
 wrong_kind_is s t (LabelOf d o) h = not_false (is_thread (s.objects o)) h

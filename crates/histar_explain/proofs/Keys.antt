@@ -63,11 +63,11 @@ by_none : (s : State) (t : ℕ) (own : Levels) (call : RawCall)
 by_none s t own call none = by_level s t own call Gate (λ c l. false) none (λ c. refl)
 
 by_gate : (s : State) (t : ℕ) (own : Levels) (call : RawCall) → LacksKeys s t own call Gate
-by_gate s t own (Enter d o wanted clearance shown) =
+by_gate s t own (Enter d o wanted clearance verify) =
     let limit = clearance_in s o in
-    by_level s t own (Enter d o wanted clearance shown) Gate
-    (λ c l. exceeds false l (level_of limit c) || (exceeds false l (level_of shown c) || false)) (λ o c. refl)
-    (λ c i. star_below (level_of limit c) i || (star_below (level_of shown c) i || false))
+    by_level s t own (Enter d o wanted clearance verify) Gate
+    (λ c l. exceeds false l (level_of limit c) || (exceeds false l (level_of verify c) || false)) (λ o c. refl)
+    (λ c i. star_below (level_of limit c) i || (star_below (level_of verify c) i || false))
 by_gate s t own MakeCategory = by_none s t own MakeCategory (λ o c. refl)
 by_gate s t own OwnLabel = by_none s t own OwnLabel (λ o c. refl)
 by_gate s t own (SetLabel label) = by_none s t own (SetLabel label) (λ o c. refl)

@@ -93,24 +93,24 @@ module _ (s : State) (t : ℕ) (keyed : Levels) where
       let passing = (keys_are_lacking s t (label_in s t) call Modify refl).enough keyed keys failing.0 in
       false≢true (sym passing ∙ sym (ap (λ some. some_fails_at some failing.0) is) ∙ failing.1)
 
-  gate_opens : (d o : ℕ) (wanted clearance shown : Levels) → check s t (Enter d o wanted clearance shown) ≡ Some Gate
-      → HasKeys (tests s t (Enter d o wanted clearance shown) Gate) (label_in s t) keyed
-      → check (relabelled s t keyed) t (Enter d o wanted clearance shown) ≡ Some Gate → ⊥
-  gate_opens d o wanted clearance shown e keys again =
-      let call = Enter d o wanted clearance shown in
-      let at : IsShutOut s t o shown = gate_refusal s t (Enter d o wanted clearance shown) e in
+  gate_opens : (d o : ℕ) (wanted clearance verify : Levels) → check s t (Enter d o wanted clearance verify) ≡ Some Gate
+      → HasKeys (tests s t (Enter d o wanted clearance verify) Gate) (label_in s t) keyed
+      → check (relabelled s t keyed) t (Enter d o wanted clearance verify) ≡ Some Gate → ⊥
+  gate_opens d o wanted clearance verify e keys again =
+      let call = Enter d o wanted clearance verify in
+      let at : IsShutOut s t o verify = gate_refusal s t (Enter d o wanted clearance verify) e in
       let failing = denials_rest_on_tests (relabelled s t keyed) t call Gate refl again in
       let own = has_label at.caller in
       let limit : clearance_in (relabelled s t keyed) o ≡ clearance_in s o =
       ap (λ (o : Found). unwrap_or (clearance_there o) (constant L1))
       (stays o at.caller (gate_no_thread (s.objects o) at.gate)) in
-      let is : tests (relabelled s t keyed) t call Gate ≡ tests_with keyed s t call Gate = λ i. letting (own i) (limit i) shown in
+      let is : tests (relabelled s t keyed) t call Gate ≡ tests_with keyed s t call Gate = λ i. letting (own i) (limit i) verify in
       let passing = (keys_are_lacking s t (label_in s t) call Gate refl).enough keyed keys failing.0 in
       false≢true (sym passing ∙ sym (ap (λ some. some_fails_at some failing.0) is) ∙ failing.1)
 
   any_gate_opens : (call : RawCall) → check s t call ≡ Some Gate → HasKeys (tests s t call Gate) (label_in s t) keyed
       → check (relabelled s t keyed) t call ≡ Some Gate → ⊥
-  any_gate_opens (Enter d o wanted clearance shown) e keys again = gate_opens d o wanted clearance shown e keys again
+  any_gate_opens (Enter d o wanted clearance verify) e keys again = gate_opens d o wanted clearance verify e keys again
   any_gate_opens MakeCategory e keys again = gate_refusal s t MakeCategory e
   any_gate_opens OwnLabel e keys again = gate_refusal s t OwnLabel e
   any_gate_opens (SetLabel label) e keys again = gate_refusal s t (SetLabel label) e

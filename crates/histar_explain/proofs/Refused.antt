@@ -194,11 +194,11 @@ observe_refused s t (MakeSegment d label bytes) e = making_refused s t d (new_ma
 observe_refused s t (MakeContainer d label) e = making_refused s t d (new_making s t d Observe (λ h. cc) (λ h. cc) label 0 e)
 observe_refused s t (MakeThread d label clearance) e = making_refused s t d (owner_making s t d Observe (λ h. cc) (λ h. cc) label clearance e)
 observe_refused s t (MakeGate d label clearance entry) e = making_refused s t d (owner_making s t d Observe (λ h. cc) (λ h. cc) label clearance e)
-observe_refused s t (Enter d o wanted clearance shown) e = gate_refused s t d o (strip Observe (no_gate s t d o) _
+observe_refused s t (Enter d o wanted clearance verify) e = gate_refused s t d o (strip Observe (no_gate s t d o) _
     (not_orelse Observe (unless (is_let_in (s.objects t) (s.objects o)) Gate) _
     (not_unless Observe (is_let_in (s.objects t) (s.objects o)) Gate (λ h. cc))
-    (not_orelse Observe (unless (is_own_below (s.objects t) shown) Gate) _ (not_unless Observe (is_own_below (s.objects t) shown) Gate (λ h. cc))
-    (gate_ranges Observe (λ h. cc) (in_gate (s.objects t) (s.objects o) wanted clearance) (known s wanted) (known s clearance) (known s shown)))) e)
+    (not_orelse Observe (unless (is_own_below (s.objects t) verify) Gate) _ (not_unless Observe (is_own_below (s.objects t) verify) Gate (λ h. cc))
+    (gate_ranges Observe (λ h. cc) (in_gate (s.objects t) (s.objects o) wanted clearance) (known s wanted) (known s clearance) (known s verify)))) e)
 observe_refused s t (Read d o) e = elim (split Observe (no_segment s t d o) _ e) [
   | inl at_container ↦
       let refused = segment_refused s t d o at_container in
@@ -259,12 +259,12 @@ modify_refused s t (MakeSegment d label bytes) e = making_unmodified s t d (new_
 modify_refused s t (MakeContainer d label) e = making_unmodified s t d (new_making s t d Modify (λ h. cc) (λ h. cc) label 0 e)
 modify_refused s t (MakeThread d label clearance) e = making_unmodified s t d (owner_making s t d Modify (λ h. cc) (λ h. cc) label clearance e)
 modify_refused s t (MakeGate d label clearance entry) e = making_unmodified s t d (owner_making s t d Modify (λ h. cc) (λ h. cc) label clearance e)
-modify_refused s t (Enter d o wanted clearance shown) e = absurd
+modify_refused s t (Enter d o wanted clearance verify) e = absurd
     (never Modify _ (not_orelse Modify (no_gate s t d o) _ (gate_not Modify (λ h. cc) (λ h. cc) (λ h. cc) (λ h. cc) s t d o)
     (not_orelse Modify (unless (is_let_in (s.objects t) (s.objects o)) Gate) _
     (not_unless Modify (is_let_in (s.objects t) (s.objects o)) Gate (λ h. cc))
-    (not_orelse Modify (unless (is_own_below (s.objects t) shown) Gate) _ (not_unless Modify (is_own_below (s.objects t) shown) Gate (λ h. cc))
-    (gate_ranges Modify (λ h. cc) (in_gate (s.objects t) (s.objects o) wanted clearance) (known s wanted) (known s clearance) (known s shown))))) e)
+    (not_orelse Modify (unless (is_own_below (s.objects t) verify) Gate) _ (not_unless Modify (is_own_below (s.objects t) verify) Gate (λ h. cc))
+    (gate_ranges Modify (λ h. cc) (in_gate (s.objects t) (s.objects o) wanted clearance) (known s wanted) (known s clearance) (known s verify))))) e)
 modify_refused s t (Read d o) e =
     absurd (never Modify _ (not_orelse Modify (no_segment s t d o) _
     (segment_not Modify (λ h. cc) (λ h. cc) (λ h. cc) (λ h. cc) s t d o)
@@ -292,14 +292,14 @@ modify_refused s t (LabelOf d o) e =
     (not_unless Modify (not (is_thread (s.objects o))) BadKind (λ h. cc))) e)
 
 -- a thread was refused at a gate, by the gate's clearance or by the verify label
-pub record IsShutOut (s : State) (t o : ℕ) (shown : Levels) : Type 0 where
+pub record IsShutOut (s : State) (t o : ℕ) (verify : Levels) : Type 0 where
   pub caller : is_thread (s.objects t) ≡ true
   pub gate : is_gate (s.objects o) ≡ true
-  pub refused : (is_let_in (s.objects t) (s.objects o) ≡ false) ⊎ (is_own_below (s.objects t) shown ≡ false)
+  pub refused : (is_let_in (s.objects t) (s.objects o) ≡ false) ⊎ (is_own_below (s.objects t) verify ≡ false)
 
 -- the gate at which a call is refused
 abbrev pub IsGateRefusal : State → ℕ → RawCall → Type 0
-IsGateRefusal s t (Enter d o wanted clearance shown) = IsShutOut s t o shown
+IsGateRefusal s t (Enter d o wanted clearance verify) = IsShutOut s t o verify
 IsGateRefusal s t call = ⊥
 
 new_not_gate : (s : State) (t d : ℕ) → Not Gate (no_making s t d)
@@ -323,7 +323,7 @@ gate_refusal s t (MakeThread d label clearance) e =
     never Gate (no_making s t d) (new_not_gate s t d) (owner_making s t d Gate (λ h. cc) (λ h. cc) label clearance e)
 gate_refusal s t (MakeGate d label clearance entry) e =
     never Gate (no_making s t d) (new_not_gate s t d) (owner_making s t d Gate (λ h. cc) (λ h. cc) label clearance e)
-gate_refusal s t (Enter d o wanted clearance shown) e =
+gate_refusal s t (Enter d o wanted clearance verify) e =
     let parts = skip Gate (no_gate s t d o) _ (gate_not Gate (λ h. cc) (λ h. cc) (λ h. cc) (λ h. cc) s t d o) e in
     let linked = first (no_link s t d o) _ parts.0 in
     let both = both_there s t d (first (no_container s t d) _ linked) in
@@ -334,10 +334,10 @@ gate_refusal s t (Enter d o wanted clearance shown) e =
       refused = elim (split Gate (unless (is_let_in (s.objects t) (s.objects o)) Gate) _ parts.1) [
         | inl out ↦ inl (failed (is_let_in (s.objects t) (s.objects o)) Gate Gate out)
         | inr later ↦
-            inr (failed (is_own_below (s.objects t) shown) Gate Gate (strip Gate
-            (unless (is_own_below (s.objects t) shown) Gate) _ (gate_ranges Gate (λ h. cc)
+            inr (failed (is_own_below (s.objects t) verify) Gate Gate (strip Gate
+            (unless (is_own_below (s.objects t) verify) Gate) _ (gate_ranges Gate (λ h. cc)
             (in_gate (s.objects t) (s.objects o) wanted clearance) (known s wanted) (known s clearance)
-            (known s shown)) later.1))
+            (known s verify)) later.1))
       ];
     }
 gate_refusal s t (Read d o) e =

@@ -26,7 +26,7 @@ container_named (MakeSegment d label bytes) = d
 container_named (MakeContainer d label) = d
 container_named (MakeThread d label clearance) = d
 container_named (MakeGate d label clearance entry) = d
-container_named (Enter d o wanted clearance shown) = d
+container_named (Enter d o wanted clearance verify) = d
 container_named (Read d o) = d
 container_named (Write d o keep bytes) = d
 container_named (Unlink d o) = d
@@ -34,7 +34,7 @@ container_named (LabelOf d o) = d
 
 -- the object that a call names in its container, or 0 where it names none
 abbrev pub object_named : RawCall → ℕ
-object_named (Enter d o wanted clearance shown) = o
+object_named (Enter d o wanted clearance verify) = o
 object_named (Read d o) = o
 object_named (Write d o keep bytes) = o
 object_named (Unlink d o) = o
@@ -49,7 +49,7 @@ handed (MakeSegment d label bytes) = label ∷ []
 handed (MakeContainer d label) = label ∷ []
 handed (MakeThread d label clearance) = label ∷ clearance ∷ []
 handed (MakeGate d label clearance entry) = label ∷ clearance ∷ []
-handed (Enter d o wanted clearance shown) = wanted ∷ clearance ∷ shown ∷ []
+handed (Enter d o wanted clearance verify) = wanted ∷ clearance ∷ verify ∷ []
 handed call = []
 
 -- the object that a call may not observe: the container, or the segment of a read whose container may be observed

@@ -24,7 +24,7 @@ whole_act (MakeSegment d label bytes) = acts.MakeSegment
 whole_act (MakeContainer d label) = acts.MakeContainer
 whole_act (MakeThread d label clearance) = acts.MakeThread
 whole_act (MakeGate d label clearance entry) = acts.MakeGate
-whole_act (Enter d o wanted clearance shown) = acts.EnterWith o
+whole_act (Enter d o wanted clearance verify) = acts.EnterWith o
 whole_act (Write d o keep bytes) = acts.Write o
 whole_act call = acts.Call
 
@@ -41,7 +41,7 @@ act_of s t call TooBig = whole_act call
 
 -- the obstacle of a call that names an object of a wrong kind in its container
 abbrev pub wrong_kind : RawCall → Obstacle
-wrong_kind (Enter d o wanted clearance shown) = obstacles.NoGate
+wrong_kind (Enter d o wanted clearance verify) = obstacles.NoGate
 wrong_kind (LabelOf d o) = obstacles.IsThread
 wrong_kind call = obstacles.NoSegment
 

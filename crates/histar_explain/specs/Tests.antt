@@ -42,10 +42,10 @@ modifying own label = below Thread own Object label ∷ observing own label ∷ 
 
 -- a thread that enters a gate has a label below the gate's clearance and below the verify label
 abbrev pub letting : Levels → Levels → Levels → List Test
-letting own gate_clearance shown = below Thread own GateClearance gate_clearance ∷ below Thread own VerifyLabel shown ∷ []
+letting own gate_clearance verify = below Thread own GateClearance gate_clearance ∷ below Thread own VerifyLabel verify ∷ []
 
 abbrev pub entering : Levels → State → RawCall → List Test
-entering own s (Enter d o wanted clearance shown) = letting own (clearance_in s o) shown
+entering own s (Enter d o wanted clearance verify) = letting own (clearance_in s o) verify
 entering own s call = []
 
 -- a label lies between a thread's label and its clearance
@@ -94,7 +94,7 @@ ranging own s t (MakeSegment d label bytes) = owning_nothing AnySegment label �
 ranging own s t (MakeContainer d label) = owning_nothing AnyContainer label ∷ in_range own label (clearance_in s t)
 ranging own s t (MakeThread d label clearance) = in_span own label clearance (clearance_in s t)
 ranging own s t (MakeGate d label clearance entry) = in_span own label clearance (clearance_in s t)
-ranging own s t (Enter d o wanted clearance shown) = behind_gate own (label_in s o) wanted clearance (clearance_in s t) (clearance_in s o)
+ranging own s t (Enter d o wanted clearance verify) = behind_gate own (label_in s o) wanted clearance (clearance_in s t) (clearance_in s o)
 ranging own s t call = []
 
 -- The tests of a denial at a state, if this is the label of the thread.

@@ -88,9 +88,9 @@ fn entry_reasons<S: LabelStore + Drop>(
     ensures { IfOk result (λ reasons. AllZip IsReasonOf (entering own.now (state kernel.now) call.now) reasons.items) }
 {
     match call {
-        RawCall::Enter(_, gate, _, _, shown) => {
+        RawCall::Enter(_, gate, _, _, verify) => {
             let gate_clearance = clearance_in(kernel, *gate, ones);
-            gate_reasons(alloc, own, gate_clearance, shown.label())
+            gate_reasons(alloc, own, gate_clearance, verify.label())
         }
         _ => Ok(Vec::new(alloc)),
     }

@@ -109,9 +109,9 @@ pub(crate) fn gate_reasons(
     alloc: Global,
     own: &Label,
     gate_clearance: &Label,
-    shown: &Label,
+    verify: &Label,
 ) -> Result<Vec<Reason>, OutOfMemory>
-    ensures { IfOk result (λ reasons. AllZip IsReasonOf (letting own.now gate_clearance.now shown.now) reasons.items) }
+    ensures { IfOk result (λ reasons. AllZip IsReasonOf (letting own.now gate_clearance.now verify.now) reasons.items) }
 {
     let first = below(
         alloc,
@@ -120,7 +120,7 @@ pub(crate) fn gate_reasons(
         Party::GateClearance,
         gate_clearance,
     )?;
-    let second = below(alloc, Party::Thread, own, Party::VerifyLabel, shown)?;
+    let second = below(alloc, Party::Thread, own, Party::VerifyLabel, verify)?;
     two(alloc, first, second)
 }
 

@@ -92,12 +92,12 @@ fn handed_unmade(
         RawCall::MakeGate(_, label, clearance, _) => {
             unmade_of_two(alloc, next, label.label(), clearance.label(), ones)
         }
-        RawCall::Enter(_, _, wanted, clearance, shown) => unmade_in(
+        RawCall::Enter(_, _, wanted, clearance, verify) => unmade_in(
             alloc,
             next,
             wanted.label(),
             clearance.label(),
-            shown.label(),
+            verify.label(),
         ),
         _ => Ok(Vec::new(alloc)),
     }

@@ -23,8 +23,8 @@ words_of (MakeSegment container label bytes) = decimal container ∷ label_text 
 words_of (MakeContainer container label) = decimal container ∷ label_text label ∷ []
 words_of (MakeThread container label clearance) = decimal container ∷ label_text label ∷ label_text clearance ∷ []
 words_of (MakeGate container label clearance entry) = decimal container ∷ label_text label ∷ label_text clearance ∷ gate_entry_text entry ∷ []
-words_of (Enter container gate wanted clearance shown) =
-    decimal container ∷ decimal gate ∷ label_text wanted ∷ label_text clearance ∷ label_text shown ∷ []
+words_of (Enter container gate wanted clearance verify) =
+    decimal container ∷ decimal gate ∷ label_text wanted ∷ label_text clearance ∷ label_text verify ∷ []
 words_of (Read container segment) = decimal container ∷ decimal segment ∷ []
 words_of (Write container segment keep bytes) = decimal container ∷ decimal segment ∷ decimal keep ∷ bytes_text bytes ∷ []
 words_of (Unlink container object) = decimal container ∷ decimal object ∷ []
@@ -58,8 +58,8 @@ words_spelled (MakeContainer container label) = two_words (decimal container) (l
 words_spelled (MakeThread container label clearance) = three_words (decimal container) (label_text label) (label_text clearance)
 words_spelled (MakeGate container label clearance entry) =
     four_words (decimal container) (label_text label) (label_text clearance) (gate_entry_text entry)
-words_spelled (Enter container gate wanted clearance shown) =
-    five_words (decimal container) (decimal gate) (label_text wanted) (label_text clearance) (label_text shown)
+words_spelled (Enter container gate wanted clearance verify) =
+    five_words (decimal container) (decimal gate) (label_text wanted) (label_text clearance) (label_text verify)
 words_spelled (Read container segment) = two_words (decimal container) (decimal segment)
 words_spelled (Write container segment keep bytes) = four_words (decimal container) (decimal segment) (decimal keep) (bytes_text bytes)
 words_spelled (Unlink container object) = two_words (decimal container) (decimal object)
@@ -79,11 +79,11 @@ are_words (MakeGate container label clearance entry) p = (
   lacks-decimal 32 container space_is_no_digit p.0,
   (lacks-label label p.1, (lacks-label clearance p.2, (lacks-entry entry p.3, tt))),
 )
-are_words (Enter container gate wanted clearance shown) p = (
+are_words (Enter container gate wanted clearance verify) p = (
   lacks-decimal 32 container space_is_no_digit p.0,
   (
     lacks-decimal 32 gate space_is_no_digit p.1,
-    (lacks-label wanted p.2, (lacks-label clearance p.3, (lacks-label shown p.4, tt))),
+    (lacks-label wanted p.2, (lacks-label clearance p.3, (lacks-label verify p.4, tt))),
   ),
 )
 are_words (Read container segment) p = (lacks-decimal 32 container space_is_no_digit p.0, (lacks-decimal 32 segment space_is_no_digit p.1, tt))
@@ -107,7 +107,7 @@ name_is_word (MakeSegment container label bytes) = refl
 name_is_word (MakeContainer container label) = refl
 name_is_word (MakeThread container label clearance) = refl
 name_is_word (MakeGate container label clearance entry) = refl
-name_is_word (Enter container gate wanted clearance shown) = refl
+name_is_word (Enter container gate wanted clearance verify) = refl
 name_is_word (Read container segment) = refl
 name_is_word (Write container segment keep bytes) = refl
 name_is_word (Unlink container object) = refl
@@ -171,7 +171,7 @@ same_call (MakeGate container label clearance entry) (MakeGate container' label'
     let e3 = same_entry entry entry' p.3 q.3 w3.0 in
     λ i. MakeGate (e0 i) (e1 i) (e2 i) (e3 i)
 same_call (MakeGate container label clearance entry) b p q names words = absurd (omega (arith, ap weight names))
-same_call (Enter container gate wanted clearance shown) (Enter container' gate' wanted' clearance' shown') p q names words =
+same_call (Enter container gate wanted clearance verify) (Enter container' gate' wanted' clearance' verify') p q names words =
     let w0 = same_fronts words in
     let e0 = decimal_injective container container' p.0 q.0 w0.0 in
     let w1 = same_fronts w0.1 in
@@ -181,9 +181,9 @@ same_call (Enter container gate wanted clearance shown) (Enter container' gate' 
     let w3 = same_fronts w2.1 in
     let e3 = same_label clearance clearance' p.3 q.3 w3.0 in
     let w4 = same_fronts w3.1 in
-    let e4 = same_label shown shown' p.4 q.4 w4.0 in
+    let e4 = same_label verify verify' p.4 q.4 w4.0 in
     λ i. Enter (e0 i) (e1 i) (e2 i) (e3 i) (e4 i)
-same_call (Enter container gate wanted clearance shown) b p q names words = absurd (omega (arith, ap weight names))
+same_call (Enter container gate wanted clearance verify) b p q names words = absurd (omega (arith, ap weight names))
 same_call (Read container segment) (Read container' segment') p q names words =
     let w0 = same_fronts words in
     let e0 = decimal_injective container container' p.0 q.0 w0.0 in

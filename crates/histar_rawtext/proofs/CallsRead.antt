@@ -27,8 +27,8 @@ writable (MakeSegment container label bytes) p = (p.0, writable_label label p.1)
 writable (MakeContainer container label) p = (p.0, writable_label label p.1)
 writable (MakeThread container label clearance) p = (p.0, writable_label label p.1, writable_label clearance p.2)
 writable (MakeGate container label clearance entry) p = (p.0, writable_label label p.1, writable_label clearance p.2, writable_entry entry p.3)
-writable (Enter container gate wanted clearance shown) p =
-    (p.0, p.1, writable_label wanted p.2, writable_label clearance p.3, writable_label shown p.4)
+writable (Enter container gate wanted clearance verify) p =
+    (p.0, p.1, writable_label wanted p.2, writable_label clearance p.3, writable_label verify p.4)
 writable (Read container segment) p = p
 writable (Write container segment keep bytes) p = (p.0, p.1, omega (arith, p.2))
 writable (Unlink container object) p = p
@@ -77,18 +77,18 @@ call_again (MakeGate container label clearance entry) p w =
       label_again clearance p.2,
       entry_again entry p.3,
     ) refl
-call_again (Enter container gate wanted clearance shown) p w =
+call_again (Enter container gate wanted clearance verify) p w =
     rw (
-      split_spaced (decimal container) (decimal gate ∷ label_text wanted ∷ label_text clearance ∷ label_text shown ∷ []) w.0,
-      split_spaced (decimal gate) (label_text wanted ∷ label_text clearance ∷ label_text shown ∷ []) w.1.0,
-      split_spaced (label_text wanted) (label_text clearance ∷ label_text shown ∷ []) w.1.1.0,
-      split_spaced (label_text clearance) (label_text shown ∷ []) w.1.1.1.0,
-      split_spaced (label_text shown) [] w.1.1.1.1.0,
+      split_spaced (decimal container) (decimal gate ∷ label_text wanted ∷ label_text clearance ∷ label_text verify ∷ []) w.0,
+      split_spaced (decimal gate) (label_text wanted ∷ label_text clearance ∷ label_text verify ∷ []) w.1.0,
+      split_spaced (label_text wanted) (label_text clearance ∷ label_text verify ∷ []) w.1.1.0,
+      split_spaced (label_text clearance) (label_text verify ∷ []) w.1.1.1.0,
+      split_spaced (label_text verify) [] w.1.1.1.1.0,
       number_again container p.0,
       number_again gate p.1,
       label_again wanted p.2,
       label_again clearance p.3,
-      label_again shown p.4,
+      label_again verify p.4,
     ) refl
 call_again (Read container segment) p w =
     rw (

@@ -172,8 +172,8 @@ enter_right words =
     after (number_in a.0) _ (number_right a.0)
     (λ container p0. after (number_in b.0) _ (number_right b.0)
     (λ gate p1. after (label_in c.0) _ (label_right c.0)
-    (λ wanted p2. after (label_in d.0) _ (label_right d.0) (λ clearance p3. after (label_in f.0) _ (label_right f.0) (λ shown p4.
-    value (Enter container gate wanted clearance shown) (p0, p1, p2, p3, p4)))))))))))
+    (λ wanted p2. after (label_in d.0) _ (label_right d.0) (λ clearance p3. after (label_in f.0) _ (label_right f.0) (λ verify p4.
+    value (Enter container gate wanted clearance verify) (p0, p1, p2, p3, p4)))))))))))
 
 write_right : (words : Option (List ℕ)) → Has IsReadable (write_in words)
 unfolding write_in

@@ -75,7 +75,7 @@ call_name (MakeSegment container label bytes) = codes "make_segment"
 call_name (MakeContainer container label) = codes "make_container"
 call_name (MakeThread container label clearance) = codes "make_thread"
 call_name (MakeGate container label clearance entry) = codes "make_gate"
-call_name (Enter container gate wanted clearance shown) = codes "enter"
+call_name (Enter container gate wanted clearance verify) = codes "enter"
 call_name (Read container segment) = codes "read"
 call_name (Write container segment keep bytes) = codes "write"
 call_name (Unlink container object) = codes "unlink"
@@ -91,8 +91,8 @@ call_words (MakeSegment container label bytes) = number_word container ++ label_
 call_words (MakeContainer container label) = number_word container ++ label_word label
 call_words (MakeThread container label clearance) = number_word container ++ label_word label ++ label_word clearance
 call_words (MakeGate container label clearance entry) = number_word container ++ label_word label ++ label_word clearance ++ entry_word entry
-call_words (Enter container gate wanted clearance shown) =
-    number_word container ++ number_word gate ++ label_word wanted ++ label_word clearance ++ label_word shown
+call_words (Enter container gate wanted clearance verify) =
+    number_word container ++ number_word gate ++ label_word wanted ++ label_word clearance ++ label_word verify
 call_words (Read container segment) = number_word container ++ number_word segment
 call_words (Write container segment keep bytes) = number_word container ++ number_word segment ++ number_word keep ++ bytes_word bytes
 call_words (Unlink container object) = number_word container ++ number_word object

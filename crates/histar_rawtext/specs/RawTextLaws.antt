@@ -32,8 +32,8 @@ IsWritable (MakeSegment container label bytes) = IsNumber container × IsWritabl
 IsWritable (MakeContainer container label) = IsNumber container × IsWritableLabel label
 IsWritable (MakeThread container label clearance) = IsNumber container × IsWritableLabel label × IsWritableLabel clearance
 IsWritable (MakeGate container label clearance entry) = IsNumber container × IsWritableLabel label × IsWritableLabel clearance × IsWritableEntry entry
-IsWritable (Enter container gate wanted clearance shown) =
-    IsNumber container × IsNumber gate × IsWritableLabel wanted × IsWritableLabel clearance × IsWritableLabel shown
+IsWritable (Enter container gate wanted clearance verify) =
+    IsNumber container × IsNumber gate × IsWritableLabel wanted × IsWritableLabel clearance × IsWritableLabel verify
 IsWritable (Read container segment) = IsNumber container × IsNumber segment
 IsWritable (Write container segment keep bytes) = IsNumber container × IsNumber segment × IsNumber keep
 IsWritable (Unlink container object) = IsNumber container × IsNumber object

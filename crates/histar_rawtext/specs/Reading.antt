@@ -155,8 +155,8 @@ enter_in words = do
   gate ← number_in b.0
   wanted ← label_in c.0
   clearance ← label_in d.0
-  shown ← label_in e.0
-  Some (Enter container gate wanted clearance shown)
+  verify ← label_in e.0
+  Some (Enter container gate wanted clearance verify)
 
 -- a container, a segment in it, the number of its bytes that are kept, and bytes
 unfoldable pub write_in : Option (List ℕ) → Option RawCall

@@ -70,11 +70,11 @@ fn push_words(line: &mut Vec<u8>, call: &RawCall) -> Result<(), AllocError>
             push_label_word(line, clearance.label())?;
             push_entry_word(line, *entry)
         }
-        RawCall::Enter(container, gate, wanted, clearance, shown) => {
+        RawCall::Enter(container, gate, wanted, clearance, verify) => {
             push_pair(line, *container, *gate)?;
             push_label_word(line, wanted.label())?;
             push_label_word(line, clearance.label())?;
-            push_label_word(line, shown.label())
+            push_label_word(line, verify.label())
         }
         RawCall::Read(container, segment) => push_pair(line, *container, *segment),
         RawCall::Write(container, segment, keep, bytes) => {

@@ -81,13 +81,13 @@ fn read_enter(alloc: Global, words: Option<&[u8]>) -> Result<RawCall, Unread>
     let (gate, words) = next_word(words)?;
     let (wanted, words) = next_word(words)?;
     let (clearance, words) = next_word(words)?;
-    let (shown, _) = next_word(words)?;
+    let (verify, _) = next_word(words)?;
     Ok(RawCall::Enter(
         read_object(container)?,
         read_object(gate)?,
         read_handed(alloc, wanted)?,
         read_handed(alloc, clearance)?,
-        read_handed(alloc, shown)?,
+        read_handed(alloc, verify)?,
     ))
 }
 

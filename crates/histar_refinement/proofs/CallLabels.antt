@@ -29,7 +29,7 @@ use Rattle.histar_layout.proofs.LabelLevels.{at_owning, owning_level}
 use Rattle.histar_refinement.proofs.CategoryTests.{among_none, is_in_names}
 use Rattle.histar_refinement.proofs.ClassTests.{owns_read_of}
 use Rattle.histar_refinement.proofs.GateLabels.{user_reads, user_writes, group_reads, group_writes, owned_is}
-use Rattle.histar_refinement.proofs.SessionLemmas.{is_number}
+use Rattle.histar_refinement.proofs.AccountLemmas.{is_number}
 use Rattle.histar_layout.proofs.Declared.{group_range, user_range, equal_tested, equal_names}
 
 -- looking up a user and testing a password by equal bytes is the test of equality

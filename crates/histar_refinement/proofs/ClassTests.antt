@@ -21,7 +21,7 @@ use Rattle.histar_layout.proofs.Members.{mapped_from}
 use Rattle.histar_refinement.proofs.CategoryTests.{among-append, among_none, among_jobs}
 use Rattle.histar_refinement.proofs.Tested.{NamesApart, observes_by_names, below_by_names}
 use Rattle.histar_refinement.specs.Accounts.{AreAccounts}
-use Rattle.histar_refinement.proofs.SessionLemmas.{is_number, is_owner, has_number, is_member_number}
+use Rattle.histar_refinement.proofs.AccountLemmas.{is_number, is_owner, has_number, is_member_number}
 
 -- among the numbers of groups
 among_groups : (f : ℕ → CategoryName) → ((k m : ℕ) → same_category (f k) (f m) ≡ nat_eq k m) → (ks : List ℕ) (k : ℕ)

@@ -3,7 +3,7 @@ pub mod Levelled
 pub mod CategoryTests
 pub mod AmongNames
 pub mod Tested
-pub mod SessionLemmas
+pub mod AccountLemmas
 pub mod ClassTests
 pub mod Growing
 pub mod MakingRanges

@@ -24,7 +24,7 @@ use Rattle.histar_refinement.specs.Labels.{class_guard, private_guard, readable_
 use Rattle.histar_layout.proofs.Members.{mapped_from}
 use Rattle.histar_refinement.proofs.CategoryTests.{among-append}
 use Rattle.histar_refinement.proofs.Tested.{cleared_exactly_by_names}
-use Rattle.histar_refinement.proofs.SessionLemmas.{is_number, has_number}
+use Rattle.histar_refinement.proofs.AccountLemmas.{is_number, has_number}
 use Rattle.histar_layout.proofs.Declared.{equal_tested}
 use Rattle.histar_refinement.proofs.ClassTests.{user_apart, group_apart, owns_read_of, owns_read_of_group, passes_other, passes_jobs, below_private}
 use Rattle.histar_refinement.proofs.ClassTests.{below_readable, below_open, below_scratch, below_group, member}

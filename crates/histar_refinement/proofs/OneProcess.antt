@@ -16,7 +16,7 @@ use Rattle.histar_refinement.specs.Labels.{process_guard, thread_rights}
 use Rattle.histar_refinement.specs.Represents.{IsProcess}
 use Rattle.histar_layout.proofs.LabelLevels.{at_owning, owning_level}
 use Rattle.histar_refinement.proofs.CategoryTests.{among_none, among_jobs, is_in_names}
-use Rattle.histar_refinement.proofs.SessionLemmas.{is_number, is_owner}
+use Rattle.histar_refinement.proofs.AccountLemmas.{is_number, is_owner}
 use Rattle.histar_layout.proofs.Declared.{equal_names}
 use Rattle.histar_refinement.proofs.ClassTests.{owns_job, owns_read_of}
 use Rattle.histar_refinement.proofs.OneChain.{one_jobs, one_chain}

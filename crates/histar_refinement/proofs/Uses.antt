@@ -32,7 +32,7 @@ use Rattle.histar_refinement.proofs.CategoryTests.{same_revealed}
 use Rattle.histar_refinement.proofs.AmongNames.{each_none, each_one, each_head, each_append}
 use Rattle.histar_layout.proofs.Members.{mapped_from}
 use Rattle.histar_refinement.proofs.Growing.{GuardHas, RightsHave, same_guard_label, same_rights_label, same_rights_clearance}
-use Rattle.histar_refinement.proofs.SessionLemmas.{has_number, from_numbers}
+use Rattle.histar_refinement.proofs.AccountLemmas.{has_number, from_numbers}
 use Rattle.histar_layout.proofs.Declared.{group_range, user_range, equal_tested}
 
 -- a name among those of jobs is a job's

@@ -29,7 +29,7 @@ use Rattle.histar_refinement.proofs.CategoryTests.{among-append, among_none, amo
 use Rattle.histar_refinement.proofs.Tested.{observes_by_names, below_by_names, cleared_by_names, rights_by_names, capped_by_names}
 use Rattle.histar_refinement.proofs.Tested.{clearances_by_names}
 use Rattle.histar_refinement.specs.Accounts.{AreAccounts}
-use Rattle.histar_refinement.proofs.SessionLemmas.{is_number}
+use Rattle.histar_refinement.proofs.AccountLemmas.{is_number}
 use Rattle.histar_refinement.proofs.ClassTests.{owns_read_of, jobs_apart, observes_class, modifies_class}
 use Rattle.histar_refinement.proofs.AmongNames.{covers, in_first, in_second, at_head, later, each_head, each_append}
 use Rattle.histar_refinement.proofs.Uses.{job_among}

@@ -36,7 +36,7 @@ use Rattle.histar_run_explain.specs.Clues.{clue_of}
 use Rattle.histar_run_explain.specs.Entries.{ExplainsEntries}
 use Rattle.histar_run_explain.specs.NamedWords.{words_at}
 use Rattle.histar_run_explain.specs.Session.{births_by, ExplainsInTurn, ExplainsCalls, ExplainsLine}
-use Rattle.histar_run_explain.specs.Run.{births_of, words_of, ExplainsRows, ExplainsTrace, ExplainsAs}
+use Rattle.histar_run_explain.specs.Run.{births_of, words_of, ExplainsCallLines, ExplainsTrace, ExplainsAs}
 use Rattle.histar_run_explain.proofs.Turns.{answers_calls}
 
 -- what the lines have done, from a machine on that represents a flat state
@@ -44,7 +44,7 @@ record IsExplainedSession (accounts : Accounts) (m : MachineModel) (f : Flat) (b
     (text : List ℕ) (end : MachineModel) : Type 0 where
   entries : List TraceEntry
   trace : end.kernel.trace ≡ m.kernel.trace ++ entries
-  refinements : ExplainsRows accounts (state m.kernel) f births calls entries text (state end.kernel)
+  refinements : ExplainsCallLines accounts (state m.kernel) f births calls entries text (state end.kernel)
 
 -- the words of a machine are those of the flat state that it represents
 module _ (accounts : Accounts) (m mid : MachineModel) (g : Flat) (asked : CallLine) (shows : Shows accounts mid g) where
@@ -97,14 +97,14 @@ accounts_explained accounts m f births (a ∷ answers) text end born h shows can
             (state h.0.kernel)) known
             (words_shown accounts m h.0 g a.call line.shows (births_by h.0 a.call births) line.entries h.1 h.4 same),
         subst (λ (b : Births).
-            ExplainsRows accounts (state h.0.kernel) g b (calls_of answers) later.entries h.2 (state end.kernel))
+            ExplainsCallLines accounts (state h.0.kernel) g b (calls_of answers) later.entries h.2 (state end.kernel))
             known later.refinements,
       );
     }
 
 -- explained lines refine their rules
 refinements_explained : (accounts : Accounts) (s : State) (f : Flat) (births : Births) (calls : List CallLine)
-    (entries : List TraceEntry) (text : List ℕ) (end : State) → ExplainsRows accounts s f births calls entries text end
+    (entries : List TraceEntry) (text : List ℕ) (end : State) → ExplainsCallLines accounts s f births calls entries text end
     → SimulatesLines accounts s f calls entries end
 refinements_explained accounts s f births [] entries text end h = (h.0, h.2)
 refinements_explained accounts s f births (asked ∷ more) entries text end h = (
@@ -131,10 +131,10 @@ module _ (script : ScriptModel) (declared : IsDeclared script.accounts) (can : A
         let explained =
         accounts_explained script.accounts start (boot script.accounts) [] all.answers text end born all.in_turn
         (start_shows script.accounts declared start starts) these in
-        let refinements : ExplainsRows script.accounts (state start.kernel) (boot script.accounts) [] script.calls
+        let refinements : ExplainsCallLines script.accounts (state start.kernel) (boot script.accounts) [] script.calls
         explained.entries text (state end.kernel) =
         subst (λ (calls : List CallLine).
-        ExplainsRows script.accounts (state start.kernel) (boot script.accounts) [] calls explained.entries text
+        ExplainsCallLines script.accounts (state start.kernel) (boot script.accounts) [] calls explained.entries text
         (state end.kernel)) all.each explained.refinements in
         let of_lines =
         refinements_explained script.accounts (state start.kernel) (boot script.accounts) [] script.calls

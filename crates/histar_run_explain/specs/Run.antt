@@ -37,19 +37,19 @@ births_of accounts after asked births = births_after after (roots_of (length acc
 
 -- The lines of a script, one after another, from a state that represents this flat state: each refines its rule, and the text
 -- explains each denied entry of it at the state before the entry, with the names of the state after the line and the births known then.
-abbrev pub ExplainsRows : Accounts → State → Flat → Births → List CallLine → List TraceEntry → List ℕ → State → Type 0
-ExplainsRows accounts s f births [] entries text end = (entries ≡ []) × (text ≡ []) × (end ≡ s)
-ExplainsRows accounts s f births (asked ∷ more) entries text end =
+abbrev pub ExplainsCallLines : Accounts → State → Flat → Births → List CallLine → List TraceEntry → List ℕ → State → Type 0
+ExplainsCallLines accounts s f births [] entries text end = (entries ≡ []) × (text ≡ []) × (end ≡ s)
+ExplainsCallLines accounts s f births (asked ∷ more) entries text end =
     (own : List TraceEntry) × (later : List TraceEntry) × (mid : State) × (lines : List ℕ) × (rest : List ℕ)
     × (entries ≡ own ++ later) × (text ≡ lines ++ rest)
     × SimulatesLine accounts s f asked own mid
     × ExplainsEntries (words_of accounts mid asked (births_of accounts mid asked births)) s own lines mid
-    × ExplainsRows accounts mid (flat_after accounts f asked.process asked.call) (births_of accounts mid asked births) more later rest end
+    × ExplainsCallLines accounts mid (flat_after accounts f asked.process asked.call) (births_of accounts mid asked births) more later rest end
 
 -- the trace is one of the script's meaning, and the text explains each denied entry of its lines
 pub record ExplainsTrace (script : ScriptModel) (trace : List TraceEntry) (text : List ℕ) : Type 0 where
   pub recorded : IsMeantTrace script trace
-  pub refinements : ExplainsRows script.accounts recorded.start (boot script.accounts) [] script.calls recorded.of_lines text recorded.end
+  pub refinements : ExplainsCallLines script.accounts recorded.start (boot script.accounts) [] script.calls recorded.of_lines text recorded.end
 
 -- What `run` writes, and then the explanations, was written as far as `Writes` says.
 pub record ExplainsAs (Writes : List ℕ → Type 0) (options : Options) (script : ScriptModel) : Type 0 where

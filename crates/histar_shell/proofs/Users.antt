@@ -28,7 +28,7 @@ use Rattle.histar_script.proofs.FormsBack.{spelled_is_call}
 use Rattle.histar_script.proofs.ScriptsBack.{found_from}
 use Rattle.histar_script.proofs.Kept.{is_declared}
 use Rattle.histar_refinement.specs.Accounts.{AreAccounts}
-use Rattle.histar_refinement.proofs.SessionLemmas.{from_members}
+use Rattle.histar_refinement.proofs.AccountLemmas.{from_members}
 use Rattle.histar_layout.proofs.Declared.{has_a_number, equal_tested, equal_names}
 use Rattle.histar_flat.specs.Calls.{IsCall}
 

@@ -60,7 +60,7 @@ use Rattle.histar_refinement.proofs.ListedFiles.{same_process_status}
 use Rattle.histar_refinement.proofs.JobLists.{never_given}
 use Rattle.histar_refinement.proofs.Making.{count_entries}
 use Rattle.histar_refinement.proofs.RawChecks.{object}
-use Rattle.histar_refinement.proofs.SessionLemmas.{not_nobody}
+use Rattle.histar_refinement.proofs.AccountLemmas.{not_nobody}
 use Rattle.histar_refinement.proofs.Wrapping as wrapping
 use Rattle.histar_refinement.proofs.Wrapping.{Wrapper}
 use Rattle.histar_sim.specs.Simulation.{IsReady}

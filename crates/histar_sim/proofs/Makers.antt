@@ -22,7 +22,7 @@ use Rattle.histar_refinement.specs.Accounts.{AreAccounts}
 use Rattle.histar_refinement.specs.Guards.{Guard, guard_label, rights_label}
 use Rattle.histar_refinement.specs.Labels.{class_guard, private_guard, readable_guard, scratch_guard, group_guard, open_guard, thread_rights}
 use Rattle.histar_refinement.specs.Processes.{or_zero}
-use Rattle.histar_refinement.proofs.SessionLemmas.{no_member, is_number, not_nobody}
+use Rattle.histar_refinement.proofs.AccountLemmas.{no_member, is_number, not_nobody}
 use Rattle.histar_layout.proofs.Declared.{user_range, equal_tested}
 use Rattle.histar_refinement.proofs.ClassTests.{member as is_member_of}
 use Rattle.histar_refinement.proofs.JobLabels.{jobs_are, none_if_free}

@@ -32,7 +32,7 @@ use Rattle.histar_refinement.proofs.Growing.{RightsHave, IsOld, same_numbers, sa
 use Rattle.histar_refinement.proofs.JobLabels.{jobs_are}
 use Rattle.histar_refinement.proofs.Levelled.{same_guarded}
 use Rattle.histar_layout.proofs.Members.{is_in, is_in-append}
-use Rattle.histar_refinement.proofs.SessionLemmas.{is_number}
+use Rattle.histar_refinement.proofs.AccountLemmas.{is_number}
 use Rattle.histar_layout.proofs.Declared.{user_range}
 use Rattle.histar_refinement.proofs.Tested.{guard_made, guard_owns_nothing}
 use Rattle.histar_refinement.proofs.Uses.{job_among, class_used, rights_used}
