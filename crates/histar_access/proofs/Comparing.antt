@@ -13,9 +13,7 @@ use Rattle.histar_io.specs.Input.{TakesAll, TakesSome, is_read_failed as fails_t
 use Rattle.histar_io.specs.Writing.{AppendsFront}
 use Rattle.histar_script.specs.declared.fault.Fault.{Fault}
 use Rattle.histar_script.specs.declared.fault.Fault.TheVariants.{BadScript, TooLong, OutOfMemory, ReadFailed, WriteFailed}
-use Rattle.histar_script.specs.Script.{ScriptModel}
-use Rattle.histar_script.specs.Outcome.{Gives, input_fault}
-use Rattle.histar_script.specs.Reading.{script_of}
+use Rattle.histar_script.specs.Outcome.{input_fault}
 use Rattle.histar_script.specs.Runs.{IsOutputFault, is_read_failed}
 use Rattle.histar_diff.specs.declared.differences.Difference.{Difference}
 use Rattle.histar_diff.specs.declared.table.Table.{Table}
@@ -24,12 +22,10 @@ use Rattle.histar_diff.specs.Tables.{IsTable}
 use Rattle.histar_diff.specs.Texts.{differences_text}
 use Rattle.histar_diff.proofs.Changes.{differences_are_changes}
 use Rattle.histar_diff.proofs.ShownTables.{shown_tables_rise}
-use Rattle.histar_shell.specs.Machine.{MachineModel}
 use Rattle.histar_access.specs.Diff.{AreChangesOf, BeginsChanges, ChangesAtFault, ComparesInputs, ComparesTaken, ComparesTexts}
 use Rattle.histar_access.specs.Diff.{CountsOneFailure, Inputs, IsFaultOf, IsTableOf, Scripts, StopsAtInput, both_read, scripts_of}
 use Rattle.histar_access.specs.Diff.{WritesChanges}
-use Rattle.histar_access.specs.RightsTable.{ShowsTable}
-use Rattle.histar_access.specs.Session.{IsMachineOf, calls_before, state_before}
+use Rattle.histar_access.specs.Session.{calls_before}
 use Rattle.histar_access.proofs.Runs.{same_script}
 
 -- the result of `diff`
@@ -38,15 +34,6 @@ Answer = Result Bool Fault
 
 module _ (at : Option ℕ) where
   -- ---- tables
-
-  -- the table of a machine that ran a script is that of the text
-  pub table_is : (text : List ℕ) (m : MachineModel) (t : Table) → IsMachineOf at text m → ShowsTable m t → IsTableOf at text t
-  table_is text m t is shows = record {
-    script = is.script;
-    is_read = is.is_read;
-    shows = shows is.script.accounts
-        (state_before at is.script) is.shows is.named;
-  }
 
   -- the table of a text is in order
   pub table_rises : (text : List ℕ) (t : Table) → IsTableOf at text t → IsTable t
@@ -58,23 +45,6 @@ module _ (at : Option ℕ) where
     -- the contract if memory runs out before anything was written
     pub no_memory : ComparesTexts at a b w w (Err OutOfMemory)
     no_memory = record { faults = tt; writes = inl (Keeps-refl w) }
-
-    -- the contract for a fault of the old text
-    pub old_fault : (f : Fault) → Gives {A = ScriptModel} (Err f) (script_of a) → ComparesTexts at a b w w (Err f)
-    old_fault (BadScript n) given = record { faults = ap (λ (r : Result ScriptModel Fault). both_read r (script_of b)) given; writes = Keeps-refl w }
-    old_fault TooLong given = record { faults = ap (λ (r : Result ScriptModel Fault). both_read r (script_of b)) given; writes = Keeps-refl w }
-    old_fault OutOfMemory given = no_memory
-    old_fault ReadFailed given = absurd given
-    old_fault WriteFailed given = absurd given
-
-    -- the contract for a fault of the new text, if the old one is a script
-    pub new_fault : (old : ScriptModel) → script_of a ≡ Ok old → (f : Fault) → Gives {A = ScriptModel} (Err f) (script_of b)
-        → ComparesTexts at a b w w (Err f)
-    new_fault old is (BadScript n) given = record { faults = λ i. both_read (is i) (given i); writes = Keeps-refl w }
-    new_fault old is TooLong given = record { faults = λ i. both_read (is i) (given i); writes = Keeps-refl w }
-    new_fault old is OutOfMemory given = no_memory
-    new_fault old is ReadFailed given = absurd given
-    new_fault old is WriteFailed given = absurd given
 
   -- ---- two tables
 

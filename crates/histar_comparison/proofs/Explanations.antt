@@ -1,12 +1,10 @@
 -- What was seen of two runs is what they print where their script's verdict says that they differ.
-use Rattle.std.proofs.Common.{◌≡◌, ℕ, List, [], ◌∷◌, map, Result, Ok, Err, refl, sym, ap, ◌∙◌}
+use Rattle.std.proofs.Common.{◌≡◌, ℕ, List, [], ◌∷◌, map, Result, Ok, refl, sym, ap, ◌∙◌}
 use Rattle.std.specs.Prelude.{◌==◌, if◌then◌else◌}
 use Rattle.histar_flat.specs.Words.{ProcName}
 use Rattle.histar_flat.specs.Texts.{reply_text}
 use Rattle.histar_flat.specs.Meaning.{RepliedCall, meaning, without}
 use Rattle.histar_script.specs.declared.fault.Fault.{Fault}
-use Rattle.histar_script.specs.declared.fault.Fault.TheVariants.{BadScript, TooLong, OutOfMemory, ReadFailed, WriteFailed}
-use Rattle.histar_script.specs.Outcome.{Gives}
 use Rattle.histar_script.specs.Script.{ScriptModel}
 use Rattle.histar_script.specs.Reading.{script_of}
 use Rattle.histar_noninterference.specs.declared.verdict.Verdict.{Verdict}
@@ -19,23 +17,6 @@ use Rattle.histar_comparison.specs.Replies.{no_replies}
 use Rattle.histar_comparison.specs.Compared.{comparison, verdict_of}
 use Rattle.histar_comparison.specs.Explained.{explanation, explanation_of, kept_on, printed_of, reply_on, seen_of}
 use Rattle.histar_comparison.proofs.Verdicts.{kept, ok_inner}
-
--- a fault that is no answer of this kind is none of that kind
-pub fault_again : {A B : Type 0} (fault : Fault) (a : A) (b : B) → Gives {A = A} (Err fault) (Ok a) → Gives {A = B} (Err fault) (Ok b)
-fault_again (BadScript n) a b e = absurd cc
-fault_again TooLong a b e = absurd cc
-fault_again OutOfMemory a b e = tt
-fault_again ReadFailed a b e = e
-fault_again WriteFailed a b e = e
-
--- the fault of a text that is no script is that of what is made of its script
-pub fault_passes : {B : Type 0} (f : Result ScriptModel Fault → Result B Fault) → ((fault : Fault) → f (Err fault) ≡ Err fault)
-    → (fault : Fault) (read : Result ScriptModel Fault) → Gives {A = ScriptModel} (Err fault) read → Gives {A = B} (Err fault) (f read)
-fault_passes f passes (BadScript n) read e = ap f e ∙ passes (BadScript n)
-fault_passes f passes TooLong read e = ap f e ∙ passes TooLong
-fault_passes f passes OutOfMemory read e = tt
-fault_passes f passes ReadFailed read e = e
-fault_passes f passes WriteFailed read e = e
 
 module _ (job : ProcName) where
   -- the reply that was kept is the one that is printed

@@ -24,11 +24,6 @@ jobs_cons : (a : RepliedCall) (answers : List RepliedCall) (o : Option ProcName)
 jobs_cons a answers None e = rw e refl
 jobs_cons a answers (Some job) e = rw e refl
 
--- the job of one answer
-pub job_of_one : (a : RepliedCall) (o : Option ProcName) → job_started (is_wrap a.call.call) a.reply ≡ o → jobs_started (a ∷ []) ≡ one_job o
-job_of_one a None e = jobs_cons a [] None e
-job_of_one a (Some job) e = jobs_cons a [] (Some job) e
-
 -- the jobs of one answer more
 jobs_more : (answers : List RepliedCall) (a : RepliedCall) → jobs_started (answers ++ a ∷ []) ≡ jobs_started answers ++ jobs_started (a ∷ [])
 jobs_more [] a = refl

@@ -1,10 +1,10 @@
 -- Files one after another: their tests, and the text that is written of them.
 use Rattle.std.proofs.Common.{◌≡◌, ℕ, ◌+◌, ◌<◌, Bool, true, false, List, [], ◌∷◌, ◌++◌, length, take, drop, get_or, Option, Result, Ok, Err, ◌&&◌}
-use Rattle.std.proofs.Common.{refl, sym, ap, ◌∙◌, subst, append-nil, append_assoc, arith, inl, inr, add-zero, length-append, take-append-drop}
+use Rattle.std.proofs.Common.{refl, sym, ap, ◌∙◌, subst, append-nil, append_assoc, arith, inr, add-zero, length-append, take-append-drop}
 use Rattle.std.specs.Prelude.{IfErr, IfOk, OnErr, OnOk, map}
 use Rattle.std.specs.List.{AllZip, flat_map, list_all}
 use Rattle.std.specs.Io.KnownBytes.{Appends}
-use Rattle.std.proofs.KnownBytes.{Appends-nil, Appends-trans, Keeps-refl}
+use Rattle.std.proofs.KnownBytes.{Appends-nil, Appends-trans}
 use Rattle.std.proofs.lemmas.List.{drop_more, map-append, take_more}
 use Rattle.std.proofs.lemmas.Slice.Zip.{all_zipped_more}
 use Rattle.std.proofs.lemmas.List.Folds.{list_all-append}
@@ -13,7 +13,7 @@ use Rattle.histar_io.specs.Writing.{AppendsFront}
 use Rattle.histar_script.specs.declared.fault.Fault.{Fault}
 use Rattle.histar_script.specs.declared.fault.Fault.TheVariants.{BadScript, TooLong, OutOfMemory, ReadFailed, WriteFailed}
 use Rattle.histar_script.specs.Outcome.{Gives}
-use Rattle.histar_script.specs.Runs.{IsOutputFault, LeavesSink, is_write_failed}
+use Rattle.histar_script.specs.Runs.{IsOutputFault, LeavesSink}
 use Rattle.histar_shell.proofs.AnswerLemmas.{front_after}
 use Rattle.histar_shell.proofs.RunLemmas.{sink_called}
 use Rattle.histar_test.specs.declared.running.Tally.{Tally}
@@ -262,22 +262,6 @@ files_tested (Err WriteFailed) files tests each are = record {
   appended = are.begun;
   holds = tt;
 }
-
--- the fault of a file that is no test is returned, and nothing written
-pub files_unread : (fault : Fault) (files : List TestFile) (w : Option (List ℕ)) → ReadsFiles files (Err fault) → TestsFiles files w w (Err fault)
-files_unread (BadScript n) files w reads = (reads, Keeps-refl w)
-files_unread TooLong files w reads = (reads, Keeps-refl w)
-files_unread OutOfMemory files w reads = inl (Keeps-refl w)
-files_unread ReadFailed files w reads = absurd reads
-files_unread WriteFailed files w reads = absurd reads
-
--- no write has failed then
-pub unread_unwritten : (fault : Fault) (files : List TestFile) → ReadsFiles files (Err fault) → is_write_failed {A = Bool} (Err fault) ≡ false
-unread_unwritten (BadScript n) files reads = refl
-unread_unwritten TooLong files reads = refl
-unread_unwritten OutOfMemory files reads = refl
-unread_unwritten ReadFailed files reads = refl
-unread_unwritten WriteFailed files reads = absurd reads
 
 -- the sink after the tests were run is as the contract says
 pub sink_after : {W : Type 0} (old new : W) (result : Result Bool Fault) → IfErr result IsOutputFault → IfErr result (LeavesSink old new)

@@ -134,13 +134,6 @@ nothing_counted old new wanted none machine last tally =
     text_taken old new wanted machine last
     (tally ∙ tally_none old.tally ∙ ap (λ (l : Option Made). tally_with old.tally (reply_check l wanted)) (sym none))
 
--- a call writes nothing
-pub call_written : (file : List ℕ) (old : Run) (call : CallLine) (said : List ℕ) (w : Option (List ℕ)) → WritesStep file old (Makes call said) w w
-call_written file old call said w accounts f shows = Appends-nil w
-
-pub call_begun : (file : List ℕ) (old : Run) (call : CallLine) (said : List ℕ) (w : Option (List ℕ)) → BeginsStep file old (Makes call said) w w
-call_begun file old call said w accounts f shows = (_, sent_none w [])
-
 -- before a question is asked nothing of it is written
 pub rights_unwritten : (file : List ℕ) (old : Run) (q : Question) (w : Option (List ℕ)) → BeginsStep file old (Asks q) w w
 rights_unwritten file old q w accounts f shows = (_, sent_none w _)
@@ -153,15 +146,6 @@ after_ok (Err fault) holds p = tt
 pub after_err : {P Q : Type 0} → (r : Result (Unit {0}) Fault) → (P → Q) → OnErr r P → OnErr r Q
 after_err (Ok done) holds p = tt
 after_err (Err fault) holds p = holds p
-
--- what always holds, holds of a result without a fault
-pub always_ok : {Q : Type 0} → (r : Result (Unit {0}) Fault) → Q → OnOk r Q
-always_ok (Ok done) q = q
-always_ok (Err fault) q = tt
-
-pub always_err : {Q : Type 0} → (r : Result (Unit {0}) Fault) → Q → OnErr r Q
-always_err (Ok done) q = tt
-always_err (Err fault) q = q
 
 -- ---- steps one after another
 

@@ -1,17 +1,13 @@
 -- The steps of lines, one line after another.
-use Rattle.std.proofs.Common.{◌≡◌, ℕ, ◌+◌, ◌<◌, ◌≤◌, Bool, true, false, ltb, List, [], ◌∷◌, ◌++◌, length, Option, Some, None, Result, Ok, Err}
-use Rattle.std.proofs.Common.{refl, sym, ap, ◌∙◌, append-nil, append_assoc, inl, inr, rules, tests}
-use Rattle.std.proofs.lemmas.Bool.{cases_lt}
+use Rattle.std.proofs.Common.{◌≡◌, ℕ, ◌+◌, ◌<◌, Bool, true, ltb, List, [], ◌∷◌, ◌++◌, length, Option, Some, None, Result, Ok, Err}
+use Rattle.std.proofs.Common.{refl, sym, ap, ◌∙◌, append-nil, append_assoc, rules, tests}
 use Rattle.histar_script.specs.declared.fault.Fault.{Fault}
 use Rattle.histar_script.specs.declared.fault.Fault.TheVariants.{BadScript, TooLong, OutOfMemory, ReadFailed, WriteFailed}
 use Rattle.histar_script.specs.Lines.{is_too_long, lines_of, most_script_bytes}
-use Rattle.histar_script.specs.Outcome.{Gives}
-use Rattle.histar_script.specs.Reading.{script_of}
-use Rattle.histar_script.specs.Script.{ScriptModel}
 use Rattle.histar_script.proofs.LineLemmas.{no_lines}
 use Rattle.histar_test.specs.declared.steps.Step.{Step}
-use Rattle.histar_test.specs.Steps.{AddsLine, GivesStep, GivesSteps, TakesLine, Test, open_after, step_of, step_then, steps_before, steps_by}
-use Rattle.histar_test.specs.Steps.{steps_from, test_by}
+use Rattle.histar_test.specs.Steps.{AddsLine, GivesStep, TakesLine, open_after, step_of, step_then, steps_before, steps_by}
+use Rattle.histar_test.specs.Steps.{steps_from}
 
 -- the result of reading steps
 abbrev pub Read : Type 0
@@ -80,10 +76,6 @@ read_as is same = is ∙ ap (λ (o : Option Step). let read : Result (Option Ste
 pub record IsSoFar (all : Read) (n : ℕ) (is_open : Bool) (lines : List (List ℕ)) (steps : List Step) : Type 0 where
   pub so_far : all ≡ steps_before steps (steps_from n is_open lines)
 
--- this holds before the first line
-pub none_so_far : (lines : List (List ℕ)) → IsSoFar (steps_from 1 false lines) 1 false lines []
-none_so_far lines = record { so_far = sym (none_before (steps_from 1 false lines)) }
-
 -- this holds after a line was taken
 pub went_on : {all : Read} {n : ℕ} {is_open is_open_after : Bool} {line : List ℕ} {lines : List (List ℕ)} {old new : List Step}
     → (rest : List (List ℕ)) → lines ≡ line ∷ rest → IsSoFar all n is_open lines old → AddsLine n is_open line old new is_open_after
@@ -95,18 +87,6 @@ went_on {all = all} {n = n} {is_open = is_open} {is_open_after = is_open_after} 
           is.so_far ∙ ap (λ (l : List (List ℕ)). steps_before old (steps_from n is_open l)) parts ∙ ap (steps_before old) (adds.goes_on rest)
           ∙ before_before old adds.added later ∙ ap (λ (steps : List Step). steps_before steps later) (sym adds.steps);
     }
-
--- a line that was not taken is the first bad one
-pub not_taken : {all : Read} {n : ℕ} {is_open : Bool} {lines : List (List ℕ)} {old : List Step} → (fault : Fault) (line : List ℕ)
-    (rest : List (List ℕ)) (new : List Step) → lines ≡ line ∷ rest → IsSoFar all n is_open lines old
-    → TakesLine n is_open line old new (Err fault) → GivesSteps (Err fault) all
-not_taken {n = n} {is_open = is_open} {old = old} (BadScript k) line rest new parts is bad =
-    is.so_far ∙ ap (λ (l : List (List ℕ)). steps_before old (steps_from n is_open l)) parts ∙ ap (steps_before old) (bad.1 rest)
-    ∙ ap (λ (m : ℕ). let read : Read = Err m in read) (sym bad.0)
-not_taken TooLong line rest new parts is bad = absurd bad
-not_taken OutOfMemory line rest new parts is bad = tt
-not_taken ReadFailed line rest new parts is bad = absurd bad
-not_taken WriteFailed line rest new parts is bad = absurd bad
 
 -- at the end all steps were read
 pub all_read : {all : Read} {n : ℕ} {is_open : Bool} {steps : List Step} → (rest : List ℕ) → length rest ≡ 0
@@ -121,32 +101,3 @@ all_read {n = n} {is_open = is_open} {steps = steps} rest none is =
 -- a text of more bytes than a script may have is too long
 too_long : (text : List ℕ) → most_script_bytes < length text → is_too_long text ≡ true
 too_long text lt = let e : ltb most_script_bytes (length text) ≡ true = search (rules, tests) in rw e refl
-
--- a script has no more bytes than a script may have
-pub is_short : (text : List ℕ) (script : ScriptModel) → script_of text ≡ Ok script → length text ≤ most_script_bytes
-is_short text script is =
-    elim (cases_lt most_script_bytes (length text)) [
-      | inl lt ↦
-          let long : script_of text ≡ Err TooLong = rw (too_long text lt) refl in
-          let no : ⊥ = cc in
-          absurd no
-      | inr le ↦ le
-    ]
-
--- the fault of a script
-pub script_fault : (f : Fault) (script : Result ScriptModel Fault) (steps : Read) → Gives {A = ScriptModel} (Err f) script
-    → Gives {A = Test} (Err f) (test_by script steps)
-script_fault (BadScript n) script steps given = ap (λ (s : Result ScriptModel Fault). test_by s steps) given
-script_fault TooLong script steps given = ap (λ (s : Result ScriptModel Fault). test_by s steps) given
-script_fault OutOfMemory script steps given = tt
-script_fault ReadFailed script steps given = absurd given
-script_fault WriteFailed script steps given = absurd given
-
--- the fault of a line whose step is bad
-pub steps_fault : (f : Fault) (script : ScriptModel) (read : Result ScriptModel Fault) (steps : Read) → read ≡ Ok script → GivesSteps (Err f) steps
-    → Gives {A = Test} (Err f) (test_by read steps)
-steps_fault (BadScript n) script read steps is bad = λ i. test_by (is i) (bad i)
-steps_fault TooLong script read steps is bad = absurd bad
-steps_fault OutOfMemory script read steps is bad = tt
-steps_fault ReadFailed script read steps is bad = absurd bad
-steps_fault WriteFailed script read steps is bad = absurd bad

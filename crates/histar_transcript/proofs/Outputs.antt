@@ -1,36 +1,15 @@
 -- The outputs of runs, and the transcripts that are written of them.
-use Rattle.std.proofs.Common.{◌≡◌, ℕ, List, Option, None, Some, Result, Ok, Err, refl, true, false, subst, ◌⊎◌, inl, inr}
+use Rattle.std.proofs.Common.{◌≡◌, ℕ, List, Option, None, Some, Result, Ok, Err, refl, true, false, ◌⊎◌, inl, inr}
 use Rattle.std.specs.Prelude.{Bool, IfSome, IsOk}
 use Rattle.std.specs.Io.KnownBytes.{Keeps}
 use Rattle.histar_script.specs.declared.fault.Fault.{Fault}
 use Rattle.histar_script.specs.declared.fault.Fault.TheVariants.{BadScript, TooLong, OutOfMemory, ReadFailed, WriteFailed}
-use Rattle.histar_script.specs.Script.{ScriptModel}
 use Rattle.histar_script.specs.Reading.{script_of}
-use Rattle.histar_script.specs.Runs.{RunsInput, is_read_failed, is_write_failed}
+use Rattle.histar_script.specs.Runs.{RunsInput}
 use Rattle.histar_script.proofs.Inputs.{AreLong, input_known}
 use Rattle.histar_run_explain.proofs.Outputs.{not_long}
 use Rattle.histar_shell.specs.declared.session.Options.{Options}
-use Rattle.histar_shell.specs.Outcome.{IsFaultAt}
 use Rattle.histar_transcript.specs.Session.{GivesOutput, IsOutput, WritesTranscript}
-use Rattle.histar_run_explain.specs.Output.{in_memory}
-
--- a fault of the run is the script's, or memory ran out
-pub fault_given : (options : Options) (explain : Bool) (text : List ℕ) (fault : Fault) → IsFaultAt (script_of text) fault
-    → GivesOutput options explain text (Err (in_memory fault))
-fault_given options explain text (BadScript n) h = h
-fault_given options explain text TooLong h = h
-fault_given options explain text OutOfMemory h = tt
-fault_given options explain text ReadFailed h = tt
-fault_given options explain text WriteFailed h = tt
-
--- no device fails if it is memory
-pub no_device_failed : (options : Options) (explain : Bool) (text : List ℕ) (fault : Fault) → GivesOutput options explain text (Err fault)
-    → (is_read_failed {A = Unit {0}} (Err fault) ≡ false) × (is_write_failed {A = Unit {0}} (Err fault) ≡ false)
-no_device_failed options explain text (BadScript n) h = (refl, refl)
-no_device_failed options explain text TooLong h = (refl, refl)
-no_device_failed options explain text OutOfMemory h = (refl, refl)
-no_device_failed options explain text ReadFailed h = absurd h
-no_device_failed options explain text WriteFailed h = absurd h
 
 -- known bytes stay as they are
 kept : (known : Option (List ℕ)) → Keeps known known

@@ -1,5 +1,5 @@
 -- Lists that are made item by item, and the classes on the way to a path.
-use Rattle.std.proofs.Common.{◌≡◌, ℕ, zero, suc, ◌+◌, ◌<◌, ◌≤◌, List, [], ◌∷◌, ◌++◌, Option, Some, None, Result, Ok, Err, drop, take, length, get_or}
+use Rattle.std.proofs.Common.{◌≡◌, ℕ, zero, suc, ◌+◌, ◌<◌, List, [], ◌∷◌, ◌++◌, Option, Some, None, Result, Ok, Err, take, length, get_or}
 use Rattle.std.proofs.Common.{arith, sym, ap, ◌∙◌, refl}
 use Rattle.std.specs.Prelude.{map, option_map, slice_get, IfOk}
 use Rattle.std.specs.List.{cons_option, filter_map}
@@ -7,11 +7,10 @@ use Rattle.std.proofs.lemmas.List.{map-append, take_more}
 use Rattle.std.proofs.lemmas.List.Elements.{filter_map-append}
 use Rattle.std.proofs.lemmas.Option.{none-some, same_Some}
 use Rattle.histar_flat.specs.declared.calls.User.{User}
-use Rattle.histar_flat.specs.Words.{Name, Path}
+use Rattle.histar_flat.specs.Words.{Name}
 use Rattle.histar_layout.specs.UserTable.{called}
 use Rattle.histar_secrecy.specs.declared.role.Member.{Member}
-use Rattle.histar_readout.specs.declared.tree.TreeNode.{TreeNode}
-use Rattle.histar_trust.specs.Findings.{Runner, class_there, classes_to, node_at, runner_of}
+use Rattle.histar_trust.specs.Findings.{Runner, runner_of}
 
 -- the items so far with one more
 pub kept_more : {X Y : Type 0} (h : X → Option Y) (xs : List X) (i : ℕ) (x : X) → i < length xs → x ≡ get_or xs i x
@@ -44,16 +43,6 @@ pub names_more : (users : List User) (i : ℕ) (name : Name) (new old : List Nam
 names_more users i name new old e before pushed =
     pushed ∙ ap (λ (names : List Name). names ++ name ∷ []) before ∙ sym (named_suc users i name e)
     ∙ ap (λ n. take n (map (λ (u : User). u.name) users)) (let s : suc i ≡ i + 1 = omega arith in s)
-
--- the classes to a path are the class of what is there, and those to its directory
-pub classes_rest : (tree : List TreeNode) (names : Path) → 1 ≤ length names → classes_to tree names
-    ≡ class_there (node_at names tree) ++ classes_to tree (drop 1 names)
-classes_rest tree [] some = absurd (omega (arith, some))
-classes_rest tree (n ∷ d) some = refl
-
-pub classes_last : (tree : List TreeNode) (names : Path) → length names < 1 → classes_to tree names ≡ class_there (node_at names tree)
-classes_last tree [] none = refl
-classes_last tree (n ∷ d) none = absurd (omega (arith, none))
 
 -- what holds of a value that was made follows from what is stronger
 pub made_so : {A E : Type 0} {P Q : A → Type 0} (r : Result A E) → ((x : A) → P x → Q x) → IfOk r P → IfOk r Q
