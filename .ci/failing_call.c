@@ -3,7 +3,7 @@
 // FAILING_CALL is the kind of the call, `allocation`, `read` or `write` (to standard output), and FAILING_NUMBER the number of
 // the one that fails, from 1 on. Once it is reached there is a file of the name FAILING_NOTE, by which the caller knows that
 // the program makes as many. With FAILING_STAYS all later ones fail too, with FAILING_SILENTLY a write that fails takes nothing
-// and tells no error, and with FAILING_PIECES every read and write moves one byte.
+// and reports no error, and with FAILING_PIECES every read and write moves one byte.
 #define _GNU_SOURCE
 #include <dlfcn.h>
 #include <errno.h>
@@ -15,7 +15,7 @@
 
 static unsigned long count;
 
-// Whether this call, of this kind, fails.
+// Says whether this call, of this kind, fails.
 static int fails(const char *kind) {
     const char *wanted = getenv("FAILING_CALL");
     const char *number = getenv("FAILING_NUMBER");
@@ -33,7 +33,7 @@ static int fails(const char *kind) {
     return 1;
 }
 
-// How many bytes a read or a write is to move at most.
+// Returns how many bytes a read or a write moves at most.
 static size_t piece(size_t size) {
     return size > 1 && getenv("FAILING_PIECES") ? 1 : size;
 }

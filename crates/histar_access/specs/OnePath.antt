@@ -23,8 +23,7 @@ use Rattle.histar_access.specs.Cells.{cell_below}
 -- the directory at the one target lists this name, and its entry leads to the other target
 abbrev pub Lists : State → Target → Name → Target → Type 0
 Lists s (File file) name target = ⊥
-Lists s (Directory container listing) name target =
-    (dir : Entries) × IsDirectory (bytes_in (s.objects listing)) dir × (map.get dir name ≡ Some target)
+Lists s (Directory container listing) name target = (dir : Entries) × IsDirectory (bytes_in (s.objects listing)) dir × (map.get dir name ≡ Some target)
 
 -- the target that was found is where the entry of the name leads, and nothing was found exactly if there is no entry
 abbrev pub FindsEntry : State → Target → Name → Option Target → Type 0

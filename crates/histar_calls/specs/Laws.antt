@@ -23,8 +23,7 @@ use Rattle.histar_calls.specs.StatCall.{stat_program}
 -- After this denial the program's reply is EACCES exactly if it was by label, EPERM exactly if it was by range; until then it only gives
 -- the thread labels, and stops where that is denied.
 abbrev pub RepliesToDenial : Denied → Program → Type 0
-RepliesToDenial denied (Answers reply) =
-    (is_label_refusal (Some denied) ≡ is_no_access reply) × (is_range_refusal (Some denied) ≡ is_no_permission reply)
+RepliesToDenial denied (Answers reply) = (is_label_refusal (Some denied) ≡ is_no_access reply) × (is_range_refusal (Some denied) ≡ is_no_permission reply)
 RepliesToDenial denied (Asks call next) =
     (sets_labels call ≡ true) × ((answer : AnswerOf call) → RepliesToDenial denied (next (Ok answer))) × ((other : Denied) → next (Err other) ≡ Stops)
 RepliesToDenial denied (Lists bytes next) = ⊥
@@ -33,18 +32,14 @@ RepliesToDenial denied Stops = Unit {0}
 -- A program replies to its refusals: after a denial it gives that denial's reply, and without one its reply is neither EACCES nor EPERM.
 abbrev pub RepliesToRefusals : Program → Type 0
 RepliesToRefusals (Answers reply) = (is_no_access reply ≡ false) × (is_no_permission reply ≡ false)
-RepliesToRefusals (Asks call next) =
-    ((answer : AnswerOf call) → RepliesToRefusals (next (Ok answer)))
-    × ((denied : Denied) → RepliesToDenial denied (next (Err denied)))
+RepliesToRefusals (Asks call next) = ((answer : AnswerOf call) → RepliesToRefusals (next (Ok answer))) × ((denied : Denied) → RepliesToDenial denied (next (Err denied)))
 RepliesToRefusals (Lists bytes next) = (listed : Option Entries) → RepliesToRefusals (next listed)
 RepliesToRefusals Stops = Unit {0}
 
 -- Where a program that replies to its refusals was run to its reply, the reply is EACCES exactly where a raw call was refused by label, EPERM
 -- exactly where one was refused by range, at most one was refused, and after it the thread was only given labels.
 abbrev pub RefusalsHaveReplies : Type 0
-RefusalsHaveReplies =
-    (program : Program) → RepliesToRefusals program → (old new : KernelModel) (thread : ℕ) (reply : Reply)
-    → Completes program old new thread reply → Replies old new thread reply
+RefusalsHaveReplies = (program : Program) → RepliesToRefusals program → (old new : KernelModel) (thread : ℕ) (reply : Reply) → Completes program old new thread reply → Replies old new thread reply
 
 -- the programs of the calls reply to their refusals
 pub record CallsReplyToRefusals : Type 0 where

@@ -47,8 +47,7 @@ abbrev pub Begins : Program → KernelModel → KernelModel → ℕ → Type 0
 Begins (Answers said) old new thread = ⊥
 Begins (Asks call next) old new thread =
     IsUnchanged old new ⊎ ((mid : KernelModel) × (outcome : Outcome call) × Asked old mid thread call outcome × Begins (next outcome) mid new thread)
-Begins (Lists bytes next) old new thread =
-    IsUnchanged old new ⊎ ((listed : Option Entries) × IsListed bytes listed × Begins (next listed) old new thread)
+Begins (Lists bytes next) old new thread = IsUnchanged old new ⊎ ((listed : Option Entries) × IsListed bytes listed × Begins (next listed) old new thread)
 Begins Stops old new thread = IsUnchanged old new
 
 -- a call runs its program: up to its reply, or only the beginning of it

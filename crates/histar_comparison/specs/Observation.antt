@@ -44,11 +44,7 @@ pub record ObservationModel : Type 0 where
 
 -- the parts of the run of a script that a comparison needs
 abbrev pub observation : ProcName → ScriptModel → ObservationModel
-observation job script =
-    record {
-      replies = with_replies job no_replies (meaning script.accounts script.calls);
-      tree = tree_lines (last_state script);
-    }
+observation job script = record { replies = with_replies job no_replies (meaning script.accounts script.calls); tree = tree_lines (last_state script) }
 
 -- a path, and what is printed of it
 abbrev pub line_text : TreeLine → PathText

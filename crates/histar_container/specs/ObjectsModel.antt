@@ -15,10 +15,7 @@ pub record ObjectsModel : Type 0 where
 
 -- stored as a pair of its table and its numbers
 abbrev pub coded_objects_model : Coded ObjectsModel
-coded_objects_model =
-    code_by (TableModel Levels × (ℕ × ℕ)) (coded× (coded_table coded_levels) (coded× coded_ℕ coded_ℕ))
-    (λ k. (k.objects, (k.next_object, k.next_category)))
-    (λ p. record { objects = p.0; next_object = p.1.0; next_category = p.1.1 }) (λ _. refl)
+coded_objects_model = code_by (TableModel Levels × (ℕ × ℕ)) (coded× (coded_table coded_levels) (coded× coded_ℕ coded_ℕ)) (λ k. (k.objects, (k.next_object, k.next_category))) (λ p. record { objects = p.0; next_object = p.1.0; next_category = p.1.1 }) (λ _. refl)
 
 -- the state that a model represents
 abbrev pub state_of : ObjectsModel → State

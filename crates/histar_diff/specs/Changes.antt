@@ -47,8 +47,7 @@ AnswersAre accounts calls me q letters _ _ = letters ≡ no_rights
 -- the same, for the node and the process in the flat state after the calls
 abbrev pub IsAnsweredBy : Accounts → List CallLine → ProcName → Path → Rights → Type 0
 IsAnsweredBy accounts calls me q letters =
-    AnswersAre accounts calls me q letters (get (flat_end accounts (boot accounts) calls).files q)
-    (running (flat_end accounts (boot accounts) calls) me)
+    AnswersAre accounts calls me q letters (get (flat_end accounts (boot accounts) calls).files q) (running (flat_end accounts (boot accounts) calls) me)
 
 -- the same letters are the answers of a process at a path after each of two scripts
 pub record IsAnsweredAlike (accounts : Accounts) (calls : List CallLine) (later : Accounts) (more : List CallLine) (me : ProcName)

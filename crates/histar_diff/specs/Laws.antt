@@ -29,9 +29,7 @@ DifferencesAreOneList = (old new : Table) (ds es : List Difference) → AreDiffe
 
 -- a table that shows the rights after the calls of a script is in order
 abbrev pub ShownTablesRise : Type 0
-ShownTablesRise =
-    (accounts : Accounts) (calls : List CallLine) (t : Table)
-    → ShowsRights accounts (flat_end accounts (boot accounts) calls) t → IsTable t
+ShownTablesRise = (accounts : Accounts) (calls : List CallLine) (t : Table) → ShowsRights accounts (flat_end accounts (boot accounts) calls) t → IsTable t
 
 -- the rights in such a table are those of the state
 abbrev pub TablesShowRights : Type 0

@@ -35,16 +35,12 @@ pub record HasKeys (some : List Test) (own keyed : Levels) : Type 0 where
 -- The categories at which a test of a denial fails are the keys that the thread lacks: with star at all of them its label would pass each
 -- test at each category, and with any other label that leaves one of them as it is, a test still fails there.
 pub record LacksKeys (s : State) (t : ℕ) (own : Levels) (call : RawCall) (denied : Denied) : Type 0 where
-  pub enough : (keyed : Levels) → HasKeys (tests_with own s t call denied) own keyed → (c : ℕ)
-      → some_fails_at (tests_with keyed s t call denied) c ≡ false
-  pub each_wanted : (short : Levels) (k : ℕ) → some_fails_at (tests_with own s t call denied) k ≡ true
-      → level_of short k ≡ level_of own k → some_fails_at (tests_with short s t call denied) k ≡ true
+  pub enough : (keyed : Levels) → HasKeys (tests_with own s t call denied) own keyed → (c : ℕ) → some_fails_at (tests_with keyed s t call denied) c ≡ false
+  pub each_wanted : (short : Levels) (k : ℕ) → some_fails_at (tests_with own s t call denied) k ≡ true → level_of short k ≡ level_of own k → some_fails_at (tests_with short s t call denied) k ≡ true
 
 -- this holds of each denial that compares the thread's label with that of an object to observe, modify or enter
 abbrev pub KeysAreLacking : Type 0
-KeysAreLacking =
-    (s : State) (t : ℕ) (own : Levels) (call : RawCall) (denied : Denied) → is_label_refusal (Some denied) ≡ true
-    → LacksKeys s t own call denied
+KeysAreLacking = (s : State) (t : ℕ) (own : Levels) (call : RawCall) (denied : Denied) → is_label_refusal (Some denied) ≡ true → LacksKeys s t own call denied
 
 -- where a call is denied by such tests, one of them fails at some category
 abbrev pub DenialsRestOnTests : Type 0
@@ -58,9 +54,7 @@ relabelled s t label = with_changed s t (with_label label)
 -- With star at all keys that a denial lacks, the same call would not be denied in the same way; but a read whose container was refused may
 -- then be refused at its segment.
 abbrev pub KeysOpen : Type 0
-KeysOpen =
-    (s : State) (t : ℕ) (call : RawCall) (denied : Denied) (keyed : Levels) → is_label_refusal (Some denied) ≡ true
-    → check s t call ≡ Some denied
+KeysOpen = (s : State) (t : ℕ) (call : RawCall) (denied : Denied) (keyed : Levels) → is_label_refusal (Some denied) ≡ true → check s t call ≡ Some denied
     → HasKeys (tests s t call denied) (label_in s t) keyed → check (relabelled s t keyed) t call ≡ Some denied
     → (denied ≡ Observe) × (observed_by (relabelled s t keyed) t call ≢ observed_by s t call)
 

@@ -61,9 +61,7 @@ excess bytes = if fits_segment bytes then obstacles.NoNumber else obstacles.TooL
 
 -- the obstacle of a denied call, where it is no comparison of labels and no category that was never made
 abbrev pub obstacle_of : State → RawCall → Denied → Option Obstacle
-obstacle_of s call NoEntry =
-    Some (if is_present (s.objects (container_named call)) then obstacles.NotLinked (container_named call) else
-    obstacles.NoObject)
+obstacle_of s call NoEntry = Some (if is_present (s.objects (container_named call)) then obstacles.NotLinked (container_named call) else obstacles.NoObject)
 obstacle_of s call NoThread = Some obstacles.NoThread
 obstacle_of s call BadKind = Some (if is_container (s.objects (container_named call)) then wrong_kind call else obstacles.NoContainer)
 obstacle_of s call TooBig = Some (excess (bytes_after s call))

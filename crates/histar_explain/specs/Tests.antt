@@ -25,12 +25,7 @@ pub record Test : Type 0 where
 
 -- a first label has to be below a second
 abbrev pub below : Party → Levels → Party → Levels → Test
-below lower_is lower upper_is upper =
-    record {
-      lower_is = lower_is;
-      upper_is = upper_is;
-      comparison = record { lower = lower; upper = upper; owner_passes = false };
-    }
+below lower_is lower upper_is upper = record { lower_is = lower_is; upper_is = upper_is; comparison = record { lower = lower; upper = upper; owner_passes = false } }
 
 -- an object may be observed by threads whose label is above its own, and by its owners
 abbrev pub observing : Levels → Levels → Test
@@ -58,15 +53,12 @@ owning_nothing party label = below party (constant L0) LabelAsked label
 
 -- a label and a clearance above it lie between a thread's label and its clearance
 abbrev pub in_span : Levels → Levels → Levels → Levels → List Test
-in_span own label clearance own_clearance =
-    below Thread own LabelAsked label ∷ below LabelAsked label ClearanceAsked clearance
-    ∷ below ClearanceAsked clearance ThreadClearance own_clearance ∷ []
+in_span own label clearance own_clearance = below Thread own LabelAsked label ∷ below LabelAsked label ClearanceAsked clearance ∷ below ClearanceAsked clearance ThreadClearance own_clearance ∷ []
 
 -- a label and a clearance above it lie between the floor of the labels of thread and gate and the join of their clearances
 abbrev pub behind_gate : Levels → Levels → Levels → Levels → Levels → Levels → List Test
 behind_gate own gate_label label clearance own_clearance gate_clearance =
-    below Floor (floor_of own gate_label) LabelAsked label ∷ below LabelAsked label ClearanceAsked clearance
-    ∷ below ClearanceAsked clearance Clearances (join_of own_clearance gate_clearance) ∷ []
+    below Floor (floor_of own gate_label) LabelAsked label ∷ below LabelAsked label ClearanceAsked clearance ∷ below ClearanceAsked clearance Clearances (join_of own_clearance gate_clearance) ∷ []
 
 -- a level, where star counts as 3
 abbrev pub high : Level → Level
@@ -82,9 +74,7 @@ owning_high L = refilled (λ c. high (level_of L c)) (exceptions_of L) (constant
 
 -- a new clearance is above the thread's label, and exceeds its clearance only where the thread owns
 abbrev pub clearing : Levels → Levels → Levels → List Test
-clearing own clearance own_clearance =
-    below Thread own ClearanceAsked clearance
-    ∷ below ClearanceAsked clearance ThreadClearanceAndLabel (join_of own_clearance (owning_high own)) ∷ []
+clearing own clearance own_clearance = below Thread own ClearanceAsked clearance ∷ below ClearanceAsked clearance ThreadClearanceAndLabel (join_of own_clearance (owning_high own)) ∷ []
 
 -- the labels that a call is given lie in their ranges, and a segment or a container owns nothing
 abbrev pub ranging : Levels → State → ℕ → RawCall → List Test

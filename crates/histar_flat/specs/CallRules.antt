@@ -31,15 +31,11 @@ rule (Create q mode) = at q needs room then MayMake mode or EPERM changes Makes 
 rule (Mkdir q mode) = at q needs room then MayMake mode or EPERM changes Makes Dir mode answers Done
 rule (Read q) = at q needs file then MayRead or EACCES changes nothing answers Bytes
 rule (Write q bytes) = at q needs file then MayWrite or EACCES then Fits (λ old. bytes) or EFBIG changes Stores (λ old. bytes) answers Done
-rule (Append q bytes) =
-    at q needs file then MayWrite or EACCES then Fits (λ old. old ++ bytes) or EFBIG changes Stores
-    (λ old. old ++ bytes) answers Done
+rule (Append q bytes) = at q needs file then MayWrite or EACCES then Fits (λ old. old ++ bytes) or EFBIG changes Stores (λ old. old ++ bytes) answers Done
 rule (ListCall q) = at q needs Walk then Exists or ENOENT then IsDirectory or ENOTDIR then MayRead or EACCES changes nothing answers Listing
 rule (Stat q) = at q needs Walk then Exists or ENOENT changes nothing answers Attributes
 rule (Unlink q) = at q needs entry then IsFile or EISDIR then MayWriteAbove or EACCES changes Removes answers Done
-rule (Rmdir q) =
-    at q needs entry then IsDirectory or ENOTDIR then MayRead or EACCES then IsEmpty or ENOTEMPTY then MayWriteAbove or
-    EACCES changes Removes answers Done
+rule (Rmdir q) = at q needs entry then IsDirectory or ENOTDIR then MayRead or EACCES then IsEmpty or ENOTEMPTY then MayWriteAbove or EACCES changes Removes answers Done
 rule (Rmtree q) = at q needs entry then MayWriteAbove or EACCES changes Removes answers Done
 rule (Rename q name) = at q needs entry then AbsentBeside name or EEXIST then MayWriteAbove or EACCES changes Renames name answers Done
 rule Spawn = at [] needs child changes Spawns answers NewChild
@@ -47,9 +43,7 @@ rule (Exit n) = at [] needs Nothing changes Exits n answers Done
 rule (Status name) = at [] needs Found name changes nothing answers StatusOf name
 rule (Kill name) = at [] needs Found name then IsChild name or EACCES changes Kills name answers Done
 rule Whoami = at [] needs Nothing changes nothing answers Identity
-rule (Login name password) =
-    at [] needs IsUser name or ENOENT then InNoJob or EACCES then HasPassword name password or EAUTH changes LogsIn name
-    answers Done
+rule (Login name password) = at [] needs IsUser name or ENOENT then InNoJob or EACCES then HasPassword name password or EAUTH changes LogsIn name answers Done
 rule (Wrap q) = at q needs child then room then IsSomebody or EPERM changes Wraps answers NewChild
 
 -- the path that a call names, or `/` if it names none

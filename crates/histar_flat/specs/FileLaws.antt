@@ -18,9 +18,7 @@ use Rattle.histar_flat.specs.Laws.{private_file}
 
 -- In a listing the names rise; a name is in it exactly if the directory has that entry, and is a directory's exactly if the entry is one.
 abbrev pub ListingsShowWhatIsThere : Type 0
-ListingsShowWhatIsThere =
-    (accounts : Accounts) (f : Flat) (me : ProcName) (d : Path) (entries : List Entry)
-    → reply_to accounts f me (ListCall d) ≡ Entries entries
+ListingsShowWhatIsThere = (accounts : Accounts) (f : Flat) (me : ProcName) (d : Path) (entries : List Entry) → reply_to accounts f me (ListCall d) ≡ Entries entries
     → T (is_sorted (slice_cmp nat_cmp) entries) × ((n : Name) → find (slice_cmp nat_cmp) n entries ≡ option_map is_dir (get f.files (n ∷ d)))
 
 -- the call removes what is at the path
@@ -29,17 +27,13 @@ IsRemoval call q = (call ≡ Unlink q) ⊎ (call ≡ Rmdir q) ⊎ (call ≡ Rmtr
 
 -- a removal takes exactly what is at its path and below it
 abbrev pub RemovalsTakeWhatIsBelow : Type 0
-RemovalsTakeWhatIsBelow =
-    (accounts : Accounts) (f : Flat) (me : ProcName) (call : UnixCall) (q : Path) → IsRemoval call q
-    → reply_to accounts f me call ≡ Done
+RemovalsTakeWhatIsBelow = (accounts : Accounts) (f : Flat) (me : ProcName) (call : UnixCall) (q : Path) → IsRemoval call q → reply_to accounts f me call ≡ Done
     → (r : Path) → get (flat_after accounts f me call).files r ≡ cond (under_path q r) None (get f.files r)
 
 -- In a tree a rename keeps everything, with its class and its bytes: what was at a path is where that leads with the new name, and nothing
 -- else is.
 abbrev pub RenamesKeepWhatIsThere : Type 0
-RenamesKeepWhatIsThere =
-    (accounts : Accounts) (f : Flat) → IsTree f → (me : ProcName) (n k : Name) (d : Path)
-    → reply_to accounts f me (Rename (n ∷ d) k) ≡ Done → (r : Path) (node : Node)
+RenamesKeepWhatIsThere = (accounts : Accounts) (f : Flat) → IsTree f → (me : ProcName) (n k : Name) (d : Path) → reply_to accounts f me (Rename (n ∷ d) k) ≡ Done → (r : Path) (node : Node)
     → (get f.files r ≡ Some node → get (flat_after accounts f me (Rename (n ∷ d) k)).files (moved (n ∷ d) (k ∷ d) r) ≡ Some node)
     × (get (flat_after accounts f me (Rename (n ∷ d) k)).files r ≡ Some node → get f.files (moved (k ∷ d) (n ∷ d) r) ≡ Some node)
 
@@ -50,8 +44,7 @@ WritesNoneAbove accounts f p q = (n : Name) (d : Path) → under_path (n ∷ d) 
 -- in a tree no call of another user's process removes or changes a private file, unless it may write a directory on the way to the file
 abbrev pub WritersTakePrivateFiles : Type 0
 WritersTakePrivateFiles = (f : Flat) → IsTree f → (q : Path) (owner : Name) (bytes : List ℕ) → get f.files q ≡ Some (private_file owner bytes)
-    → (accounts : Accounts) (me : ProcName) (p : Process) (call : UnixCall) → running f me ≡ Some p
-    → same p.user owner ≡ false → WritesNoneAbove accounts f p q
+    → (accounts : Accounts) (me : ProcName) (p : Process) (call : UnixCall) → running f me ≡ Some p → same p.user owner ≡ false → WritesNoneAbove accounts f p q
     → get (flat_after accounts f me call).files q ≡ Some (private_file owner bytes)
 
 -- the path lies below the directory
@@ -60,8 +53,5 @@ is_inside d q = under_path d q && not (same_path d q)
 
 -- Each call of a process has the same reply, whatever lies below a directory that the process may not read.
 abbrev pub UnreadDirectoriesAreHidden : Type 0
-UnreadDirectoriesAreHidden =
-    (accounts : Accounts) (f g : Flat) (d : Path) → f.processes ≡ g.processes
-    → ((q : Path) → is_inside d q ≡ false → get f.files q ≡ get g.files q)
-    → (me : ProcName) (p : Process) (call : UnixCall) → running f me ≡ Some p → reads accounts f p d ≡ false
-    → reply_to accounts f me call ≡ reply_to accounts g me call
+UnreadDirectoriesAreHidden = (accounts : Accounts) (f g : Flat) (d : Path) → f.processes ≡ g.processes → ((q : Path) → is_inside d q ≡ false → get f.files q ≡ get g.files q)
+    → (me : ProcName) (p : Process) (call : UnixCall) → running f me ≡ Some p → reads accounts f p d ≡ false → reply_to accounts f me call ≡ reply_to accounts g me call

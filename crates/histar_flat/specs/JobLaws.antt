@@ -27,9 +27,7 @@ runs_in f me job = is_some_and (running f me) (λ p. has p.chain job)
 -- each of these calls, one after another, is of a process that is in the job, or of one that doesn't run
 abbrev pub AreOfJob : Accounts → ProcName → Flat → List CallLine → Type 0
 AreOfJob accounts job f [] = Unit {0}
-AreOfJob accounts job f (c ∷ calls) =
-    ((running f c.process ≡ None) ⊎ (runs_in f c.process job ≡ true))
-    × AreOfJob accounts job (flat_after accounts f c.process c.call) calls
+AreOfJob accounts job f (c ∷ calls) = ((running f c.process ≡ None) ⊎ (runs_in f c.process job ≡ true)) × AreOfJob accounts job (flat_after accounts f c.process c.call) calls
 
 -- whatever the processes of a job call, each path that doesn't lie in a scratch directory of the job is as it was
 abbrev pub JobsStayInside : Type 0
@@ -43,13 +41,9 @@ all_under name calls = list_all (λ (c : CallLine). under_process name c.process
 -- After any calls, take a wrap of a path that is answered with the name of its job, and then any calls of the job's processes: they leave
 -- each path as it was but the path itself and those below it.
 abbrev pub WrappedJobsStayInside : Type 0
-WrappedJobsStayInside =
-    (accounts : Accounts) (before : List CallLine) (wrap : CallLine) (path : Path) (job : ProcName)
-    (calls : List CallLine) → wrap.call ≡ Wrap path
+WrappedJobsStayInside = (accounts : Accounts) (before : List CallLine) (wrap : CallLine) (path : Path) (job : ProcName) (calls : List CallLine) → wrap.call ≡ Wrap path
     → reply_to accounts (flat_end accounts (boot accounts) before) wrap.process (Wrap path) ≡ Child job → all_under job calls ≡ true
-    → (q : Path) → under_path path q ≡ false
-    → get (flat_end accounts (boot accounts) (before ++ wrap ∷ calls)).files q
-    ≡ get (flat_end accounts (boot accounts) before).files q
+    → (q : Path) → under_path path q ≡ false → get (flat_end accounts (boot accounts) (before ++ wrap ∷ calls)).files q ≡ get (flat_end accounts (boot accounts) before).files q
 
 -- a call of a process changes no process but itself and those below it
 abbrev pub CallsChangeTheirOwnTree : Type 0
@@ -72,7 +66,5 @@ out_of_jobs p = record p { chain = []; held = [] }
 
 -- outside all scratch directories a process in jobs gets the reply that it would get in no job
 abbrev pub JobsReadAsTheirUser : Type 0
-JobsReadAsTheirUser =
-    (accounts : Accounts) (f : Flat) (me : ProcName) (p : Process) (q : Path) → running f me ≡ Some p
-    → lies_in_some_scratch f q ≡ false
+JobsReadAsTheirUser = (accounts : Accounts) (f : Flat) (me : ProcName) (p : Process) (q : Path) → running f me ≡ Some p → lies_in_some_scratch f q ≡ false
     → reply_to accounts f me (Read q) ≡ reply_to accounts (with_process f me (out_of_jobs p)) me (Read q)

@@ -48,9 +48,7 @@ AreAway users f = (me : ProcName) → is_some_and (running f me) (λ p. users p.
 
 -- a call that is refused changes nothing
 abbrev pub RefusalsChangeNothing : Type 0
-RefusalsChangeNothing =
-    (accounts : Accounts) (f : Flat) (me : ProcName) (call : UnixCall) (e : Errno)
-    → reply_to accounts f me call ≡ Refused e → flat_after accounts f me call ≡ f
+RefusalsChangeNothing = (accounts : Accounts) (f : Flat) (me : ProcName) (call : UnixCall) (e : Errno) → reply_to accounts f me call ≡ Refused e → flat_after accounts f me call ≡ f
 
 -- the effect removes or renames what is at the path of the call
 abbrev pub removes : Effect → Bool
@@ -76,11 +74,8 @@ PrivateFilesAreHidden = (f : Flat) (q : Path) (owner : Name) (bytes : List ℕ) 
 
 -- while no process is the owner's and no call is a login as the owner, all replies are the same with other bytes in the private file
 abbrev pub PrivateBytesAreHidden : Type 0
-PrivateBytesAreHidden =
-    (owner : Name) (accounts : Accounts) (f : Flat) (q : Path) (bytes other : List ℕ) (calls : List CallLine)
-    → get f.files q ≡ Some (private_file owner bytes)
-    → AreAway (λ name. same name owner) f → has_no_login_of (λ name. same name owner) calls ≡ true
-    → answered_from accounts f calls ≡ answered_from accounts (with_bytes f q other) calls
+PrivateBytesAreHidden = (owner : Name) (accounts : Accounts) (f : Flat) (q : Path) (bytes other : List ℕ) (calls : List CallLine) → get f.files q ≡ Some (private_file owner bytes)
+    → AreAway (λ name. same name owner) f → has_no_login_of (λ name. same name owner) calls ≡ true → answered_from accounts f calls ≡ answered_from accounts (with_bytes f q other) calls
 
 -- a file of this group with these bytes
 abbrev pub group_file : Name → List ℕ → Node
@@ -88,20 +83,13 @@ group_file group bytes = record { class = Grouped group; content = File bytes }
 
 -- each call of a process that is no member's has the same reply with other bytes in a file of the group
 abbrev pub GroupBytesAreHidden : Type 0
-GroupBytesAreHidden =
-    (group : Name) (accounts : Accounts) (f : Flat) (q : Path) (bytes other : List ℕ) (me : ProcName) (call : UnixCall)
-    → get f.files q ≡ Some (group_file group bytes)
-    → is_some_and (running f me) (λ p. is_member accounts p.user group) ≡ false
-    → reply_to accounts f me call ≡ reply_to accounts (with_bytes f q other) me call
+GroupBytesAreHidden = (group : Name) (accounts : Accounts) (f : Flat) (q : Path) (bytes other : List ℕ) (me : ProcName) (call : UnixCall) → get f.files q ≡ Some (group_file group bytes)
+    → is_some_and (running f me) (λ p. is_member accounts p.user group) ≡ false → reply_to accounts f me call ≡ reply_to accounts (with_bytes f q other) me call
 
 -- while no process is a member's and no call is a login as a member, all replies are the same with other bytes in the group's file
 abbrev pub GroupBytesStayHidden : Type 0
-GroupBytesStayHidden =
-    (group : Name) (accounts : Accounts) (f : Flat) (q : Path) (bytes other : List ℕ) (calls : List CallLine)
-    → get f.files q ≡ Some (group_file group bytes)
-    → AreAway (λ name. is_member accounts name group) f
-    → has_no_login_of (λ name. is_member accounts name group) calls ≡ true
-    → answered_from accounts f calls ≡ answered_from accounts (with_bytes f q other) calls
+GroupBytesStayHidden = (group : Name) (accounts : Accounts) (f : Flat) (q : Path) (bytes other : List ℕ) (calls : List CallLine) → get f.files q ≡ Some (group_file group bytes)
+    → AreAway (λ name. is_member accounts name group) f → has_no_login_of (λ name. is_member accounts name group) calls ≡ true → answered_from accounts f calls ≡ answered_from accounts (with_bytes f q other) calls
 
 -- a process that has written bytes to a file, and reads the file next, is answered these bytes
 abbrev pub WritesAreReadBack : Type 0
@@ -127,8 +115,7 @@ pub record NamesAreGiven (f : Flat) : Type 0 where
 pub record NamesAreGivenOnce : Type 0 where
   pub old : (accounts : Accounts) (calls : List CallLine) → NamesAreGiven (flat_end accounts (boot accounts) calls)
   pub new : (f : Flat) (me : ProcName) (p : Process) → f.processes me ≡ Some p → is_given f.processes (next_child me p) ≡ false
-  pub stay : (accounts : Accounts) (f : Flat) (me : ProcName) (call : UnixCall) (name : ProcName)
-      → is_given f.processes name ≡ true → is_given (flat_after accounts f me call).processes name ≡ true
+  pub stay : (accounts : Accounts) (f : Flat) (me : ProcName) (call : UnixCall) (name : ProcName) → is_given f.processes name ≡ true → is_given (flat_after accounts f me call).processes name ≡ true
 
 -- the process is in no job and holds none
 pub record HasNoJob (p : Process) : Type 0 where
@@ -137,9 +124,7 @@ pub record HasNoJob (p : Process) : Type 0 where
 
 -- a process of nobody, or of a user that is not declared, is in no job and holds none, in each state that calls lead to
 pub record NobodyHasAJob : Type 0 where
-  pub nobodys : (accounts : Accounts) (calls : List CallLine) (me : ProcName) (p : Process)
-      → (flat_end accounts (boot accounts) calls).processes me ≡ Some p
+  pub nobodys : (accounts : Accounts) (calls : List CallLine) (me : ProcName) (p : Process) → (flat_end accounts (boot accounts) calls).processes me ≡ Some p
       → p.user ≡ nobody → HasNoJob p
-  pub strangers : (accounts : Accounts) (calls : List CallLine) (me : ProcName) (p : Process)
-      → (flat_end accounts (boot accounts) calls).processes me ≡ Some p
+  pub strangers : (accounts : Accounts) (calls : List CallLine) (me : ProcName) (p : Process) → (flat_end accounts (boot accounts) calls).processes me ≡ Some p
       → user_named accounts.users p.user ≡ None → HasNoJob p

@@ -5,8 +5,7 @@ use Rattle.std.proofs.lemmas.List.{length-take-le}
 use Rattle.histar_flat.specs.Padding.{padded, IsPadded}
 
 -- the padded list is the array
-pub padded-take : {A : Type 0} (places : ℕ) (fill : A) (items : List A) (len : ℕ) → IsPadded places fill items len
-    → padded places fill (take len items) ≡ items
+pub padded-take : {A : Type 0} (places : ℕ) (fill : A) (items : List A) (len : ℕ) → IsPadded places fill items len → padded places fill (take len items) ≡ items
 padded-take places fill items len h = h.filled
 
 -- the list has the given length

@@ -33,11 +33,7 @@ from_root_twice xs = reversed-onto [] xs
 
 -- two paths tie only where they are equal
 pub path_cmp_exact : IsAntisymmetric path_cmp
-path_cmp_exact p q e =
-    sym (from_root_twice p)
-    ∙ ap from_root
-    (slice_cmp-IsAntisymmetric (slice_cmp-IsAntisymmetric nat_cmp-IsAntisymmetric) (from_root p) (from_root q)
-    e) ∙ from_root_twice q
+path_cmp_exact p q e = sym (from_root_twice p) ∙ ap from_root (slice_cmp-IsAntisymmetric (slice_cmp-IsAntisymmetric nat_cmp-IsAntisymmetric) (from_root p) (from_root q) e) ∙ from_root_twice q
 
 -- two paths tie where they are the same
 pub path_cmp_ties : (p q : Path) → same_path p q ≡ eq_by_cmp path_cmp p q

@@ -31,18 +31,12 @@ pub record ExitsAlone (f : Flat) (me : ProcName) (status : ℕ) (after : Flat) :
 
 -- an exit that is done ends its process alone
 abbrev pub ExitsLeaveChildren : Type 0
-ExitsLeaveChildren =
-    (accounts : Accounts) (f : Flat) (me : ProcName) (status : ℕ) → reply_to accounts f me (Exit status) ≡ Done
-    → ExitsAlone f me status (flat_after accounts f me (Exit status))
+ExitsLeaveChildren = (accounts : Accounts) (f : Flat) (me : ProcName) (status : ℕ) → reply_to accounts f me (Exit status) ≡ Done → ExitsAlone f me status (flat_after accounts f me (Exit status))
 
 -- a process that doesn't run is answered `gone`, and changes nothing
 abbrev pub GoneChangeNothing : Type 0
-GoneChangeNothing =
-    (accounts : Accounts) (f : Flat) (me : ProcName) (call : UnixCall) → running f me ≡ None
-    → (reply_to accounts f me call ≡ Gone) × (flat_after accounts f me call ≡ f)
+GoneChangeNothing = (accounts : Accounts) (f : Flat) (me : ProcName) (call : UnixCall) → running f me ≡ None → (reply_to accounts f me call ≡ Gone) × (flat_after accounts f me call ≡ f)
 
 -- a process that doesn't run, and whose name was given, never runs again, whatever is called: no name is used twice
 abbrev pub GoneStayGone : Type 0
-GoneStayGone =
-    (accounts : Accounts) (f : Flat) (me : ProcName) (calls : List CallLine) → is_given f.processes me ≡ true
-    → running f me ≡ None → running (flat_end accounts f calls) me ≡ None
+GoneStayGone = (accounts : Accounts) (f : Flat) (me : ProcName) (calls : List CallLine) → is_given f.processes me ≡ true → running f me ≡ None → running (flat_end accounts f calls) me ≡ None

@@ -79,18 +79,14 @@ module _ (accounts : Accounts) (f : Flat) (me : ProcName) (p : Process) (q : Pat
   Warrant (Makes content mode) =
       (is_below_root q ≡ true) × (walk accounts f p q ≡ None) × (get f.files q ≡ None) × (writes accounts f p (parent q) ≡ true) × IsBlank content
   Warrant (Stores new) =
-      (is_below_root q ≡ true) × (walk accounts f p q ≡ None) × (is_file_at f q ≡ true) × (writes accounts f p q ≡ true)
-      × (reads accounts f p q ≡ true)
+      (is_below_root q ≡ true) × (walk accounts f p q ≡ None) × (is_file_at f q ≡ true) × (writes accounts f p q ≡ true) × (reads accounts f p q ≡ true)
       × (nat_le (length (new (bytes_at f q))) most_bytes ≡ true)
   Warrant Removes = (is_below_root q ≡ true) × (writes accounts f p (parent q) ≡ true)
-  Warrant (Renames name) =
-      (is_below_root q ≡ true) × (is_there f q ≡ true) × (get f.files (name ∷ parent q) ≡ None)
-      × (writes accounts f p (parent q) ≡ true)
+  Warrant (Renames name) = (is_below_root q ≡ true) × (is_there f q ≡ true) × (get f.files (name ∷ parent q) ≡ None) × (writes accounts f p (parent q) ≡ true)
   Warrant (LogsIn name) = (is_some (user_named accounts.users name) ≡ true) × (is_free p ≡ true)
   Warrant (Kills name) = is_child me name ≡ true
   Warrant Wraps =
-      (is_below_root q ≡ true) × (walk accounts f p q ≡ None) × (get f.files q ≡ None)
-      × (writes accounts f p (parent q) ≡ true) × (not (same p.user nobody) ≡ true)
+      (is_below_root q ≡ true) × (walk accounts f p q ≡ None) × (get f.files q ≡ None) × (writes accounts f p (parent q) ≡ true) × (not (same p.user nobody) ≡ true)
   Warrant _ = Unit {0}
 
   -- what allows an answer
@@ -103,9 +99,7 @@ module _ (accounts : Accounts) (f : Flat) (me : ProcName) (p : Process) (q : Pat
 
 -- each rule tests only what the process may see by then
 abbrev pub TestsAreOrdered : Type 0
-TestsAreOrdered =
-    (accounts : Accounts) (f : Flat) (me : ProcName) (p : Process) (call : UnixCall)
-    → IsOrdered accounts f me p (path_of call) (Unit {0}) (rule call).needs
+TestsAreOrdered = (accounts : Accounts) (f : Flat) (me : ProcName) (p : Process) (call : UnixCall) → IsOrdered accounts f me p (path_of call) (Unit {0}) (rule call).needs
 
 -- a call that is not refused is allowed its effect
 abbrev pub EffectsAreWarranted : Type 0

@@ -116,10 +116,7 @@ unfoldable pub path_from : ℕ → Path → List ℕ → Option Path
 path_from zero directory bs = None
 path_from (suc most) directory bs =
     if is_name (split_at_first slash bs).0 then
-    elim (split_at_first slash bs).1 [
-      | None ↦ Some ((split_at_first slash bs).0 ∷ directory)
-      | Some rest ↦ path_from most ((split_at_first slash bs).0 ∷ directory) rest
-    ]
+    elim (split_at_first slash bs).1 [ None ↦ Some ((split_at_first slash bs).0 ∷ directory) | Some rest ↦ path_from most ((split_at_first slash bs).0 ∷ directory) rest ]
     else None
 
 -- the path after its first slash: nothing is `/`

@@ -49,8 +49,7 @@ pub record IsLeastUpperBound (L M J : Levels) : Type 0 where
 -- N has star where either label has star, and elsewhere is at least as high as both
 pub record OwnsAndBounds (L M N : Levels) : Type 0 where
   pub owns : (c : ℕ) → (level_of L c ≡ Star) ⊎ (level_of M c ≡ Star) → level_of N c ≡ Star
-  pub bounds : (c : ℕ) → level_of L c ≢ Star → level_of M c ≢ Star
-      → (rank (level_of L c) ≤ rank (level_of N c)) × (rank (level_of M c) ≤ rank (level_of N c))
+  pub bounds : (c : ℕ) → level_of L c ≢ Star → level_of M c ≢ Star → (rank (level_of L c) ≤ rank (level_of N c)) × (rank (level_of M c) ≤ rank (level_of N c))
 
 -- L is above M at no category, in the order where star is the highest level
 abbrev pub IsRaisedBelow : Levels → Levels → Type 0

@@ -49,9 +49,7 @@ pub record IsClassLabel (accounts : Accounts) (class : Class) (label : Levels) :
 
 -- the class that was found is that of a label, and none was found exactly where the label is of no class
 abbrev pub FindsClass : Accounts → Levels → Option Class → Type 0
-FindsClass accounts label found =
-    MatchOption found ((class : Class) → IsClassLabel accounts class label → ⊥)
-    (λ class. IsClassLabel accounts class label)
+FindsClass accounts label found = MatchOption found ((class : Class) → IsClassLabel accounts class label → ⊥) (λ class. IsClassLabel accounts class label)
 
 -- a label is of one class at most
 abbrev pub LabelsHaveOneClass : Type 0
@@ -67,9 +65,7 @@ without_jobs (Group group) = shown.Group group
 
 -- a label of a class shows this class, except for its jobs
 abbrev pub ClassesAreShown : Type 0
-ClassesAreShown =
-    (accounts : Accounts) (class : Class) (label : Levels) → IsClassLabel accounts class label
-    → class_shown accounts label ≡ Some (without_jobs class)
+ClassesAreShown = (accounts : Accounts) (class : Class) (label : Levels) → IsClassLabel accounts class label → class_shown accounts label ≡ Some (without_jobs class)
 
 -- the class with these jobs that shows this class
 abbrev pub with_jobs : List ℕ → ShownClass → Class

@@ -24,9 +24,7 @@ others number children = filter (λ (child : Child). not (child.number == number
 
 -- the children of other numbers are appended to the old bytes, as they are in the listed ones
 abbrev pub AppendsOthers : ℕ → List ℕ → List ℕ → List ℕ → Type 0
-AppendsOthers number listed old new =
-    (children : List Child) → listed ≡ flat_map child_bytes children
-    → new ≡ old ++ flat_map child_bytes (others number children)
+AppendsOthers number listed old new = (children : List Child) → listed ≡ flat_map child_bytes children → new ≡ old ++ flat_map child_bytes (others number children)
 
 -- the process of this segment can have one more child
 abbrev pub HasRoomForChild : List ℕ → Type 0
@@ -34,7 +32,5 @@ HasRoomForChild bytes = (status : ProcessStatus) → status_in bytes ≡ Some st
 
 -- A status that is read from bytes is spelled by them; and a spelled one, with no more children than a process can have, is read again.
 pub record StatusesAreSpelled : Type 0 where
-  pub read_is_spelled : (bytes : List ℕ) (status : ProcessStatus) → ((i : ℕ) → slice_index bytes i < 256)
-      → status_in bytes ≡ Some status → IsStatus bytes status
-  pub spelled_is_read : (bytes : List ℕ) (status : ProcessStatus) → IsStatus bytes status
-      → length status.children ≤ most_children → status_in bytes ≡ Some status
+  pub read_is_spelled : (bytes : List ℕ) (status : ProcessStatus) → ((i : ℕ) → slice_index bytes i < 256) → status_in bytes ≡ Some status → IsStatus bytes status
+  pub spelled_is_read : (bytes : List ℕ) (status : ProcessStatus) → IsStatus bytes status → length status.children ≤ most_children → status_in bytes ≡ Some status

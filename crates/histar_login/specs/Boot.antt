@@ -108,6 +108,4 @@ pub record IsBooted (accounts : Accounts) (kernel : KernelModel) : Type 0 where
 
 -- boot made some of its raw calls and not all, from the first on, and each was granted
 abbrev pub HasBegunBoot : Accounts → KernelModel → KernelModel → Type 0
-HasBegunBoot accounts old new =
-    (made : ℕ) × (made < length (boot_calls accounts))
-    × Granted old new boot_thread_number (take made (boot_calls accounts))
+HasBegunBoot accounts old new = (made : ℕ) × (made < length (boot_calls accounts)) × Granted old new boot_thread_number (take made (boot_calls accounts))

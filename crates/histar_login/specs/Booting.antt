@@ -33,13 +33,7 @@ pub record Part : Type 0 where
 
 -- one part after another
 abbrev pub and_then : Part → Part → Part
-and_then p q =
-    record {
-      calls = p.calls ++ q.calls;
-      linked = p.linked ++ q.linked;
-      objects = p.objects ++ q.objects;
-      categories = p.categories + q.categories;
-    }
+and_then p q = record { calls = p.calls ++ q.calls; linked = p.linked ++ q.linked; objects = p.objects ++ q.objects; categories = p.categories + q.categories }
 
 -- boot has made nothing yet
 abbrev pub nothing_yet : Part
@@ -152,13 +146,7 @@ categories_part count = record { calls = category_calls count; linked = []; obje
 
 -- the password and the gate of user i
 abbrev pub user_part : Accounts → ℕ → User → Part
-user_part accounts i user =
-    record {
-      calls = user_calls accounts i user;
-      linked = (1 + 2 * i) ∷ (2 + 2 * i) ∷ [];
-      objects = of_user accounts i user;
-      categories = 0;
-    }
+user_part accounts i user = record { calls = user_calls accounts i user; linked = (1 + 2 * i) ∷ (2 + 2 * i) ∷ []; objects = of_user accounts i user; categories = 0 }
 
 -- boot has come to the user of this number
 abbrev pub IsBeforeUser : Accounts → ℕ → Part → Type 0
@@ -183,13 +171,7 @@ users_part accounts users = record {
 
 -- the user table and `/`
 abbrev pub directory_part : ℕ → Accounts → Part
-directory_part n accounts =
-    record {
-      calls = directory_calls n accounts;
-      linked = (3 + 2 * n) ∷ (4 + 2 * n) ∷ [];
-      objects = of_directory n accounts;
-      categories = 0;
-    }
+directory_part n accounts = record { calls = directory_calls n accounts; linked = (3 + 2 * n) ∷ (4 + 2 * n) ∷ []; objects = of_directory n accounts; categories = 0 }
 
 -- the passwords and the gates of all users were made
 abbrev pub MakesUsers : KernelModel → KernelModel → Accounts → Type 0

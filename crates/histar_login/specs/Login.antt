@@ -106,6 +106,4 @@ login_program accounts caller name password = login_at accounts caller name pass
 
 -- the programs of logins reply to their refusals
 abbrev pub LoginsReplyToRefusals : Type 0
-LoginsReplyToRefusals =
-    (accounts : Accounts) (caller : Caller) (name : Name) (password : List ℕ)
-    → RepliesToRefusals (login_program accounts caller name password)
+LoginsReplyToRefusals = (accounts : Accounts) (caller : Caller) (name : Name) (password : List ℕ) → RepliesToRefusals (login_program accounts caller name password)

@@ -50,15 +50,10 @@ module _ {L : Type 0} where
   join_kind-split (Gate clearance entry) = refl
 
   abbrev pub coded_kind : Coded L → Coded (Kind L)
-  coded_kind l =
-      code_by _ (coded⊎ (coded⊎ (coded_list coded_ℕ) (set.code coded_ℕ)) (coded⊎ l (coded× l coded_entry))) split_kind
-      join_kind join_kind-split
+  coded_kind l = code_by _ (coded⊎ (coded⊎ (coded_list coded_ℕ) (set.code coded_ℕ)) (coded⊎ l (coded× l coded_entry))) split_kind join_kind join_kind-split
 
   abbrev pub coded_object : Coded L → Coded (Object L)
   coded_object l = code_by (L × Kind L) (coded× l (coded_kind l)) (λ o. (o.label, o.kind)) (λ p. record { label = p.0; kind = p.1 }) (λ _. refl)
 
   abbrev pub coded_table : Coded L → Coded (TableModel L)
-  coded_table l =
-      code_by (List (ℕ × Object L) × (List (ℕ × ℕ) × ℕ))
-      (coded× (coded_list (coded× coded_ℕ (coded_object l))) (coded× (coded_list (coded× coded_ℕ coded_ℕ)) coded_ℕ))
-      (λ t. (t.objects, (t.slots, t.room))) (λ p. record { objects = p.0; slots = p.1.0; room = p.1.1 }) (λ _. refl)
+  coded_table l = code_by (List (ℕ × Object L) × (List (ℕ × ℕ) × ℕ)) (coded× (coded_list (coded× coded_ℕ (coded_object l))) (coded× (coded_list (coded× coded_ℕ coded_ℕ)) coded_ℕ)) (λ t. (t.objects, (t.slots, t.room))) (λ p. record { objects = p.0; slots = p.1.0; room = p.1.1 }) (λ _. refl)

@@ -28,9 +28,7 @@ pub record SlotsModel : Type 0 where
   pub room : ℕ
 
 abbrev pub coded_slots : Coded SlotsModel
-coded_slots =
-    code_by (List (ℕ × ℕ) × ℕ) (coded× (coded_list (coded× coded_ℕ coded_ℕ)) coded_ℕ) (λ s. (s.entries, s.room))
-    (λ p. record { entries = p.0; room = p.1 }) (λ _. refl)
+coded_slots = code_by (List (ℕ × ℕ) × ℕ) (coded× (coded_list (coded× coded_ℕ coded_ℕ)) coded_ℕ) (λ s. (s.entries, s.room)) (λ p. record { entries = p.0; room = p.1 }) (λ _. refl)
 
 -- the numbers from n on with their slots, those without one left out
 abbrev pub numbered : ℕ → List (Option ℕ) → List (ℕ × ℕ)

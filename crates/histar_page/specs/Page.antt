@@ -22,15 +22,7 @@ pub record Sources : Type 0 where
 
 -- the texts behind the references
 abbrev pub sources_of : Texts → Sources
-sources_of texts =
-    record {
-      name = texts.name.now;
-      version = texts.version.now;
-      script = texts.script.now;
-      output = texts.output.now;
-      table = texts.table.now;
-      secrets = texts.secrets.now;
-    }
+sources_of texts = record { name = texts.name.now; version = texts.version.now; script = texts.script.now; output = texts.output.now; table = texts.table.now; secrets = texts.secrets.now }
 
 -- What a page shows: its head, the session, the files, the secrets and the drawing.
 pub record IsReport (sources : Sources) (items : List Item) : Type 0 where

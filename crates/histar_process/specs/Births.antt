@@ -26,16 +26,13 @@ make_containers parent jobs read write rest = do
 
 -- the thread of the child is made
 abbrev pub make_thread : ℕ → List ℕ → List ℕ → ℕ → ℕ → Part ℕ
-make_thread internal owned jobs read write =
-    ask (MakeThread internal (owner_label (read ∷ write ∷ owned) jobs) (cleared_at ((read ∷ write ∷ owned) ++ jobs)))
+make_thread internal owned jobs read write = ask (MakeThread internal (owner_label (read ∷ write ∷ owned) jobs) (cleared_at ((read ∷ write ∷ owned) ++ jobs)))
 
 -- the process segment of the child is made
 abbrev pub make_segment : ℕ → List ℕ → ℕ → ℕ → ℕ → Part ℕ
-make_segment container jobs write internal thread =
-    ask (MakeSegment container (guarded_by jobs (write ∷ [])) (status_bytes (started internal thread)))
+make_segment container jobs write internal thread = ask (MakeSegment container (guarded_by jobs (write ∷ [])) (status_bytes (started internal thread)))
 
 -- a child is born to the process whose segment has these bytes: it owns these categories, and is in the jobs of those
 abbrev pub RunsBirth : Home → List ℕ → List ℕ → List ℕ → KernelModel → KernelModel → ℕ → Result (Unit {0}) CallError → Type 0
 RunsBirth parent bytes owned jobs old new thread result =
-    (status : ProcessStatus) → status_in bytes ≡ Some status
-    → RunsPart (birth parent status (record { owned = owned; jobs = jobs })) old new thread result
+    (status : ProcessStatus) → status_in bytes ≡ Some status → RunsPart (birth parent status (record { owned = owned; jobs = jobs })) old new thread result

@@ -33,14 +33,12 @@ pub record IsSegment (segment : Segment) (status : ProcessStatus) : Type 0 where
 
 -- a process segment is read, and the code has the status in it
 abbrev pub RunsReading : Home → KernelModel → KernelModel → ℕ → Result Segment CallError → Type 0
-RunsReading home old new thread (Ok segment) =
-    (status : ProcessStatus) × IsSegment segment status × RunsPart (read_status home) old new thread (Ok status)
+RunsReading home old new thread (Ok segment) = (status : ProcessStatus) × IsSegment segment status × RunsPart (read_status home) old new thread (Ok status)
 RunsReading home old new thread (Err call_error) = RunsPart (read_status home) old new thread (Err call_error)
 
 -- there is room for one child more of the process of this name, and the code has the status in its segment
 abbrev pub RunsRoom : ProcName → Home → KernelModel → KernelModel → ℕ → Result Segment CallError → Type 0
-RunsRoom name home old new thread (Ok segment) =
-    (status : ProcessStatus) × IsSegment segment status × RunsPart (room_for_child name home) old new thread (Ok status)
+RunsRoom name home old new thread (Ok segment) = (status : ProcessStatus) × IsSegment segment status × RunsPart (room_for_child name home) old new thread (Ok status)
 RunsRoom name home old new thread (Err call_error) = RunsPart (room_for_child name home) old new thread (Err call_error)
 
 -- these bytes are written in a process segment

@@ -21,14 +21,11 @@ use Rattle.histar_raw_explain.specs.Texts.{raw_words, explanation_text}
 -- the lines are those of the explanation of a denial at a state, and none where the call was granted
 abbrev pub ExplainsCall : State → ℕ → ℕ → RawCall → Option Denied → List ℕ → Type 0
 ExplainsCall s line thread call None lines = lines ≡ []
-ExplainsCall s line thread call (Some denied) lines =
-    (e : Explanation) × ExplainsDenial s thread call denied e × (lines ≡ explanation_text raw_words line thread e)
+ExplainsCall s line thread call (Some denied) lines = (e : Explanation) × ExplainsDenial s thread call denied e × (lines ≡ explanation_text raw_words line thread e)
 
 -- the lines explain the last call of a kernel, if one was made
 abbrev pub ExplainsLast : KernelModel → List ℕ → Type 0
-ExplainsLast k lines =
-    MatchOption (slice_get k.trace (length k.trace - 1)) (lines ≡ [])
-    (λ (e : TraceEntry). ExplainsCall (state k) e.line e.thread e.call e.denied lines)
+ExplainsLast k lines = MatchOption (slice_get k.trace (length k.trace - 1)) (lines ≡ []) (λ (e : TraceEntry). ExplainsCall (state k) e.line e.thread e.call e.denied lines)
 
 -- By the rules the call leads from one state to another, granted or denied, and the lines explain it at the state before it.
 pub record ExplainsOne (before after : State) (asked : RawLine) (lines : List ℕ) : Type 0 where

@@ -105,9 +105,7 @@ excess_text lower upper l m = has_text lower l ++ codes ", " ++ party_text upper
 
 -- the beginning of each line: the number of the call's line, the thread, and what it may not do
 abbrev pub opening_text : Words → ℕ → ℕ → Act → List ℕ
-opening_text words line thread act =
-    codes "?" ++ decimal line ++ codes " " ++ words.thread thread ++ codes " may not " ++ act_text words act
-    ++ codes ": "
+opening_text words line thread act = codes "?" ++ decimal line ++ codes " " ++ words.thread thread ++ codes " may not " ++ act_text words act ++ codes ": "
 
 -- the line of a category that was never made
 abbrev pub unmade_line : Words → List ℕ → ℕ → List ℕ
@@ -140,14 +138,11 @@ every_text words opening spared = opening ++ codes "at every " ++ elsewhere_text
 -- the line of all other categories, where the comparison fails for the defaults
 abbrev pub elsewhere_line : Words → List ℕ → Party → Party → List Difference → Option (Level × Level) → List ℕ
 elsewhere_line words opening lower upper spared None = []
-elsewhere_line words opening lower upper spared (Some levels) =
-    every_text words opening spared ++ excess_text lower upper levels.0 levels.1 ++ codes "\n"
+elsewhere_line words opening lower upper spared (Some levels) = every_text words opening spared ++ excess_text lower upper levels.0 levels.1 ++ codes "\n"
 
 -- the lines of a reason: its listed categories by rising number, and then all others
 abbrev pub reason_lines : Words → List ℕ → Reason → List ℕ
-reason_lines words opening r =
-    flat_map (difference_line words opening r.lower r.upper) r.named.items
-    ++ elsewhere_line words opening r.lower r.upper r.spared.items r.elsewhere
+reason_lines words opening r = flat_map (difference_line words opening r.lower r.upper) r.named.items ++ elsewhere_line words opening r.lower r.upper r.spared.items r.elsewhere
 
 -- the line of the obstacle, if there is one
 abbrev pub obstacle_lines : List ℕ → Option Obstacle → List ℕ
@@ -156,9 +151,7 @@ obstacle_lines opening (Some obstacle) = opening ++ obstacle_text obstacle ++ co
 
 -- the lines of an explanation, each with the same beginning
 abbrev pub explanation_lines : Words → List ℕ → Explanation → List ℕ
-explanation_lines words opening e =
-    flat_map (unmade_line words opening) e.unmade.items ++ flat_map (reason_lines words opening) e.reasons.items
-    ++ obstacle_lines opening e.obstacle
+explanation_lines words opening e = flat_map (unmade_line words opening) e.unmade.items ++ flat_map (reason_lines words opening) e.reasons.items ++ obstacle_lines opening e.obstacle
 
 -- the lines that explain why the call of a thread on a line was denied
 abbrev pub explanation_text : Words → ℕ → ℕ → Explanation → List ℕ

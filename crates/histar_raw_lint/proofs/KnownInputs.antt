@@ -17,7 +17,7 @@ use Rattle.histar_raw_lint.specs.Session.{LintsRaw}
 -- no line is too long for a script
 lines_not_long : (s : ScriptModel) (n : ℕ) (lines : List (List ℕ)) → with_lines s n lines ≡ Err TooLong → ⊥
 unfolding with_lines
-lines_not_long s n [] e = by (eqb (length s.session.users) 0) e
+lines_not_long s n [] e = by (eqb (length s.accounts.users) 0) e
   where
     by : (none : Bool) → cond none (failed (n + 1)) (Ok s) ≡ Err TooLong → ⊥
     by true e = let same : BadScript (n + 1) ≡ TooLong = cc in absurd cc

@@ -91,8 +91,7 @@ call_words (MakeSegment container label bytes) = number_word container ++ label_
 call_words (MakeContainer container label) = number_word container ++ label_word label
 call_words (MakeThread container label clearance) = number_word container ++ label_word label ++ label_word clearance
 call_words (MakeGate container label clearance entry) = number_word container ++ label_word label ++ label_word clearance ++ entry_word entry
-call_words (Enter container gate wanted clearance verify) =
-    number_word container ++ number_word gate ++ label_word wanted ++ label_word clearance ++ label_word verify
+call_words (Enter container gate wanted clearance verify) = number_word container ++ number_word gate ++ label_word wanted ++ label_word clearance ++ label_word verify
 call_words (Read container segment) = number_word container ++ number_word segment
 call_words (Write container segment keep bytes) = number_word container ++ number_word segment ++ number_word keep ++ bytes_word bytes
 call_words (Unlink container object) = number_word container ++ number_word object
@@ -124,9 +123,7 @@ outcome_text (Some denied) = denied_text denied
 
 -- the line of an entry of the trace: the line of the script, the call of the thread, and its outcome
 abbrev pub trace_line : TraceEntry → List ℕ
-trace_line entry =
-    codes "@" ++ decimal entry.line ++ codes " " ++ thread_call_text entry.thread entry.call ++ codes " = "
-    ++ outcome_text entry.denied ++ codes "\n"
+trace_line entry = codes "@" ++ decimal entry.line ++ codes " " ++ thread_call_text entry.thread entry.call ++ codes " = " ++ outcome_text entry.denied ++ codes "\n"
 
 -- the trace: the lines of its entries
 abbrev pub trace_text : List TraceEntry → List ℕ

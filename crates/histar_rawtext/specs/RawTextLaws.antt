@@ -32,8 +32,7 @@ IsWritable (MakeSegment container label bytes) = IsNumber container × IsWritabl
 IsWritable (MakeContainer container label) = IsNumber container × IsWritableLabel label
 IsWritable (MakeThread container label clearance) = IsNumber container × IsWritableLabel label × IsWritableLabel clearance
 IsWritable (MakeGate container label clearance entry) = IsNumber container × IsWritableLabel label × IsWritableLabel clearance × IsWritableEntry entry
-IsWritable (Enter container gate wanted clearance verify) =
-    IsNumber container × IsNumber gate × IsWritableLabel wanted × IsWritableLabel clearance × IsWritableLabel verify
+IsWritable (Enter container gate wanted clearance verify) = IsNumber container × IsNumber gate × IsWritableLabel wanted × IsWritableLabel clearance × IsWritableLabel verify
 IsWritable (Read container segment) = IsNumber container × IsNumber segment
 IsWritable (Write container segment keep bytes) = IsNumber container × IsNumber segment × IsNumber keep
 IsWritable (Unlink container object) = IsNumber container × IsNumber object
@@ -41,6 +40,4 @@ IsWritable (LabelOf container object) = IsNumber container × IsNumber object
 
 -- two raw calls of threads with the same text are the same call of the same thread
 abbrev pub TextsDetermineCalls : Type 0
-TextsDetermineCalls =
-    (t u : ℕ) (a b : RawCall) → IsNumber t → IsNumber u → IsWritable a → IsWritable b
-    → thread_call_text t a ≡ thread_call_text u b → (t ≡ u) × (a ≡ b)
+TextsDetermineCalls = (t u : ℕ) (a b : RawCall) → IsNumber t → IsNumber u → IsWritable a → IsWritable b → thread_call_text t a ≡ thread_call_text u b → (t ≡ u) × (a ≡ b)

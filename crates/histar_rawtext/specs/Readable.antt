@@ -33,8 +33,7 @@ IsReadable (MakeSegment container label bytes) = IsNumber container × IsReadabl
 IsReadable (MakeContainer container label) = IsNumber container × IsReadableLabel label
 IsReadable (MakeThread container label clearance) = IsNumber container × IsReadableLabel label × IsReadableLabel clearance
 IsReadable (MakeGate container label clearance entry) = IsNumber container × IsReadableLabel label × IsReadableLabel clearance × IsReadableEntry entry
-IsReadable (Enter container gate wanted clearance verify) =
-    IsNumber container × IsNumber gate × IsReadableLabel wanted × IsReadableLabel clearance × IsReadableLabel verify
+IsReadable (Enter container gate wanted clearance verify) = IsNumber container × IsNumber gate × IsReadableLabel wanted × IsReadableLabel clearance × IsReadableLabel verify
 IsReadable (Read container segment) = IsNumber container × IsNumber segment
 IsReadable (Write container segment keep bytes) = IsNumber container × IsNumber segment × (keep < 2 ^ 32) × AreBytes bytes
 IsReadable (Unlink container object) = IsNumber container × IsNumber object

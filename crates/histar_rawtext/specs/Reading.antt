@@ -44,9 +44,7 @@ user_in word = number_in word >>= between 1 255
 -- the level that a text begins with
 abbrev pub level_in : List ℕ → Option Level
 level_in [] = None
-level_in (b ∷ bs) =
-    if b == 42 then Some Star else (if b == 48 then Some L0 else
-    (if b == 49 then Some L1 else (if b == 50 then Some L2 else (if b == 51 then Some L3 else None))))
+level_in (b ∷ bs) = if b == 42 then Some Star else (if b == 48 then Some L0 else (if b == 49 then Some L1 else (if b == 50 then Some L2 else (if b == 51 then Some L3 else None))))
 
 -- the category and the level that a text names with a colon between
 unfoldable pub exception_in : List ℕ → Option (ℕ × Level)

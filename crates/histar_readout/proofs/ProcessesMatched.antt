@@ -30,7 +30,7 @@ use Rattle.histar_refinement.proofs.StatusFound.{numbered_home, numbered_runner}
 use Rattle.histar_readout.specs.declared.process.Life.{Life}
 use Rattle.histar_readout.specs.declared.process.ProcessNode.{ProcessNode}
 use Rattle.histar_readout.specs.Process.{container_label, thread_label, running_by, running_at, life_in, node_in}
-use Rattle.histar_readout.specs.Processes.{AreProcessesOf, child_of, all_of, processes_at, levels_at}
+use Rattle.histar_readout.specs.Processes.{AreProcessesOf, child_of, children_of, all_of, processes_at, levels_at}
 use Rattle.histar_readout.specs.ProcessLines.{ProcessLine, process_line, flat_life, with_children, flat_processes}
 use Rattle.histar_readout.specs.Laws.{AreNamed, FlatStatesHaveTheirProcesses}
 use Rattle.histar_readout.proofs.HeldJobs.{running_is}
@@ -158,6 +158,17 @@ module _ (accounts : Accounts) (s : State) (f : Flat) (l : ObjectsMatch accounts
       of_children : ((n : ℕ) (q : Process) → f.processes (n ∷ me) ≡ Some q → HasProcessesAt levels (n ∷ me)) → (ns : List ℕ) → HaveProcesses ns
       of_children each [] = record { processes = []; are = refl; lines = refl }
       of_children each (n ∷ ns) = one_more each n ns (f.processes (n ∷ me)) refl (of_children each ns)
+
+      -- a process and those of its children are the processes at its name
+      with_its_children : HaveProcesses (range_with_len 1 p.born) → HasProcessesAt (suc levels) me
+      with_its_children rest = record {
+        processes = node ∷ rest.processes;
+        are =
+            ap (λ (x : Option ProcessNode). x >>= λ first. all_of (processes_at levels accounts s) me
+            (children_of s (found me).segment first.born) >>= λ more. Some (first ∷ more)) node_is
+            ∙ ap (λ (x : Option (List ProcessNode)). x >>= λ more. Some (node ∷ more)) rest.are;
+        lines = (λ i. process_line node ∷ rest.lines i) ∙ sym (ap (with_children l.category below me) here);
+      }
 
   -- a process that is there has processes, down to enough levels
   processes_there : AreNamed f → (levels : ℕ) (me : ProcName) (p : Process) → f.processes me ≡ Some p

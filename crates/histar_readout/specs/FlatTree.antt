@@ -25,6 +25,4 @@ AreShallow most f = (q : Path) → is_there f q ≡ true → length q ≤ most
 
 -- a walk from `/` on through a tree meets all its nodes, by rising paths
 abbrev pub WalksMeetAll : Type 0
-WalksMeetAll =
-    (f : Flat) → IsTree f → (most : ℕ) → AreShallow most f → (slash : Node) → get f.files [] ≡ Some slash
-    → walked (suc most) f.files.entries [] slash ≡ f.files.entries
+WalksMeetAll = (f : Flat) → IsTree f → (most : ℕ) → AreShallow most f → (slash : Node) → get f.files [] ≡ Some slash → walked (suc most) f.files.entries [] slash ≡ f.files.entries

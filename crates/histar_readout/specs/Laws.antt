@@ -34,15 +34,11 @@ pub record HasTreeOf (accounts : Accounts) (s : State) (f : Flat) (category : Ca
 
 -- a state that represents a flat state has its tree, with the category numbers of the state
 abbrev pub FlatStatesHaveTheirTrees : Type 0
-FlatStatesHaveTheirTrees =
-    (accounts : Accounts) (s : State) (f : Flat) (l : Represents accounts s f) → AreShallow f
-    → HasTreeOf accounts s f l.matched.category
+FlatStatesHaveTheirTrees = (accounts : Accounts) (s : State) (f : Flat) (l : Represents accounts s f) → AreShallow f → HasTreeOf accounts s f l.matched.category
 
 -- a state has one tree at most
 abbrev pub StatesHaveOneTree : Type 0
-StatesHaveOneTree =
-    (accounts : Accounts) (s : State) (roots : Roots) (a b : List TreeNode) → IsTreeOf accounts s roots a
-    → IsTreeOf accounts s roots b → a ≡ b
+StatesHaveOneTree = (accounts : Accounts) (s : State) (roots : Roots) (a b : List TreeNode) → IsTreeOf accounts s roots a → IsTreeOf accounts s roots b → a ≡ b
 
 -- a path leads to one target at most
 abbrev pub PathsLeadToOneTarget : Type 0

@@ -61,8 +61,7 @@ HasNoProcesses accounts s roots = (processes : List ProcessNode) → AreProcesse
 
 -- the found ones are the processes of a state, and none were found exactly where it has none
 abbrev pub FindsProcesses : Accounts → State → Roots → Option (Vec ProcessNode) → Type 0
-FindsProcesses accounts s roots found =
-    MatchOption found (HasNoProcesses accounts s roots) (λ processes. AreProcessesOf accounts s roots processes.items)
+FindsProcesses accounts s roots found = MatchOption found (HasNoProcesses accounts s roots) (λ processes. AreProcessesOf accounts s roots processes.items)
 
 -- these processes were added, or there are none of this kind
 abbrev pub Adds : Option (List ProcessNode) → List ProcessNode → List ProcessNode → Result (Unit {0}) ProcessError → Type 0

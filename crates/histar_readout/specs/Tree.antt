@@ -38,8 +38,7 @@ AreListed is_tree d (e ∷ entries) trees =
 -- below a file is nothing, and below a directory are the trees that its directory segment lists
 abbrev pub IsBelow : Listed → State → Path → Target → List TreeNode → Type 0
 IsBelow is_tree s q (File file) trees = trees ≡ []
-IsBelow is_tree s q (Directory container listing) trees =
-    (dir : Entries) × IsDirectory (bytes_in (s.objects listing)) dir × AreListed is_tree q (map.entries dir) trees
+IsBelow is_tree s q (Directory container listing) trees = (dir : Entries) × IsDirectory (bytes_in (s.objects listing)) dir × AreListed is_tree q (map.entries dir) trees
 
 -- The tree at a path, down to this many levels: the node at the path, and then those below it.
 abbrev pub IsTreeAt : ℕ → Accounts → State → Listed
@@ -82,6 +81,4 @@ AddsTree accounts s q target = Adds (IsTreeAt (levels_at q) accounts s q target)
 
 -- the trees below a directory were added
 abbrev pub AddsBelow : Accounts → State → Path → ℕ → List TreeNode → List TreeNode → Result (Unit {0}) TreeError → Type 0
-AddsBelow accounts s d listing =
-    Adds (λ trees. (dir : Entries) × IsDirectory (bytes_in (s.objects listing)) dir
-    × AreListed (IsTreeAt (most_names - length d) accounts s) d (map.entries dir) trees)
+AddsBelow accounts s d listing = Adds (λ trees. (dir : Entries) × IsDirectory (bytes_in (s.objects listing)) dir × AreListed (IsTreeAt (most_names - length d) accounts s) d (map.entries dir) trees)

@@ -49,9 +49,7 @@ ThreadsModifyWhatIsWritten = (accounts : Accounts) (s : State) (f : Flat) (l : O
 
 -- each object of the state is reached from the root container by links
 abbrev pub ObjectsAreReached : Type 0
-ObjectsAreReached =
-    (accounts : Accounts) (s : State) (f : Flat) → Represents accounts s f → (q : ℕ) → is_present (s.objects q) ≡ true
-    → Reached s.objects root_number q
+ObjectsAreReached = (accounts : Accounts) (s : State) (f : Flat) → Represents accounts s f → (q : ℕ) → is_present (s.objects q) ≡ true → Reached s.objects root_number q
 
 -- Two processes are the same; or both have exited with the same number, were in the same jobs and had as many children, and
 -- nothing is said of their users and of the jobs that they held.
@@ -59,27 +57,20 @@ abbrev pub AreAlike : Option Process → Option Process → Type 0
 AreAlike None None = Unit {0}
 AreAlike None (Some q) = ⊥
 AreAlike (Some p) None = ⊥
-AreAlike (Some p) (Some q) =
-    (p.exited ≡ q.exited) × (p.born ≡ q.born) × (p.chain ≡ q.chain)
-    × (p.exited ≡ None → (p.user ≡ q.user) × (p.held ≡ q.held))
+AreAlike (Some p) (Some q) = (p.exited ≡ q.exited) × (p.born ≡ q.born) × (p.chain ≡ q.chain) × (p.exited ≡ None → (p.user ≡ q.user) × (p.held ≡ q.held))
 
 -- For one naming of its categories a state represents at most one flat state: the same files and directories of the same classes with
 -- the same bytes, and the same processes, but for the users and the held jobs of those that have exited.
 abbrev pub OneIsRepresented : Type 0
-OneIsRepresented =
-    (accounts : Accounts) (s : State) (f g : Flat) (l : Represents accounts s f) (m : Represents accounts s g)
-    → ((c : CategoryName) → l.matched.category c ≡ m.matched.category c)
+OneIsRepresented = (accounts : Accounts) (s : State) (f g : Flat) (l : Represents accounts s f) (m : Represents accounts s g) → ((c : CategoryName) → l.matched.category c ≡ m.matched.category c)
     → ((q : Path) → get f.files q ≡ get g.files q) × ((me : ProcName) → AreAlike (f.processes me) (g.processes me))
 
 -- the thread that the process segments lead to is that of the process, which runs
 abbrev pub ThreadsAreFound : Type 0
-ThreadsAreFound =
-    (accounts : Accounts) (s : State) (f : Flat) (l : ObjectsMatch accounts s f) (me : ProcName) (t : ℕ)
-    → IsThreadOf accounts s me t ↔ ((p : Process) × RunsAs accounts s f l me p t)
+ThreadsAreFound = (accounts : Accounts) (s : State) (f : Flat) (l : ObjectsMatch accounts s f) (me : ProcName) (t : ℕ) → IsThreadOf accounts s me t ↔ ((p : Process) × RunsAs accounts s f l me p t)
 
 -- A process that runs, as it is found: its container and its process segment, its thread, and the numbers of its own two categories.
-pub record IsCallerOf (accounts : Accounts) (s : State) (f : Flat) (l : ObjectsMatch accounts s f) (me : ProcName)
-    (p : Process) (caller : Caller) : Type 0 where
+pub record IsCallerOf (accounts : Accounts) (s : State) (f : Flat) (l : ObjectsMatch accounts s f) (me : ProcName) (p : Process) (caller : Caller) : Type 0 where
   pub runs : RunsAs accounts s f l me p caller.thread
   pub home : l.naming.number (home_address me) ≡ Some caller.home.container
   pub segment : l.naming.number (Status ∷ home_address me) ≡ Some caller.home.segment
@@ -93,16 +84,12 @@ CallersAreFound = (accounts : Accounts) (s : State) (f : Flat) (l : ObjectsMatch
 
 -- each process that runs is found
 abbrev pub CallersAreThere : Type 0
-CallersAreThere =
-    (accounts : Accounts) (s : State) (f : Flat) → ObjectsMatch accounts s f → (me : ProcName)
-    → is_some (caller_at s (roots_of (length accounts.users)).home me) ≡ is_some (running f me)
+CallersAreThere = (accounts : Accounts) (s : State) (f : Flat) → ObjectsMatch accounts s f → (me : ProcName) → is_some (caller_at s (roots_of (length accounts.users)).home me) ≡ is_some (running f me)
 
 -- the objects that the directory segments lead to are those of the directory at the path
 abbrev pub DirectoriesAreFound : Type 0
 DirectoriesAreFound = (accounts : Accounts) (s : State) (f : Flat) (l : ObjectsMatch accounts s f) (d : Path) (container listing : ℕ)
-    → IsDirectoryAt accounts s d container listing
-    ↔ ((is_dir_at f d ≡ true) × (l.naming.number (address_of d) ≡ Some container)
-    × (l.naming.number (Listing ∷ address_of d) ≡ Some listing))
+    → IsDirectoryAt accounts s d container listing ↔ ((is_dir_at f d ≡ true) × (l.naming.number (address_of d) ≡ Some container) × (l.naming.number (Listing ∷ address_of d) ≡ Some listing))
 
 -- the state in which a machine starts represents the flat state at the start, where some users are declared and the objects of boot
 -- have numbers

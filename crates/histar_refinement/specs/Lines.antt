@@ -16,8 +16,7 @@ use Rattle.histar_refinement.specs.Addresses.{slash_number, slash_listing_number
 -- The container and the process segment of a process: those of process 0 are the ones that boot made, and those of a child are listed
 -- in the process segment above it.
 abbrev pub IsStatusSegment : Accounts → State → ProcName → ℕ → ℕ → Type 0
-IsStatusSegment accounts s [] container segment =
-    (container ≡ home_number (length accounts.users)) × (segment ≡ status_number (length accounts.users))
+IsStatusSegment accounts s [] container segment = (container ≡ home_number (length accounts.users)) × (segment ≡ status_number (length accounts.users))
 IsStatusSegment accounts s (n ∷ p) container segment =
     (above : ℕ) × (listing : ℕ) × (status : ProcessStatus)
     × IsStatusSegment accounts s p above listing × IsStatus (bytes_in (s.objects listing)) status
@@ -27,14 +26,12 @@ IsStatusSegment accounts s (n ∷ p) container segment =
 abbrev pub IsThreadOf : Accounts → State → ProcName → ℕ → Type 0
 IsThreadOf accounts s process thread =
     (container : ℕ) × (segment : ℕ) × (status : ProcessStatus)
-    × IsStatusSegment accounts s process container segment × IsStatus (bytes_in (s.objects segment)) status
-    × (status.exited ≡ None) × (status.thread ≡ thread)
+    × IsStatusSegment accounts s process container segment × IsStatus (bytes_in (s.objects segment)) status × (status.exited ≡ None) × (status.thread ≡ thread)
 
 -- The container and the directory segment of a directory: those of `/` are the ones that boot made, and those of another directory are
 -- listed in the directory segment above it.
 abbrev pub IsDirectoryAt : Accounts → State → Path → ℕ → ℕ → Type 0
-IsDirectoryAt accounts s [] container segment =
-    (container ≡ slash_number (length accounts.users)) × (segment ≡ slash_listing_number (length accounts.users))
+IsDirectoryAt accounts s [] container segment = (container ≡ slash_number (length accounts.users)) × (segment ≡ slash_listing_number (length accounts.users))
 IsDirectoryAt accounts s (name ∷ d) container segment =
     (above : ℕ) × (listing : ℕ) × (dir : Entries)
     × IsDirectoryAt accounts s d above listing × IsDirectory (bytes_in (s.objects listing)) dir

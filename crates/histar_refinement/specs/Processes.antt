@@ -19,12 +19,7 @@ children processes me born = filter (λ n. is_some (processes (n ∷ me))) (rang
 
 -- a child of a process, with the numbers of its objects
 abbrev pub listed_by : AddressNumbers → ProcName → ℕ → Child
-listed_by number me n =
-    record {
-      number = n;
-      container = or_zero (number (home_address (n ∷ me)));
-      segment = or_zero (number (Status ∷ home_address (n ∷ me)));
-    }
+listed_by number me n = record { number = n; container = or_zero (number (home_address (n ∷ me))); segment = or_zero (number (Status ∷ home_address (n ∷ me))) }
 
 -- the status in the segment of a process
 abbrev pub status_by : (ProcName → Option Process) → AddressNumbers → ProcName → Process → ProcessStatus

@@ -34,9 +34,7 @@ rights_above accounts f me p (n ∷ d) = rights_or accounts f me p d (get f.file
 abbrev pub DirectoriesGiveRights : Type 0
 DirectoriesGiveRights =
     (accounts : Accounts) (f : Flat) → IsTree f → HaveFewBytes f → (me : ProcName) (p : Process) (q : Path) (node : Node) → get f.files q ≡ Some node
-    → rights_at accounts f me p q node
-    ≡ rights_below (rights_above accounts f me p q) (may_read accounts p node.class)
-    (may_write accounts p node.class)
+    → rights_at accounts f me p q node ≡ rights_below (rights_above accounts f me p q) (may_read accounts p node.class) (may_write accounts p node.class)
 
 -- the reply is neither a refusal nor `gone`
 abbrev pub is_answer : Reply → Bool
@@ -78,9 +76,7 @@ WritersMakeEntries =
 
 -- after the calls of a script the processes of the table are exactly those that run, in the order of their names
 abbrev pub RunningAreListed : Type 0
-RunningAreListed =
-    (accounts : Accounts) (calls : List CallLine)
-    → AreRunning (flat_end accounts (boot accounts) calls) (running_in (flat_end accounts (boot accounts) calls))
+RunningAreListed = (accounts : Accounts) (calls : List CallLine) → AreRunning (flat_end accounts (boot accounts) calls) (running_in (flat_end accounts (boot accounts) calls))
 
 -- after the calls of a script each process that is there has a name that can be shown
 abbrev pub ProcessesHaveShownNames : Type 0

@@ -43,9 +43,7 @@ lies_between own gate_label label clearance own_clearance gate_clearance =
 -- t may have this label and this clearance behind a gate: it owns what t or the gate owns; elsewhere the label is at least both labels, and
 -- the clearance at most the greater of both clearances
 abbrev pub in_gate : Found → Found → Levels → Levels → Bool
-in_gate t gate label clearance =
-    holds_of t (λ own own_clearance. holds_of gate
-    (λ gate_label gate_clearance. lies_between own gate_label label clearance own_clearance gate_clearance))
+in_gate t gate label clearance = holds_of t (λ own own_clearance. holds_of gate (λ gate_label gate_clearance. lies_between own gate_label label clearance own_clearance gate_clearance))
 
 -- a kind whose clearance, if it has one, has level 3 at a category
 abbrev pub kind_with_three_at : ℕ → Kind Levels → Kind Levels
@@ -78,9 +76,4 @@ with_changed s t f = record { objects = changed_at s.objects t f; next_object = 
 
 -- the state in which thread t has made the next category, and owns it
 abbrev pub with_category : State → ℕ → State
-with_category s t =
-    record {
-      objects = changed_at s.objects t (with_star_at s.next_category);
-      next_object = s.next_object;
-      next_category = s.next_category + 1;
-    }
+with_category s t = record { objects = changed_at s.objects t (with_star_at s.next_category); next_object = s.next_object; next_category = s.next_category + 1 }

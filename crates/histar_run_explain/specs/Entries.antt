@@ -14,8 +14,7 @@ use Rattle.histar_raw_explain.specs.Texts.{Words, explanation_text}
 -- the lines are those of the explanation of a denied call at a state, and none where the call was granted
 abbrev pub ExplainsOutcome : Words → State → TraceEntry → Option Denied → List ℕ → Type 0
 ExplainsOutcome words s e None lines = lines ≡ []
-ExplainsOutcome words s e (Some denied) lines =
-    (x : Explanation) × ExplainsDenial s e.thread e.call denied x × (lines ≡ explanation_text words e.line e.thread x)
+ExplainsOutcome words s e (Some denied) lines = (x : Explanation) × ExplainsDenial s e.thread e.call denied x × (lines ≡ explanation_text words e.line e.thread x)
 
 -- By the rules the call of an entry has its outcome at a state and leads from there to another, and the lines explain it at the first.
 pub record ExplainsEntry (words : Words) (before : State) (e : TraceEntry) (lines : List ℕ) (after : State) : Type 0 where
@@ -28,8 +27,7 @@ pub record ExplainsEntry (words : Words) (before : State) (e : TraceEntry) (line
 abbrev pub ExplainsEntries : Words → State → List TraceEntry → List ℕ → State → Type 0
 ExplainsEntries words s [] text last = (text ≡ []) × (last ≡ s)
 ExplainsEntries words s (e ∷ entries) text last =
-    (mid : State) × (lines : List ℕ) × (rest : List ℕ) × ExplainsEntry words s e lines mid × (text ≡ lines ++ rest)
-    × ExplainsEntries words mid entries rest last
+    (mid : State) × (lines : List ℕ) × (rest : List ℕ) × ExplainsEntry words s e lines mid × (text ≡ lines ++ rest) × ExplainsEntries words mid entries rest last
 
 -- the entries are a run from this state on
 abbrev pub IsRunFrom : State → List TraceEntry → Type 0

@@ -45,9 +45,7 @@ IsPurposeOf accounts f name (Reads i) = name ≡ reads_of accounts i
 IsPurposeOf accounts f name (Writes i) = name ≡ writes_of accounts i
 IsPurposeOf accounts f name (ReadsProcess me) = name ≡ names.ReadsProcess me
 IsPurposeOf accounts f name (WritesProcess me) = name ≡ names.WritesProcess me
-IsPurposeOf accounts f name (Job me) =
-    (job : ProcName) × (n : ℕ) × (above : ProcName) × (me ≡ n ∷ above) × (name ≡ names.OfJob job)
-    × BeginsJob f job n above
+IsPurposeOf accounts f name (Job me) = (job : ProcName) × (n : ℕ) × (above : ProcName) × (me ≡ n ∷ above) × (name ≡ names.OfJob job) × BeginsJob f job n above
 
 -- Under each naming by which the state represents the flat state, a category with a purpose has a name that is used, and this purpose.
 abbrev pub PurposesAreRight : Type 0

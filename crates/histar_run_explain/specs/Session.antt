@@ -38,8 +38,7 @@ ExplainsInTurn m births (a ∷ answers) text end born =
     × (text ≡ lines ++ rest) × ExplainsInTurn mid (births_by mid a.call births) answers rest end born
 
 -- the machine answered each of these call lines, the lines of its replies were written, and the text explains them
-pub record ExplainsCalls (before after : MachineModel) (old new : Option (List ℕ)) (calls : List CallLine)
-    (text : List ℕ) (born : Births) : Type 0 where
+pub record ExplainsCalls (before after : MachineModel) (old new : Option (List ℕ)) (calls : List CallLine) (text : List ℕ) (born : Births) : Type 0 where
   pub answers : List RepliedCall
   pub each : calls_of answers ≡ calls
   pub in_turn : ExplainsInTurn before [] answers text after born

@@ -61,14 +61,9 @@ Adds old n (items.User u) new =
     (old.calls ≡ []) × (old.accounts.groups ≡ []) × (length old.accounts.users < most_users) × All (λ v. v.name ≢ u.name) old.accounts.users
     × (new ≡ record { accounts = with_user old.accounts u; calls = old.calls })
 Adds old n (items.Group g) new =
-    (old.calls ≡ []) × (length old.accounts.groups < most_groups) × All (λ u. u.name ≢ g.name) old.accounts.users
-    × All (λ h. h.name ≢ g.name) old.accounts.groups
+    (old.calls ≡ []) × (length old.accounts.groups < most_groups) × All (λ u. u.name ≢ g.name) old.accounts.users × All (λ h. h.name ≢ g.name) old.accounts.groups
     × IsMembership old.accounts.users g × (new ≡ record { accounts = with_group old.accounts g; calls = old.calls })
-Adds old n (items.Call p c) new =
-    (0 < length old.accounts.users) × IsTrue (is_declared_call old.accounts c)
-    × (new
-    ≡ record
-    { accounts = old.accounts; calls = old.calls ++ (record { line = n; process = p; call = c }) ∷ [] })
+Adds old n (items.Call p c) new = (0 < length old.accounts.users) × IsTrue (is_declared_call old.accounts c) × (new ≡ record { accounts = old.accounts; calls = old.calls ++ (record { line = n; process = p; call = c }) ∷ [] })
 
 -- line n says an item that adds to the script so far
 abbrev pub Takes : ScriptModel → ℕ → List ℕ → ScriptModel → Type 0
@@ -96,6 +91,5 @@ BeginsSome lines = (other : List ℕ) × (script : ScriptModel) × (take (length
 pub record IsFirstBad (text : List ℕ) (n : ℕ) : Type 0 where
   pub none : n ≤ length (lines_of text) → BeginsNone text n
   pub some : BeginsSome (take (n - 1) (lines_of text))
-  pub before : (read : ScriptModel) × TakesLines nothing_read 0 (take (n - 1) (lines_of text)) read
-      × (length (lines_of text) < n → read.accounts.users ≡ [])
+  pub before : (read : ScriptModel) × TakesLines nothing_read 0 (take (n - 1) (lines_of text)) read × (length (lines_of text) < n → read.accounts.users ≡ [])
   pub close : (0 < n) × (n ≤ length (lines_of text) + 1)

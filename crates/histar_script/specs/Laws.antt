@@ -52,6 +52,4 @@ line_without job line = if is_job_item job (item_of line) then codes "#" else li
 
 -- a script in which each line of a job is made the comment `#` is the script without the job's calls
 abbrev pub CommentsLeaveOut : Type 0
-CommentsLeaveOut =
-    (job : ProcName) (text other : List ℕ) (s : ScriptModel) → IsScript text s
-    → lines_of other ≡ map (line_without job) (lines_of text) → IsScript other (without_job job s)
+CommentsLeaveOut = (job : ProcName) (text other : List ℕ) (s : ScriptModel) → IsScript text s → lines_of other ≡ map (line_without job) (lines_of text) → IsScript other (without_job job s)

@@ -134,9 +134,7 @@ is_empty xs = length xs == 0
 
 -- a line that declares this user may be here
 abbrev pub takes_user : ScriptModel → User → Bool
-takes_user s u =
-    is_empty s.accounts.groups && is_empty s.calls && nat_lt (length s.accounts.users) most_users
-    && not (has_user s.accounts.users u.name)
+takes_user s u = is_empty s.accounts.groups && is_empty s.calls && nat_lt (length s.accounts.users) most_users && not (has_user s.accounts.users u.name)
 
 -- each name is a user's
 abbrev pub are_users : List User → List Name → Bool
@@ -153,9 +151,7 @@ is_new_name accounts name = not (has_user accounts.users name) && not (is_group 
 
 -- a line that declares this group may be here
 abbrev pub takes_group : ScriptModel → Group → Bool
-takes_group s g =
-    is_empty s.calls && nat_lt (length s.accounts.groups) most_groups && is_new_name s.accounts g.name
-    && are_users s.accounts.users g.members && are_distinct g.members
+takes_group s g = is_empty s.calls && nat_lt (length s.accounts.groups) most_groups && is_new_name s.accounts g.name && are_users s.accounts.users g.members && are_distinct g.members
 
 -- a line with this call may be here
 abbrev pub takes_call : ScriptModel → UnixCall → Bool
@@ -166,10 +162,7 @@ unfoldable pub with_item : ScriptModel → ℕ → Item → Option ScriptModel
 with_item s n items.Comment = Some s
 with_item s n (items.User u) = if takes_user s u then Some (record { accounts = with_user s.accounts u; calls = s.calls }) else None
 with_item s n (items.Group g) = if takes_group s g then Some (record { accounts = with_group s.accounts g; calls = s.calls }) else None
-with_item s n (items.Call p c) =
-    if takes_call s c then Some
-    (record { accounts = s.accounts; calls = s.calls ++ (record { line = n; process = p; call = c }) ∷ [] }) else
-    None
+with_item s n (items.Call p c) = if takes_call s c then Some (record { accounts = s.accounts; calls = s.calls ++ (record { line = n; process = p; call = c }) ∷ [] }) else None
 
 -- the script after line n
 unfoldable pub with_line : ScriptModel → ℕ → List ℕ → Option ScriptModel

@@ -91,8 +91,7 @@ pub record OutsidersFollow (accounts : Accounts) (class : Class) (f s : Flat) (p
 abbrev pub ProgramsLearnNothing : Type 0
 ProgramsLearnNothing = (accounts : Accounts) (f : Flat) → IsReached accounts f → (path : Path) (class : Class) → HasFile f path class
     → (one other : List ℕ) (calls others : List CallLine) (program : OutsideProgram)
-    → OutsidersFollow accounts class f (with_bytes f path one) program calls
-    → OutsidersFollow accounts class f (with_bytes f path other) program others
+    → OutsidersFollow accounts class f (with_bytes f path one) program calls → OutsidersFollow accounts class f (with_bytes f path other) program others
     → length (outside_calls accounts class f calls) ≡ length (outside_calls accounts class f others)
     → (outside_calls accounts class f calls ≡ outside_calls accounts class f others)
     × (outside_replies accounts class f (with_bytes f path one) calls ≡ outside_replies accounts class f (with_bytes f path other) others)

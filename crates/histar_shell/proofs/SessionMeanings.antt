@@ -2,6 +2,8 @@
 use Rattle.std.proofs.Common.{◌≡◌, ℕ, List, [], ◌∷◌, ◌++◌, Option, Result, Ok, Err, refl, sym, ap, ◌∙◌, subst, append-nil, append_assoc, inl, inr}
 use Rattle.std.proofs.Common.{◌⊎◌}
 use Rattle.std.specs.List.{AllByRecursion}
+use Rattle.std.specs.Io.KnownBytes.{Appends}
+use Rattle.std.proofs.KnownBytes.{Appends-trans}
 use Rattle.std.proofs.lemmas.Grind.{flat_map-append}
 use Rattle.histar_flat.specs.Accounts.{Accounts}
 use Rattle.histar_flat.specs.FlatState.{Flat}
@@ -29,7 +31,7 @@ use Rattle.histar_shell.specs.AnsweredCalls.{AnswersInTurn, AnswersCalls, Begins
 use Rattle.histar_shell.specs.declared.session.Options.{Options}
 use Rattle.histar_shell.specs.Ending.{IsEnding, HasTree, asked_trace}
 use Rattle.histar_shell.specs.Outcome.{BeginsEnding, BeginsScript, WritesAtFault, WritesAnswers}
-use Rattle.histar_shell.specs.Meaning.{last_state, asked_tree, meaning_text, Shows, AnswersAsMeant, IsMeantTrace, BeginsTrace}
+use Rattle.histar_shell.specs.Meaning.{last_state, asked_tree, meaning_text, Shows, AnswersAsMeant, IsMeantTrace, WritesMeaning, BeginsTrace}
 use Rattle.histar_shell.specs.Meaning.{BeginsMeaning, WritesMeaningAtFault, RunsAsMeant}
 use Rattle.histar_shell.proofs.Users.{AreScriptable, script_says}
 use Rattle.histar_shell.proofs.AnswerLemmas.{front_after}
@@ -197,6 +199,20 @@ module _ (refinements : CallsRefine) (script : ScriptModel) (declared : IsDeclar
         ++ (tree_asked script.accounts end last (shows_last old replied end answered) options.tree ends.tree
         ends.prints i ++ asked_trace options (sym recorded i)))
         ∙ sym (append_assoc (answers_text (meaning script.accounts script.calls)) (asked_tree options last) of_trace)
+
+    -- all lines were answered
+    pub writes_meaning : (old replied new : Option (List ℕ)) (read : Result ScriptModel Fault) → read ≡ Ok script
+        → (trace : List TraceEntry) (end : MachineModel) → AnswersCalls start end old replied script.calls
+        → (ending : List ℕ) → IsEnding options end ending → Appends replied new ending → trace ≡ end.kernel.trace
+        → WritesMeaning options old new read trace
+    writes_meaning old replied new read is_read trace end answered ending ends revealed recorded = record {
+      script = script;
+      is_read = is_read;
+      recorded = trace_is old replied end answered trace recorded;
+      written =
+          subst (Appends old new) (whole_is old replied end answered ending ends trace recorded)
+          (Appends-trans old replied new (answers_text answered.answers) ending answered.written revealed);
+    }
 
     -- the calls were answered, and then a beginning of what follows the replies was written
     ends_meaning : (old new : Option (List ℕ)) → BeginsEnding options start old new script.calls → BeginsTrace options old new script

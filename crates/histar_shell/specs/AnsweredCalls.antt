@@ -13,9 +13,7 @@ use Rattle.histar_shell.specs.Machine.{MachineModel, AnswersLine}
 -- is listed with.
 abbrev pub AnswersInTurn : MachineModel → List RepliedCall → MachineModel → Type 0
 AnswersInTurn m [] end = end ≡ m
-AnswersInTurn m (a ∷ answers) end =
-    (mid : MachineModel) × AnswersLine m mid a.call.line a.call.process a.call.call (Ok a.reply)
-    × AnswersInTurn mid answers end
+AnswersInTurn m (a ∷ answers) end = (mid : MachineModel) × AnswersLine m mid a.call.line a.call.process a.call.call (Ok a.reply) × AnswersInTurn mid answers end
 
 -- the machine answered this call line with a reply, and the line of this reply was written
 pub record AnswersCall (before after : MachineModel) (old new : Option (List ℕ)) (call : CallLine) : Type 0 where

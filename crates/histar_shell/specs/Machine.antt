@@ -50,11 +50,7 @@ pub record MachineModel : Type 0 where
 
 -- a machine is stored as the tuple of its parts
 abbrev pub coded_machine_model : Coded MachineModel
-coded_machine_model =
-    code_by (KernelModel × (Roots × (Accounts × Bool)))
-    (coded× coded_kernel_model (coded× where_is.the_row.coded (coded× sessions.the_row.coded coded_bool)))
-    (λ m. (m.kernel, (m.roots, (m.users, m.is_stopped))))
-    (λ p. record { kernel = p.0; roots = p.1.0; users = p.1.1.0; is_stopped = p.1.1.1 }) (λ _. refl)
+coded_machine_model = code_by (KernelModel × (Roots × (Accounts × Bool))) (coded× coded_kernel_model (coded× where_is.the_row.coded (coded× sessions.the_row.coded coded_bool))) (λ m. (m.kernel, (m.roots, (m.users, m.is_stopped)))) (λ p. record { kernel = p.0; roots = p.1.0; users = p.1.1.0; is_stopped = p.1.1.1 }) (λ _. refl)
 
 -- the trace of the kernel is a run from the empty kernel to its state
 abbrev pub IsTraced : KernelModel → Type 0
@@ -101,8 +97,7 @@ Makes accounts roots me caller old new call result = Runs (program_of accounts r
 
 -- The call was made by the thread of the process on the line that was begun; the machine has the same places, users and groups as
 -- before, and has stopped if the call ended without an answer.
-pub record HasMade (old new : MachineModel) (line : ℕ) (me : ProcName) (caller : Caller) (call : UnixCall)
-    (result : Result Reply Stopped) : Type 0 where
+pub record HasMade (old new : MachineModel) (line : ℕ) (me : ProcName) (caller : Caller) (call : UnixCall) (result : Result Reply Stopped) : Type 0 where
   pub made : Makes old.users old.roots me caller (on_line line old.kernel) new.kernel call result
   pub roots : new.roots ≡ old.roots
   pub users : new.users ≡ old.users

@@ -82,8 +82,7 @@ EndsAsMeant accounts old new f asked (Err stopped) = StopsAsMeant accounts old n
 -- For each flat state that the machine represents before the line, with users and groups of its names, the line ends as that state says.
 abbrev pub FollowsMeaning : MachineModel → MachineModel → ℕ → ProcName → UnixCall → Result Reply Stopped → Type 0
 FollowsMeaning old new line process call result =
-    (accounts : Accounts) (f : Flat) → Shows accounts old f
-    → EndsAsMeant accounts old new f (record { line = line; process = process; call = call }) result
+    (accounts : Accounts) (f : Flat) → Shows accounts old f → EndsAsMeant accounts old new f (record { line = line; process = process; call = call }) result
 
 -- a machine represents the flat start
 abbrev pub ShowsStart : Accounts → MachineModel → Type 0

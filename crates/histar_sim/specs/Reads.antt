@@ -63,9 +63,7 @@ module _ (accounts : Accounts) where
   -- the processes on the way to a name that are looked at, from process 0 on: each that is there, up to the first that may not be seen
   abbrev pub looked_at : Flat → Process → ProcName → List ProcName
   looked_at f p [] = [] ∷ []
-  looked_at f p (n ∷ above) =
-      looked_at f p above
-      ++ (if not (is_some (not_found f p above)) && is_some (f.processes (n ∷ above)) then (n ∷ above) ∷ [] else [])
+  looked_at f p (n ∷ above) = looked_at f p above ++ (if not (is_some (not_found f p above)) && is_some (f.processes (n ∷ above)) then (n ∷ above) ∷ [] else [])
 
   -- the walk to a path asks for the directories on the way; to `/` there is no walk
   abbrev pub walked : Flat → Process → Path → List Question
@@ -98,9 +96,7 @@ module _ (accounts : Accounts) where
   abbrev pub Asks : State → Question → RawCall → Type 0
   Asks s (EntriesOf d) call = (container : ℕ) × (listing : ℕ) × IsDirectoryAt accounts s d container listing × (call ≡ raw.Read container listing)
   Asks s (LabelAt q) call = (container : ℕ) × (object : ℕ) × IsObjectAt accounts s q container object × (call ≡ raw.LabelOf container object)
-  Asks s (StatusOf name) call =
-      (container : ℕ) × (segment : ℕ) × IsStatusSegment accounts s name container segment
-      × (call ≡ raw.Read container segment)
+  Asks s (StatusOf name) call = (container : ℕ) × (segment : ℕ) × IsStatusSegment accounts s name container segment × (call ≡ raw.Read container segment)
   Asks s OwnLabel call = call ≡ raw.OwnLabel
   Asks s (PasswordAt place) call = call ≡ raw.Read root_number (password_of (place + 1))
 

@@ -55,8 +55,7 @@ IsReplyOfDenial reply (Some denied) = option_map Refused (write_errno_of denied)
 -- comparing labels exactly where the reply is EACCES, and by range exactly where it is EPERM; at most one is refused, the reply is
 -- that of the denial, and after it the thread is only given labels. If bytes were replied, the last entry reads them. A line with the
 -- reply `gone` has none.
-pub record IsLine (accounts : Accounts) (before : State) (line : ℕ) (process : ProcName) (reply : Reply)
-    (entries : List TraceEntry) (after : State) : Type 0 where
+pub record IsLine (accounts : Accounts) (before : State) (line : ℕ) (process : ProcName) (reply : Reply) (entries : List TraceEntry) (after : State) : Type 0 where
   pub run : IsRun before entries after
   pub own : AllByRecursion (λ e. (e.line ≡ line) × IsThreadOf accounts before process e.thread) entries
   pub access : some_label_refusal entries ≡ is_no_access reply
@@ -68,8 +67,7 @@ pub record IsLine (accounts : Accounts) (before : State) (line : ℕ) (process :
 
 -- The line refines its rule: its reply is what the flat state says, it has the reads that the call cannot do without, and the
 -- state after it represents the flat state after the call.
-pub record SimulatesLine (accounts : Accounts) (before : State) (f : Flat) (asked : CallLine)
-    (entries : List TraceEntry) (after : State) : Type 0 where
+pub record SimulatesLine (accounts : Accounts) (before : State) (f : Flat) (asked : CallLine) (entries : List TraceEntry) (after : State) : Type 0 where
   pub line : IsLine accounts before asked.line asked.process (reply_to accounts f asked.process asked.call) entries after
   pub reads : HasReads accounts before f (running f asked.process) asked.call (reply_to accounts f asked.process asked.call) entries
   pub represents : Represents accounts after (flat_after accounts f asked.process asked.call)
@@ -79,8 +77,7 @@ abbrev pub SimulatesLines : Accounts → State → Flat → List CallLine → Li
 SimulatesLines accounts s f [] entries end = (entries ≡ []) × (end ≡ s)
 SimulatesLines accounts s f (asked ∷ more) entries end =
     (own : List TraceEntry) × (later : List TraceEntry) × (mid : State)
-    × (entries ≡ own ++ later) × SimulatesLine accounts s f asked own mid
-    × SimulatesLines accounts mid (flat_after accounts f asked.process asked.call) more later end
+    × (entries ≡ own ++ later) × SimulatesLine accounts s f asked own mid × SimulatesLines accounts mid (flat_after accounts f asked.process asked.call) more later end
 
 -- the next category has a number
 abbrev pub has_category : State → Bool
@@ -125,9 +122,7 @@ FollowsRule accounts f me call old new t (Err stopped) = IsUnanswered accounts f
 
 -- each file holds as many bytes as a segment can hold
 abbrev pub AreFilesSmall : Flat → Type 0
-AreFilesSmall f =
-    (q : Path) (class : Class) (bytes : List ℕ) → get f.files q ≡ Some (record { class = class; content = File bytes })
-    → length bytes ≤ most_bytes
+AreFilesSmall f = (q : Path) (class : Class) (bytes : List ℕ) → get f.files q ≡ Some (record { class = class; content = File bytes }) → length bytes ≤ most_bytes
 
 -- process 0 is in no job
 abbrev pub IsFirstFree : Flat → Type 0

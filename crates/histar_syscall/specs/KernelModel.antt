@@ -22,10 +22,7 @@ pub record KernelModel : Type 0 where
 
 -- stored as the tuple of its parts
 abbrev pub coded_kernel_model : Coded KernelModel
-coded_kernel_model =
-    code_by (ObjectsModel × (ℕ × List TraceEntry))
-    (coded× coded_objects_model (coded× coded_ℕ (coded_list entry.the_row.coded)))
-    (λ k. (k.kept, (k.line, k.trace))) (λ p. record { kept = p.0; line = p.1.0; trace = p.1.1 }) (λ _. refl)
+coded_kernel_model = code_by (ObjectsModel × (ℕ × List TraceEntry)) (coded× coded_objects_model (coded× coded_ℕ (coded_list entry.the_row.coded))) (λ k. (k.kept, (k.line, k.trace))) (λ p. record { kept = p.0; line = p.1.0; trace = p.1.1 }) (λ _. refl)
 
 -- the state of a kernel
 abbrev pub state : KernelModel → State

@@ -56,8 +56,7 @@ GoesOn (Some denied) call others mid new refusal = IsUnchanged mid new × (refus
 abbrev pub Made : KernelModel → KernelModel → ℕ → List RawCall → Option (RawCall × Denied) → Type 0
 Made old new thread [] refusal = IsUnchanged old new × (refusal ≡ None)
 Made old new thread (call ∷ calls) refusal =
-    (mid : KernelModel) × (denied : Option Denied) × Called old mid thread call denied
-    × GoesOn denied call (Made mid new thread calls refusal) mid new refusal
+    (mid : KernelModel) × (denied : Option Denied) × Called old mid thread call denied × GoesOn denied call (Made mid new thread calls refusal) mid new refusal
 
 -- the thread made these raw calls, and each of them was granted
 abbrev pub Granted : KernelModel → KernelModel → ℕ → List RawCall → Type 0

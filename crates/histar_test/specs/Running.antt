@@ -101,8 +101,7 @@ BeginsStep file old step before after =
     (accounts : Accounts) (f : Flat) → Shows accounts old.machine f → AppendsFront before after (step_text file accounts f old step)
 
 -- steps were taken from a flat state: their checks were written, and counted
-pub record AreTaken (accounts : Accounts) (f : Flat) (file : List ℕ) (old new : Run) (steps : List Step)
-    (before after : Option (List ℕ)) : Type 0 where
+pub record AreTaken (accounts : Accounts) (f : Flat) (file : List ℕ) (old new : Run) (steps : List Step) (before after : Option (List ℕ)) : Type 0 where
   pub written : Appends before after (checks_text file (old.tally.count + 1) (checks_from accounts f old.last steps))
   pub tally : new.tally ≡ tally_with old.tally (checks_from accounts f old.last steps)
 

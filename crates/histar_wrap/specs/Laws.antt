@@ -8,6 +8,4 @@ use Rattle.histar_wrap.specs.WrapCall.{wrap_program}
 
 -- the program of a wrap replies to its refusals
 abbrev pub WrapsReplyToRefusals : Type 0
-WrapsReplyToRefusals =
-    (accounts : Accounts) (roots : Roots) (name : ProcName) (me : Home) (path : Path)
-    → RepliesToRefusals (wrap_program accounts roots name me path)
+WrapsReplyToRefusals = (accounts : Accounts) (roots : Roots) (name : ProcName) (me : Home) (path : Path) → RepliesToRefusals (wrap_program accounts roots name me path)
