@@ -84,8 +84,8 @@ no_new_owner s t d label clearance =
     orelse unless (known s clearance) Range
     orelse unless (has_number s) TooBig
 
--- The first failing check of a raw call. The order: the caller, the container and the object; then whether labels let the thread observe,
--- modify or enter; then the ranges of the labels that were handed in; then sizes and counters.
+-- The first failing check of a raw call. The order: the caller; the container, which the thread has to observe; the object; then whether
+-- labels let the thread observe, modify or enter the object; then the ranges of the labels that were handed in; then sizes and counters.
 abbrev pub check : State → ℕ → RawCall → Option Denied
 check s t MakeCategory =
     no_thread s t
