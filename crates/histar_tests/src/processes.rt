@@ -84,6 +84,27 @@ fn root() -> Result<(Name, Password), Fail> {
     Ok((name, password))
 }
 
+/// Checks that `/` leads to where boot left it.
+fn check_slash(rt: &impl Abort, kernel: &Kernel<PlainStore>, roots: &Roots) {
+    let place = roots.slash;
+    let found = resolve::resolve(kernel, roots, &Path::root());
+    assert!(rt; found == Some(Target::Directory(place.container, place.listing)));
+}
+
+/// Checks that the processes of a kernel are the expected ones.
+fn check_listed(
+    rt: &impl Abort,
+    alloc: Global,
+    kernel: &Kernel<PlainStore>,
+    roots: &Roots,
+    users: &UserTable,
+    rows: &[Row],
+) -> Result<(), Fail> {
+    let listed = procs_of(alloc, kernel, roots, users)?.ok_or("processes")?;
+    check_processes(rt, listed.as_slice(), rows);
+    Ok(())
+}
+
 /// Checks that these are the expected processes.
 fn check_processes(rt: &impl Abort, processes: &[ProcessNode], rows: &[Row]) {
     assert_eq!(rt; processes.len(), rows.len());
@@ -139,13 +160,8 @@ fn slash_and_the_processes_are_found(rt: HostRuntime) -> Result<(), Fail> {
     assert!(rt; !accounts.users().is_empty());
     let users = UserTable::of(alloc, &accounts)?;
     let (mut kernel, roots) = boot(alloc, PlainStore::new(alloc), &accounts)?;
-    let place = roots.slash;
-    let found = resolve::resolve(&kernel, &roots, &Path::root());
-    assert!(rt; found == Some(Target::Directory(place.container, place.listing)));
-    let first = procs_of(alloc, &kernel, &roots, &users)?.ok_or("processes")?;
-    check_processes(&rt, first.as_slice(), AFTER_BOOT);
+    check_slash(&rt, &kernel, &roots);
+    check_listed(&rt, alloc, &kernel, &roots, &users, AFTER_BOOT)?;
     make_calls(alloc, &mut kernel, &roots, &users)?;
-    let last = procs_of(alloc, &kernel, &roots, &users)?.ok_or("processes")?;
-    check_processes(&rt, last.as_slice(), AT_THE_END);
-    Ok(())
+    check_listed(&rt, alloc, &kernel, &roots, &users, AT_THE_END)
 }

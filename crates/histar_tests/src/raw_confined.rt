@@ -1,14 +1,14 @@
 //! A raw session of threads that a category confines: they have it at 3, and no gate owns it. What they do
 //! is granted below a container that has it at 3 too, and nowhere else.
 use crate::raw_sessions::{
-    Asked, CLEARED_2, Expected, MODIFY, NO_ENTRY, OWNS_2, PLAIN, RANGE, Row, SECRET, accounts,
+    Asked, CLEARED_2, Expected, MODIFY, NO_ENTRY, OWNS_2, PLAIN, RANGE, Row, SECRET, run_session,
 };
 use histar_label::PlainStore;
 use std::test::Fail;
 
 /// The tainted container 3, the confined thread 4 in it, the open segment 5, a gate 6 that gives nothing,
 /// and in the tainted container the plain segment 7.
-const MADE: [Row; 6] = [
+static MADE: [Row; 6] = [
     (1, 2, Asked::MakeCategory, Expected::Category(2)),
     (1, 2, Asked::MakeContainer(1, SECRET), Expected::Object(3)),
     (
@@ -37,7 +37,7 @@ const MADE: [Row; 6] = [
     ),
 ];
 
-const CONFINED: [Row; 21] = [
+static CONFINED: [Row; 21] = [
     (2, 4, Asked::Read(1, 5), Expected::Bytes(b"open", 1)),
     (2, 4, Asked::Write(1, 5, 0, b"x", 1), MODIFY),
     (2, 4, Asked::MakeSegment(1, SECRET, b"", 0), MODIFY),
@@ -81,18 +81,27 @@ const CONFINED: [Row; 21] = [
     (5, 4, Asked::Unlink(3, 7), Expected::Done),
 ];
 
-const AFTER: [Row; 3] = [
+static AFTER: [Row; 3] = [
     (6, 2, Asked::Read(1, 5), Expected::Bytes(b"open", 1)),
     (6, 2, Asked::Read(3, 8), Expected::Bytes(b"deeper", 1)),
     (6, 2, Asked::Read(3, 7), NO_ENTRY),
 ];
 
+fn made() -> &'static [Row] {
+    &MADE
+}
+
+fn confined() -> &'static [Row] {
+    &CONFINED
+}
+
+fn after() -> &'static [Row] {
+    &AFTER
+}
+
 #[test]
 fn confined_threads_change_what_is_tainted_alone(rt: HostRuntime) -> Result<(), Fail> {
-    let mut rows = Vec::from_slice(rt.alloc(), &MADE)?;
-    rows.extend_from_slice(&CONFINED)?;
-    rows.extend_from_slice(&AFTER)?;
     let stores = (PlainStore::new(rt.alloc()), PlainStore::new(rt.alloc()));
-    accounts(&rt, rt.alloc(), stores, rows.as_slice())?;
+    run_session(&rt, rt.alloc(), stores, &[made(), confined(), after()])?;
     Ok(())
 }

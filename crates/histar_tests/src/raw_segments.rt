@@ -1,7 +1,7 @@
 //! A raw session on segments: each way in which they are read, written and made, and each refusal.
 use crate::raw_sessions::{
     Asked, BAD_KIND, CLEARED_2, Expected, GUARDED, ListedLabel, MODIFY, NO_ENTRY, NO_THREAD,
-    NOTHING, OBSERVE, OWNS_2, PLAIN, RANGE, Row, SECRET, TAINTED, TOO_BIG, UNMADE, accounts,
+    NOTHING, OBSERVE, OWNS_2, PLAIN, RANGE, Row, SECRET, TAINTED, TOO_BIG, UNMADE, run_session,
 };
 use histar_label::{Level, PlainStore};
 use std::test::Fail;
@@ -15,7 +15,7 @@ const UNCLEARED: ListedLabel = (&[(3, Level::L3)], Level::L1);
 
 /// The threads 4, which owns category 2, and 5, a secret segment 6, a secret container 7, a container 8
 /// that neither may modify, and no object 9.
-const MADE: [Row; 11] = [
+static MADE: [Row; 11] = [
     (1, 2, Asked::MakeCategory, Expected::Category(2)),
     (1, 2, Asked::MakeContainer(1, PLAIN), Expected::Object(3)),
     (
@@ -44,7 +44,7 @@ const MADE: [Row; 11] = [
     (1, 2, Asked::MakeCategory, Expected::Category(4)),
 ];
 
-const USED: [Row; 34] = [
+static USED: [Row; 34] = [
     (2, 4, Asked::OwnLabel, Expected::OwnLabel(OWNS_2, CLEARED_2)),
     (2, 6, Asked::OwnLabel, NO_THREAD),
     (2, 9, Asked::OwnLabel, NO_THREAD),
@@ -81,7 +81,7 @@ const USED: [Row; 34] = [
     (8, 4, Asked::Write(3, 6, 0, b"a", 4096), Expected::Done),
 ];
 
-const NEW: [Row; 25] = [
+static NEW: [Row; 25] = [
     (9, 4, Asked::MakeSegment(3, UNMADE, b"", 0), RANGE),
     (9, 4, Asked::MakeSegment(3, NEXT, b"", 0), RANGE),
     (9, 4, Asked::MakeSegment(3, OWNS_2, b"", 0), RANGE),
@@ -129,12 +129,21 @@ const NEW: [Row; 25] = [
     (11, 5, Asked::Read(3, NOTHING), NO_ENTRY),
 ];
 
+fn made() -> &'static [Row] {
+    &MADE
+}
+
+fn used() -> &'static [Row] {
+    &USED
+}
+
+fn new() -> &'static [Row] {
+    &NEW
+}
+
 #[test]
 fn segments_are_used(rt: HostRuntime) -> Result<(), Fail> {
-    let mut rows = Vec::from_slice(rt.alloc(), &MADE)?;
-    rows.extend_from_slice(&USED)?;
-    rows.extend_from_slice(&NEW)?;
     let stores = (PlainStore::new(rt.alloc()), PlainStore::new(rt.alloc()));
-    accounts(&rt, rt.alloc(), stores, rows.as_slice())?;
+    run_session(&rt, rt.alloc(), stores, &[made(), used(), new()])?;
     Ok(())
 }

@@ -149,13 +149,13 @@ fn enter_call(
     place: (u64, u64),
     wanted: ListedLabel,
     clearance: ListedLabel,
-    shown: ListedLabel,
+    verify: ListedLabel,
 ) -> Result<RawCall, OutOfMemory> {
     let (container, gate) = (ObjId::new(place.0), ObjId::new(place.1));
     let wanted = handed(alloc, wanted)?;
     let clearance = handed(alloc, clearance)?;
-    let shown = handed(alloc, shown)?;
-    Ok(RawCall::Enter(container, gate, wanted, clearance, shown))
+    let verify = handed(alloc, verify)?;
+    Ok(RawCall::Enter(container, gate, wanted, clearance, verify))
 }
 
 /// Returns the raw call in the form in which the kernel takes it.
@@ -177,8 +177,8 @@ fn raw_call(alloc: Global, asked: Asked) -> Result<RawCall, OutOfMemory> {
         Asked::MakeGate(container, listed, clearance, mark) => {
             gate_call(alloc, container, listed, clearance, mark)
         }
-        Asked::Enter(container, gate, wanted, clearance, shown) => {
-            enter_call(alloc, (container, gate), wanted, clearance, shown)
+        Asked::Enter(container, gate, wanted, clearance, verify) => {
+            enter_call(alloc, (container, gate), wanted, clearance, verify)
         }
         Asked::Read(container, segment) => {
             Ok(RawCall::Read(ObjId::new(container), ObjId::new(segment)))
@@ -255,36 +255,58 @@ fn run_by_call<S: LabelStore + Drop>(
     rows: &[Row],
 ) -> Result<(), Refusal> {
     let mut kernel = Kernel::new(alloc, store)?;
-    for &(line, thread, asked, expected) in rows {
-        let call = raw_call(alloc, asked)?;
-        kernel.begin(line);
-        match kernel.call(alloc, ObjId::new(thread), call) {
-            Ok(answer) => {
-                let is_expected = is_answer(alloc, &answer, expected)?;
-                assert!(rt; is_expected, "thread {thread} on line {line}");
-            }
-            Err(Refusal::Denied(denied)) => {
-                assert_eq!(rt;
-                    Some(denied),
-                    denial(expected),
-                    "thread {thread} on line {line}"
-                );
-            }
-            Err(Refusal::OutOfMemory) => return Err(Refusal::OutOfMemory),
-        }
+    for &row in rows {
+        check_call(rt, alloc, &mut kernel, row)?;
     }
     is_traced(rt, kernel.trace(), rows, true);
     Ok(())
 }
 
-/// Makes the calls of a table on the empty kernel, all at once and then one by one, over two empty stores.
-pub(crate) fn accounts<S: LabelStore + Drop>(
+/// Makes one call, and checks its answer against the table.
+fn check_call<S: LabelStore + Drop>(
+    rt: &impl Abort,
+    alloc: Global,
+    kernel: &mut Kernel<S>,
+    row: Row,
+) -> Result<(), Refusal> {
+    let (line, thread, asked, expected) = row;
+    let call = raw_call(alloc, asked)?;
+    kernel.begin(line);
+    match kernel.call(alloc, ObjId::new(thread), call) {
+        Ok(answer) => {
+            let is_expected = is_answer(alloc, &answer, expected)?;
+            assert!(rt; is_expected, "thread {thread} on line {line}");
+        }
+        Err(Refusal::Denied(denied)) => {
+            assert_eq!(rt;
+                Some(denied),
+                denial(expected),
+                "thread {thread} on line {line}"
+            );
+        }
+        Err(Refusal::OutOfMemory) => return Err(Refusal::OutOfMemory),
+    }
+    Ok(())
+}
+
+/// Joins tables, one after another.
+fn joined(alloc: Global, tables: &[&[Row]]) -> Result<Vec<Row>, OutOfMemory> {
+    let mut rows = Vec::new(alloc);
+    for table in tables {
+        rows.extend_from_slice(table)?;
+    }
+    Ok(rows)
+}
+
+/// Makes the calls of tables on the empty kernel, all at once and then one by one, over two empty stores.
+pub(crate) fn run_session<S: LabelStore + Drop>(
     rt: &impl Abort,
     alloc: Global,
     stores: (S, S),
-    rows: &[Row],
+    tables: &[&[Row]],
 ) -> Result<(), Refusal> {
     let (first, second) = stores;
-    run_at_once(rt, alloc, first, rows)?;
-    run_by_call(rt, alloc, second, rows)
+    let rows = joined(alloc, tables)?;
+    run_at_once(rt, alloc, first, rows.as_slice())?;
+    run_by_call(rt, alloc, second, rows.as_slice())
 }

@@ -83,17 +83,30 @@ fn check_beginning(
     Ok(())
 }
 
+/// Compares the traces of two machines, each of which stopped or didn't.
+fn compare(
+    rt: &impl Abort,
+    alloc: Global,
+    stopped: (bool, bool),
+    trace: &[TraceEntry],
+    other: &[TraceEntry],
+) -> Result<(), Fail> {
+    let (is_stopped, is_other_stopped) = stopped;
+    if is_other_stopped {
+        assert!(rt; !is_stopped, "one allocation stopped both");
+        return check_beginning(rt, alloc, other, trace);
+    }
+    if !is_stopped {
+        assert_eq!(rt; trace.len(), other.len());
+    }
+    check_beginning(rt, alloc, trace, other)
+}
+
 #[test]
 fn a_stopped_machine_has_a_beginning_of_the_ample_trace(rt: HostRuntime) -> Result<(), Fail> {
     let alloc = rt.alloc();
     let (machine, is_stopped) = machine_after(&rt, alloc, SCRIPT)?;
     let (other, is_other_stopped) = machine_after(&rt, alloc, SCRIPT)?;
-    if is_other_stopped {
-        assert!(rt; !is_stopped, "one allocation stopped both");
-        return check_beginning(&rt, alloc, other.trace(), machine.trace());
-    }
-    if !is_stopped {
-        assert_eq!(rt; machine.trace().len(), other.trace().len());
-    }
-    check_beginning(&rt, alloc, machine.trace(), other.trace())
+    let stopped = (is_stopped, is_other_stopped);
+    compare(&rt, alloc, stopped, machine.trace(), other.trace())
 }
