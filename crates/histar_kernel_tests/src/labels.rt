@@ -224,13 +224,21 @@ fn answers_in_turn<S: LabelStore>(
     assert!(rt; !answer);
     let answer = store.below(open, secret);
     assert!(rt; answer);
+    answers_by_kind(rt, store, secret, owner);
+    Ok(())
+}
+
+/// Checks that two comparisons of two labels keep their answers apart.
+fn answers_by_kind<S: LabelStore>(rt: &impl Abort, store: &mut S, secret: S::Id, owner: S::Id)
+    requires first_stands { IsSome (S.labels store.old secret) }
+    requires second_stands { IsSome (S.labels store.old owner) }
+{
     let answer = store.below(secret, owner);
     assert!(rt; !answer);
     let answer = store.below_raised(secret, owner);
     assert!(rt; answer);
     let answer = store.below(secret, owner);
     assert!(rt; !answer);
-    Ok(())
 }
 
 /// Checks the same for comparisons with a label of many exceptions.
@@ -276,13 +284,22 @@ fn answers_that_are_driven_out(rt: HostRuntime) -> Result<(), Fail> {
     Ok(())
 }
 
+/// Puts a label with this level at category 7.
+fn put_level<S: LabelStore>(
+    alloc: Global,
+    store: &mut S,
+    level: Level,
+) -> Result<S::Id, OutOfMemory> {
+    store.put(at_seven(alloc, level)?)
+}
+
 /// Checks that a label that is put again has its old Id, and that no other label has it.
 #[test]
 fn equal_labels_have_one_id(rt: HostRuntime) -> Result<(), Fail> {
     let mut store = InternStore::new(rt.alloc(), 1)?;
-    let first = store.put(at_seven(rt.alloc(), Level::L2)?)?;
-    let other = store.put(at_seven(rt.alloc(), Level::L3)?)?;
-    let again = store.put(at_seven(rt.alloc(), Level::L2)?)?;
+    let first = put_level(rt.alloc(), &mut store, Level::L2)?;
+    let other = put_level(rt.alloc(), &mut store, Level::L3)?;
+    let again = put_level(rt.alloc(), &mut store, Level::L2)?;
     assert_eq!(rt; again, first);
     assert!(rt; other != first);
     Ok(())

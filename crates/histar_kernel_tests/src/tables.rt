@@ -1,6 +1,7 @@
 //! Tables of objects and sets of links, whose slots are used again, and what want of memory leaves.
 use histar_object::{Kind, Links, ObjId, Object, Table};
 use std::alloc::AllocError;
+use std::process::Abort;
 use std::test::Fail;
 
 #[test]
@@ -47,6 +48,18 @@ fn objects_are_found_by_their_numbers(rt: HostRuntime) -> Result<(), Fail> {
     Ok(())
 }
 
+/// Adds object 3 after object 1 is removed, and checks that it has the slot of that one, and object 2 its own.
+fn use_slot_again(rt: &impl Abort, table: &mut Table<u8>) -> Result<(), AllocError> {
+    let slot = table.slot(ObjId::new(1));
+    let other = table.slot(ObjId::new(2));
+    assert!(rt; slot.is_some() && other.is_some() && other != slot);
+    assert!(rt; table.remove(ObjId::new(1)).is_some());
+    add(table, 3, 3)?;
+    assert_eq!(rt; table.slot(ObjId::new(3)), slot);
+    assert_eq!(rt; table.slot(ObjId::new(2)), other);
+    Ok(())
+}
+
 /// Checks that an object that is added after another was removed has the slot of that one, and a number of
 /// its own.
 #[test]
@@ -54,16 +67,8 @@ fn a_slot_is_used_again(rt: HostRuntime) -> Result<(), Fail> {
     let mut table = Table::new(rt.alloc());
     add(&mut table, 1, 1)?;
     add(&mut table, 2, 2)?;
-    let slot = table.slot(ObjId::new(1));
-    let other = table.slot(ObjId::new(2));
-    assert!(rt; slot.is_some());
-    assert!(rt; other.is_some());
-    assert!(rt; other != slot);
-    assert!(rt; table.remove(ObjId::new(1)).is_some());
-    add(&mut table, 3, 3)?;
-    assert_eq!(rt; table.slot(ObjId::new(3)), slot);
+    use_slot_again(&rt, &mut table)?;
     assert!(rt; table.slot(ObjId::new(1)).is_none());
-    assert_eq!(rt; table.slot(ObjId::new(2)), other);
     assert_eq!(rt; label(&table, 2), Some(2));
     assert_eq!(rt; label(&table, 3), Some(3));
     Ok(())
