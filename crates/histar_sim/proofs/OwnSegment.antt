@@ -54,8 +54,8 @@ listed_few processes number me born most =
 
 -- ---- the raw calls on it, by a thread that modifies both
 
-module _ (s : State) (t C S : ℕ) (own most due : Levels) (links : Links) (held : List ℕ)
-    (thread : s.objects t ≡ object own (Thread most)) (holder : s.objects C ≡ object due (Container links))
+module _ (s : State) (t C S : ℕ) (own clearance due : Levels) (links : Links) (held : List ℕ)
+    (thread : s.objects t ≡ object own (Thread clearance)) (holder : s.objects C ≡ object due (Container links))
     (segment : s.objects S ≡ object due (Segment held)) where
   -- the three are different objects
   pub thread_apart : t ≢ C
@@ -71,9 +71,9 @@ module _ (s : State) (t C S : ℕ) (own most due : Levels) (links : Links) (held
     -- the segment is written with few bytes
     pub write_granted : set.contains links S ≡ true → (bytes : List ℕ) → length bytes ≤ 4096 → check s t (Write C S 0 bytes) ≡ None
     write_granted linked bytes few =
-        write_check s t own most thread C due links holder seen S linked due held segment 0 bytes
+        write_check s t own clearance thread C due links holder seen S linked due held segment 0 bytes
         ∙ (λ i. unless (may i) Modify orelse unless (fits held bytes few i) TooBig)
 
     -- unlinking what the container links is granted
     pub unlink_granted : (o : ℕ) → set.contains links o ≡ true → check s t (Unlink C o) ≡ None
-    unlink_granted o linked = unlink_check s t own most thread C due links holder seen o linked ∙ ap (λ (b : Bool). unless b Modify) may
+    unlink_granted o linked = unlink_check s t own clearance thread C due links holder seen o linked ∙ ap (λ (b : Bool). unless b Modify) may

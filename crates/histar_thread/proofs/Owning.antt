@@ -15,8 +15,8 @@ kind_owned : (own : Levels) (k : Kind Levels) (label clearance : Levels) (c : �
     → thread_of (with_level label c Star) (with_level clearance c L3) ≡ record { label = with_level own c Star; kind = kind_with_three_at c k }
 kind_owned own (Segment bytes) label clearance c l k t = cc
 kind_owned own (Container links) label clearance c l k t = cc
-kind_owned own (Thread most) label clearance c l k t = cc
-kind_owned own (Gate most entry) label clearance c l k t = cc
+kind_owned own (Thread held) label clearance c l k t = cc
+kind_owned own (Gate held entry) label clearance c l k t = cc
 
 -- so giving the thread these labels changes it in this way
 owned_at : (objects : Objects Levels) (t : ℕ) (here : Found) (label clearance : Levels) (c : ℕ) → objects t ≡ here
