@@ -34,8 +34,8 @@ other_slots es fs n w updated q differs = elim (eqb_tells n q) [
 ]
 
 -- each slot of a number has an object
-abbrev Stand : {X : Type 0} → (ℕ → Option X) → List (ℕ × ℕ) → Type 0
-Stand at slots = (q k : ℕ) → slot_at slots q ≡ Some k → IsSome (at k)
+abbrev Filled : {X : Type 0} → (ℕ → Option X) → List (ℕ × ℕ) → Type 0
+Filled at slots = (q k : ℕ) → slot_at slots q ≡ Some k → IsSome (at k)
 
 -- none of these numbers is n
 abbrev IsApart : ℕ → List (ℕ × ℕ) → Type 0
@@ -77,24 +77,24 @@ module _ {X : Type 0} (at : ℕ → Option X) where
       ]
 
   -- the slots after the first one have objects too
-  stands_behind : (e : ℕ × ℕ) (slots : List (ℕ × ℕ)) → IsApart e.0 slots → Stand at (e ∷ slots) → Stand at slots
-  stands_behind e slots apart stands q k is = elim (eqb_tells q e.0) [
+  filled_behind : (e : ℕ × ℕ) (slots : List (ℕ × ℕ)) → IsApart e.0 slots → Filled at (e ∷ slots) → Filled at slots
+  filled_behind e slots apart filled q k is = elim (eqb_tells q e.0) [
     | inl same ↦ absurd (none_or_some k (sym (none_behind e.0 slots apart) ∙ ap (λ n. slot_at slots n) (sym same.1) ∙ is))
-    | inr other ↦ stands q k (ap (λ b. cond b (Some e.1) (slot_at slots q)) other.0 ∙ is)
+    | inr other ↦ filled q k (ap (λ b. cond b (Some e.1) (slot_at slots q)) other.0 ∙ is)
   ]
 
   -- the object of a number is that of its slot
-  found_by_slot : (slots : List (ℕ × ℕ)) → IsDistinct nat_eq (keys_of slots) → Stand at slots → (q : ℕ)
+  found_by_slot : (slots : List (ℕ × ℕ)) → IsDistinct nat_eq (keys_of slots) → Filled at slots → (q : ℕ)
       → object_at (placed at slots) q ≡ found (slot_at slots q)
   unfolding IsDistinct
-  found_by_slot [] once stands q = refl
-  found_by_slot (e ∷ slots) once stands q =
-      let here : IsSome (at e.1) = stands e.0 e.1 (ap (λ b. cond b (Some e.1) (slot_at slots e.0)) (nat_eq_equiv.refl e.0)) in
-      found_step e (at e.1) (placed at slots) q (slot_at slots q) refl here (found_by_slot slots once.1 (stands_behind e slots once.0 stands) q)
+  found_by_slot [] once filled q = refl
+  found_by_slot (e ∷ slots) once filled q =
+      let here : IsSome (at e.1) = filled e.0 e.1 (ap (λ b. cond b (Some e.1) (slot_at slots e.0)) (nat_eq_equiv.refl e.0)) in
+      found_step e (at e.1) (placed at slots) q (slot_at slots q) refl here (found_by_slot slots once.1 (filled_behind e slots once.0 filled) q)
 
   -- so it is in a table, for each number
   pub lookup-placed : (slots : List (ℕ × ℕ)) → IsPlaced at slots → (q : ℕ) → object_at (placed at slots) q ≡ found (slot_at slots q)
-  lookup-placed slots is q = found_by_slot slots is.once is.stands q
+  lookup-placed slots is q = found_by_slot slots is.once is.filled q
 
   -- where the number has a slot, it is the object of the slot
   pub found_at : (slots : List (ℕ × ℕ)) → IsPlaced at slots → (q k : ℕ) → Some k ≡ slot_at slots q → at k ≡ object_at (placed at slots) q
@@ -106,12 +106,12 @@ module _ {X : Type 0} (at : ℕ → Option X) where
 
   -- a slot of a number has an object
   slot_revealed : (o : Option ℕ) → ((k : ℕ) → o ≡ Some k → IsSome (at k)) → found o ≡ None → o ≡ None
-  slot_revealed None stands none = refl
-  slot_revealed (Some k) stands none = absurd (false≢true (ap is_some (sym none) ∙ stands k refl))
+  slot_revealed None filled none = refl
+  slot_revealed (Some k) filled none = absurd (false≢true (ap is_some (sym none) ∙ filled k refl))
 
   -- where there is no object, the number has no slot
   pub no_slot : (slots : List (ℕ × ℕ)) → IsPlaced at slots → (q : ℕ) → object_at (placed at slots) q ≡ None → slot_at slots q ≡ None
-  no_slot slots is q none = slot_revealed (slot_at slots q) (is.stands q) (sym (lookup-placed slots is q) ∙ none)
+  no_slot slots is q none = slot_revealed (slot_at slots q) (is.filled q) (sym (lookup-placed slots is q) ∙ none)
 
 module _ {X : Type 0} (at new_at : ℕ → Option X) (es fs : List (ℕ × ℕ)) (was : IsPlaced at es) (kept : new_at ≡ at)
     (same : (q : ℕ) → slot_at fs q ≡ slot_at es q) where
@@ -119,7 +119,7 @@ module _ {X : Type 0} (at new_at : ℕ → Option X) (es fs : List (ℕ × ℕ))
   pub IsPlaced-reordered : IsDistinct nat_eq (keys_of fs) → IsPlaced new_at fs
   IsPlaced-reordered once = record {
     once = once;
-    stands = λ q k is. subst (λ (f : ℕ → Option X). IsSome (f k)) (sym kept) (was.stands q k (sym (same q) ∙ is));
+    filled = λ q k is. subst (λ (f : ℕ → Option X). IsSome (f k)) (sym kept) (was.filled q k (sym (same q) ∙ is));
     apart = λ p q k at_p at_q. was.apart p q k (sym (same p) ∙ at_p) (sym (same q) ∙ at_q);
     named = λ k some. (let before = was.named k (subst (λ (f : ℕ → Option X). IsSome (f k)) kept some) in (before.0, same before.0 ∙ before.1));
   }
@@ -168,12 +168,12 @@ module _ {X : Type 0} (at new_at : ℕ → Option X) (es fs : List (ℕ × ℕ))
     ]
 
     -- each number's slot has an object
-    stands_after : (q k : ℕ) → slot_at fs q ≡ Some k → IsSome (new_at k)
-    stands_after q k is = elim (eqb_tells q n) [
+    filled_after : (q k : ℕ) → slot_at fs q ≡ Some k → IsSome (new_at k)
+    filled_after q k is = elim (eqb_tells q n) [
       | inl same ↦ (let here = one.only k (sym (at_own q same.1) ∙ is) in subst IsSome (sym one.changed ∙ ap new_at (sym here.0)) here.1)
       | inr other ↦
           (let before = sym (at_other q other.1)
-          ∙ is in subst IsSome (sym (one.others k (one.apart q k other.1 before))) (was.stands q k before))
+          ∙ is in subst IsSome (sym (one.others k (one.apart q k other.1 before))) (was.filled q k before))
     ]
 
     -- no two numbers have one slot
@@ -199,7 +199,7 @@ module _ {X : Type 0} (at new_at : ℕ → Option X) (es fs : List (ℕ × ℕ))
 
     -- the objects still have places
     pub IsPlaced-changed : IsDistinct nat_eq (keys_of fs) → IsPlaced new_at fs
-    IsPlaced-changed once = record { once = once; stands = stands_after; apart = apart_after; named = named_after }
+    IsPlaced-changed once = record { once = once; filled = filled_after; apart = apart_after; named = named_after }
 
     -- the objects by number, with the object x at n
     pub objects-changed : IsDistinct nat_eq (keys_of fs)
@@ -249,7 +249,7 @@ module _ {X : Type 0} (at new_at : ℕ → Option X) (es : List (ℕ × ℕ)) (w
     only = λ k is. (sym (one_some s k is), refl);
     named = λ some. refl;
     own = λ k is. absurd (none_or_some k (sym none ∙ is));
-    apart = λ q k differs is same. false≢true (sym (ap is_some vacant) ∙ ap (λ j. is_some (at j)) (sym same) ∙ was.stands q k is);
+    apart = λ q k differs is same. false≢true (sym (ap is_some vacant) ∙ ap (λ j. is_some (at j)) (sym same) ∙ was.filled q k is);
   }
 
   -- an object is taken out of its slot

@@ -18,7 +18,7 @@ module _ {X : Type 0} where
   -- each number has one slot, with its object; no two numbers have one slot, and no object is without a number
   pub record IsPlaced (at : ℕ → Option X) (slots : List (ℕ × ℕ)) : Type 0 where
     pub once : IsDistinct nat_eq (keys_of slots)
-    pub stands : (q k : ℕ) → lookup (nat_eq q) slots ≡ Some k → IsSome (at k)
+    pub filled : (q k : ℕ) → lookup (nat_eq q) slots ≡ Some k → IsSome (at k)
     pub apart : (p q k : ℕ) → lookup (nat_eq p) slots ≡ Some k → lookup (nat_eq q) slots ≡ Some k → p ≡ q
     pub named : (k : ℕ) → IsSome (at k) → (q : ℕ) × (lookup (nat_eq q) slots ≡ Some k)
 

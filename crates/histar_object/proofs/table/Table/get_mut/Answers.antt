@@ -27,7 +27,7 @@ invariant_of-self-lent g c lent =
     let slots = c.self.inside.slots.entries in
     let slot = c.in_ok-slot.slot in
     let here : slot_at slots c.args.id ≡ Some slot = sym c.get.ensures ∙ c.in_ok-slot.was in (
-      λ w. (let updates = Updates-with_value c.self.inside.objects slot w (c.self.invariant.stands c.args.id slot here) in
+      λ w. (let updates = Updates-with_value c.self.inside.objects slot w (c.self.invariant.filled c.args.id slot here) in
           let new = get (with_value c.self.inside.objects slot w) in
           let one = written old new slots c.self.invariant c.args.id slot w here updates.changed updates.others in
           IsPlaced-changed old new slots slots c.args.id slot (Some slot) (Some w) one c.self.invariant c.self.invariant.once),
@@ -42,11 +42,11 @@ returns g c =
     let here : slot_at slots c.args.id ≡ Some slot = sym c.get.ensures ∙ c.in_ok-slot.was in (
       (
         refl,
-        λ w. (let updates = Updates-with_value c.self.inside.objects slot w (c.self.invariant.stands c.args.id slot here) in
+        λ w. (let updates = Updates-with_value c.self.inside.objects slot w (c.self.invariant.filled c.args.id slot here) in
             let new = get (with_value c.self.inside.objects slot w) in
             let one = written old new slots c.self.invariant c.args.id slot w here updates.changed updates.others in
             let objects = objects-changed old new slots slots c.args.id slot (Some slot) (Some w) one c.self.invariant c.self.invariant.once in
-            let held = slab_len-with_value c.self.inside.objects slot w (c.self.invariant.stands c.args.id slot here) in
+            let held = slab_len-with_value c.self.inside.objects slot w (c.self.invariant.filled c.args.id slot here) in
             on_some c.get_mut.result (rw (← c.self.view_is) (record {
               objects = objects;
               slots = λ i q. slot_at slots q;
