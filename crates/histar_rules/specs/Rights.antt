@@ -19,9 +19,13 @@ both (Some label) (Some clearance) test = test label clearance
 abbrev pub holds_of : Found → (Levels → Levels → Bool) → Bool
 holds_of found test = both (label_there found) (clearance_there found) test
 
+-- a label and a clearance above it lie between an own label and its clearance
+abbrev pub are_in_order : Levels → Levels → Levels → Levels → Bool
+are_in_order own label clearance own_clearance = is_below own label && is_below label clearance && is_below clearance own_clearance
+
 -- a label and a clearance above it lie between t's own label and t's clearance
 abbrev pub in_span : Found → Levels → Levels → Bool
-in_span t label clearance = holds_of t (λ own own_clearance. is_below own label && is_below label clearance && is_below clearance own_clearance)
+in_span t label clearance = holds_of t (λ own own_clearance. are_in_order own label clearance own_clearance)
 
 -- a clearance is above t's own label, and is above t's clearance only where t owns
 abbrev pub may_clear : Found → Levels → Bool

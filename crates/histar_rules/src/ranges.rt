@@ -2,7 +2,7 @@
 ghost use Rattle.std.specs.Prelude.{◌≡◌, ◌&&◌, not, nat_lt};
 ghost use Rattle.histar_base.specs.Refusals.{unless, ◌orelse◌};
 ghost use Rattle.histar_label.specs.Levels.{is_below, is_made, has_star};
-ghost use Rattle.histar_rules.specs.Rights.{lies_between};
+ghost use Rattle.histar_rules.specs.Rights.{are_in_order, lies_between};
 ghost use Rattle.histar_rules.specs.Rules.{fits_segment, greatest, FailsAt};
 ghost use Rattle.histar_rules.specs.declared.raw.Denied.TheVariants.{Range, Gate, TooBig};
 
@@ -33,8 +33,7 @@ pub fn in_range(own: &Label, own_clearance: &Label, label: &Label) -> bool
 
 /// Checks whether a label, and a clearance above it, lie between a thread's own label and its clearance.
 pub(crate) fn in_span(own: &Label, own_clearance: &Label, label: &Label, clearance: &Label) -> bool
-    ensures { result ≡ (is_below own.now label.now && is_below label.now clearance.now && is_below
-        clearance.now own_clearance.now) }
+    ensures { result ≡ are_in_order own.now label.now clearance.now own_clearance.now }
 {
     own.below(label) && label.below(clearance) && clearance.below(own_clearance)
 }
@@ -80,7 +79,7 @@ pub(crate) fn check_new_owner(
     clearance: &Label,
     next: Next,
 ) -> Result<(), Denied>
-    ensures { FailsAt (unless (is_below own.now label.now && is_below label.now clearance.now && is_below clearance.now own_clearance.now) Range
+    ensures { FailsAt (unless (are_in_order own.now label.now clearance.now own_clearance.now) Range
         orelse unless (is_made next.category label.now) Range
         orelse unless (is_made next.category clearance.now) Range
         orelse unless (nat_lt next.object greatest) TooBig) result }
