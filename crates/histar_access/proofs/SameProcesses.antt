@@ -7,10 +7,10 @@ use Rattle.histar_label.specs.Levels.{Levels}
 use Rattle.histar_object.specs.State.{State}
 use Rattle.histar_layout.specs.Reading.{◌>>=◌}
 use Rattle.histar_layout.specs.UserTable.{without_passwords}
-use Rattle.histar_calls.specs.declared.roots.Home.{Home}
-use Rattle.histar_calls.specs.declared.roots.Roots.{Roots}
-use Rattle.histar_process.specs.Caller.{caller_in, status_at}
-use Rattle.histar_process.specs.declared.caller.Caller.{Caller}
+use Rattle.histar_programs.specs.declared.roots.Home.{Home}
+use Rattle.histar_programs.specs.declared.roots.Roots.{Roots}
+use Rattle.histar_programs.specs.Caller.{caller_in, status_at}
+use Rattle.histar_programs.specs.declared.caller.Caller.{Caller}
 use Rattle.histar_shell.proofs.SameUsers.{same_kin, same_user}
 use Rattle.histar_readout.specs.declared.process.Life.TheVariants.{Running}
 use Rattle.histar_readout.specs.declared.process.ProcessNode.{ProcessNode}

@@ -12,7 +12,7 @@ use Rattle.histar_flat.specs.FlatCalls.{most_bytes}
 use Rattle.histar_object.specs.State.{State}
 use Rattle.histar_syscall.specs.KernelModel.{state}
 use Rattle.histar_layout.specs.declared.entry.Target.TheVariants.{Directory}
-use Rattle.histar_calls.specs.declared.roots.Roots.{Roots}
+use Rattle.histar_programs.specs.declared.roots.Roots.{Roots}
 use Rattle.histar_login.specs.Start.{roots_of}
 use Rattle.histar_refinement.specs.Represents.{ObjectsMatch}
 use Rattle.histar_refinement.specs.Accounts.{AreAccounts}

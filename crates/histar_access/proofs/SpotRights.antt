@@ -19,9 +19,9 @@ use Rattle.histar_layout.specs.Listing.{object_of}
 use Rattle.histar_layout.specs.declared.entry.Target.{Target}
 use Rattle.histar_layout.specs.declared.entry.Target.TheVariants as targets
 use Rattle.histar_layout.proofs.DirectoryLemmas.{same_directory}
-use Rattle.histar_calls.specs.declared.roots.Roots.{Roots}
-use Rattle.histar_process.specs.declared.caller.Caller.{Caller}
-use Rattle.histar_process.specs.Caller.{caller_at}
+use Rattle.histar_programs.specs.declared.roots.Roots.{Roots}
+use Rattle.histar_programs.specs.declared.caller.Caller.{Caller}
+use Rattle.histar_programs.specs.Caller.{caller_at}
 use Rattle.histar_login.specs.Start.{roots_of}
 use Rattle.histar_refinement.specs.Addresses.{address_of}
 use Rattle.histar_refinement.specs.Addresses.Step.{Listing, Slash}

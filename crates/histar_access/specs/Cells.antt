@@ -4,9 +4,9 @@ use Rattle.std.specs.List.{filter_map}
 use Rattle.histar_flat.specs.Words.{ProcName}
 use Rattle.histar_object.specs.State.{State, observes, modifies}
 use Rattle.histar_layout.specs.Listing.{object_of}
-use Rattle.histar_calls.specs.declared.roots.Roots.{Roots}
-use Rattle.histar_process.specs.declared.caller.Caller.{Caller}
-use Rattle.histar_process.specs.Caller.{caller_at}
+use Rattle.histar_programs.specs.declared.roots.Roots.{Roots}
+use Rattle.histar_programs.specs.declared.caller.Caller.{Caller}
+use Rattle.histar_programs.specs.Caller.{caller_at}
 use Rattle.histar_rights.specs.declared.rights.Rights.{Rights}
 use Rattle.histar_rights.specs.Rights.{above_root, rights_below}
 use Rattle.histar_rights.specs.Table.{AccessLine, Cell as NamedRights, cell_text}

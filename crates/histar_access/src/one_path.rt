@@ -5,10 +5,10 @@ ghost use Rattle.histar_access.specs.OnePath.{AreRightsOf, FindsEntry, FindsSpot
 
 use crate::cells::Cell;
 use crate::table::visitor_at;
-use histar_calls::Roots;
 use histar_flat::{Name, Path, ProcName};
 use histar_label::LabelStore;
 use histar_layout::{Target, look_up_checked};
+use histar_programs::Roots;
 use histar_rights::Rights;
 use histar_shell::Machine;
 use histar_syscall::Kernel;

@@ -5,10 +5,10 @@ ghost use Rattle.histar_script.specs.Runs.{LeavesSink, is_read_failed, is_write_
 ghost use Rattle.histar_access.specs.Session.{AccessText, calls_before, is_before, RunsText, ShowsAfter};
 
 use crate::table::write_table;
-use histar_calls::Stopped;
 use histar_flat::CallLine;
 use histar_io::{Sink, Source, read_input};
 use histar_label::{InternStore, LabelStore};
+use histar_programs::Stopped;
 use histar_script::{Fault, read_script};
 use histar_shell::Machine;
 use std::alloc::Global;

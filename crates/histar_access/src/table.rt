@@ -15,7 +15,7 @@ use crate::cells::{Cell, push_cells, row_below};
 use histar_flat::ProcName;
 use histar_io::{Sink, write_bytes};
 use histar_label::LabelStore;
-use histar_process::find_caller;
+use histar_programs::find_caller;
 use histar_readout::{ProcessNode, TreeNode, procs_of};
 use histar_rights::Rights;
 use histar_script::Fault;

@@ -11,16 +11,16 @@ use Rattle.histar_syscall.specs.KernelModel.{KernelModel}
 use Rattle.histar_layout.specs.Categories.{label_made}
 use Rattle.histar_layout.specs.Directory.{Entries}
 use Rattle.histar_layout.specs.declared.entry.Target.TheVariants.{File}
-use Rattle.histar_calls.specs.declared.call_error.CallError.{CallError}
-use Rattle.histar_calls.specs.declared.call_error.CallError.TheVariants.{Stopped}
-use Rattle.histar_calls.specs.declared.find.Room.{Room}
-use Rattle.histar_calls.specs.declared.roots.Roots.{Roots}
-use Rattle.histar_calls.specs.Programs.{Program, Part, RunsPart}
-use Rattle.histar_calls.specs.Programs.Program.{Answers}
-use Rattle.histar_calls.specs.Parts.{ask, find_room, write_entries}
+use Rattle.histar_programs.specs.declared.call_error.CallError.{CallError}
+use Rattle.histar_programs.specs.declared.call_error.CallError.TheVariants.{Stopped}
+use Rattle.histar_programs.specs.declared.find.Room.{Room}
+use Rattle.histar_programs.specs.declared.roots.Roots.{Roots}
+use Rattle.histar_programs.specs.Programs.{Program, Part, RunsPart}
+use Rattle.histar_programs.specs.Programs.Program.{Answers}
+use Rattle.histar_programs.specs.Parts.{ask, find_room, write_entries}
 use Rattle.histar_calls.specs.Create.{add_file, create_program}
-use Rattle.histar_calls.proofs.Exits.{Leaves}
-use Rattle.histar_calls.proofs.Running.{before_ask, part_fails, then_part}
+use Rattle.histar_programs.proofs.Exits.{Leaves}
+use Rattle.histar_programs.proofs.Running.{before_ask, part_fails, then_part}
 
 -- the parts of adding a file, one after another
 module _ (t : ℕ) (label : Levels) (room : Room) (old new : KernelModel) where

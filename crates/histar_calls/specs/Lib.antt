@@ -1,8 +1,4 @@
 -- The definitions of this crate that contracts cite.
-pub mod Refusals
-pub mod Replies
-pub mod Programs
-pub mod Parts
 pub mod Read
 pub mod Write
 pub mod Create

@@ -8,12 +8,12 @@ use Rattle.histar_flat.specs.declared.replies.Reply.TheVariants.{Done}
 use Rattle.histar_label.specs.Levels.{Levels}
 use Rattle.histar_rules.specs.declared.raw.RawCall.TheVariants.{OwnLabel, MakeContainer, MakeSegment}
 use Rattle.histar_layout.specs.declared.entry.Target.TheVariants.{Directory}
-use Rattle.histar_calls.specs.declared.find.Room.{Room}
-use Rattle.histar_calls.specs.declared.roots.Roots.{Roots}
+use Rattle.histar_programs.specs.declared.find.Room.{Room}
+use Rattle.histar_programs.specs.declared.roots.Roots.{Roots}
 use Rattle.histar_layout.specs.Categories.{label_made}
-use Rattle.histar_calls.specs.Programs.{Part, Program}
-use Rattle.histar_calls.specs.Programs.Program.{Answers}
-use Rattle.histar_calls.specs.Parts.{◌>>=◌, ◌>>◌, ask, find_room, write_entries}
+use Rattle.histar_programs.specs.Programs.{Part, Program}
+use Rattle.histar_programs.specs.Programs.Program.{Answers}
+use Rattle.histar_programs.specs.Parts.{◌>>=◌, ◌>>◌, ask, find_room, write_entries}
 
 -- A container and in it a directory segment are made with this label, and the directory is written with the new entry.
 abbrev pub add_directory : Levels → Room → Part (Unit {0})

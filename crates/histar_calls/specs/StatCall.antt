@@ -6,13 +6,13 @@ use Rattle.histar_flat.specs.declared.replies.Reply.TheVariants.{Stats}
 use Rattle.histar_rules.specs.Sound.{root_number}
 use Rattle.histar_rules.specs.declared.raw.RawCall.TheVariants.{LabelOf}
 use Rattle.histar_layout.specs.Listing.{is_directory, object_of}
-use Rattle.histar_calls.specs.declared.roots.Roots.{Roots}
+use Rattle.histar_programs.specs.declared.roots.Roots.{Roots}
 use Rattle.histar_layout.specs.declared.shown.ShownClass.{ShownClass}
 use Rattle.histar_calls.specs.declared.stat.FoundObject.{FoundObject}
 use Rattle.histar_layout.specs.ShownClass.{class_shown, stat_of}
-use Rattle.histar_calls.specs.Programs.{Program, Part}
-use Rattle.histar_calls.specs.Programs.Program.{Answers, Stops}
-use Rattle.histar_calls.specs.Parts.{◌>>=◌, ask, given, entry_at, find_place, look_in}
+use Rattle.histar_programs.specs.Programs.{Program, Part}
+use Rattle.histar_programs.specs.Programs.Program.{Answers, Stops}
+use Rattle.histar_programs.specs.Parts.{◌>>=◌, ask, given, entry_at, find_place, look_in}
 
 -- The object at a path, and the container that links it. `/` is linked by the root container; else the walk is made,
 -- and the last name must lead somewhere.

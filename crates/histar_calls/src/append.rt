@@ -1,15 +1,13 @@
 //! Adding to a file.
-ghost use Rattle.histar_calls.specs.Programs.{Runs};
+ghost use Rattle.histar_programs.specs.Programs.{Runs};
 ghost use Rattle.histar_calls.specs.Append.{append_program};
-ghost use Rattle.histar_calls.specs.Refusals.{settled};
+ghost use Rattle.histar_programs.specs.Refusals.{settled};
 
-use crate::call_error::{CallError, written};
-use crate::find::find_file;
-use crate::roots::Roots;
 use histar_base::Bytes;
 use histar_flat::{Name, Reply};
 use histar_label::LabelStore;
 use histar_object::ObjId;
+use histar_programs::{CallError, Roots, find_file, written};
 use histar_syscall::Kernel;
 use std::alloc::Global;
 

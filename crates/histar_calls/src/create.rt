@@ -2,19 +2,16 @@
 ghost use Rattle.std.specs.Prelude.{◌<◌};
 ghost use Rattle.std.specs.FinMap as map;
 ghost use Rattle.histar_flat.specs.FlatCalls.{most_entries};
-ghost use Rattle.histar_calls.specs.Programs.{Runs, RunsPart};
+ghost use Rattle.histar_programs.specs.Programs.{Runs, RunsPart};
 ghost use Rattle.histar_calls.specs.Create.{add_file, create_program};
-ghost use Rattle.histar_calls.specs.Refusals.{settled};
+ghost use Rattle.histar_programs.specs.Refusals.{settled};
 
-use crate::call_error::CallError;
-use crate::directory::write_entries;
-use crate::find::{Room, find_room};
-use crate::roots::Roots;
 use histar_base::Bytes;
 use histar_flat::{Mode, Name, Reply};
 use histar_label::{Label, LabelStore};
 use histar_layout::{Target, UserTable, label_made};
 use histar_object::ObjId;
+use histar_programs::{CallError, Room, Roots, find_room, write_entries};
 use histar_syscall::Kernel;
 use std::alloc::Global;
 

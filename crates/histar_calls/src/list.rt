@@ -1,15 +1,13 @@
 //! Listing a directory.
 ghost use Rattle.histar_calls.specs.ListCall.{list_program};
-ghost use Rattle.histar_calls.specs.Programs.{Runs};
-ghost use Rattle.histar_calls.specs.Refusals.{settled};
+ghost use Rattle.histar_programs.specs.Programs.{Runs};
+ghost use Rattle.histar_programs.specs.Refusals.{settled};
 
-use crate::call_error::CallError;
-use crate::directory::walk;
-use crate::roots::Roots;
 use histar_flat::{Listing, Name, Reply};
 use histar_label::LabelStore;
 use histar_layout::MOST_ENTRIES;
 use histar_object::ObjId;
+use histar_programs::{CallError, Roots, walk};
 use histar_syscall::Kernel;
 use std::alloc::Global;
 

@@ -1,14 +1,12 @@
 //! Reading a file.
-ghost use Rattle.histar_calls.specs.Programs.{Runs};
+ghost use Rattle.histar_programs.specs.Programs.{Runs};
 ghost use Rattle.histar_calls.specs.Read.{read_program};
-ghost use Rattle.histar_calls.specs.Refusals.{settled};
+ghost use Rattle.histar_programs.specs.Refusals.{settled};
 
-use crate::call_error::CallError;
-use crate::find::find_file;
-use crate::roots::Roots;
 use histar_flat::{Name, Reply};
 use histar_label::LabelStore;
 use histar_object::ObjId;
+use histar_programs::{CallError, Roots, find_file};
 use histar_syscall::Kernel;
 use std::alloc::Global;
 

@@ -1,15 +1,13 @@
 //! Asking what is at a path, whose it is and who may read and write it.
-ghost use Rattle.histar_calls.specs.Programs.{Runs, RunsPart};
-ghost use Rattle.histar_calls.specs.Refusals.{settled};
+ghost use Rattle.histar_programs.specs.Programs.{Runs, RunsPart};
+ghost use Rattle.histar_programs.specs.Refusals.{settled};
 ghost use Rattle.histar_calls.specs.StatCall.{find_object, stat_program};
 
-use crate::call_error::CallError;
-use crate::directory::{entry_at, find_place, look_in};
-use crate::roots::Roots;
 use histar_flat::{Name, Reply};
 use histar_label::LabelStore;
 use histar_layout::{UserTable, shown_class};
 use histar_object::ObjId;
+use histar_programs::{CallError, Roots, entry_at, find_place, look_in};
 use histar_syscall::Kernel;
 
 /// The root container, which the empty kernel has.

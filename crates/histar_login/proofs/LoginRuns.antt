@@ -6,13 +6,13 @@ use Rattle.histar_object.specs.declared.objects.Entry.{Entry}
 use Rattle.histar_rules.specs.declared.raw.RawCall.TheVariants.{Enter, OwnLabel, Read, SetLabel, SetClearance}
 use Rattle.histar_rules.specs.Sound.{root_number}
 use Rattle.histar_syscall.specs.KernelModel.{KernelModel}
-use Rattle.histar_calls.specs.declared.call_error.CallError.{CallError}
-use Rattle.histar_calls.specs.Programs.{Part, Program, RunsPart}
-use Rattle.histar_calls.specs.Programs.Program.{Answers}
-use Rattle.histar_calls.specs.Parts.{ask}
-use Rattle.histar_calls.proofs.Exits.{Leaves}
-use Rattle.histar_calls.proofs.Running.{hands, part_fails, then_part}
-use Rattle.histar_process.specs.declared.caller.Caller.{Caller}
+use Rattle.histar_programs.specs.declared.call_error.CallError.{CallError}
+use Rattle.histar_programs.specs.Programs.{Part, Program, RunsPart}
+use Rattle.histar_programs.specs.Programs.Program.{Answers}
+use Rattle.histar_programs.specs.Parts.{ask}
+use Rattle.histar_programs.proofs.Exits.{Leaves}
+use Rattle.histar_programs.proofs.Running.{hands, part_fails, then_part}
+use Rattle.histar_programs.specs.declared.caller.Caller.{Caller}
 use Rattle.histar_login.specs.declared.login.EntryLabels.{EntryLabels}
 use Rattle.histar_login.specs.Login.{AreEntryLabels, ask_password, clearance_if, entering, gate_of, label_if, login_as_program, password_of, reply_if}
 use Rattle.histar_login.specs.Login.{take_due}

@@ -6,9 +6,9 @@ use Rattle.histar_flat.specs.Words.{Name}
 use Rattle.histar_flat.specs.declared.replies.Errno.TheVariants.{ENOENT}
 use Rattle.histar_flat.specs.declared.replies.Reply.TheVariants.{Refused}
 use Rattle.histar_layout.specs.Categories.{owners_of}
-use Rattle.histar_calls.specs.Programs.{Program}
-use Rattle.histar_calls.specs.Programs.Program.{Answers}
-use Rattle.histar_process.specs.declared.caller.Caller.{Caller}
+use Rattle.histar_programs.specs.Programs.{Program}
+use Rattle.histar_programs.specs.Programs.Program.{Answers}
+use Rattle.histar_programs.specs.declared.caller.Caller.{Caller}
 use Rattle.histar_login.specs.Login.{place_of, login_at, login_as_program, login_program}
 
 module _ (accounts : Accounts) (caller : Caller) (name : Name) (password : List ℕ) where

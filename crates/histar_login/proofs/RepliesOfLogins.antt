@@ -6,10 +6,10 @@ use Rattle.histar_rules.specs.Sound.{root_number}
 use Rattle.histar_flat.specs.Accounts.{Accounts}
 use Rattle.histar_flat.specs.Words.{Name}
 use Rattle.histar_layout.specs.Categories.{owners_of}
-use Rattle.histar_calls.specs.Laws.{RepliesToRefusals}
-use Rattle.histar_calls.specs.Programs.Program.{Answers}
-use Rattle.histar_calls.proofs.RepliesOfPrograms.{denial_of_call_has_reply}
-use Rattle.histar_process.specs.declared.caller.Caller.{Caller}
+use Rattle.histar_programs.specs.Laws.{RepliesToRefusals}
+use Rattle.histar_programs.specs.Programs.Program.{Answers}
+use Rattle.histar_programs.proofs.RepliesOfParts.{denial_of_call_has_reply}
+use Rattle.histar_programs.specs.declared.caller.Caller.{Caller}
 use Rattle.histar_login.specs.Login.{place_of, password_of, entering, label_if, clearance_if, reply_if, login_as_program, login_at}
 use Rattle.histar_login.specs.Login.{LoginsReplyToRefusals}
 

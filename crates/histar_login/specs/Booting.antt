@@ -17,8 +17,8 @@ use Rattle.histar_rules.specs.Rules.{check, greatest, IsNextNumber}
 use Rattle.histar_syscall.specs.KernelModel.{KernelModel, state, Called, IsUnchanged}
 use Rattle.histar_syscall.specs.Runs.{Granted}
 use Rattle.histar_layout.specs.Labelling.{written_by}
-use Rattle.histar_calls.specs.declared.roots.Home.{Home}
-use Rattle.histar_calls.specs.declared.roots.Place.{Place}
+use Rattle.histar_programs.specs.declared.roots.Home.{Home}
+use Rattle.histar_programs.specs.declared.roots.Place.{Place}
 use Rattle.histar_login.specs.Start.{numbered, root_category, declared, own_read_category, container, state_with, roots_of, of_user, of_users}
 use Rattle.histar_login.specs.Start.{of_directory, of_process}
 use Rattle.histar_login.specs.Boot.{boot_thread_number, category_calls, user_calls, directory_calls, process_calls}

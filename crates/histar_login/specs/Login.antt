@@ -14,12 +14,12 @@ use Rattle.histar_rules.specs.declared.raw.RawCall.TheVariants.{OwnLabel, SetLab
 use Rattle.histar_rules.specs.Sound.{root_number}
 use Rattle.histar_layout.specs.Categories.{owners_of}
 use Rattle.histar_layout.specs.Labelling.{owner_label, cleared_at}
-use Rattle.histar_calls.specs.Laws.{RepliesToRefusals}
-use Rattle.histar_calls.specs.Programs.{Part, Program}
-use Rattle.histar_calls.specs.Programs.Program.{Answers}
-use Rattle.histar_calls.specs.Parts.{◌>>=◌, ◌>>◌, ask}
-use Rattle.histar_process.specs.declared.caller.Caller.{Caller}
-use Rattle.histar_process.specs.Kin.{categories_of}
+use Rattle.histar_programs.specs.Laws.{RepliesToRefusals}
+use Rattle.histar_programs.specs.Programs.{Part, Program}
+use Rattle.histar_programs.specs.Programs.Program.{Answers}
+use Rattle.histar_programs.specs.Parts.{◌>>=◌, ◌>>◌, ask}
+use Rattle.histar_programs.specs.declared.caller.Caller.{Caller}
+use Rattle.histar_programs.specs.Kin.{categories_of}
 use Rattle.histar_login.specs.Start.{owners_label, owners_clearance}
 use Rattle.histar_login.specs.declared.login.EntryLabels.{EntryLabels}
 

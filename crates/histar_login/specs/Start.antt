@@ -14,7 +14,7 @@ use Rattle.histar_object.specs.declared.objects.Entry.TheVariants.{Login}
 use Rattle.histar_object.specs.declared.objects.Kind.TheVariants.{Segment, Container, Thread, Gate}
 use Rattle.histar_object.specs.Objects.{Objects}
 use Rattle.histar_object.specs.State.{State, Found}
-use Rattle.histar_calls.specs.declared.roots.Roots.{Roots}
+use Rattle.histar_programs.specs.declared.roots.Roots.{Roots}
 use Rattle.histar_layout.specs.Categories.{read_category, write_category, group_owner, owners_of}
 use Rattle.histar_layout.specs.Labelling.{labelled, written_by, secret_of, owner_of, cleared_of}
 

@@ -18,11 +18,11 @@ ghost use Rattle.histar_login.specs.Start.{first_process_bytes, start_state, roo
 use crate::gates::gate_labels;
 use crate::table::user_table;
 use histar_base::Bytes;
-use histar_calls::{Home, Place, Roots, Stopped};
 use histar_flat::{Accounts, User};
 use histar_label::{Category, Label, LabelStore, Level};
 use histar_layout::{label_of, owners_among, read_category, write_category};
 use histar_object::{Entry, ObjId};
+use histar_programs::{Home, Place, Roots, Stopped};
 use histar_syscall::{Kernel, Refusal};
 use std::alloc::{AllocError, Global};
 

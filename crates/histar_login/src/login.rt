@@ -2,20 +2,19 @@
 ghost use Rattle.std.specs.Prelude.{◌≡◌, IfOk};
 ghost use Rattle.std.specs.Str.{bytes_eq};
 ghost use Rattle.histar_rules.specs.Sound.{root_number};
-ghost use Rattle.histar_calls.specs.Parts.{ask};
-ghost use Rattle.histar_calls.specs.Programs.{Runs, RunsPart};
-ghost use Rattle.histar_calls.specs.Refusals.{settled};
+ghost use Rattle.histar_programs.specs.Parts.{ask};
+ghost use Rattle.histar_programs.specs.Programs.{Runs, RunsPart};
+ghost use Rattle.histar_programs.specs.Refusals.{settled};
 ghost use Rattle.histar_login.specs.Login.{AreEntryLabels, user_label, user_clearance, gate_of, password_of, ask_password};
 ghost use Rattle.histar_login.specs.Login.{entering, label_if, clearance_if, take_due, reply_if, login_program, login_as_program};
 
 use crate::gates::gate_labels;
 use histar_base::Bytes;
-use histar_calls::CallError;
 use histar_flat::{Errno, Name, Password, Reply};
 use histar_label::{Label, LabelStore};
 use histar_layout::{UserTable, cleared_at, owner_label, owners_of};
 use histar_object::{Entry, ObjId};
-use histar_process::{Caller, categories_of, joined};
+use histar_programs::{CallError, Caller, categories_of, joined};
 use histar_syscall::Kernel;
 use std::alloc::{AllocError, Global};
 

@@ -4,12 +4,12 @@ use Rattle.histar_flat.specs.declared.replies.Errno.{Errno}
 use Rattle.histar_flat.specs.declared.replies.Reply.{Reply}
 use Rattle.histar_flat.specs.declared.replies.Reply.TheVariants as replies
 use Rattle.histar_syscall.specs.KernelModel.{KernelModel}
-use Rattle.histar_calls.specs.declared.call_error.CallError.TheVariants.{Refused}
-use Rattle.histar_calls.specs.declared.call_error.Stopped.{Stopped}
-use Rattle.histar_calls.specs.Parts.{given}
-use Rattle.histar_calls.specs.Programs.{Program, Runs}
-use Rattle.histar_calls.specs.Refusals.{settled}
-use Rattle.histar_calls.proofs.Running.{says}
+use Rattle.histar_programs.specs.declared.call_error.CallError.TheVariants.{Refused}
+use Rattle.histar_programs.specs.declared.call_error.Stopped.{Stopped}
+use Rattle.histar_programs.specs.Parts.{given}
+use Rattle.histar_programs.specs.Programs.{Program, Runs}
+use Rattle.histar_programs.specs.Refusals.{settled}
+use Rattle.histar_programs.proofs.Running.{says}
 
 module _ {A : Type 0} (t : ℕ) (decided : Result A Errno) (rest : A → Program) where
   -- the call goes on with what was decided

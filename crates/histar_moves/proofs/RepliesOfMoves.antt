@@ -10,14 +10,14 @@ use Rattle.histar_layout.specs.Directory.{Entries, spelling}
 use Rattle.histar_layout.specs.Listing.{object_of}
 use Rattle.histar_layout.specs.declared.entry.Target.{Target}
 use Rattle.histar_layout.specs.declared.entry.Target.TheVariants as targets
-use Rattle.histar_calls.specs.declared.directory.Directory.{Directory}
-use Rattle.histar_calls.specs.declared.roots.Place.{Place}
-use Rattle.histar_calls.specs.declared.roots.Roots.{Roots}
-use Rattle.histar_calls.specs.Laws.{RepliesToRefusals}
-use Rattle.histar_calls.specs.Parts.{given, entry_at, read_directory, target_named, write_entries}
-use Rattle.histar_calls.specs.Programs.{Program}
-use Rattle.histar_calls.specs.Programs.Program.{Answers}
-use Rattle.histar_calls.proofs.RepliesOfPrograms.{ask_replies, read_replies, walk_replies}
+use Rattle.histar_programs.specs.declared.directory.Directory.{Directory}
+use Rattle.histar_programs.specs.declared.roots.Place.{Place}
+use Rattle.histar_programs.specs.declared.roots.Roots.{Roots}
+use Rattle.histar_programs.specs.Laws.{RepliesToRefusals}
+use Rattle.histar_programs.specs.Parts.{given, entry_at, read_directory, target_named, write_entries}
+use Rattle.histar_programs.specs.Programs.{Program}
+use Rattle.histar_programs.specs.Programs.Program.{Answers}
+use Rattle.histar_programs.proofs.RepliesOfParts.{ask_replies, read_replies, walk_replies}
 use Rattle.histar_moves.specs.declared.entry.FoundEntry.{FoundEntry}
 use Rattle.histar_moves.specs.Laws.{MovesReplyToRefusals}
 use Rattle.histar_moves.specs.Parts.{find_entry, must_be_file, must_be_directory, must_be_empty, must_be_free, take_away}

@@ -9,15 +9,15 @@ use Rattle.histar_layout.specs.Directory.{Entries, LeadsSomewhere, IsListable}
 use Rattle.histar_layout.specs.Listing.{object_of}
 use Rattle.histar_layout.specs.declared.entry.Target.{Target}
 use Rattle.histar_layout.specs.declared.entry.Target.TheVariants as targets
-use Rattle.histar_calls.specs.declared.directory.Directory.{Directory}
-use Rattle.histar_calls.specs.declared.call_error.CallError.{CallError}
-use Rattle.histar_calls.specs.declared.roots.Place.{Place}
-use Rattle.histar_calls.specs.Parts.{ask, given, entry_at, target_named, read_directory, write_entries}
-use Rattle.histar_calls.specs.Programs.{Program, Part, RunsPart}
-use Rattle.histar_calls.specs.Programs.Program.{Answers}
+use Rattle.histar_programs.specs.declared.directory.Directory.{Directory}
+use Rattle.histar_programs.specs.declared.call_error.CallError.{CallError}
+use Rattle.histar_programs.specs.declared.roots.Place.{Place}
+use Rattle.histar_programs.specs.Parts.{ask, given, entry_at, target_named, read_directory, write_entries}
+use Rattle.histar_programs.specs.Programs.{Program, Part, RunsPart}
+use Rattle.histar_programs.specs.Programs.Program.{Answers}
 use Rattle.histar_layout.proofs.MapLemmas.{entry_found}
 use Rattle.histar_layout.proofs.DirectoryLemmas.{target_leads}
-use Rattle.histar_calls.proofs.Running.{then_part, part_fails}
+use Rattle.histar_programs.proofs.Running.{then_part, part_fails}
 use Rattle.histar_moves.specs.declared.entry.FoundEntry.{FoundEntry}
 use Rattle.histar_moves.specs.Parts.{must_be_empty, take_away}
 

@@ -1,7 +1,7 @@
 -- The replies to which the kernel's refusals lead in these programs.
 use Rattle.histar_flat.specs.Words.{Name, Path}
-use Rattle.histar_calls.specs.declared.roots.Roots.{Roots}
-use Rattle.histar_calls.specs.Laws.{RepliesToRefusals}
+use Rattle.histar_programs.specs.declared.roots.Roots.{Roots}
+use Rattle.histar_programs.specs.Laws.{RepliesToRefusals}
 use Rattle.histar_moves.specs.Unlink.{unlink_program}
 use Rattle.histar_moves.specs.Rmdir.{rmdir_program}
 use Rattle.histar_moves.specs.Rmtree.{rmtree_program}

@@ -10,11 +10,11 @@ use Rattle.histar_layout.specs.Directory.{Entries}
 use Rattle.histar_layout.specs.Listing.{object_of}
 use Rattle.histar_layout.specs.declared.entry.Target.{Target}
 use Rattle.histar_layout.specs.declared.entry.Target.TheVariants.{File, Directory}
-use Rattle.histar_calls.specs.declared.roots.Place.{Place}
-use Rattle.histar_calls.specs.declared.roots.Roots.{Roots}
-use Rattle.histar_calls.specs.Programs.{Part}
-use Rattle.histar_calls.specs.Programs.Program.{Answers}
-use Rattle.histar_calls.specs.Parts.{◌>>=◌, ◌>>◌, ask, given, entry_at, target_named, walk_to, write_entries}
+use Rattle.histar_programs.specs.declared.roots.Place.{Place}
+use Rattle.histar_programs.specs.declared.roots.Roots.{Roots}
+use Rattle.histar_programs.specs.Programs.{Part}
+use Rattle.histar_programs.specs.Programs.Program.{Answers}
+use Rattle.histar_programs.specs.Parts.{◌>>=◌, ◌>>◌, ask, given, entry_at, target_named, walk_to, write_entries}
 use Rattle.histar_moves.specs.declared.entry.FoundEntry.{FoundEntry}
 
 -- the entry of a path: `/` has none; else the walk is made, and the last name must lead somewhere

@@ -1,10 +1,10 @@
 -- The program of `rmdir PATH`.
 use Rattle.histar_flat.specs.Words.{Path}
 use Rattle.histar_flat.specs.declared.replies.Reply.TheVariants.{Done}
-use Rattle.histar_calls.specs.declared.roots.Roots.{Roots}
-use Rattle.histar_calls.specs.Programs.{Program}
-use Rattle.histar_calls.specs.Programs.Program.{Answers}
-use Rattle.histar_calls.specs.Parts.{◌>>=◌, ◌>>◌, given, read_directory}
+use Rattle.histar_programs.specs.declared.roots.Roots.{Roots}
+use Rattle.histar_programs.specs.Programs.{Program}
+use Rattle.histar_programs.specs.Programs.Program.{Answers}
+use Rattle.histar_programs.specs.Parts.{◌>>=◌, ◌>>◌, given, read_directory}
 use Rattle.histar_moves.specs.Parts.{find_entry, must_be_directory, must_be_empty, take_away}
 
 -- the entry is found, and must be a directory's; the directory is read, must have no entry, and is removed

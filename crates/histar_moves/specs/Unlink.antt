@@ -1,10 +1,10 @@
 -- The program of `unlink PATH`.
 use Rattle.histar_flat.specs.Words.{Path}
 use Rattle.histar_flat.specs.declared.replies.Reply.TheVariants.{Done}
-use Rattle.histar_calls.specs.declared.roots.Roots.{Roots}
-use Rattle.histar_calls.specs.Programs.{Program}
-use Rattle.histar_calls.specs.Programs.Program.{Answers}
-use Rattle.histar_calls.specs.Parts.{◌>>=◌, ◌>>◌, given}
+use Rattle.histar_programs.specs.declared.roots.Roots.{Roots}
+use Rattle.histar_programs.specs.Programs.{Program}
+use Rattle.histar_programs.specs.Programs.Program.{Answers}
+use Rattle.histar_programs.specs.Parts.{◌>>=◌, ◌>>◌, given}
 use Rattle.histar_moves.specs.Parts.{find_entry, must_be_file, take_away}
 
 -- the entry is found, must be a file's, and is removed

@@ -1,14 +1,14 @@
 //! Entries of directories that were found.
 ghost use Rattle.std.specs.Prelude.{◌≡◌, Some, IfOk};
 ghost use Rattle.std.specs.FinMap as map;
-ghost use Rattle.histar_calls.specs.Programs.{RunsPart};
+ghost use Rattle.histar_programs.specs.Programs.{RunsPart};
 ghost use Rattle.histar_moves.specs.Parts.{find_entry, must_be_file, must_be_directory, must_be_empty, must_be_free, take_away};
 
-use histar_calls::{CallError, Directory, Place, Roots, walk, write_entries};
 use histar_flat::{Errno, Name};
 use histar_label::LabelStore;
 use histar_layout::{Dir, Target};
 use histar_object::ObjId;
+use histar_programs::{CallError, Directory, Place, Roots, walk, write_entries};
 use histar_syscall::Kernel;
 use std::alloc::{AllocError, Global};
 

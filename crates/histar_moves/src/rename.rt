@@ -1,13 +1,13 @@
 //! Renaming an entry.
-ghost use Rattle.histar_calls.specs.Programs.{Runs};
-ghost use Rattle.histar_calls.specs.Refusals.{settled};
+ghost use Rattle.histar_programs.specs.Programs.{Runs};
+ghost use Rattle.histar_programs.specs.Refusals.{settled};
 ghost use Rattle.histar_moves.specs.Rename.{rename_program};
 
 use crate::entry::find_entry;
-use histar_calls::{CallError, Roots, write_entries};
 use histar_flat::{Name, Reply};
 use histar_label::LabelStore;
 use histar_object::ObjId;
+use histar_programs::{CallError, Roots, write_entries};
 use histar_syscall::Kernel;
 use std::alloc::Global;
 

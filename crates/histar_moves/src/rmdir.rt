@@ -1,13 +1,13 @@
 //! Removing an empty directory.
-ghost use Rattle.histar_calls.specs.Programs.{Runs};
-ghost use Rattle.histar_calls.specs.Refusals.{settled};
+ghost use Rattle.histar_programs.specs.Programs.{Runs};
+ghost use Rattle.histar_programs.specs.Refusals.{settled};
 ghost use Rattle.histar_moves.specs.Rmdir.{rmdir_program};
 
 use crate::entry::{find_entry, must_be_empty, take_away};
-use histar_calls::{CallError, Directory, Roots};
 use histar_flat::{Name, Reply};
 use histar_label::LabelStore;
 use histar_object::ObjId;
+use histar_programs::{CallError, Directory, Roots};
 use histar_syscall::Kernel;
 use std::alloc::Global;
 

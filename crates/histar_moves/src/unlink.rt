@@ -1,13 +1,13 @@
 //! Removing a file.
-ghost use Rattle.histar_calls.specs.Programs.{Runs};
-ghost use Rattle.histar_calls.specs.Refusals.{settled};
+ghost use Rattle.histar_programs.specs.Programs.{Runs};
+ghost use Rattle.histar_programs.specs.Refusals.{settled};
 ghost use Rattle.histar_moves.specs.Unlink.{unlink_program};
 
 use crate::entry::{find_entry, take_away};
-use histar_calls::{CallError, Roots};
 use histar_flat::{Name, Reply};
 use histar_label::LabelStore;
 use histar_object::ObjId;
+use histar_programs::{CallError, Roots};
 use histar_syscall::Kernel;
 use std::alloc::Global;
 

@@ -6,14 +6,14 @@ use Rattle.histar_rules.specs.declared.raw.RawCall.TheVariants.{MakeCategory, Ma
 use Rattle.histar_syscall.specs.KernelModel.{KernelModel}
 use Rattle.histar_layout.specs.Status.{ProcessStatus, status_bytes, with_child_listed}
 use Rattle.histar_layout.specs.Labelling.{guarded_by}
-use Rattle.histar_calls.specs.Parts.{ask}
-use Rattle.histar_calls.specs.Programs.{Part, RunsPart}
-use Rattle.histar_calls.specs.declared.call_error.CallError.{CallError}
-use Rattle.histar_calls.specs.declared.roots.Home.{Home}
-use Rattle.histar_calls.proofs.Running.{hands, then_part, part_fails}
+use Rattle.histar_programs.specs.Parts.{ask}
+use Rattle.histar_programs.specs.Programs.{Part, RunsPart}
+use Rattle.histar_programs.specs.declared.call_error.CallError.{CallError}
+use Rattle.histar_programs.specs.declared.roots.Home.{Home}
+use Rattle.histar_programs.proofs.Running.{hands, then_part, part_fails}
 use Rattle.histar_process.specs.Birth.{birth}
 use Rattle.histar_process.specs.Births.{make_categories, make_containers, make_thread, make_segment}
-use Rattle.histar_process.specs.Kin.{Kin}
+use Rattle.histar_programs.specs.Kin.{Kin}
 use Rattle.histar_process.specs.Parts.{write_status}
 
 -- ---- a raw call with the expected arguments

@@ -9,15 +9,15 @@ use Rattle.histar_layout.specs.Status.{ProcessStatus, child_at, look_for, status
 use Rattle.histar_layout.specs.declared.status.Child.{Child}
 use Rattle.histar_layout.specs.declared.status.NotAStatus.{NotAStatus}
 use Rattle.histar_layout.specs.Categories.{IsUserOf}
-use Rattle.histar_calls.specs.Parts.{ask}
-use Rattle.histar_calls.specs.Programs.{RunsPart}
-use Rattle.histar_calls.specs.declared.call_error.CallError.{CallError}
-use Rattle.histar_calls.specs.declared.call_error.CallError.TheVariants.{Stopped}
-use Rattle.histar_calls.specs.declared.roots.Home.{Home}
-use Rattle.histar_calls.proofs.Running.{before_ask}
+use Rattle.histar_programs.specs.Parts.{ask}
+use Rattle.histar_programs.specs.Programs.{RunsPart}
+use Rattle.histar_programs.specs.declared.call_error.CallError.{CallError}
+use Rattle.histar_programs.specs.declared.call_error.CallError.TheVariants.{Stopped}
+use Rattle.histar_programs.specs.declared.roots.Home.{Home}
+use Rattle.histar_programs.proofs.Running.{before_ask}
 use Rattle.histar_layout.proofs.UserOf.{user_is}
 use Rattle.histar_process.specs.Birth.{birth}
-use Rattle.histar_process.specs.Kin.{Kin, kin_of, owned_by}
+use Rattle.histar_programs.specs.Kin.{Kin, kin_of, owned_by}
 use Rattle.histar_layout.specs.Jobs.{is_empty, jobs_in}
 use Rattle.histar_process.proofs.Births.{no_read, without_categories}
 use Rattle.histar_process.proofs.Segments.{child_looked}

@@ -6,12 +6,12 @@ use Rattle.histar_syscall.specs.KernelModel.{KernelModel}
 use Rattle.histar_layout.specs.Status.{ProcessStatus, child_at, without_child}
 use Rattle.histar_layout.specs.declared.status.Child.{Child}
 use Rattle.histar_layout.specs.declared.status.StatusHead.{StatusHead}
-use Rattle.histar_calls.specs.Parts.{ask, given}
-use Rattle.histar_calls.specs.Programs.{Part, RunsPart}
-use Rattle.histar_calls.specs.declared.call_error.CallError.{CallError}
-use Rattle.histar_calls.specs.declared.call_error.CallError.TheVariants.{Refused}
-use Rattle.histar_calls.specs.declared.roots.Home.{Home}
-use Rattle.histar_calls.proofs.Running.{part_fails, then_part}
+use Rattle.histar_programs.specs.Parts.{ask, given}
+use Rattle.histar_programs.specs.Programs.{Part, RunsPart}
+use Rattle.histar_programs.specs.declared.call_error.CallError.{CallError}
+use Rattle.histar_programs.specs.declared.call_error.CallError.TheVariants.{Refused}
+use Rattle.histar_programs.specs.declared.roots.Home.{Home}
+use Rattle.histar_programs.proofs.Running.{part_fails, then_part}
 use Rattle.histar_process.specs.KillCall.{kill_known}
 use Rattle.histar_process.specs.Parts.{home_of, must_be_there, write_status}
 use Rattle.histar_process.specs.Reading.{read_head}

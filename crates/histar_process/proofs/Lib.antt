@@ -1,6 +1,5 @@
 -- The lemmas of this crate.
 pub mod Segments
-pub mod Scanning
 pub mod RepliesOfProcessCalls
 pub mod Births
 pub mod Rooms

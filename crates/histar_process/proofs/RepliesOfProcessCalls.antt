@@ -11,17 +11,17 @@ use Rattle.histar_rules.specs.declared.raw.RawCall.TheVariants.{SetClearance, Re
 use Rattle.histar_layout.specs.Status.{ProcessStatus, child_at, once_exited, started, status_bytes, status_in, with_child_listed, without_child}
 use Rattle.histar_layout.specs.declared.status.Child.{Child}
 use Rattle.histar_layout.specs.Categories.{user_of}
-use Rattle.histar_calls.specs.Laws.{RepliesToRefusals}
-use Rattle.histar_calls.specs.Parts.{ask, given, if_there}
-use Rattle.histar_calls.specs.Programs.{Program}
-use Rattle.histar_calls.specs.Programs.Program.{Answers}
-use Rattle.histar_calls.specs.declared.roots.Home.{Home}
-use Rattle.histar_calls.specs.declared.roots.Roots.{Roots}
-use Rattle.histar_calls.proofs.RepliesOfPrograms.{ask_replies}
+use Rattle.histar_programs.specs.Laws.{RepliesToRefusals}
+use Rattle.histar_programs.specs.Parts.{ask, given, if_there}
+use Rattle.histar_programs.specs.Programs.{Program}
+use Rattle.histar_programs.specs.Programs.Program.{Answers}
+use Rattle.histar_programs.specs.declared.roots.Home.{Home}
+use Rattle.histar_programs.specs.declared.roots.Roots.{Roots}
+use Rattle.histar_programs.proofs.RepliesOfParts.{ask_replies}
 use Rattle.histar_process.specs.Birth.{birth, inner_label, outer_label, thread_clearance, thread_label}
 use Rattle.histar_process.specs.ExitCall.{exit_program}
 use Rattle.histar_process.specs.KillCall.{kill_program}
-use Rattle.histar_process.specs.Kin.{Kin, kin_of, user_name}
+use Rattle.histar_programs.specs.Kin.{Kin, kin_of, user_name}
 use Rattle.histar_layout.specs.Jobs.{is_empty, jobs_in}
 use Rattle.histar_process.specs.Laws.{ProcessCallsReplyToRefusals}
 use Rattle.histar_process.specs.Parts.{find_home, home_of, must_be_there, read_status, write_status}

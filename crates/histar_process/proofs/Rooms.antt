@@ -7,12 +7,12 @@ use Rattle.histar_flat.specs.Words.{ProcName, most_children, most_numbers}
 use Rattle.histar_flat.specs.declared.replies.Errno.{Errno}
 use Rattle.histar_syscall.specs.KernelModel.{KernelModel}
 use Rattle.histar_layout.specs.Status.{ProcessStatus}
-use Rattle.histar_calls.specs.Parts.{given}
-use Rattle.histar_calls.specs.Programs.{Part, RunsPart}
-use Rattle.histar_calls.specs.declared.call_error.CallError.{CallError}
-use Rattle.histar_calls.specs.declared.call_error.CallError.TheVariants.{Refused}
-use Rattle.histar_calls.specs.declared.roots.Home.{Home}
-use Rattle.histar_calls.proofs.Running.{hands, then_part, part_fails}
+use Rattle.histar_programs.specs.Parts.{given}
+use Rattle.histar_programs.specs.Programs.{Part, RunsPart}
+use Rattle.histar_programs.specs.declared.call_error.CallError.{CallError}
+use Rattle.histar_programs.specs.declared.call_error.CallError.TheVariants.{Refused}
+use Rattle.histar_programs.specs.declared.roots.Home.{Home}
+use Rattle.histar_programs.proofs.Running.{hands, then_part, part_fails}
 use Rattle.histar_process.specs.declared.find.Segment.{Segment}
 use Rattle.histar_process.specs.Parts.{read_status}
 use Rattle.histar_process.specs.Reading.{RunsRoom}

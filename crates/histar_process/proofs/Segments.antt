@@ -14,12 +14,12 @@ use Rattle.histar_layout.specs.Status.{ProcessStatus, child_at, head_of, look_fo
 use Rattle.histar_layout.specs.declared.status.Child.{Child}
 use Rattle.histar_layout.specs.declared.status.NotAStatus.{NotAStatus}
 use Rattle.histar_layout.specs.declared.status.StatusHead.{StatusHead}
-use Rattle.histar_calls.specs.declared.call_error.CallError.{CallError}
-use Rattle.histar_calls.specs.declared.call_error.CallError.TheVariants.{Refused, Stopped}
-use Rattle.histar_calls.specs.declared.roots.Home.{Home}
-use Rattle.histar_calls.specs.Programs.{Program, Part, RunsPart}
-use Rattle.histar_calls.specs.Parts.{ask, given, if_there}
-use Rattle.histar_calls.proofs.Running.{gives, gives_not, hands, refuses_at_once, then_part, part_fails}
+use Rattle.histar_programs.specs.declared.call_error.CallError.{CallError}
+use Rattle.histar_programs.specs.declared.call_error.CallError.TheVariants.{Refused, Stopped}
+use Rattle.histar_programs.specs.declared.roots.Home.{Home}
+use Rattle.histar_programs.specs.Programs.{Program, Part, RunsPart}
+use Rattle.histar_programs.specs.Parts.{ask, given, if_there}
+use Rattle.histar_programs.proofs.Running.{gives, gives_not, hands, refuses_at_once, then_part, part_fails}
 use Rattle.histar_process.specs.declared.find.Segment.{Segment}
 use Rattle.histar_process.specs.Parts.{find_home, home_of, must_be_there, read_status}
 use Rattle.histar_process.specs.Reading.{RunsReading, read_head, look_up}

@@ -4,11 +4,11 @@ use Rattle.std.specs.Prelude.{ℕ, [], ◌∷◌, ◌++◌}
 use Rattle.histar_rules.specs.declared.raw.RawCall.TheVariants.{MakeCategory, MakeSegment, MakeContainer, MakeThread}
 use Rattle.histar_label.specs.Levels.{Levels}
 use Rattle.histar_layout.specs.Status.{ProcessStatus, started, status_bytes, with_child_listed}
-use Rattle.histar_calls.specs.declared.roots.Home.{Home}
+use Rattle.histar_programs.specs.declared.roots.Home.{Home}
 use Rattle.histar_layout.specs.Labelling.{guarded_by, owner_label, cleared_at}
-use Rattle.histar_calls.specs.Programs.{Part}
-use Rattle.histar_calls.specs.Parts.{◌>>=◌, ◌>>◌, ask}
-use Rattle.histar_process.specs.Kin.{Kin}
+use Rattle.histar_programs.specs.Programs.{Part}
+use Rattle.histar_programs.specs.Parts.{◌>>=◌, ◌>>◌, ask}
+use Rattle.histar_programs.specs.Kin.{Kin}
 use Rattle.histar_process.specs.Parts.{write_status}
 
 -- the label of the child's container and of its process segment: it alone writes them, and they are secret to its jobs

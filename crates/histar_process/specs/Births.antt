@@ -3,11 +3,11 @@ use Rattle.std.specs.Prelude.{◌≡◌, ℕ, List, [], ◌∷◌, ◌++◌, Som
 use Rattle.histar_rules.specs.declared.raw.RawCall.TheVariants.{MakeCategory, MakeSegment, MakeContainer, MakeThread}
 use Rattle.histar_syscall.specs.KernelModel.{KernelModel}
 use Rattle.histar_layout.specs.Status.{ProcessStatus, started, status_bytes, status_in}
-use Rattle.histar_calls.specs.declared.call_error.CallError.{CallError}
-use Rattle.histar_calls.specs.declared.roots.Home.{Home}
+use Rattle.histar_programs.specs.declared.call_error.CallError.{CallError}
+use Rattle.histar_programs.specs.declared.roots.Home.{Home}
 use Rattle.histar_layout.specs.Labelling.{guarded_by, owner_label, cleared_at}
-use Rattle.histar_calls.specs.Programs.{Part, RunsPart}
-use Rattle.histar_calls.specs.Parts.{◌>>=◌, ask}
+use Rattle.histar_programs.specs.Programs.{Part, RunsPart}
+use Rattle.histar_programs.specs.Parts.{◌>>=◌, ask}
 use Rattle.histar_process.specs.Birth.{birth}
 
 -- the two categories of the child are made

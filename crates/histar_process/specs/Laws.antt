@@ -2,9 +2,9 @@
 use Rattle.std.specs.Prelude.{ℕ}
 use Rattle.histar_flat.specs.Accounts.{Accounts}
 use Rattle.histar_flat.specs.Words.{ProcName}
-use Rattle.histar_calls.specs.declared.roots.Home.{Home}
-use Rattle.histar_calls.specs.declared.roots.Roots.{Roots}
-use Rattle.histar_calls.specs.Laws.{RepliesToRefusals}
+use Rattle.histar_programs.specs.declared.roots.Home.{Home}
+use Rattle.histar_programs.specs.declared.roots.Roots.{Roots}
+use Rattle.histar_programs.specs.Laws.{RepliesToRefusals}
 use Rattle.histar_process.specs.Whoami.{whoami_program}
 use Rattle.histar_process.specs.StatusCall.{status_program}
 use Rattle.histar_process.specs.KillCall.{kill_program}

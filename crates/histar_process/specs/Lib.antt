@@ -1,7 +1,5 @@
 -- The definitions of this crate that contracts cite.
-pub mod Caller
 pub mod Parts
-pub mod Kin
 pub mod Birth
 pub mod Whoami
 pub mod StatusCall

@@ -6,9 +6,9 @@ use Rattle.histar_flat.specs.declared.replies.Errno.TheVariants.{ESRCH}
 use Rattle.histar_rules.specs.declared.raw.RawCall.TheVariants.{Read, Write}
 use Rattle.histar_layout.specs.Status.{ProcessStatus, child_at, status_bytes, status_in}
 use Rattle.histar_layout.specs.declared.status.Child.{Child}
-use Rattle.histar_calls.specs.declared.roots.Home.{Home}
-use Rattle.histar_calls.specs.Programs.{Part}
-use Rattle.histar_calls.specs.Parts.{◌>>=◌, ask, given, if_there}
+use Rattle.histar_programs.specs.declared.roots.Home.{Home}
+use Rattle.histar_programs.specs.Programs.{Part}
+use Rattle.histar_programs.specs.Parts.{◌>>=◌, ask, given, if_there}
 
 -- a process segment is read, and its bytes must spell a status
 unfoldable pub read_status : Home → Part ProcessStatus

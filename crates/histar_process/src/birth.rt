@@ -4,16 +4,15 @@ ghost use Rattle.histar_rules.specs.declared.raw.RawCall.TheVariants as calls;
 ghost use Rattle.histar_layout.specs.Status.{started, status_bytes};
 ghost use Rattle.histar_layout.specs.StatusParts.{HasRoomForChild};
 ghost use Rattle.histar_layout.specs.Labelling.{guarded_by, owner_label, cleared_at};
-ghost use Rattle.histar_calls.specs.Parts.{ask};
-ghost use Rattle.histar_calls.specs.Programs.{RunsPart};
+ghost use Rattle.histar_programs.specs.Parts.{ask};
+ghost use Rattle.histar_programs.specs.Programs.{RunsPart};
 ghost use Rattle.histar_process.specs.Births.{RunsBirth, make_categories, make_containers, make_thread, make_segment};
 
 use crate::find::write_segment;
-use crate::kin::joined;
-use histar_calls::{CallError, Home};
 use histar_label::{Category, LabelStore};
 use histar_layout::{add_child, cleared_at, first_status, guarded_by, owner_label};
 use histar_object::ObjId;
+use histar_programs::{CallError, Home, joined};
 use histar_syscall::Kernel;
 use std::alloc::Global;
 

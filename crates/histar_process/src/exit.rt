@@ -1,14 +1,13 @@
 //! Ending a process.
-ghost use Rattle.histar_calls.specs.Programs.{Runs};
-ghost use Rattle.histar_calls.specs.Refusals.{settled};
+ghost use Rattle.histar_programs.specs.Programs.{Runs};
+ghost use Rattle.histar_programs.specs.Refusals.{settled};
 ghost use Rattle.histar_process.specs.ExitCall.{exit_program};
 
-use crate::caller::Caller;
 use crate::find::{Segment, read_segment, write_segment};
-use histar_calls::CallError;
 use histar_flat::Reply;
 use histar_label::LabelStore;
 use histar_layout::exit_status;
+use histar_programs::{CallError, Caller};
 use histar_syscall::Kernel;
 use std::alloc::Global;
 

@@ -1,15 +1,15 @@
 //! Reading process segments, and finding where processes are, by raw calls.
 ghost use Rattle.std.specs.Prelude.{◌≡◌};
-ghost use Rattle.histar_calls.specs.Programs.{RunsPart};
+ghost use Rattle.histar_programs.specs.Programs.{RunsPart};
 ghost use Rattle.histar_process.specs.Parts.{find_home, home_of, must_be_there};
 ghost use Rattle.histar_process.specs.Reading.{IsRewritten, RunsReading, read_head, look_up};
 
 use histar_base::Bytes;
-use histar_calls::{CallError, Home, written};
 use histar_flat::Errno;
 use histar_label::LabelStore;
 use histar_layout::{Child, StatusHead, find_child, read_status};
 use histar_object::ObjId;
+use histar_programs::{CallError, Home, written};
 use histar_syscall::Kernel;
 use std::alloc::Global;
 

@@ -1,17 +1,17 @@
 //! Killing a process.
 ghost use Rattle.std.specs.Prelude.{[], ◌∷◌};
-ghost use Rattle.histar_calls.specs.Programs.{Runs};
-ghost use Rattle.histar_calls.specs.Refusals.{settled};
+ghost use Rattle.histar_programs.specs.Programs.{Runs};
+ghost use Rattle.histar_programs.specs.Refusals.{settled};
 ghost use Rattle.histar_process.specs.KillCall.{KillsKnown, kill_program};
 
 use crate::find::{
     Segment, find_home, home_of, must_be_there, read_head, read_segment, write_segment,
 };
-use histar_calls::{CallError, Home, Roots};
 use histar_flat::{ProcName, Reply};
 use histar_label::LabelStore;
 use histar_layout::{find_child, remove_child};
 use histar_object::ObjId;
+use histar_programs::{CallError, Home, Roots};
 use histar_syscall::Kernel;
 use std::alloc::Global;
 

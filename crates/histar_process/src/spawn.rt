@@ -1,23 +1,21 @@
 //! Giving birth to a child.
 ghost use Rattle.std.specs.Prelude.{◌≡◌, ◌<◌, length, IfOk};
 ghost use Rattle.histar_flat.specs.Words.{most_children, most_numbers};
-ghost use Rattle.histar_calls.specs.Programs.{Runs, RunsPart};
-ghost use Rattle.histar_calls.specs.Refusals.{settled};
+ghost use Rattle.histar_programs.specs.Programs.{Runs, RunsPart};
+ghost use Rattle.histar_programs.specs.Refusals.{settled};
 ghost use Rattle.histar_layout.specs.StatusParts.{HasRoomForChild};
 ghost use Rattle.histar_process.specs.Births.{RunsBirth};
-ghost use Rattle.histar_process.specs.Kin.{kin_of};
+ghost use Rattle.histar_programs.specs.Kin.{kin_of};
 ghost use Rattle.histar_process.specs.Reading.{RunsRoom};
 ghost use Rattle.histar_process.specs.SpawnCall.{must_have_room, spawn_program, take_labels};
 
 use crate::birth::give_birth;
-use crate::caller::Caller;
 use crate::find::{Segment, read_segment};
-use crate::kin::owned_by;
-use histar_calls::{CallError, Home};
 use histar_flat::{Errno, MOST_NUMBERS, ProcName, Reply};
 use histar_label::{Label, LabelStore};
 use histar_layout::{UserTable, is_in_job, jobs_in, user_of};
 use histar_object::ObjId;
+use histar_programs::{CallError, Caller, Home, owned_by};
 use histar_syscall::Kernel;
 use std::alloc::Global;
 

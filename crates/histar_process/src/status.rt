@@ -1,14 +1,14 @@
 //! Asking whether a process runs, or what it has exited with.
 ghost use Rattle.std.specs.Prelude.{◌≡◌};
-ghost use Rattle.histar_calls.specs.Programs.{Runs};
-ghost use Rattle.histar_calls.specs.Refusals.{settled};
+ghost use Rattle.histar_programs.specs.Programs.{Runs};
+ghost use Rattle.histar_programs.specs.Refusals.{settled};
 ghost use Rattle.histar_process.specs.StatusCall.{status_reply, status_program};
 
 use crate::find::{find_home, read_head};
-use histar_calls::{CallError, Roots};
 use histar_flat::{ProcName, Reply};
 use histar_label::LabelStore;
 use histar_object::ObjId;
+use histar_programs::{CallError, Roots};
 use histar_syscall::Kernel;
 
 /// Answers whether a process runs, or what it has exited with. EACCES where the kernel doesn't let the thread

@@ -1,14 +1,13 @@
 //! Asking whose a process is, and whether it is in a job.
-ghost use Rattle.histar_calls.specs.Programs.{Runs};
-ghost use Rattle.histar_calls.specs.Refusals.{settled};
+ghost use Rattle.histar_programs.specs.Programs.{Runs};
+ghost use Rattle.histar_programs.specs.Refusals.{settled};
 ghost use Rattle.histar_process.specs.Whoami.{whoami_program};
 
-use crate::kin::user_name;
-use histar_calls::CallError;
 use histar_flat::Reply;
 use histar_label::LabelStore;
 use histar_layout::{UserTable, is_in_job, user_of};
 use histar_object::ObjId;
+use histar_programs::{CallError, user_name};
 use histar_syscall::Kernel;
 
 /// Answers with the user of the process that the thread belongs to, and whether the process is in a job. Both

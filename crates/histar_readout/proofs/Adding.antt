@@ -16,7 +16,7 @@ use Rattle.histar_layout.proofs.DirectoryLemmas.{same_directory}
 use Rattle.histar_readout.specs.declared.tree.TreeNode.{TreeNode}
 use Rattle.histar_readout.specs.declared.tree.TreeError.{TreeError}
 use Rattle.histar_readout.specs.declared.tree.TreeError.TheVariants.{NotATree, OutOfMemory}
-use Rattle.histar_calls.specs.declared.roots.Roots.{Roots}
+use Rattle.histar_programs.specs.declared.roots.Roots.{Roots}
 use Rattle.histar_readout.specs.Tree.{IsTreeOf, HasNoTree, Listed, AreListed, IsNodeAt, IsTreeAt, levels_at, AddsTree, AddsBelow, FindsNode}
 
 -- some of the entries of a directory are left, and the trees of those before them were added

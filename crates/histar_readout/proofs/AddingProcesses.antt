@@ -10,8 +10,8 @@ use Rattle.histar_flat.specs.Accounts.{Accounts}
 use Rattle.histar_object.specs.State.{State}
 use Rattle.histar_layout.specs.Reading.{◌>>=◌}
 use Rattle.histar_layout.specs.declared.status.Child.{Child}
-use Rattle.histar_calls.specs.declared.roots.Home.{Home}
-use Rattle.histar_calls.specs.declared.roots.Roots.{Roots}
+use Rattle.histar_programs.specs.declared.roots.Home.{Home}
+use Rattle.histar_programs.specs.declared.roots.Roots.{Roots}
 use Rattle.histar_process.specs.Parts.{home_of}
 use Rattle.histar_readout.specs.declared.process.ProcessNode.{ProcessNode}
 use Rattle.histar_readout.specs.declared.process.ProcessError.{ProcessError}

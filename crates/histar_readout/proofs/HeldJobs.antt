@@ -19,7 +19,7 @@ use Rattle.histar_layout.proofs.LabelLevels.{at_owning, owning_level}
 use Rattle.histar_layout.proofs.Members.{is_in, is_in-append}
 use Rattle.histar_layout.proofs.Passed.{in_passed, passed_rise}
 use Rattle.histar_layout.proofs.Rising.{one_rising}
-use Rattle.histar_process.specs.Kin.{user_name}
+use Rattle.histar_programs.specs.Kin.{user_name}
 use Rattle.histar_refinement.specs.Categories.{CategoryName, Categories, AreDifferent, among}
 use Rattle.histar_refinement.specs.Categories.CategoryName.{ReadsProcess, WritesProcess, OfJob}
 use Rattle.histar_refinement.specs.Guards.{rights_label}

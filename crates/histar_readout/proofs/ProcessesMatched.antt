@@ -13,9 +13,9 @@ use Rattle.histar_layout.specs.Reading.{◌>>=◌}
 use Rattle.histar_layout.specs.Status.{ProcessStatus, child_at}
 use Rattle.histar_layout.specs.declared.status.Child.{Child as Listed}
 use Rattle.histar_layout.specs.Jobs.{jobs_in}
-use Rattle.histar_calls.specs.declared.roots.Home.{Home as Where}
-use Rattle.histar_process.specs.Caller.{caller_by, caller_in}
-use Rattle.histar_process.specs.declared.caller.Caller.{Caller}
+use Rattle.histar_programs.specs.declared.roots.Home.{Home as Where}
+use Rattle.histar_programs.specs.Caller.{caller_by, caller_in}
+use Rattle.histar_programs.specs.declared.caller.Caller.{Caller}
 use Rattle.histar_login.specs.Start.{roots_of}
 use Rattle.histar_refinement.specs.Addresses.Step.{Home, Status}
 use Rattle.histar_refinement.specs.Guards.{guard_label, rights_label}

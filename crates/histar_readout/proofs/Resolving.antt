@@ -13,7 +13,7 @@ use Rattle.histar_layout.specs.declared.entry.Target.{Target}
 use Rattle.histar_layout.specs.declared.entry.Target.TheVariants.{File, Directory}
 use Rattle.histar_layout.specs.declared.checked.NotADirectory.{NotADirectory}
 use Rattle.histar_layout.proofs.DirectoryLemmas.{same_directory}
-use Rattle.histar_calls.specs.declared.roots.Roots.{Roots}
+use Rattle.histar_programs.specs.declared.roots.Roots.{Roots}
 use Rattle.histar_readout.specs.Resolve.{LeadsTo, LeadsNowhere, Resolves}
 use Rattle.histar_refinement.proofs.SameLines.{listing_in}
 use Rattle.histar_readout.proofs.OneTarget.{paths_lead_to_one_target}

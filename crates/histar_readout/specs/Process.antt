@@ -11,10 +11,10 @@ use Rattle.histar_object.specs.State.{State, Found}
 use Rattle.histar_layout.specs.Reading.{◌>>=◌}
 use Rattle.histar_layout.specs.Categories.{user_of}
 use Rattle.histar_layout.specs.Jobs.{jobs_in}
-use Rattle.histar_calls.specs.declared.roots.Home.{Home}
-use Rattle.histar_process.specs.Caller.{caller_in, status_at}
-use Rattle.histar_process.specs.Kin.{kin_of, user_name}
-use Rattle.histar_process.specs.declared.caller.Caller.{Caller}
+use Rattle.histar_programs.specs.declared.roots.Home.{Home}
+use Rattle.histar_programs.specs.Caller.{caller_in, status_at}
+use Rattle.histar_programs.specs.Kin.{kin_of, user_name}
+use Rattle.histar_programs.specs.declared.caller.Caller.{Caller}
 use Rattle.histar_readout.specs.declared.process.Life.{Life}
 use Rattle.histar_readout.specs.declared.process.Life.TheVariants.{Running, Exited}
 use Rattle.histar_readout.specs.declared.process.ProcessNode.{ProcessNode}

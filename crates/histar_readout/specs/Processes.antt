@@ -8,9 +8,9 @@ use Rattle.histar_object.specs.State.{State}
 use Rattle.histar_layout.specs.Reading.{◌>>=◌}
 use Rattle.histar_layout.specs.Status.{child_at}
 use Rattle.histar_layout.specs.declared.status.Child.{Child}
-use Rattle.histar_calls.specs.declared.roots.Home.{Home}
-use Rattle.histar_calls.specs.declared.roots.Roots.{Roots}
-use Rattle.histar_process.specs.Caller.{status_at}
+use Rattle.histar_programs.specs.declared.roots.Home.{Home}
+use Rattle.histar_programs.specs.declared.roots.Roots.{Roots}
+use Rattle.histar_programs.specs.Caller.{status_at}
 use Rattle.histar_process.specs.Parts.{home_of}
 use Rattle.histar_readout.specs.Process.{node_in}
 use Rattle.histar_readout.specs.declared.process.ProcessNode.{ProcessNode}

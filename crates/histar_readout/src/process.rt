@@ -7,12 +7,11 @@ ghost use Rattle.histar_object.specs.Objects.{objects_of};
 ghost use Rattle.histar_syscall.specs.KernelModel.{state};
 ghost use Rattle.histar_readout.specs.Process.{ReadsFrom, container_label, life_in, node_in, owned_beside, running_by, thread_label};
 
-use histar_calls::Home;
 use histar_flat::{Name, ProcName};
 use histar_label::{Category, Label, LabelStore, Level};
 use histar_layout::{Chain, UserTable, is_in_job, jobs_in, read_status, user_of};
 use histar_object::ObjId;
-use histar_process::{Caller, caller_in, joined, owned_by, user_name};
+use histar_programs::{Caller, Home, caller_in, joined, owned_by, user_name};
 use histar_syscall::Kernel;
 use std::alloc::{AllocError, AllocFailed, Global};
 

@@ -6,11 +6,11 @@ ghost use Rattle.histar_process.specs.Parts.{home_of};
 ghost use Rattle.histar_readout.specs.Processes.{AddsProcesses, FindsProcesses, child_of};
 
 use crate::process::{ProcessError, ProcessNode, read_process};
-use histar_calls::{Home, Roots};
 use histar_flat::{MOST_NUMBERS, ProcName};
 use histar_label::LabelStore;
 use histar_layout::{Child, UserTable, find_child};
 use histar_object::ObjId;
+use histar_programs::{Home, Roots};
 use histar_syscall::Kernel;
 use std::alloc::{AllocError, Global};
 

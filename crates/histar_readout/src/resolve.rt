@@ -2,10 +2,10 @@
 ghost use Rattle.histar_syscall.specs.KernelModel.{state};
 ghost use Rattle.histar_readout.specs.Resolve.{Resolves};
 
-use histar_calls::Roots;
 use histar_flat::{Name, Path};
 use histar_label::LabelStore;
 use histar_layout::{Target, look_up_checked};
+use histar_programs::Roots;
 use histar_syscall::Kernel;
 
 /// Resolves a path in a kernel's own objects: to the container and directory segment of a directory, or to

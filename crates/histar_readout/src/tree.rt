@@ -7,11 +7,11 @@ ghost use Rattle.histar_readout.specs.TreeEntries.{node_bytes};
 ghost use Rattle.histar_readout.specs.TreeLines.{node_stat};
 ghost use Rattle.histar_readout.specs.Tree.{AddsBelow, AddsTree, FindsNode, FindsTree};
 
-use histar_calls::Roots;
 use histar_flat::{Path, Stat};
 use histar_label::LabelStore;
 use histar_layout::{Class, Target, UserTable, class_of, read_dir};
 use histar_object::ObjId;
+use histar_programs::Roots;
 use histar_syscall::Kernel;
 use std::alloc::{AllocError, AllocFailed, Global};
 

@@ -12,8 +12,8 @@ use Rattle.histar_object.specs.State.{State}
 use Rattle.histar_layout.specs.Categories.{owners_of, user_of}
 use Rattle.histar_layout.proofs.Declared.{user_range}
 use Rattle.histar_layout.proofs.UserOf.{user_is}
-use Rattle.histar_process.specs.Kin.{user_name, categories_of, owned_by, kin_of}
-use Rattle.histar_process.proofs.Scanning.{name_none}
+use Rattle.histar_programs.specs.Kin.{user_name, categories_of, owned_by, kin_of}
+use Rattle.histar_programs.proofs.Scanning.{name_none}
 use Rattle.histar_refinement.specs.Categories.{CategoryName, Categories, boot_category}
 use Rattle.histar_refinement.specs.Guards.{rights_label}
 use Rattle.histar_refinement.specs.Labels.{owned_as, thread_rights}

@@ -19,10 +19,10 @@ use Rattle.histar_layout.specs.Status.{ProcessStatus}
 use Rattle.histar_layout.specs.UserTable.{without_password, without_passwords}
 use Rattle.histar_layout.proofs.LabelLevels.{at_guarded, guarded_level}
 use Rattle.histar_layout.proofs.Members.{is_in}
-use Rattle.histar_calls.specs.declared.roots.Home.{Home as Where}
-use Rattle.histar_calls.specs.declared.roots.Roots.{Roots}
+use Rattle.histar_programs.specs.declared.roots.Home.{Home as Where}
+use Rattle.histar_programs.specs.declared.roots.Roots.{Roots}
 use Rattle.histar_login.specs.Start.{roots_of, declared}
-use Rattle.histar_process.specs.Caller.{if_runs, is_zero, status_at}
+use Rattle.histar_programs.specs.Caller.{if_runs, is_zero, status_at}
 use Rattle.histar_refinement.specs.Addresses.{same_step, home_address}
 use Rattle.histar_refinement.specs.Addresses.Step.{Inside, Runner}
 use Rattle.histar_refinement.specs.Categories.{CategoryName, CategoryName as names, IsUsed, among}

@@ -6,7 +6,7 @@ use Rattle.std.proofs.lemmas.Bool.{true≢false}
 use Rattle.std.proofs.lemmas.Option.{none-some}
 use Rattle.histar_flat.specs.Words.{Path}
 use Rattle.histar_object.specs.State.{State}
-use Rattle.histar_calls.specs.declared.roots.Roots.{Roots}
+use Rattle.histar_programs.specs.declared.roots.Roots.{Roots}
 use Rattle.histar_run_explain.specs.Purposes.{or_else}
 use Rattle.histar_run_explain.specs.Location.{is_target, path_up, target_at}
 

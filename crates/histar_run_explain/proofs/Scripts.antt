@@ -14,7 +14,7 @@ use Rattle.histar_script.specs.Script.{ScriptModel, IsDeclared}
 use Rattle.histar_syscall.specs.declared.trace.TraceEntry.{TraceEntry}
 use Rattle.histar_syscall.specs.KernelModel.{state}
 use Rattle.histar_syscall.specs.Runs.{IsRun}
-use Rattle.histar_calls.specs.declared.roots.Roots.{Roots}
+use Rattle.histar_programs.specs.declared.roots.Roots.{Roots}
 use Rattle.histar_layout.specs.UserTable.{without_passwords}
 use Rattle.histar_refinement.specs.Represents.{Represents}
 use Rattle.histar_sim.specs.Simulation.{SimulatesLines}

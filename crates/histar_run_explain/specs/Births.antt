@@ -3,9 +3,9 @@ use Rattle.std.specs.Prelude.{ℕ, ◌-◌, nat_lt, List, ◌∷◌, ◌++◌, l
 use Rattle.histar_flat.specs.Words.{ProcName, most_numbers}
 use Rattle.histar_object.specs.State.{State}
 use Rattle.histar_layout.specs.Reading.{◌>>=◌}
-use Rattle.histar_calls.specs.declared.roots.Home.{Home}
-use Rattle.histar_calls.specs.declared.roots.Roots.{Roots}
-use Rattle.histar_process.specs.Caller.{home_at, status_at}
+use Rattle.histar_programs.specs.declared.roots.Home.{Home}
+use Rattle.histar_programs.specs.declared.roots.Roots.{Roots}
+use Rattle.histar_programs.specs.Caller.{home_at, status_at}
 
 -- for each category, in the order of their numbers, a process that it may be of
 abbrev pub Births : Type 0

@@ -11,9 +11,9 @@ use Rattle.histar_layout.specs.Reading.{◌>>=◌}
 use Rattle.histar_layout.specs.Status.{ProcessStatus}
 use Rattle.histar_layout.specs.declared.entry.Target.{Target}
 use Rattle.histar_layout.specs.declared.entry.Target.TheVariants.{File, Directory}
-use Rattle.histar_process.specs.Caller.{home_at, status_at}
-use Rattle.histar_calls.specs.declared.roots.Home.{Home}
-use Rattle.histar_calls.specs.declared.roots.Roots.{Roots}
+use Rattle.histar_programs.specs.Caller.{home_at, status_at}
+use Rattle.histar_programs.specs.declared.roots.Home.{Home}
+use Rattle.histar_programs.specs.declared.roots.Roots.{Roots}
 use Rattle.histar_run_explain.specs.Purposes.{or_else, owner_name}
 use Rattle.histar_run_explain.specs.declared.clues.Clue.{Clue}
 use Rattle.histar_run_explain.specs.declared.location.Location.{Location}

@@ -3,7 +3,7 @@ use Rattle.std.specs.Prelude.{ℕ, List, Option, None, Some}
 use Rattle.histar_flat.specs.Accounts.{Accounts}
 use Rattle.histar_flat.specs.Texts.{process_text}
 use Rattle.histar_object.specs.State.{State}
-use Rattle.histar_calls.specs.declared.roots.Roots.{Roots}
+use Rattle.histar_programs.specs.declared.roots.Roots.{Roots}
 use Rattle.histar_raw_explain.specs.Texts.{Words, raw_words}
 use Rattle.histar_run_explain.specs.Births.{Births}
 use Rattle.histar_run_explain.specs.declared.clues.Clue.{Clue}

@@ -10,10 +10,10 @@ use Rattle.histar_object.specs.State.{State}
 use Rattle.histar_layout.specs.Jobs.{is_three}
 use Rattle.histar_layout.specs.Reading.{◌>>=◌}
 use Rattle.histar_login.specs.Start.{declared}
-use Rattle.histar_process.specs.Caller.{home_at, if_runs, is_zero, status_at}
-use Rattle.histar_process.specs.Kin.{user_name}
-use Rattle.histar_calls.specs.declared.roots.Home.{Home}
-use Rattle.histar_calls.specs.declared.roots.Roots.{Roots}
+use Rattle.histar_programs.specs.Caller.{home_at, if_runs, is_zero, status_at}
+use Rattle.histar_programs.specs.Kin.{user_name}
+use Rattle.histar_programs.specs.declared.roots.Home.{Home}
+use Rattle.histar_programs.specs.declared.roots.Roots.{Roots}
 use Rattle.histar_run_explain.specs.Births.{Births}
 use Rattle.histar_run_explain.specs.declared.clues.Clue.{Clue}
 use Rattle.histar_run_explain.specs.declared.purposes.Purpose.{Purpose}

@@ -5,10 +5,10 @@ ghost use Rattle.histar_syscall.specs.KernelModel.{state};
 ghost use Rattle.histar_run_explain.specs.Births.{births_after, child_of, last_child};
 
 use crate::homes::home_at;
-use histar_calls::Roots;
 use histar_flat::{MOST_NUMBERS, ProcName};
 use histar_label::LabelStore;
 use histar_layout::read_status;
+use histar_programs::Roots;
 use histar_shell::Machine;
 use histar_syscall::Kernel;
 use std::alloc::AllocError;

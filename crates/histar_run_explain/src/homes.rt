@@ -2,12 +2,12 @@
 ghost use Rattle.std.specs.Prelude.{◌≡◌, ◌≤◌, length};
 ghost use Rattle.histar_flat.specs.Words.{most_numbers};
 ghost use Rattle.histar_syscall.specs.KernelModel.{state};
-ghost use Rattle.histar_process.specs.Caller.{home_at};
+ghost use Rattle.histar_programs.specs.Caller.{home_at};
 
-use histar_calls::Home;
 use histar_flat::ProcName;
 use histar_label::LabelStore;
 use histar_layout::find_child;
+use histar_programs::Home;
 use histar_syscall::Kernel;
 
 /// Returns where the process of these numbers is found, the last number first.

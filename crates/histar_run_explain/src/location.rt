@@ -5,18 +5,18 @@ ghost use Rattle.histar_flat.specs.Accounts.{most_users};
 ghost use Rattle.histar_flat.specs.Words.{most_names, most_numbers};
 ghost use Rattle.histar_syscall.specs.KernelModel.{state};
 ghost use Rattle.histar_layout.specs.Status.{status_in};
-ghost use Rattle.histar_process.specs.Caller.{status_at};
+ghost use Rattle.histar_programs.specs.Caller.{status_at};
 ghost use Rattle.histar_run_explain.specs.Location.{at_path, is_inside, is_of_target, is_part, is_target, left_location};
 ghost use Rattle.histar_run_explain.specs.Location.{listing_in, of_process, path_up, process_up, location_of, target_at};
 ghost use Rattle.histar_run_explain.specs.Location.{users_own};
 
 use crate::clues::Clue;
 use crate::homes::{home_at, name_of};
-use histar_calls::{Home, Roots};
 use histar_flat::{Name, Path, ProcName};
 use histar_label::LabelStore;
 use histar_layout::{Target, look_up, read_status};
 use histar_object::ObjId;
+use histar_programs::{Home, Roots};
 use histar_shell::Machine;
 use histar_syscall::Kernel;
 

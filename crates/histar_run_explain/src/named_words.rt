@@ -2,7 +2,7 @@
 ghost use Rattle.std.specs.Prelude.{◌≡◌, ◌≤◌, ◌++◌, slice_get, OnOk};
 ghost use Rattle.histar_flat.specs.Accounts.{most_users};
 ghost use Rattle.histar_flat.specs.Texts.{process_text};
-ghost use Rattle.histar_process.specs.Kin.{user_name};
+ghost use Rattle.histar_programs.specs.Kin.{user_name};
 ghost use Rattle.histar_syscall.specs.KernelModel.{state};
 ghost use Rattle.histar_run_explain.specs.Purposes.{name_of_group, owner_name, purpose_text};
 ghost use Rattle.histar_run_explain.specs.Location.{location_text};
@@ -15,7 +15,7 @@ use histar_flat::{Name, ProcName};
 use histar_label::{Category, LabelStore};
 use histar_layout::UserTable;
 use histar_object::ObjId;
-use histar_process::user_name;
+use histar_programs::user_name;
 use histar_raw_explain::{ByNumber, Wording};
 use histar_shell::{Machine, push_path, push_process};
 use std::alloc::AllocError;

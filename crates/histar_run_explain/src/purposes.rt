@@ -10,10 +10,10 @@ ghost use Rattle.histar_run_explain.specs.Purposes.{pair_purpose, purpose_born, 
 
 use crate::clues::Clue;
 use crate::homes::{home_at, name_of};
-use histar_calls::Roots;
 use histar_flat::ProcName;
 use histar_label::{Category, Label, LabelStore, Level};
 use histar_layout::{UserTable, is_three, read_status};
+use histar_programs::Roots;
 use histar_shell::Machine;
 use histar_syscall::Kernel;
 

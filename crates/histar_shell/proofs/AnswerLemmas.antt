@@ -6,7 +6,7 @@ use Rattle.std.proofs.lemmas.List.{map-append, drop_more}
 use Rattle.std.proofs.lemmas.Grind.{flat_map-append}
 use Rattle.std.proofs.KnownBytes.{Appends-nil, Appends-kept, Appends-trans, Keeps-refl}
 use Rattle.std.specs.Io.KnownBytes.{Appends, Keeps}
-use Rattle.histar_calls.specs.declared.call_error.Stopped.{Stopped}
+use Rattle.histar_programs.specs.declared.call_error.Stopped.{Stopped}
 use Rattle.histar_flat.specs.declared.replies.Reply.{Reply}
 use Rattle.histar_flat.specs.declared.calls.CallLine.{CallLine}
 use Rattle.histar_io.specs.Writing.{AppendsFront}

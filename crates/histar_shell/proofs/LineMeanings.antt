@@ -17,11 +17,11 @@ use Rattle.histar_object.specs.State.{State}
 use Rattle.histar_syscall.specs.declared.trace.TraceEntry.{TraceEntry}
 use Rattle.histar_syscall.specs.KernelModel.{KernelModel, state}
 use Rattle.histar_syscall.specs.Runs.{IsBy}
-use Rattle.histar_calls.specs.declared.roots.Roots.{Roots}
-use Rattle.histar_calls.specs.declared.call_error.Stopped.{Stopped}
-use Rattle.histar_calls.specs.Programs.{Program, Runs}
-use Rattle.histar_process.specs.declared.caller.Caller.{Caller}
-use Rattle.histar_process.specs.Caller.{caller_at}
+use Rattle.histar_programs.specs.declared.roots.Roots.{Roots}
+use Rattle.histar_programs.specs.declared.call_error.Stopped.{Stopped}
+use Rattle.histar_programs.specs.Programs.{Program, Runs}
+use Rattle.histar_programs.specs.declared.caller.Caller.{Caller}
+use Rattle.histar_programs.specs.Caller.{caller_at}
 use Rattle.histar_login.specs.Start.{roots_of}
 use Rattle.histar_refinement.specs.Represents.{Represents}
 use Rattle.histar_refinement.specs.Laws.{IsCallerOf}

@@ -5,9 +5,9 @@ use Rattle.histar_flat.specs.declared.calls.UnixCall.{UnixCall}
 use Rattle.histar_flat.specs.declared.replies.Reply.{Reply}
 use Rattle.histar_flat.specs.Words.{ProcName}
 use Rattle.histar_syscall.specs.KernelModel.{state}
-use Rattle.histar_calls.specs.declared.call_error.Stopped.{Stopped}
-use Rattle.histar_process.specs.declared.caller.Caller.{Caller}
-use Rattle.histar_process.specs.Caller.{caller_at}
+use Rattle.histar_programs.specs.declared.call_error.Stopped.{Stopped}
+use Rattle.histar_programs.specs.declared.caller.Caller.{Caller}
+use Rattle.histar_programs.specs.Caller.{caller_at}
 use Rattle.histar_shell.specs.Machine.{MachineModel, HasMade, AnswersFound, AnswersIf, AnswersLine}
 
 -- a process that was found had its call made

@@ -11,19 +11,19 @@ use Rattle.histar_label.specs.Levels.{Levels}
 use Rattle.histar_layout.specs.declared.entry.Target.TheVariants.{File, Directory}
 use Rattle.histar_rules.specs.declared.raw.RawCall.TheVariants.{LabelOf, MakeCategory, MakeContainer, MakeSegment, OwnLabel, SetClearance, SetLabel}
 use Rattle.histar_layout.specs.declared.shown.ShownClass.{ShownClass}
-use Rattle.histar_calls.specs.declared.roots.Home.{Home}
-use Rattle.histar_calls.specs.declared.roots.Roots.{Roots}
+use Rattle.histar_programs.specs.declared.roots.Home.{Home}
+use Rattle.histar_programs.specs.declared.roots.Roots.{Roots}
 use Rattle.histar_calls.specs.Create.{create_program}
 use Rattle.histar_layout.specs.Jobs.{jobs_in, is_empty}
 use Rattle.histar_calls.specs.Mkdir.{mkdir_program}
-use Rattle.histar_calls.specs.Parts.{◌>>=◌, ◌>>◌, ask, find_room, write_entries}
-use Rattle.histar_calls.specs.Programs.{Program}
-use Rattle.histar_calls.specs.Programs.Program.{Answers}
+use Rattle.histar_programs.specs.Parts.{◌>>=◌, ◌>>◌, ask, find_room, write_entries}
+use Rattle.histar_programs.specs.Programs.{Program}
+use Rattle.histar_programs.specs.Programs.Program.{Answers}
 use Rattle.histar_calls.specs.StatCall.{find_object, stat_program, class_reply}
 use Rattle.histar_layout.specs.UserTable.{without_passwords}
-use Rattle.histar_process.specs.declared.caller.Caller.{Caller}
+use Rattle.histar_programs.specs.declared.caller.Caller.{Caller}
 use Rattle.histar_process.specs.Birth.{birth}
-use Rattle.histar_process.specs.Kin.{Kin}
+use Rattle.histar_programs.specs.Kin.{Kin}
 use Rattle.histar_process.specs.SpawnCall.{room_for_child, spawn_program}
 use Rattle.histar_process.specs.Whoami.{whoami_program}
 use Rattle.histar_login.specs.Login.{login_as_program, login_at, login_program, place_of}

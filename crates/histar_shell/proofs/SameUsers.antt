@@ -19,14 +19,14 @@ use Rattle.histar_layout.specs.declared.shown.ShownClass.{ShownClass}
 use Rattle.histar_layout.specs.declared.class.Class.{Class}
 use Rattle.histar_layout.specs.declared.class.Class.TheVariants.{Private, Readable, Open, Scratch, Group as Grouped}
 use Rattle.histar_layout.specs.ClassLabels.{IsRisingFrom, owned_label, class_label, HasJobs}
-use Rattle.histar_calls.specs.declared.roots.Roots.{Roots}
+use Rattle.histar_programs.specs.declared.roots.Roots.{Roots}
 use Rattle.histar_layout.specs.Jobs.{jobs_in, is_empty}
 use Rattle.histar_layout.specs.Labelling.{secret_of, written_by}
 use Rattle.histar_layout.specs.Categories.{read_category, write_category, group_owner, owner_of_group, owners_among, owners_of, user_of, file_label}
 use Rattle.histar_layout.specs.Categories.{scratch_label, label_made}
 use Rattle.histar_layout.specs.ShownClass.{class_at, class_from, class_shown, is_unnamed}
 use Rattle.histar_layout.specs.UserTable.{without_password, without_passwords}
-use Rattle.histar_process.specs.Kin.{categories_of, kin_of, owned_by, user_name}
+use Rattle.histar_programs.specs.Kin.{categories_of, kin_of, owned_by, user_name}
 use Rattle.histar_wrap.specs.Scratch.{directory_label, jobs_with, kin_in}
 use Rattle.histar_login.specs.Login.{place_of}
 use Rattle.histar_readout.specs.declared.tree.TreeNode.{TreeNode}

@@ -12,11 +12,11 @@ use Rattle.histar_syscall.specs.declared.trace.TraceEntry.{TraceEntry}
 use Rattle.histar_syscall.specs.KernelModel.{KernelModel, state, Called, IsUnchanged}
 use Rattle.histar_syscall.specs.Runs.{IsRun}
 use Rattle.histar_syscall.proofs.Runs.{entry_of}
-use Rattle.histar_calls.specs.declared.call_error.Stopped.{Stopped}
-use Rattle.histar_calls.specs.declared.roots.Roots.{Roots}
-use Rattle.histar_calls.specs.Programs.{Outcome, Program, Asked, Completes, Begins, Runs}
-use Rattle.histar_calls.specs.Programs.Program.{Answers, Asks, Lists, Stops}
-use Rattle.histar_process.specs.declared.caller.Caller.{Caller}
+use Rattle.histar_programs.specs.declared.call_error.Stopped.{Stopped}
+use Rattle.histar_programs.specs.declared.roots.Roots.{Roots}
+use Rattle.histar_programs.specs.Programs.{Outcome, Program, Asked, Completes, Begins, Runs}
+use Rattle.histar_programs.specs.Programs.Program.{Answers, Asks, Lists, Stops}
+use Rattle.histar_programs.specs.declared.caller.Caller.{Caller}
 use Rattle.histar_shell.specs.Machine.{IsTraced, Makes}
 use Rattle.histar_shell.proofs.RefinedRuns.{run_after}
 

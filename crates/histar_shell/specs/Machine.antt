@@ -12,9 +12,9 @@ use Rattle.histar_flat.specs.Words.{ProcName}
 use Rattle.histar_object.specs.State.{empty_state}
 use Rattle.histar_syscall.specs.KernelModel.{KernelModel, coded_kernel_model, state}
 use Rattle.histar_syscall.specs.Runs.{IsRun}
-use Rattle.histar_calls.specs.declared.roots.Roots.{Roots}
+use Rattle.histar_programs.specs.declared.roots.Roots.{Roots}
 use Rattle.histar_calls.specs.contracts.roots.Roots as where_is
-use Rattle.histar_calls.specs.Programs.{Program, Runs}
+use Rattle.histar_programs.specs.Programs.{Program, Runs}
 use Rattle.histar_layout.specs.UserTable.{without_passwords}
 use Rattle.histar_calls.specs.Create.{create_program}
 use Rattle.histar_calls.specs.Mkdir.{mkdir_program}
@@ -30,15 +30,15 @@ use Rattle.histar_moves.specs.Rename.{rename_program}
 use Rattle.histar_login.specs.Boot.{IsBooted}
 use Rattle.histar_login.specs.Login.{login_program}
 use Rattle.histar_wrap.specs.WrapCall.{wrap_program}
-use Rattle.histar_process.specs.declared.caller.Caller.{Caller}
-use Rattle.histar_process.specs.Caller.{caller_at}
+use Rattle.histar_programs.specs.declared.caller.Caller.{Caller}
+use Rattle.histar_programs.specs.Caller.{caller_at}
 use Rattle.histar_process.specs.SpawnCall.{spawn_program}
 use Rattle.histar_process.specs.ExitCall.{exit_program}
 use Rattle.histar_process.specs.StatusCall.{status_program}
 use Rattle.histar_process.specs.KillCall.{kill_program}
 use Rattle.histar_process.specs.Whoami.{whoami_program}
 use Rattle.histar_login.specs.Start.{roots_of, start_state}
-use Rattle.histar_calls.specs.declared.call_error.Stopped.{Stopped}
+use Rattle.histar_programs.specs.declared.call_error.Stopped.{Stopped}
 
 -- the kernel of a machine, the places of `/` and process 0, its users and groups with no passwords, and whether a call of it has ended
 -- without a reply

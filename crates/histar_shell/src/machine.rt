@@ -1,6 +1,6 @@
 //! The machine: a labelled kernel with its start state, and what each call line has it do.
 ghost use Rattle.std.specs.Prelude.{◌≡◌, IfOk};
-ghost use Rattle.histar_calls.specs.Refusals.{settled};
+ghost use Rattle.histar_programs.specs.Refusals.{settled};
 ghost use Rattle.histar_script.specs.Script.{IsDeclared};
 ghost use Rattle.histar_shell.specs.Machine.{AnswersLine, IsStart, IsTraced, Makes};
 ghost use Rattle.histar_shell.specs.Ending.{HasTree, IsTreeIn};
@@ -8,15 +8,14 @@ ghost use Rattle.histar_shell.specs.Meaning.{FollowsMeaning, ShowsStart};
 ghost use Rattle.histar_syscall.specs.KernelModel.{state};
 ghost use Rattle.histar_readout.specs.TreeEntries.{node_bytes};
 
-use histar_calls::{
-    CallError, Roots, Stopped, append, create, list, mkdir, read, settle, stat, write,
-};
+use histar_calls::{append, create, list, mkdir, read, stat, write};
 use histar_flat::{Accounts, ProcName, Reply, UnixCall, each_call_is_right};
 use histar_label::LabelStore;
 use histar_layout::UserTable;
 use histar_login::{boot, login};
 use histar_moves::{rename, rmdir, rmtree, unlink};
-use histar_process::{Caller, exit, find_caller, kill, spawn, status, whoami};
+use histar_process::{exit, kill, spawn, status, whoami};
+use histar_programs::{CallError, Caller, Roots, Stopped, find_caller, settle};
 use histar_readout::{TreeNode, bytes_of, tree_of};
 use histar_syscall::{Kernel, TraceEntry};
 use histar_wrap::wrap;

@@ -16,9 +16,9 @@ use Rattle.histar_object.specs.State.{State}
 use Rattle.histar_rules.specs.Rules.{greatest}
 use Rattle.histar_layout.specs.Status.{ProcessStatus}
 use Rattle.histar_layout.specs.Categories.{user_of}
-use Rattle.histar_calls.specs.declared.roots.Home.{Home}
+use Rattle.histar_programs.specs.declared.roots.Home.{Home}
 use Rattle.histar_process.specs.Birth.{outer_label, inner_label, thread_label, thread_clearance}
-use Rattle.histar_process.specs.Kin.{Kin, user_name, owned_by, kin_of}
+use Rattle.histar_programs.specs.Kin.{Kin, user_name, owned_by, kin_of}
 use Rattle.histar_layout.specs.Jobs.{jobs_in}
 use Rattle.histar_refinement.specs.Accounts.{AreAccounts}
 use Rattle.histar_refinement.proofs.Counting.{boot_used}

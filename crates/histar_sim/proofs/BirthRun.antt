@@ -23,12 +23,12 @@ use Rattle.histar_rules.specs.declared.raw.RawCall.TheVariants.{MakeCategory, Se
 use Rattle.histar_rules.specs.Rules.{check, fits_segment, has_number, greatest}
 use Rattle.histar_syscall.specs.KernelModel.{KernelModel, state}
 use Rattle.histar_layout.specs.Status.{ProcessStatus, started, status_bytes, with_child_listed}
-use Rattle.histar_calls.specs.declared.call_error.Stopped.{Stopped}
-use Rattle.histar_calls.specs.declared.roots.Home.{Home}
-use Rattle.histar_calls.specs.Programs.{Program, Runs}
-use Rattle.histar_calls.specs.Programs.Program.{Answers}
-use Rattle.histar_calls.specs.Parts.{ask}
-use Rattle.histar_process.specs.Kin.{Kin}
+use Rattle.histar_programs.specs.declared.call_error.Stopped.{Stopped}
+use Rattle.histar_programs.specs.declared.roots.Home.{Home}
+use Rattle.histar_programs.specs.Programs.{Program, Runs}
+use Rattle.histar_programs.specs.Programs.Program.{Answers}
+use Rattle.histar_programs.specs.Parts.{ask}
+use Rattle.histar_programs.specs.Kin.{Kin}
 use Rattle.histar_process.specs.Birth.{birth, outer_label, inner_label, thread_label, thread_clearance}
 use Rattle.histar_refinement.specs.Lines.{IsThreadOf}
 use Rattle.histar_refinement.proofs.RawChecks.{object}

@@ -10,10 +10,10 @@ use Rattle.histar_rules.specs.declared.raw.Denied.TheVariants.{TooBig}
 use Rattle.histar_rules.specs.declared.raw.RawCall.{RawCall}
 use Rattle.histar_rules.specs.Rules.{check, has_number}
 use Rattle.histar_syscall.specs.KernelModel.{KernelModel, state, Called}
-use Rattle.histar_calls.specs.declared.call_error.Stopped.{Stopped}
-use Rattle.histar_calls.specs.Refusals.{errno_for}
-use Rattle.histar_calls.specs.Programs.{AnswerOf, IsAnswer, Program, Runs}
-use Rattle.histar_calls.specs.Parts.{ask}
+use Rattle.histar_programs.specs.declared.call_error.Stopped.{Stopped}
+use Rattle.histar_programs.specs.Refusals.{errno_for}
+use Rattle.histar_programs.specs.Programs.{AnswerOf, IsAnswer, Program, Runs}
+use Rattle.histar_programs.specs.Parts.{ask}
 use Rattle.histar_refinement.specs.Lines.{IsThreadOf}
 use Rattle.histar_sim.specs.Simulation.{IsRunning, has_category}
 use Rattle.histar_sim.proofs.Chains.{all_granted, Chain}

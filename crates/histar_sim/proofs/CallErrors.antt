@@ -24,8 +24,8 @@ use Rattle.histar_syscall.specs.declared.trace.TraceEntry.{TraceEntry}
 use Rattle.histar_syscall.specs.KernelModel.{KernelModel, state}
 use Rattle.histar_syscall.specs.Runs.{is_label_refusal, is_range_refusal, some_label_refusal, some_range_refusal}
 use Rattle.histar_syscall.proofs.Runs.{entry_of}
-use Rattle.histar_calls.specs.Refusals.{errno_for, errno_of, write_errno_of}
-use Rattle.histar_calls.specs.Replies.{is_access, is_permission, is_no_access, is_no_permission, IsRefusedOnce, sets_labels}
+use Rattle.histar_programs.specs.Refusals.{errno_for, errno_of, write_errno_of}
+use Rattle.histar_programs.specs.Replies.{is_access, is_permission, is_no_access, is_no_permission, IsRefusedOnce, sets_labels}
 use Rattle.histar_refinement.specs.Represents.{Represents}
 use Rattle.histar_refinement.specs.Lines.{IsThreadOf}
 use Rattle.histar_sim.specs.Simulation.{IsRunning, IsReplyOfDenial, EndsWithRead, IsLine, IsUnanswered, IsBrokenOff, FollowsRule}

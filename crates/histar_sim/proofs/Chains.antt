@@ -13,7 +13,7 @@ use Rattle.histar_syscall.specs.declared.trace.TraceEntry.{TraceEntry}
 use Rattle.histar_syscall.specs.KernelModel.{KernelModel, state, Called, IsUnchanged}
 use Rattle.histar_syscall.specs.Runs.{IsBy, IsRun, GoesOn, Made}
 use Rattle.histar_syscall.proofs.Runs.{entry_of, still_same, call_after}
-use Rattle.histar_calls.specs.Replies.{IsRestoring, sets_labels}
+use Rattle.histar_programs.specs.Replies.{IsRestoring, sets_labels}
 use Rattle.histar_sim.specs.Simulation.{has_category, IsBrokenOff, IsReplyOfDenial}
 
 -- a raw call with its outcome

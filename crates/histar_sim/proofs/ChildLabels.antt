@@ -6,7 +6,7 @@ use Rattle.histar_flat.specs.Words.{ProcName}
 use Rattle.histar_flat.specs.Accounts.{Accounts, user_number}
 use Rattle.histar_flat.specs.Classes.{Process, is_free}
 use Rattle.histar_layout.specs.Labelling.{guarded_by, owner_label, cleared_at}
-use Rattle.histar_process.specs.Kin.{Kin, user_name, owned_by}
+use Rattle.histar_programs.specs.Kin.{Kin, user_name, owned_by}
 use Rattle.histar_process.specs.Birth.{outer_label, inner_label, thread_label, thread_clearance}
 use Rattle.histar_refinement.specs.Categories.{CategoryName, Categories, boot_category}
 use Rattle.histar_refinement.specs.Categories.CategoryName.{ReadsProcess, WritesProcess, OfJob}

@@ -23,11 +23,11 @@ use Rattle.histar_rules.specs.Rules.{check}
 use Rattle.histar_syscall.specs.KernelModel.{KernelModel, state}
 use Rattle.histar_syscall.proofs.Runs.{same_kernel}
 use Rattle.histar_layout.specs.Status.{ProcessStatus, once_exited, status_bytes}
-use Rattle.histar_calls.specs.declared.call_error.Stopped.{Stopped}
-use Rattle.histar_calls.specs.declared.roots.Home.{Home}
-use Rattle.histar_calls.specs.Programs.{Program, Runs}
-use Rattle.histar_calls.specs.Programs.Program.{Answers}
-use Rattle.histar_calls.specs.Parts.{ask}
+use Rattle.histar_programs.specs.declared.call_error.Stopped.{Stopped}
+use Rattle.histar_programs.specs.declared.roots.Home.{Home}
+use Rattle.histar_programs.specs.Programs.{Program, Runs}
+use Rattle.histar_programs.specs.Programs.Program.{Answers}
+use Rattle.histar_programs.specs.Parts.{ask}
 use Rattle.histar_process.specs.ExitCall.{exit_program}
 use Rattle.histar_refinement.specs.Accounts.{AreAccounts}
 use Rattle.histar_refinement.specs.Addresses.{home_address}

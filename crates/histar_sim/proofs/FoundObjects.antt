@@ -23,7 +23,7 @@ use Rattle.histar_rules.specs.declared.raw.RawCall.{RawCall}
 use Rattle.histar_rules.specs.declared.raw.RawCall.TheVariants as raw
 use Rattle.histar_rules.specs.Rules.{check, no_making, has_number, fits_segment}
 use Rattle.histar_layout.specs.Directory.{Entries, spelling}
-use Rattle.histar_calls.specs.Refusals.{errno_of, errno_for}
+use Rattle.histar_programs.specs.Refusals.{errno_of, errno_for}
 use Rattle.histar_refinement.specs.Accounts.{AreAccounts}
 use Rattle.histar_refinement.specs.Guards.{Guard, guard_label, rights_label, rights_clearance}
 use Rattle.histar_refinement.specs.Labels.{class_guard, thread_rights}

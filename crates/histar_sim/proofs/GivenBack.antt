@@ -22,11 +22,11 @@ use Rattle.histar_rules.specs.declared.raw.RawCall.TheVariants.{SetLabel, SetCle
 use Rattle.histar_rules.specs.Rules.{check}
 use Rattle.histar_syscall.specs.KernelModel.{KernelModel, state, Called}
 use Rattle.histar_syscall.proofs.Runs.{same_kernel}
-use Rattle.histar_calls.specs.declared.call_error.Stopped.{Stopped}
-use Rattle.histar_calls.specs.Refusals.{errno_for, write_errno_of}
-use Rattle.histar_calls.specs.Replies.{sets_labels}
-use Rattle.histar_calls.specs.Programs.{AnswerOf, Outcome, Program, Runs}
-use Rattle.histar_calls.specs.Programs.Program.{Answers, Asks}
+use Rattle.histar_programs.specs.declared.call_error.Stopped.{Stopped}
+use Rattle.histar_programs.specs.Refusals.{errno_for, write_errno_of}
+use Rattle.histar_programs.specs.Replies.{sets_labels}
+use Rattle.histar_programs.specs.Programs.{AnswerOf, Outcome, Program, Runs}
+use Rattle.histar_programs.specs.Programs.Program.{Answers, Asks}
 use Rattle.histar_wrap.specs.Scratch.{or_stops, give_back, gives_back_with, or_given_back, ask_or_give_back}
 use Rattle.histar_refinement.specs.Represents.{Represents}
 use Rattle.histar_refinement.specs.Lines.{IsThreadOf}

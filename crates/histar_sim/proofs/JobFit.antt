@@ -13,9 +13,9 @@ use Rattle.histar_rules.specs.Rights.{with_category}
 use Rattle.histar_object.specs.State.{State}
 use Rattle.histar_rules.specs.Rules.{greatest}
 use Rattle.histar_layout.specs.Status.{ProcessStatus}
-use Rattle.histar_calls.specs.declared.roots.Home.{Home}
+use Rattle.histar_programs.specs.declared.roots.Home.{Home}
 use Rattle.histar_process.specs.Birth.{outer_label, inner_label, thread_label, thread_clearance}
-use Rattle.histar_process.specs.Kin.{Kin, user_name, owned_by}
+use Rattle.histar_programs.specs.Kin.{Kin, user_name, owned_by}
 use Rattle.histar_refinement.specs.Accounts.{AreAccounts}
 use Rattle.histar_refinement.specs.Categories.{CategoryName, Categories, IsUsed, boot_category, among}
 use Rattle.histar_refinement.specs.Categories.CategoryName.{ReadsProcess, WritesProcess, OfJob}

@@ -13,9 +13,9 @@ use Rattle.histar_flat.specs.FlatCalls.{refused}
 use Rattle.histar_object.specs.State.{State}
 use Rattle.histar_syscall.specs.KernelModel.{KernelModel, state}
 use Rattle.histar_layout.specs.Listing.{names_in}
-use Rattle.histar_calls.specs.declared.call_error.Stopped.{Stopped}
-use Rattle.histar_calls.specs.Programs.{Runs}
-use Rattle.histar_calls.specs.Programs.Program.{Answers}
+use Rattle.histar_programs.specs.declared.call_error.Stopped.{Stopped}
+use Rattle.histar_programs.specs.Programs.{Runs}
+use Rattle.histar_programs.specs.Programs.Program.{Answers}
 use Rattle.histar_calls.specs.ListCall.{list_program}
 use Rattle.histar_login.specs.Start.{roots_of}
 use Rattle.histar_refinement.specs.Accounts.{AreAccounts}

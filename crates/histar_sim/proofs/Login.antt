@@ -30,13 +30,13 @@ use Rattle.histar_rules.specs.Rules.{check}
 use Rattle.histar_rules.specs.Sound.{root_number}
 use Rattle.histar_syscall.specs.KernelModel.{KernelModel, state}
 use Rattle.histar_syscall.proofs.Runs.{same_kernel}
-use Rattle.histar_calls.specs.declared.call_error.Stopped.{Stopped}
+use Rattle.histar_programs.specs.declared.call_error.Stopped.{Stopped}
 use Rattle.histar_layout.specs.Categories.{owners_of}
-use Rattle.histar_calls.specs.Programs.{Program, Runs}
-use Rattle.histar_calls.specs.Programs.Program.{Answers}
-use Rattle.histar_calls.specs.Parts.{◌>>=◌, ◌>>◌, ask}
-use Rattle.histar_process.specs.declared.caller.Caller.{Caller}
-use Rattle.histar_process.specs.Caller.{caller_at}
+use Rattle.histar_programs.specs.Programs.{Program, Runs}
+use Rattle.histar_programs.specs.Programs.Program.{Answers}
+use Rattle.histar_programs.specs.Parts.{◌>>=◌, ◌>>◌, ask}
+use Rattle.histar_programs.specs.declared.caller.Caller.{Caller}
+use Rattle.histar_programs.specs.Caller.{caller_at}
 use Rattle.histar_login.specs.Start.{roots_of, owners_label, owners_clearance}
 use Rattle.histar_login.specs.Login.{place_of, password_of, gate_of, user_label, user_clearance, entering, label_if, clearance_if, reply_if, login_at}
 use Rattle.histar_login.specs.Login.{login_as_program}

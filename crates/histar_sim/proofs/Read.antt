@@ -22,10 +22,10 @@ use Rattle.histar_rules.specs.declared.raw.RawCall.TheVariants as raw
 use Rattle.histar_rules.specs.Rules.{check}
 use Rattle.histar_syscall.specs.KernelModel.{KernelModel, state}
 use Rattle.histar_syscall.specs.declared.trace.TraceEntry.{TraceEntry}
-use Rattle.histar_calls.specs.declared.call_error.Stopped.{Stopped}
-use Rattle.histar_calls.specs.Programs.{Runs}
-use Rattle.histar_calls.specs.Programs.Program.{Answers}
-use Rattle.histar_calls.specs.Parts.{ask}
+use Rattle.histar_programs.specs.declared.call_error.Stopped.{Stopped}
+use Rattle.histar_programs.specs.Programs.{Runs}
+use Rattle.histar_programs.specs.Programs.Program.{Answers}
+use Rattle.histar_programs.specs.Parts.{ask}
 use Rattle.histar_calls.specs.Read.{read_program}
 use Rattle.histar_refinement.specs.Accounts.{AreAccounts}
 use Rattle.histar_refinement.specs.Represents.{Represents}

@@ -25,10 +25,10 @@ use Rattle.histar_syscall.specs.KernelModel.{KernelModel, state}
 use Rattle.histar_syscall.proofs.Runs.{same_kernel}
 use Rattle.histar_layout.specs.Directory.{Entries, spelling}
 use Rattle.histar_layout.specs.declared.entry.Target.{Target}
-use Rattle.histar_calls.specs.declared.call_error.Stopped.{Stopped}
-use Rattle.histar_calls.specs.Programs.{Program, Runs}
-use Rattle.histar_calls.specs.Programs.Program.{Answers}
-use Rattle.histar_calls.specs.Parts.{ask, given}
+use Rattle.histar_programs.specs.declared.call_error.Stopped.{Stopped}
+use Rattle.histar_programs.specs.Programs.{Program, Runs}
+use Rattle.histar_programs.specs.Programs.Program.{Answers}
+use Rattle.histar_programs.specs.Parts.{ask, given}
 use Rattle.histar_moves.specs.Parts.{find_entry, must_be_free}
 use Rattle.histar_moves.specs.Rename.{rename_program}
 use Rattle.histar_login.specs.Start.{roots_of}

@@ -12,9 +12,9 @@ use Rattle.histar_flat.specs.Accounts.{Accounts}
 use Rattle.histar_flat.specs.FlatState.{Flat, writes}
 use Rattle.histar_syscall.specs.KernelModel.{KernelModel, state}
 use Rattle.histar_syscall.proofs.Runs.{same_kernel}
-use Rattle.histar_calls.specs.declared.call_error.Stopped.{Stopped}
-use Rattle.histar_calls.specs.Programs.{Runs}
-use Rattle.histar_calls.specs.Programs.Program.{Answers}
+use Rattle.histar_programs.specs.declared.call_error.Stopped.{Stopped}
+use Rattle.histar_programs.specs.Programs.{Runs}
+use Rattle.histar_programs.specs.Programs.Program.{Answers}
 use Rattle.histar_moves.specs.Parts.{find_entry, take_away}
 use Rattle.histar_moves.specs.Rmtree.{rmtree_program}
 use Rattle.histar_login.specs.Start.{roots_of}

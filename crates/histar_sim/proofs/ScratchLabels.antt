@@ -17,7 +17,7 @@ use Rattle.histar_object.specs.State.{State}
 use Rattle.histar_layout.specs.Categories.{read_category, scratch_label}
 use Rattle.histar_layout.specs.Jobs.{jobs_in}
 use Rattle.histar_layout.specs.Labelling.{guarded_by}
-use Rattle.histar_process.specs.Kin.{owned_by}
+use Rattle.histar_programs.specs.Kin.{owned_by}
 use Rattle.histar_refinement.specs.Accounts.{AreAccounts}
 use Rattle.histar_refinement.specs.Categories.{CategoryName, Categories, AreDifferent, IsMade, among, naming_next, IsUsed}
 use Rattle.histar_refinement.specs.Categories.CategoryName.{ReadsUser, OfJob}

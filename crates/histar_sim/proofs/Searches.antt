@@ -28,10 +28,10 @@ use Rattle.histar_syscall.specs.declared.trace.TraceEntry.{TraceEntry}
 use Rattle.histar_syscall.proofs.Runs.{same_kernel}
 use Rattle.histar_layout.specs.declared.status.Child.{Child as Listed}
 use Rattle.histar_layout.specs.Status.{ProcessStatus, child_at, status_in}
-use Rattle.histar_calls.specs.declared.call_error.Stopped.{Stopped}
-use Rattle.histar_calls.specs.declared.roots.Home.{Home}
-use Rattle.histar_calls.specs.Programs.{Program, Runs}
-use Rattle.histar_calls.specs.Parts.{given, if_there}
+use Rattle.histar_programs.specs.declared.call_error.Stopped.{Stopped}
+use Rattle.histar_programs.specs.declared.roots.Home.{Home}
+use Rattle.histar_programs.specs.Programs.{Program, Runs}
+use Rattle.histar_programs.specs.Parts.{given, if_there}
 use Rattle.histar_process.specs.Parts.{find_home, home_of, must_be_there, read_status}
 use Rattle.histar_login.specs.Start.{roots_of}
 use Rattle.histar_refinement.specs.Accounts.{AreAccounts}

@@ -22,14 +22,14 @@ use Rattle.histar_rules.specs.declared.raw.RawCall.TheVariants.{OwnLabel, SetLab
 use Rattle.histar_rules.specs.Rules.{greatest}
 use Rattle.histar_syscall.specs.KernelModel.{KernelModel, state}
 use Rattle.histar_layout.specs.Status.{ProcessStatus}
-use Rattle.histar_calls.specs.declared.call_error.Stopped.{Stopped}
-use Rattle.histar_calls.specs.Programs.{Program, Runs}
-use Rattle.histar_calls.specs.Programs.Program.{Answers}
-use Rattle.histar_calls.specs.Parts.{ask}
-use Rattle.histar_process.specs.declared.caller.Caller.{Caller}
+use Rattle.histar_programs.specs.declared.call_error.Stopped.{Stopped}
+use Rattle.histar_programs.specs.Programs.{Program, Runs}
+use Rattle.histar_programs.specs.Programs.Program.{Answers}
+use Rattle.histar_programs.specs.Parts.{ask}
+use Rattle.histar_programs.specs.declared.caller.Caller.{Caller}
 use Rattle.histar_process.specs.Birth.{birth}
-use Rattle.histar_process.specs.Caller.{caller_at}
-use Rattle.histar_process.specs.Kin.{kin_of}
+use Rattle.histar_programs.specs.Caller.{caller_at}
+use Rattle.histar_programs.specs.Kin.{kin_of}
 use Rattle.histar_process.specs.SpawnCall.{spawn_program}
 use Rattle.histar_login.specs.Start.{roots_of}
 use Rattle.histar_refinement.specs.Accounts.{AreAccounts}

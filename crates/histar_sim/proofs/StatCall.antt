@@ -29,12 +29,12 @@ use Rattle.histar_syscall.specs.declared.trace.TraceEntry.{TraceEntry}
 use Rattle.histar_syscall.proofs.Runs.{same_kernel}
 use Rattle.histar_layout.specs.Listing.{is_directory, object_of}
 use Rattle.histar_layout.specs.declared.entry.Target.{Target}
-use Rattle.histar_calls.specs.declared.call_error.Stopped.{Stopped}
+use Rattle.histar_programs.specs.declared.call_error.Stopped.{Stopped}
 use Rattle.histar_layout.specs.ShownClass.{class_shown, stat_of}
-use Rattle.histar_calls.specs.declared.roots.Place.{Place}
-use Rattle.histar_calls.specs.Programs.{Program, Runs}
-use Rattle.histar_calls.specs.Programs.Program.{Answers}
-use Rattle.histar_calls.specs.Parts.{ask, given, entry_at}
+use Rattle.histar_programs.specs.declared.roots.Place.{Place}
+use Rattle.histar_programs.specs.Programs.{Program, Runs}
+use Rattle.histar_programs.specs.Programs.Program.{Answers}
+use Rattle.histar_programs.specs.Parts.{ask, given, entry_at}
 use Rattle.histar_calls.specs.StatCall.{find_object, class_reply, stat_program}
 use Rattle.histar_login.specs.Start.{roots_of}
 use Rattle.histar_refinement.specs.Accounts.{AreAccounts}

@@ -20,12 +20,12 @@ use Rattle.histar_syscall.specs.KernelModel.{KernelModel, state, Called, IsUncha
 use Rattle.histar_syscall.proofs.Runs.{same_kernel}
 use Rattle.histar_layout.specs.Directory.{Entries, IsDirectory}
 use Rattle.histar_layout.proofs.DirectoryLemmas.{found_directory}
-use Rattle.histar_calls.specs.declared.call_error.Stopped.{Stopped}
-use Rattle.histar_calls.specs.Refusals.{errno_for}
-use Rattle.histar_calls.specs.Replies.{is_access, is_permission}
-use Rattle.histar_calls.specs.Programs.{AnswerOf, IsAnswer, Outcome, Program, Asked, Completes, Begins, Runs}
-use Rattle.histar_calls.specs.Programs.Program.{Answers, Asks, Stops}
-use Rattle.histar_calls.specs.Parts.{refused_with, or_refused, ask, if_there, list}
+use Rattle.histar_programs.specs.declared.call_error.Stopped.{Stopped}
+use Rattle.histar_programs.specs.Refusals.{errno_for}
+use Rattle.histar_programs.specs.Replies.{is_access, is_permission}
+use Rattle.histar_programs.specs.Programs.{AnswerOf, IsAnswer, Outcome, Program, Asked, Completes, Begins, Runs}
+use Rattle.histar_programs.specs.Programs.Program.{Answers, Asks, Stops}
+use Rattle.histar_programs.specs.Parts.{refused_with, or_refused, ask, if_there, list}
 use Rattle.histar_refinement.specs.Represents.{Represents}
 use Rattle.histar_refinement.specs.Lines.{IsThreadOf}
 use Rattle.histar_sim.specs.Simulation.{IsRunning, has_category, FollowsRule}

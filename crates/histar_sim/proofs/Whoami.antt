@@ -16,11 +16,11 @@ use Rattle.histar_object.specs.State.{State}
 use Rattle.histar_rules.specs.declared.raw.RawCall.TheVariants.{OwnLabel}
 use Rattle.histar_syscall.specs.KernelModel.{KernelModel, state}
 use Rattle.histar_syscall.proofs.Runs.{same_kernel}
-use Rattle.histar_calls.specs.declared.call_error.Stopped.{Stopped}
+use Rattle.histar_programs.specs.declared.call_error.Stopped.{Stopped}
 use Rattle.histar_layout.specs.Categories.{user_of}
-use Rattle.histar_calls.specs.Programs.{Runs}
-use Rattle.histar_calls.specs.Programs.Program.{Answers}
-use Rattle.histar_process.specs.Kin.{user_name}
+use Rattle.histar_programs.specs.Programs.{Runs}
+use Rattle.histar_programs.specs.Programs.Program.{Answers}
+use Rattle.histar_programs.specs.Kin.{user_name}
 use Rattle.histar_layout.specs.Jobs.{jobs_in, is_empty}
 use Rattle.histar_process.specs.Whoami.{whoami_program}
 use Rattle.histar_refinement.specs.Accounts.{AreAccounts}

@@ -22,9 +22,9 @@ use Rattle.histar_syscall.specs.declared.answers.Answer.TheVariants as answers
 use Rattle.histar_syscall.specs.Answers.{raw_answer}
 use Rattle.histar_syscall.specs.KernelModel.{KernelModel, state}
 use Rattle.histar_syscall.specs.Runs.{IsBy, IsRun, some_label_refusal, some_range_refusal}
-use Rattle.histar_calls.specs.declared.call_error.Stopped.{Stopped}
-use Rattle.histar_calls.specs.Refusals.{write_errno_of}
-use Rattle.histar_calls.specs.Replies.{is_no_access, is_no_permission, IsRefusedOnce, IsRestoring}
+use Rattle.histar_programs.specs.declared.call_error.Stopped.{Stopped}
+use Rattle.histar_programs.specs.Refusals.{write_errno_of}
+use Rattle.histar_programs.specs.Replies.{is_no_access, is_no_permission, IsRefusedOnce, IsRestoring}
 use Rattle.histar_refinement.specs.Represents.{Represents}
 use Rattle.histar_refinement.specs.Lines.{IsThreadOf}
 use Rattle.histar_sim.specs.Reads.{HasReads}

@@ -3,14 +3,14 @@
 ghost use Rattle.std.specs.Prelude.{IfOk};
 ghost use Rattle.histar_layout.specs.UserTable.{HaveOwnNames};
 
-use histar_calls::Roots;
 use histar_flat::{
     Accounts, Name, Password, Path, ProcName, User, read_name, read_password, read_user_name,
 };
 use histar_label::PlainStore;
 use histar_layout::{Chain, Target, UserTable};
 use histar_login::{boot, login};
-use histar_process::{exit, find_caller, spawn};
+use histar_process::{exit, spawn};
+use histar_programs::{Roots, find_caller};
 use histar_readout::{Life, ProcessNode, procs_of, resolve};
 use histar_syscall::Kernel;
 use histar_wrap::wrap;

@@ -10,12 +10,12 @@ use Rattle.histar_rules.specs.declared.raw.Refusal.{Refusal}
 use Rattle.histar_rules.specs.declared.raw.Refusal.TheVariants as refusals
 use Rattle.histar_syscall.specs.KernelModel.{KernelModel, state, Called, Answered}
 use Rattle.histar_syscall.proofs.Runs.{same_kernel}
-use Rattle.histar_calls.specs.declared.call_error.CallError.{CallError}
-use Rattle.histar_calls.specs.declared.call_error.CallError.TheVariants.{Refused, Stopped}
-use Rattle.histar_calls.specs.Refusals.{errno_for, call_error_of, call_error_with}
-use Rattle.histar_calls.specs.Programs.{AnswerOf, IsAnswer, Program, Part, LeadsTo, RunsPart}
-use Rattle.histar_calls.specs.Programs.Program.{Answers}
-use Rattle.histar_calls.proofs.Running.{asked, onward, then_part, part_fails}
+use Rattle.histar_programs.specs.declared.call_error.CallError.{CallError}
+use Rattle.histar_programs.specs.declared.call_error.CallError.TheVariants.{Refused, Stopped}
+use Rattle.histar_programs.specs.Refusals.{errno_for, call_error_of, call_error_with}
+use Rattle.histar_programs.specs.Programs.{AnswerOf, IsAnswer, Program, Part, LeadsTo, RunsPart}
+use Rattle.histar_programs.specs.Programs.Program.{Answers}
+use Rattle.histar_programs.proofs.Running.{asked, onward, then_part, part_fails}
 use Rattle.histar_wrap.specs.Scratch.{ask_or_give_back, give_back, gives_back_with, or_given_back, or_stops}
 use Rattle.histar_wrap.specs.Steps.{ask_or_stop, restore, stopping}
 

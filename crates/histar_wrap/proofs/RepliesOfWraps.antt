@@ -12,15 +12,15 @@ use Rattle.histar_rules.specs.declared.raw.RawCall.TheVariants.{MakeCategory, Ma
 use Rattle.histar_layout.specs.Directory.{spelling}
 use Rattle.histar_layout.specs.Status.{ProcessStatus}
 use Rattle.histar_layout.specs.declared.entry.Target.TheVariants.{Directory}
-use Rattle.histar_calls.specs.Laws.{RepliesToDenial, RepliesToRefusals}
-use Rattle.histar_calls.specs.Parts.{ask, find_room, write_entries}
-use Rattle.histar_calls.specs.Programs.{Program}
-use Rattle.histar_calls.specs.Programs.Program.{Answers}
-use Rattle.histar_calls.specs.Refusals.{errno_of}
-use Rattle.histar_calls.specs.declared.find.Room.{Room}
-use Rattle.histar_calls.specs.declared.roots.Home.{Home}
-use Rattle.histar_calls.specs.declared.roots.Roots.{Roots}
-use Rattle.histar_calls.proofs.RepliesOfPrograms.{ask_replies, room_replies}
+use Rattle.histar_programs.specs.Laws.{RepliesToDenial, RepliesToRefusals}
+use Rattle.histar_programs.specs.Parts.{ask, find_room, write_entries}
+use Rattle.histar_programs.specs.Programs.{Program}
+use Rattle.histar_programs.specs.Programs.Program.{Answers}
+use Rattle.histar_programs.specs.Refusals.{errno_of}
+use Rattle.histar_programs.specs.declared.find.Room.{Room}
+use Rattle.histar_programs.specs.declared.roots.Home.{Home}
+use Rattle.histar_programs.specs.declared.roots.Roots.{Roots}
+use Rattle.histar_programs.proofs.RepliesOfParts.{ask_replies, room_replies}
 use Rattle.histar_process.specs.Birth.{birth}
 use Rattle.histar_process.proofs.RepliesOfProcessCalls.{birth_replies, child_replies}
 use Rattle.histar_wrap.specs.Laws.{WrapsReplyToRefusals}

@@ -7,11 +7,11 @@ use Rattle.histar_rules.specs.declared.raw.RawCall.TheVariants.{MakeContainer, M
 use Rattle.histar_syscall.specs.KernelModel.{KernelModel}
 use Rattle.histar_layout.specs.Directory.{Entries}
 use Rattle.histar_layout.specs.declared.entry.Target.TheVariants.{Directory}
-use Rattle.histar_calls.specs.declared.call_error.CallError.{CallError}
-use Rattle.histar_calls.specs.declared.find.Room.{Room}
-use Rattle.histar_calls.specs.Parts.{ask, write_entries}
-use Rattle.histar_calls.specs.Programs.{Part, RunsPart}
-use Rattle.histar_calls.proofs.Running.{then_part, part_fails}
+use Rattle.histar_programs.specs.declared.call_error.CallError.{CallError}
+use Rattle.histar_programs.specs.declared.find.Room.{Room}
+use Rattle.histar_programs.specs.Parts.{ask, write_entries}
+use Rattle.histar_programs.specs.Programs.{Part, RunsPart}
+use Rattle.histar_programs.proofs.Running.{then_part, part_fails}
 use Rattle.histar_wrap.specs.Scratch.{ask_or_give_back, hold_job, make_scratch}
 
 module _ (t : ℕ) (own : Levels × Levels) (label : Levels) (room : Room) (old new : KernelModel) where

@@ -10,19 +10,19 @@ use Rattle.histar_syscall.specs.KernelModel.{KernelModel}
 use Rattle.histar_syscall.proofs.Runs.{same_kernel}
 use Rattle.histar_layout.specs.Status.{ProcessStatus}
 use Rattle.histar_layout.specs.Categories.{IsUserOf, scratch_label}
-use Rattle.histar_calls.specs.Parts.{ask, find_room}
-use Rattle.histar_calls.specs.Programs.{Part, Program, RunsPart}
-use Rattle.histar_calls.specs.Programs.Program.{Answers}
-use Rattle.histar_calls.specs.declared.call_error.CallError.{CallError}
-use Rattle.histar_calls.specs.declared.call_error.CallError.TheVariants.{Stopped as HasStopped}
-use Rattle.histar_calls.specs.declared.find.Room.{Room}
-use Rattle.histar_calls.specs.declared.roots.Home.{Home}
-use Rattle.histar_calls.specs.declared.roots.Roots.{Roots}
-use Rattle.histar_calls.proofs.Exits.{Leaves}
-use Rattle.histar_calls.proofs.Running.{then_part, part_fails}
+use Rattle.histar_programs.specs.Parts.{ask, find_room}
+use Rattle.histar_programs.specs.Programs.{Part, Program, RunsPart}
+use Rattle.histar_programs.specs.Programs.Program.{Answers}
+use Rattle.histar_programs.specs.declared.call_error.CallError.{CallError}
+use Rattle.histar_programs.specs.declared.call_error.CallError.TheVariants.{Stopped as HasStopped}
+use Rattle.histar_programs.specs.declared.find.Room.{Room}
+use Rattle.histar_programs.specs.declared.roots.Home.{Home}
+use Rattle.histar_programs.specs.declared.roots.Roots.{Roots}
+use Rattle.histar_programs.proofs.Exits.{Leaves}
+use Rattle.histar_programs.proofs.Running.{then_part, part_fails}
 use Rattle.histar_layout.proofs.UserOf.{user_is}
 use Rattle.histar_process.specs.Birth.{birth}
-use Rattle.histar_process.specs.Kin.{Kin, owned_by}
+use Rattle.histar_programs.specs.Kin.{Kin, owned_by}
 use Rattle.histar_process.specs.SpawnCall.{room_for_child}
 use Rattle.histar_process.proofs.Calling.{before_birth}
 use Rattle.histar_wrap.specs.Filling.{JobPlan, fill_job, plan_for}

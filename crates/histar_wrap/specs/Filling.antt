@@ -4,14 +4,14 @@ use Rattle.histar_flat.specs.Accounts.{Accounts}
 use Rattle.histar_label.specs.Levels.{Levels}
 use Rattle.histar_syscall.specs.KernelModel.{KernelModel}
 use Rattle.histar_layout.specs.Status.{ProcessStatus, status_in}
-use Rattle.histar_calls.specs.declared.call_error.CallError.{CallError}
-use Rattle.histar_calls.specs.declared.find.Room.{Room}
-use Rattle.histar_calls.specs.declared.roots.Home.{Home}
-use Rattle.histar_calls.specs.Parts.{◌>>◌}
-use Rattle.histar_calls.specs.Programs.{Part, RunsPart}
-use Rattle.histar_process.specs.declared.caller.Caller.{Caller}
+use Rattle.histar_programs.specs.declared.call_error.CallError.{CallError}
+use Rattle.histar_programs.specs.declared.find.Room.{Room}
+use Rattle.histar_programs.specs.declared.roots.Home.{Home}
+use Rattle.histar_programs.specs.Parts.{◌>>◌}
+use Rattle.histar_programs.specs.Programs.{Part, RunsPart}
+use Rattle.histar_programs.specs.declared.caller.Caller.{Caller}
 use Rattle.histar_process.specs.Birth.{birth}
-use Rattle.histar_process.specs.Kin.{Kin}
+use Rattle.histar_programs.specs.Kin.{Kin}
 use Rattle.histar_wrap.specs.declared.wrap.Plan.{Plan}
 use Rattle.histar_wrap.specs.Scratch.{directory_label, hold_job, kin_in, make_scratch}
 

@@ -10,14 +10,14 @@ use Rattle.histar_rules.specs.declared.raw.Denied.{Denied}
 use Rattle.histar_rules.specs.declared.raw.RawCall.{RawCall}
 use Rattle.histar_rules.specs.declared.raw.RawCall.TheVariants.{MakeContainer, MakeSegment, SetLabel, SetClearance}
 use Rattle.histar_layout.specs.declared.entry.Target.TheVariants.{Directory}
-use Rattle.histar_calls.specs.declared.find.Room.{Room}
+use Rattle.histar_programs.specs.declared.find.Room.{Room}
 use Rattle.histar_layout.specs.Categories.{scratch_label, user_of}
 use Rattle.histar_layout.specs.Jobs.{jobs_in}
-use Rattle.histar_calls.specs.Refusals.{errno_for}
-use Rattle.histar_calls.specs.Programs.{AnswerOf, Program, Part}
-use Rattle.histar_calls.specs.Programs.Program.{Answers, Asks, Stops}
-use Rattle.histar_calls.specs.Parts.{◌>>=◌, ◌>>◌, ask, write_entries}
-use Rattle.histar_process.specs.Kin.{Kin, owned_by}
+use Rattle.histar_programs.specs.Refusals.{errno_for}
+use Rattle.histar_programs.specs.Programs.{AnswerOf, Program, Part}
+use Rattle.histar_programs.specs.Programs.Program.{Answers, Asks, Stops}
+use Rattle.histar_programs.specs.Parts.{◌>>=◌, ◌>>◌, ask, write_entries}
+use Rattle.histar_programs.specs.Kin.{Kin, owned_by}
 
 -- the jobs that a thread of this label is in, and one more
 abbrev pub jobs_with : Levels → ℕ → List ℕ

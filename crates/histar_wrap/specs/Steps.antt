@@ -4,11 +4,11 @@ use Rattle.histar_label.specs.Levels.{Levels}
 use Rattle.histar_rules.specs.declared.raw.RawCall.{RawCall}
 use Rattle.histar_rules.specs.declared.raw.RawCall.TheVariants.{SetLabel, SetClearance}
 use Rattle.histar_rules.specs.declared.raw.Refusal.{Refusal}
-use Rattle.histar_calls.specs.declared.call_error.CallError.{CallError}
-use Rattle.histar_calls.specs.declared.call_error.CallError.TheVariants.{Stopped}
-use Rattle.histar_calls.specs.Parts.{◌>>◌}
-use Rattle.histar_calls.specs.Programs.{AnswerOf, Part}
-use Rattle.histar_calls.specs.Programs.Program.{Asks}
+use Rattle.histar_programs.specs.declared.call_error.CallError.{CallError}
+use Rattle.histar_programs.specs.declared.call_error.CallError.TheVariants.{Stopped}
+use Rattle.histar_programs.specs.Parts.{◌>>◌}
+use Rattle.histar_programs.specs.Programs.{AnswerOf, Part}
+use Rattle.histar_programs.specs.Programs.Program.{Asks}
 use Rattle.histar_wrap.specs.Scratch.{or_stops}
 
 -- asks the kernel; a denial stops the program

@@ -3,15 +3,15 @@ ghost use Rattle.std.specs.Prelude.{◌<◌, ◌≡◌, IfOk};
 ghost use Rattle.std.specs.FinMap as map;
 ghost use Rattle.histar_rules.specs.declared.raw.RawCall.TheVariants as calls;
 ghost use Rattle.histar_flat.specs.FlatCalls.{most_entries};
-ghost use Rattle.histar_calls.specs.Programs.{RunsPart};
+ghost use Rattle.histar_programs.specs.Programs.{RunsPart};
 ghost use Rattle.histar_wrap.specs.Scratch.{ask_or_give_back, hold_job, make_scratch};
 ghost use Rattle.histar_wrap.specs.Steps.{restore, stopping};
 
 use histar_base::Bytes;
-use histar_calls::{CallError, Room, write_entries};
 use histar_label::{Category, Label, LabelStore, Level};
 use histar_layout::Target;
 use histar_object::ObjId;
+use histar_programs::{CallError, Room, write_entries};
 use histar_syscall::{Kernel, Refusal};
 use std::alloc::Global;
 

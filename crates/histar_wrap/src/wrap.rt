@@ -2,19 +2,19 @@
 ghost use Rattle.std.specs.Prelude.{◌<◌, ◌≡◌, IfOk};
 ghost use Rattle.std.specs.FinMap as map;
 ghost use Rattle.histar_flat.specs.FlatCalls.{most_entries};
-ghost use Rattle.histar_calls.specs.Programs.{Runs};
-ghost use Rattle.histar_calls.specs.Refusals.{settled};
+ghost use Rattle.histar_programs.specs.Programs.{Runs};
+ghost use Rattle.histar_programs.specs.Refusals.{settled};
 ghost use Rattle.histar_layout.specs.StatusParts.{HasRoomForChild};
 ghost use Rattle.histar_wrap.specs.Filling.{FillsJob, plan_for, planned};
 ghost use Rattle.histar_wrap.specs.Scratch.{jobs_with};
 ghost use Rattle.histar_wrap.specs.WrapCall.{wrap_program};
 
 use crate::scratch::{hold_job, make_scratch};
-use histar_calls::{CallError, Room, Roots, find_room};
 use histar_flat::{Name, ProcName, Reply};
 use histar_label::{Category, Label, LabelStore};
 use histar_layout::{UserTable, jobs_in, scratch_label, user_of};
-use histar_process::{Caller, Segment, give_birth, owned_by, room_for_child};
+use histar_process::{Segment, give_birth, room_for_child};
+use histar_programs::{CallError, Caller, Room, Roots, find_room, owned_by};
 use histar_syscall::Kernel;
 use std::alloc::{AllocError, Global};
 

@@ -4,13 +4,13 @@ use Rattle.histar_flat.specs.declared.replies.Reply.TheVariants.{Done}
 use Rattle.histar_label.specs.Levels.{Levels}
 use Rattle.histar_rules.specs.declared.raw.RawCall.TheVariants.{OwnLabel}
 use Rattle.histar_layout.specs.Categories.{label_made}
-use Rattle.histar_calls.specs.declared.call_error.CallError.TheVariants.{Stopped}
-use Rattle.histar_calls.specs.Programs.Program.{Answers}
-use Rattle.histar_calls.specs.Parts.{ask, find_room}
+use Rattle.histar_programs.specs.declared.call_error.CallError.TheVariants.{Stopped}
+use Rattle.histar_programs.specs.Programs.Program.{Answers}
+use Rattle.histar_programs.specs.Parts.{ask, find_room}
 use Rattle.histar_calls.specs.Create.{add_file, create_program}
-use Rattle.histar_calls.proofs.Exits.{ends, further}
+use Rattle.histar_programs.proofs.Exits.{ends, further}
 use Rattle.histar_calls.proofs.MakingFiles.{adds_so, after_label, after_room, before_adding, begun}
-use Rattle.histar_calls.proofs.Running.{call_fails_so, grants, refuses, says}
+use Rattle.histar_programs.proofs.Running.{call_fails_so, grants, refuses, says}
 use Rattle.histar_calls.proofs.create.create.Goals as goal
 
 pub returns-in_err-room : goal.returns-in_err-room

@@ -1,10 +1,10 @@
 -- Proves the goals of `read` of src/read.rt that the search leaves open.
 use Rattle.histar_flat.specs.declared.replies.Reply.TheVariants.{Data}
 use Rattle.histar_rules.specs.declared.raw.RawCall.TheVariants.{Read}
-use Rattle.histar_calls.specs.Programs.Program.{Answers}
-use Rattle.histar_calls.specs.Parts.{ask, find_file}
+use Rattle.histar_programs.specs.Programs.Program.{Answers}
+use Rattle.histar_programs.specs.Parts.{ask, find_file}
 use Rattle.histar_calls.specs.Read.{read_program}
-use Rattle.histar_calls.proofs.Running.{grants, refuses, then_call, call_fails, call_fails_so, says}
+use Rattle.histar_programs.proofs.Running.{grants, refuses, then_call, call_fails, call_fails_so, says}
 use Rattle.histar_calls.proofs.read.read.Goals as goal
 
 pub returns-in_err-file : goal.returns-in_err-file

@@ -3,15 +3,15 @@ use Rattle.std.proofs.Common.{◌∙◌, ◌-◌, [], length, take, drop, true, 
 use Rattle.histar_rules.specs.Sound.{root_number}
 use Rattle.histar_layout.specs.Listing.{is_directory, object_of}
 use Rattle.histar_layout.specs.declared.entry.Target.{Target}
-use Rattle.histar_calls.specs.declared.roots.Place.{Place}
+use Rattle.histar_programs.specs.declared.roots.Place.{Place}
 use Rattle.histar_calls.specs.declared.stat.FoundObject.{FoundObject}
-use Rattle.histar_calls.specs.declared.call_error.CallError.TheVariants.{Refused}
-use Rattle.histar_calls.specs.Programs.{RunsPart}
-use Rattle.histar_calls.specs.Parts.{entry_at}
+use Rattle.histar_programs.specs.declared.call_error.CallError.TheVariants.{Refused}
+use Rattle.histar_programs.specs.Programs.{RunsPart}
+use Rattle.histar_programs.specs.Parts.{entry_at}
 use Rattle.histar_calls.specs.StatCall.{find_object}
-use Rattle.histar_calls.proofs.Running.{fails_so, part_as, hands}
-use Rattle.histar_calls.proofs.Directories.{no_names, first_of_names}
-use Rattle.histar_calls.proofs.Finding.{decides, decides_not, place_fails, look_fails, led}
+use Rattle.histar_programs.proofs.Running.{fails_so, part_as, hands}
+use Rattle.histar_programs.proofs.Directories.{no_names, first_of_names}
+use Rattle.histar_programs.proofs.Finding.{decides, decides_not, place_fails, look_fails, led}
 use Rattle.histar_calls.proofs.stat.find_object.Goals as goal
 
 -- the object of a target in a directory

@@ -3,9 +3,9 @@ use Rattle.std.proofs.Common.{None, Some, sym, ap, ◌∙◌}
 use Rattle.histar_flat.specs.declared.replies.Reply.TheVariants.{Stats}
 use Rattle.histar_rules.specs.declared.raw.RawCall.TheVariants.{LabelOf}
 use Rattle.histar_layout.specs.ShownClass.{class_shown, stat_of}
-use Rattle.histar_calls.specs.Parts.{ask}
+use Rattle.histar_programs.specs.Parts.{ask}
 use Rattle.histar_calls.specs.StatCall.{find_object, class_reply, stat_program}
-use Rattle.histar_calls.proofs.Running.{grants, refuses, then_call, call_fails, call_fails_so, runs_as, replies_so, stops}
+use Rattle.histar_programs.proofs.Running.{grants, refuses, then_call, call_fails, call_fails_so, runs_as, replies_so, stops}
 use Rattle.histar_calls.proofs.stat.stat.Goals as goal
 
 pub returns-in_err-found : goal.returns-in_err-found

@@ -1,10 +1,10 @@
 -- Proves the goals of `write` of src/write.rt that the search leaves open.
 use Rattle.histar_flat.specs.declared.replies.Reply.TheVariants.{Done}
 use Rattle.histar_rules.specs.declared.raw.RawCall.TheVariants.{Write}
-use Rattle.histar_calls.specs.Programs.Program.{Answers}
-use Rattle.histar_calls.specs.Parts.{ask, find_file}
+use Rattle.histar_programs.specs.Programs.Program.{Answers}
+use Rattle.histar_programs.specs.Parts.{ask, find_file}
 use Rattle.histar_calls.specs.Write.{write_program}
-use Rattle.histar_calls.proofs.Running.{asks, then_call, call_fails, call_fails_so, says}
+use Rattle.histar_programs.proofs.Running.{asks, then_call, call_fails, call_fails_so, says}
 use Rattle.histar_calls.proofs.write.write.Goals as goal
 
 pub returns-in_err-file : goal.returns-in_err-file

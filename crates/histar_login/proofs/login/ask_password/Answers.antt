@@ -1,6 +1,6 @@
 -- Proves the goals of `ask_password` of src/login.rt that the search leaves open.
 use Rattle.histar_rules.specs.declared.raw.RawCall.TheVariants.{Read}
-use Rattle.histar_calls.proofs.Running.{fails_so, grants, refuses}
+use Rattle.histar_programs.proofs.Running.{fails_so, grants, refuses}
 use Rattle.histar_login.specs.Login.{ask_password}
 use Rattle.histar_login.proofs.LoginRuns.{asks_none, asks_password, reads}
 use Rattle.histar_login.proofs.login.ask_password.Goals as goal

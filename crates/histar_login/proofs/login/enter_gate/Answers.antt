@@ -1,9 +1,9 @@
 -- Proves the goals of `enter_gate` of src/login.rt that the search leaves open.
 use Rattle.std.proofs.Common.{ℕ, ◌+◌, ◌*◌, ap, ◌∙◌}
 use Rattle.histar_rules.specs.declared.raw.RawCall.TheVariants.{Enter}
-use Rattle.histar_calls.specs.declared.call_error.CallError.TheVariants.{Stopped}
-use Rattle.histar_calls.specs.Parts.{ask}
-use Rattle.histar_calls.proofs.Running.{grants, refuses, before_ask, fails_so}
+use Rattle.histar_programs.specs.declared.call_error.CallError.TheVariants.{Stopped}
+use Rattle.histar_programs.specs.Parts.{ask}
+use Rattle.histar_programs.proofs.Running.{grants, refuses, before_ask, fails_so}
 use Rattle.histar_login.specs.Login.{entering}
 use Rattle.histar_login.proofs.LoginRuns.{enters}
 use Rattle.histar_login.proofs.login.enter_gate.Goals as goal

@@ -4,11 +4,11 @@ use Rattle.histar_flat.specs.declared.replies.Errno.TheVariants.{ENOENT}
 use Rattle.histar_flat.specs.declared.replies.Reply.TheVariants.{Refused}
 use Rattle.histar_rules.specs.declared.raw.RawCall.TheVariants.{OwnLabel}
 use Rattle.histar_layout.specs.Categories.{owners_of}
-use Rattle.histar_calls.specs.declared.call_error.CallError.TheVariants.{Stopped}
-use Rattle.histar_calls.specs.Refusals.{settled}
-use Rattle.histar_calls.specs.Programs.Program.{Answers}
-use Rattle.histar_calls.specs.Parts.{ask}
-use Rattle.histar_calls.proofs.Running.{says, runs_as, call_fails, call_fails_so, before_ask}
+use Rattle.histar_programs.specs.declared.call_error.CallError.TheVariants.{Stopped}
+use Rattle.histar_programs.specs.Refusals.{settled}
+use Rattle.histar_programs.specs.Programs.Program.{Answers}
+use Rattle.histar_programs.specs.Parts.{ask}
+use Rattle.histar_programs.proofs.Running.{says, runs_as, call_fails, call_fails_so, before_ask}
 use Rattle.histar_login.specs.Login.{login_as_program, login_program}
 use Rattle.histar_login.proofs.Numbers.{login_of, login_numbered}
 use Rattle.histar_login.proofs.login.login.Goals as goal

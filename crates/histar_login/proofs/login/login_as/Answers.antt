@@ -2,9 +2,9 @@
 use Rattle.std.proofs.Common.{Bool, Ok, ap}
 use Rattle.histar_label.specs.Levels.{Levels}
 use Rattle.histar_rules.specs.declared.raw.RawCall.TheVariants.{OwnLabel}
-use Rattle.histar_calls.specs.Parts.{ask}
-use Rattle.histar_calls.proofs.Exits.{ends, further}
-use Rattle.histar_calls.proofs.Running.{call_fails_so, grants, refuses, replies_so}
+use Rattle.histar_programs.specs.Parts.{ask}
+use Rattle.histar_programs.proofs.Exits.{ends, further}
+use Rattle.histar_programs.proofs.Running.{call_fails_so, grants, refuses, replies_so}
 use Rattle.histar_login.specs.Login.{ask_password, entering, login_as_program, reply_if, take_due}
 use Rattle.histar_login.proofs.LoginRuns.{after_due, after_gate, after_own, after_password, begun}
 use Rattle.histar_login.proofs.login.login_as.Goals as goal

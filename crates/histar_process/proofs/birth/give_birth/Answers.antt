@@ -2,10 +2,10 @@
 use Rattle.std.proofs.Common.{Err}
 use Rattle.histar_rules.specs.declared.raw.RawCall.TheVariants.{Write}
 use Rattle.histar_layout.specs.Status.{status_bytes, with_child_listed}
-use Rattle.histar_calls.specs.declared.call_error.CallError.TheVariants.{Stopped}
-use Rattle.histar_calls.proofs.Running.{before_ask, fails_so}
+use Rattle.histar_programs.specs.declared.call_error.CallError.TheVariants.{Stopped}
+use Rattle.histar_programs.proofs.Running.{before_ask, fails_so}
 use Rattle.histar_process.specs.Birth.{birth}
-use Rattle.histar_process.specs.Kin.{Kin}
+use Rattle.histar_programs.specs.Kin.{Kin}
 use Rattle.histar_process.proofs.Births.{with_categories, without_categories, with_containers, without_containers, with_thread, without_thread}
 use Rattle.histar_process.proofs.Births.{with_segment, without_segment, all_written, written_so}
 use Rattle.histar_process.proofs.birth.give_birth.Goals as goal

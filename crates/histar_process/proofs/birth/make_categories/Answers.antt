@@ -1,6 +1,6 @@
 -- Proves the goals of `make_categories` of src/birth.rt that the search leaves open.
 use Rattle.histar_rules.specs.declared.raw.RawCall.TheVariants.{MakeCategory}
-use Rattle.histar_calls.proofs.Running.{grants, refuses, fails_so}
+use Rattle.histar_programs.proofs.Running.{grants, refuses, fails_so}
 use Rattle.histar_process.specs.Births.{make_categories}
 use Rattle.histar_process.proofs.Births.{no_read, no_write, categories}
 use Rattle.histar_process.proofs.birth.make_categories.Goals as goal

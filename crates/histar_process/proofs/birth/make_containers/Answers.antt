@@ -2,8 +2,8 @@
 use Rattle.std.proofs.Common.{[], ◌∷◌, Ok, Err, ◌∙◌}
 use Rattle.histar_rules.specs.declared.raw.RawCall.TheVariants.{MakeContainer}
 use Rattle.histar_layout.specs.Labelling.{guarded_by}
-use Rattle.histar_calls.specs.declared.call_error.CallError.TheVariants.{Stopped}
-use Rattle.histar_calls.proofs.Running.{before_ask, fails_so}
+use Rattle.histar_programs.specs.declared.call_error.CallError.TheVariants.{Stopped}
+use Rattle.histar_programs.proofs.Running.{before_ask, fails_so}
 use Rattle.histar_process.specs.Births.{make_containers}
 use Rattle.histar_process.proofs.Births.{no_container, no_internal, containers, guarded_so}
 use Rattle.histar_process.proofs.birth.make_containers.Goals as goal

@@ -3,9 +3,9 @@ use Rattle.std.proofs.Common.{[], ◌∷◌}
 use Rattle.histar_rules.specs.declared.raw.RawCall.TheVariants.{MakeSegment}
 use Rattle.histar_layout.specs.Status.{started, status_bytes}
 use Rattle.histar_layout.specs.Labelling.{guarded_by}
-use Rattle.histar_calls.specs.Parts.{ask}
-use Rattle.histar_calls.specs.declared.call_error.CallError.TheVariants.{Stopped}
-use Rattle.histar_calls.proofs.Running.{grants, refuses, before_ask, fails_so}
+use Rattle.histar_programs.specs.Parts.{ask}
+use Rattle.histar_programs.specs.declared.call_error.CallError.TheVariants.{Stopped}
+use Rattle.histar_programs.proofs.Running.{grants, refuses, before_ask, fails_so}
 use Rattle.histar_process.proofs.Births.{segment_so}
 use Rattle.histar_process.proofs.birth.make_segment.Goals as goal
 

@@ -2,9 +2,9 @@
 use Rattle.std.proofs.Common.{ℕ, List, ◌∷◌, ◌++◌, ap, ◌∙◌}
 use Rattle.histar_rules.specs.declared.raw.RawCall.TheVariants.{MakeThread}
 use Rattle.histar_layout.specs.Labelling.{owner_label, cleared_at}
-use Rattle.histar_calls.specs.Parts.{ask}
-use Rattle.histar_calls.specs.declared.call_error.CallError.TheVariants.{Stopped}
-use Rattle.histar_calls.proofs.Running.{grants, refuses, before_ask, fails_so}
+use Rattle.histar_programs.specs.Parts.{ask}
+use Rattle.histar_programs.specs.declared.call_error.CallError.TheVariants.{Stopped}
+use Rattle.histar_programs.proofs.Running.{grants, refuses, before_ask, fails_so}
 use Rattle.histar_process.proofs.Births.{thread_so}
 use Rattle.histar_process.proofs.birth.make_thread.Goals as goal
 

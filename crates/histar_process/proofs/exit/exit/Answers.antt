@@ -4,10 +4,10 @@ use Rattle.histar_flat.specs.declared.replies.Reply.TheVariants.{Done}
 use Rattle.histar_rules.specs.declared.raw.RawCall.TheVariants.{Write, Unlink}
 use Rattle.histar_layout.specs.Status.{once_exited, status_bytes, status_in}
 use Rattle.histar_layout.specs.declared.status.StatusHead.{StatusHead}
-use Rattle.histar_calls.specs.Parts.{ask}
-use Rattle.histar_calls.specs.Programs.Program.{Answers}
-use Rattle.histar_calls.specs.declared.call_error.CallError.TheVariants.{Stopped}
-use Rattle.histar_calls.proofs.Running.{grants, refuses, before_ask, then_call, call_fails, call_fails_so, says}
+use Rattle.histar_programs.specs.Parts.{ask}
+use Rattle.histar_programs.specs.Programs.Program.{Answers}
+use Rattle.histar_programs.specs.declared.call_error.CallError.TheVariants.{Stopped}
+use Rattle.histar_programs.proofs.Running.{grants, refuses, before_ask, then_call, call_fails, call_fails_so, says}
 use Rattle.histar_process.specs.ExitCall.{exit_program}
 use Rattle.histar_process.specs.Parts.{read_status}
 use Rattle.histar_process.proofs.Births.{written_so}

@@ -2,8 +2,8 @@
 use Rattle.std.proofs.Common.{Result, subst}
 use Rattle.histar_rules.specs.declared.raw.RawCall.TheVariants.{Read}
 use Rattle.histar_syscall.specs.KernelModel.{ReadsLent}
-use Rattle.histar_calls.specs.declared.call_error.CallError.TheVariants.{Stopped}
-use Rattle.histar_calls.proofs.Running.{grants, refuses, fails_so}
+use Rattle.histar_programs.specs.declared.call_error.CallError.TheVariants.{Stopped}
+use Rattle.histar_programs.proofs.Running.{grants, refuses, fails_so}
 use Rattle.histar_process.specs.Reading.{look_up}
 use Rattle.histar_process.proofs.Segments.{look_fails, look_none, looks}
 use Rattle.histar_process.proofs.find.look_up.Goals as goal

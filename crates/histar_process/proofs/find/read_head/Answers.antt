@@ -2,7 +2,7 @@
 use Rattle.std.proofs.Common.{Result, subst}
 use Rattle.histar_rules.specs.declared.raw.RawCall.TheVariants.{Read}
 use Rattle.histar_syscall.specs.KernelModel.{ReadsLent}
-use Rattle.histar_calls.proofs.Running.{grants, refuses, fails_so}
+use Rattle.histar_programs.proofs.Running.{grants, refuses, fails_so}
 use Rattle.histar_process.specs.Reading.{read_head}
 use Rattle.histar_process.proofs.Segments.{head_fails, head_none, head_read}
 use Rattle.histar_process.proofs.find.read_head.Goals as goal

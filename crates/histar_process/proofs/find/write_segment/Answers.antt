@@ -1,6 +1,6 @@
 -- Proves the goals of `write_segment` of src/find.rt that the search leaves open.
 use Rattle.histar_rules.specs.declared.raw.RawCall.TheVariants.{Write}
-use Rattle.histar_calls.proofs.Running.{asks}
+use Rattle.histar_programs.proofs.Running.{asks}
 use Rattle.histar_process.proofs.find.write_segment.Goals as goal
 
 pub returns : goal.returns

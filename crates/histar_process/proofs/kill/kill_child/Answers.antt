@@ -2,8 +2,8 @@
 use Rattle.std.proofs.Common.{◌≡◌, ℕ, List, ◌∷◌, Some, Ok, Err, sym, subst}
 use Rattle.histar_flat.specs.declared.replies.Reply.TheVariants.{Done}
 use Rattle.histar_layout.specs.Status.{status_in}
-use Rattle.histar_calls.specs.Programs.Program.{Answers}
-use Rattle.histar_calls.proofs.Running.{then_call, call_fails, call_fails_so, says}
+use Rattle.histar_programs.specs.Programs.Program.{Answers}
+use Rattle.histar_programs.proofs.Running.{then_call, call_fails, call_fails_so, says}
 use Rattle.histar_process.specs.KillCall.{kill_known, kill_program}
 use Rattle.histar_process.specs.Parts.{find_home, read_status}
 use Rattle.histar_process.proofs.kill.kill_child.Goals as goal

@@ -4,9 +4,9 @@ use Rattle.histar_flat.specs.declared.replies.Reply.TheVariants.{Done}
 use Rattle.histar_rules.specs.Sound.{root_number}
 use Rattle.histar_rules.specs.declared.raw.RawCall.TheVariants.{Unlink}
 use Rattle.histar_layout.specs.declared.status.StatusHead.{StatusHead}
-use Rattle.histar_calls.specs.Parts.{ask}
-use Rattle.histar_calls.specs.Programs.Program.{Answers}
-use Rattle.histar_calls.proofs.Running.{grants, refuses, then_call, call_fails, call_fails_so, says}
+use Rattle.histar_programs.specs.Parts.{ask}
+use Rattle.histar_programs.specs.Programs.Program.{Answers}
+use Rattle.histar_programs.proofs.Running.{grants, refuses, then_call, call_fails, call_fails_so, says}
 use Rattle.histar_process.specs.KillCall.{kill_program}
 use Rattle.histar_process.specs.Reading.{read_head}
 use Rattle.histar_process.proofs.Calling.{unlinked_so}

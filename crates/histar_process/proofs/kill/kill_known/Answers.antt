@@ -2,10 +2,10 @@
 use Rattle.std.proofs.Common.{ℕ, Ok, Err, refl, ap, ◌∙◌, subst}
 use Rattle.histar_rules.specs.declared.raw.RawCall.TheVariants.{Unlink}
 use Rattle.histar_layout.specs.Status.{status_bytes, without_child}
-use Rattle.histar_calls.specs.Programs.{RunsPart}
-use Rattle.histar_calls.specs.declared.call_error.CallError.TheVariants.{Refused, Stopped}
-use Rattle.histar_calls.specs.declared.roots.Home.{Home}
-use Rattle.histar_calls.proofs.Running.{before_ask, fails_so, grants, refuses}
+use Rattle.histar_programs.specs.Programs.{RunsPart}
+use Rattle.histar_programs.specs.declared.call_error.CallError.TheVariants.{Refused, Stopped}
+use Rattle.histar_programs.specs.declared.roots.Home.{Home}
+use Rattle.histar_programs.proofs.Running.{before_ask, fails_so, grants, refuses}
 use Rattle.histar_process.specs.KillCall.{kill_known}
 use Rattle.histar_process.specs.Parts.{must_be_there}
 use Rattle.histar_process.specs.Reading.{read_head}

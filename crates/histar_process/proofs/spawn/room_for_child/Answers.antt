@@ -3,7 +3,7 @@ use Rattle.std.proofs.Common.{ℕ, List, length, ap, ◌∙◌}
 use Rattle.std.specs.Prelude.{nat_lt}
 use Rattle.histar_flat.specs.Words.{most_children, most_numbers}
 use Rattle.histar_layout.specs.declared.status.StatusHead.{StatusHead}
-use Rattle.histar_calls.specs.declared.call_error.CallError.TheVariants.{Refused}
+use Rattle.histar_programs.specs.declared.call_error.CallError.TheVariants.{Refused}
 use Rattle.histar_process.specs.SpawnCall.{must_have_room}
 use Rattle.histar_process.proofs.Rooms.{depth_fails, reading_fails, room_fails, room_is_there, room_fails_so}
 use Rattle.histar_process.proofs.spawn.room_for_child.Goals as goal

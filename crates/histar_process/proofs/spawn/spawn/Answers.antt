@@ -5,12 +5,12 @@ use Rattle.histar_label.specs.Levels.{Levels}
 use Rattle.histar_rules.specs.declared.raw.RawCall.TheVariants.{OwnLabel}
 use Rattle.histar_layout.specs.Status.{status_in}
 use Rattle.histar_layout.specs.declared.status.StatusHead.{StatusHead}
-use Rattle.histar_calls.specs.Parts.{ask}
-use Rattle.histar_calls.specs.Programs.Program.{Answers}
-use Rattle.histar_calls.proofs.Exits.{ends, further}
-use Rattle.histar_calls.proofs.Running.{call_fails_so, grants, refuses, replies_so}
+use Rattle.histar_programs.specs.Parts.{ask}
+use Rattle.histar_programs.specs.Programs.Program.{Answers}
+use Rattle.histar_programs.proofs.Exits.{ends, further}
+use Rattle.histar_programs.proofs.Running.{call_fails_so, grants, refuses, replies_so}
 use Rattle.histar_process.specs.Birth.{birth}
-use Rattle.histar_process.specs.Kin.{kin_of}
+use Rattle.histar_programs.specs.Kin.{kin_of}
 use Rattle.histar_process.specs.SpawnCall.{room_for_child, spawn_program, take_labels}
 use Rattle.histar_process.proofs.Spawning.{after_birth, after_labels, after_room, begun}
 use Rattle.histar_process.proofs.spawn.spawn.Goals as goal

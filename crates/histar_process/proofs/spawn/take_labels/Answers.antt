@@ -2,8 +2,8 @@
 use Rattle.std.proofs.Common.{Ok}
 use Rattle.histar_label.specs.Levels.{Levels}
 use Rattle.histar_rules.specs.declared.raw.RawCall.TheVariants.{SetLabel, SetClearance}
-use Rattle.histar_calls.specs.Parts.{ask}
-use Rattle.histar_calls.proofs.Running.{fails_so, grants, part_fails, refuses, then_part}
+use Rattle.histar_programs.specs.Parts.{ask}
+use Rattle.histar_programs.proofs.Running.{fails_so, grants, part_fails, refuses, then_part}
 use Rattle.histar_process.specs.SpawnCall.{take_labels}
 use Rattle.histar_process.proofs.spawn.take_labels.Goals as goal
 

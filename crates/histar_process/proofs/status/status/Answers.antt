@@ -1,8 +1,8 @@
 -- Proves the goals of `status` of src/status.rt that the search leaves open.
 use Rattle.std.proofs.Common.{ℕ, List, Ok, Err, subst}
-use Rattle.histar_calls.specs.Programs.{RunsPart}
-use Rattle.histar_calls.specs.Programs.Program.{Answers}
-use Rattle.histar_calls.proofs.Running.{then_call, call_fails, call_fails_so, replies_so}
+use Rattle.histar_programs.specs.Programs.{RunsPart}
+use Rattle.histar_programs.specs.Programs.Program.{Answers}
+use Rattle.histar_programs.proofs.Running.{then_call, call_fails, call_fails_so, replies_so}
 use Rattle.histar_layout.specs.declared.status.StatusHead.{StatusHead}
 use Rattle.histar_process.specs.Parts.{find_home}
 use Rattle.histar_process.specs.Reading.{read_head}

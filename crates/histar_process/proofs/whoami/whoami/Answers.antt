@@ -3,10 +3,10 @@ use Rattle.std.proofs.Common.{length, not, sym, ap, ◌∙◌}
 use Rattle.histar_flat.specs.declared.replies.Reply.TheVariants.{User}
 use Rattle.histar_rules.specs.declared.raw.RawCall.TheVariants.{OwnLabel}
 use Rattle.histar_layout.specs.Categories.{user_of}
-use Rattle.histar_calls.specs.Parts.{ask}
-use Rattle.histar_calls.proofs.Running.{grants, refuses, then_call, call_fails, call_fails_so, replies_so}
+use Rattle.histar_programs.specs.Parts.{ask}
+use Rattle.histar_programs.proofs.Running.{grants, refuses, then_call, call_fails, call_fails_so, replies_so}
 use Rattle.histar_layout.proofs.UserOf.{user_is}
-use Rattle.histar_process.specs.Kin.{user_name}
+use Rattle.histar_programs.specs.Kin.{user_name}
 use Rattle.histar_layout.specs.Jobs.{is_empty, jobs_in}
 use Rattle.histar_process.specs.Whoami.{whoami_program}
 use Rattle.histar_process.proofs.whoami.whoami.Goals as goal

@@ -2,7 +2,7 @@
 use Rattle.std.proofs.Common.{ℕ, List, ◌∷◌, length, refl, sym, ap, ◌∙◌}
 use Rattle.histar_layout.specs.Jobs.{jobs_in}
 use Rattle.histar_layout.proofs.UserOf.{user_is}
-use Rattle.histar_process.specs.Kin.{Kin, user_name}
+use Rattle.histar_programs.specs.Kin.{Kin, user_name}
 use Rattle.histar_process.proofs.Calling.{kin_is}
 use Rattle.histar_readout.specs.declared.process.Life.TheVariants.{Running}
 use Rattle.histar_readout.specs.Process.{owned_beside}

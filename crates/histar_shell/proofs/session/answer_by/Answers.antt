@@ -1,7 +1,7 @@
 -- Proves the goals of `answer_by` of src/session.rt that the search leaves open.
 use Rattle.std.proofs.Common.{Result, subst}
 use Rattle.std.proofs.lemmas.Result.{err_from_is_err_and}
-use Rattle.histar_calls.specs.declared.call_error.Stopped.{Stopped}
+use Rattle.histar_programs.specs.declared.call_error.Stopped.{Stopped}
 use Rattle.histar_flat.specs.declared.replies.Reply.{Reply}
 use Rattle.histar_shell.specs.Machine.{AnswersLine}
 use Rattle.histar_shell.proofs.AnswerLemmas.{answers_written, begins_unanswered, begins_unwritten, begins_written}

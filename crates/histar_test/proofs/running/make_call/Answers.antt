@@ -1,6 +1,6 @@
 -- Proves the goals of `make_call` of src/running.rt that the search leaves open.
 use Rattle.std.proofs.Common.{Result, subst, ◌∙◌}
-use Rattle.histar_calls.specs.declared.call_error.Stopped.{Stopped}
+use Rattle.histar_programs.specs.declared.call_error.Stopped.{Stopped}
 use Rattle.histar_flat.specs.declared.replies.Reply.{Reply}
 use Rattle.histar_shell.specs.Meaning.{FollowsMeaning}
 use Rattle.histar_test.proofs.RunLemmas.{call_made}

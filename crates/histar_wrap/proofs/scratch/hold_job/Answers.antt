@@ -3,8 +3,8 @@ use Rattle.std.proofs.Common.{Err}
 use Rattle.histar_label.specs.declared.levels.Level.TheVariants.{Star, L3}
 use Rattle.histar_label.specs.Levels.{with_level}
 use Rattle.histar_rules.specs.declared.raw.RawCall.TheVariants.{SetLabel, SetClearance}
-use Rattle.histar_calls.specs.declared.call_error.CallError.TheVariants.{Stopped}
-use Rattle.histar_calls.proofs.Running.{before_ask, fails_so, grants, refuses}
+use Rattle.histar_programs.specs.declared.call_error.CallError.TheVariants.{Stopped}
+use Rattle.histar_programs.proofs.Running.{before_ask, fails_so, grants, refuses}
 use Rattle.histar_wrap.specs.Scratch.{hold_job}
 use Rattle.histar_wrap.proofs.Scratching.{clearance_so, hold_fails, hold_then, label_so}
 use Rattle.histar_wrap.proofs.scratch.hold_job.Goals as goal

@@ -1,7 +1,7 @@
 -- Proves the goals of `make_or_give_back` of src/scratch.rt that the search leaves open.
 use Rattle.std.proofs.Common.{ℕ, sym}
 use Rattle.histar_rules.specs.declared.raw.RawCall.TheVariants.{MakeContainer}
-use Rattle.histar_calls.proofs.Running.{fails_so}
+use Rattle.histar_programs.proofs.Running.{fails_so}
 use Rattle.histar_wrap.specs.Scratch.{ask_or_give_back}
 use Rattle.histar_wrap.proofs.GivingBack.{gives_back, gives_back_not, goes_on, leads_back, stops_there}
 use Rattle.histar_wrap.proofs.scratch.make_or_give_back.Goals as goal

@@ -2,10 +2,10 @@
 use Rattle.std.proofs.Common.{Err, sym, ap}
 use Rattle.histar_rules.specs.declared.raw.RawCall.TheVariants.{MakeSegment, Write}
 use Rattle.histar_layout.specs.Directory.{spelling}
-use Rattle.histar_calls.specs.declared.call_error.CallError.TheVariants.{Stopped}
-use Rattle.histar_calls.specs.Parts.{write_entries}
-use Rattle.histar_calls.proofs.Making.{makes}
-use Rattle.histar_calls.proofs.Running.{before_ask, fails_so, grants, part_as, refuses}
+use Rattle.histar_programs.specs.declared.call_error.CallError.TheVariants.{Stopped}
+use Rattle.histar_programs.specs.Parts.{write_entries}
+use Rattle.histar_programs.proofs.Making.{makes}
+use Rattle.histar_programs.proofs.Running.{before_ask, fails_so, grants, part_as, refuses}
 use Rattle.histar_wrap.specs.Scratch.{make_scratch}
 use Rattle.histar_wrap.proofs.Scratching.{grown, with_listing, without_container, without_listing}
 use Rattle.histar_wrap.proofs.Wrapping.{before_scratch}

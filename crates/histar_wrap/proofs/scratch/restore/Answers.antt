@@ -1,8 +1,8 @@
 -- Proves the goals of `restore` of src/scratch.rt that the search leaves open.
 use Rattle.std.proofs.Common.{Ok, Err}
 use Rattle.histar_rules.specs.declared.raw.RawCall.TheVariants.{SetLabel, SetClearance}
-use Rattle.histar_calls.specs.declared.call_error.CallError.TheVariants.{Stopped}
-use Rattle.histar_calls.proofs.Running.{fails_so}
+use Rattle.histar_programs.specs.declared.call_error.CallError.TheVariants.{Stopped}
+use Rattle.histar_programs.proofs.Running.{fails_so}
 use Rattle.histar_wrap.specs.Steps.{restore}
 use Rattle.histar_wrap.proofs.GivingBack.{before_asking, clearance_given, label_fails, label_given, label_then}
 use Rattle.histar_wrap.proofs.scratch.restore.Goals as goal

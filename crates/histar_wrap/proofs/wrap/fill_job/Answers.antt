@@ -1,6 +1,6 @@
 -- Proves the goals of `fill_job` of src/wrap.rt that the search leaves open.
 use Rattle.std.proofs.Common.{Ok, Err}
-use Rattle.histar_calls.proofs.Running.{fails_so}
+use Rattle.histar_programs.proofs.Running.{fails_so}
 use Rattle.histar_process.proofs.Calling.{born_so}
 use Rattle.histar_wrap.specs.Filling.{fill_job, planned}
 use Rattle.histar_wrap.proofs.Wrapping.{held, no_birth, no_scratch}

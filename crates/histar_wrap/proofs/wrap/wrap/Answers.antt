@@ -5,11 +5,11 @@ use Rattle.histar_label.specs.Levels.{Levels}
 use Rattle.histar_rules.specs.declared.raw.RawCall.TheVariants.{MakeCategory, OwnLabel}
 use Rattle.histar_layout.specs.Status.{status_in}
 use Rattle.histar_layout.specs.declared.status.StatusHead.{StatusHead}
-use Rattle.histar_calls.specs.declared.call_error.CallError.TheVariants.{Stopped}
-use Rattle.histar_calls.specs.Parts.{ask, find_room}
-use Rattle.histar_calls.specs.Programs.{RunsPart}
-use Rattle.histar_calls.proofs.Exits.{ends, further}
-use Rattle.histar_calls.proofs.Running.{call_fails_so, grants, refuses, replies_so}
+use Rattle.histar_programs.specs.declared.call_error.CallError.TheVariants.{Stopped}
+use Rattle.histar_programs.specs.Parts.{ask, find_room}
+use Rattle.histar_programs.specs.Programs.{RunsPart}
+use Rattle.histar_programs.proofs.Exits.{ends, further}
+use Rattle.histar_programs.proofs.Running.{call_fails_so, grants, refuses, replies_so}
 use Rattle.histar_process.specs.SpawnCall.{room_for_child}
 use Rattle.histar_wrap.specs.Filling.{JobPlan, fill_job, plan_for}
 use Rattle.histar_wrap.specs.WrapCall.{wrap_program}

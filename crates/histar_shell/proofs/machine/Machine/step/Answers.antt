@@ -1,7 +1,7 @@
 -- Proves the goals of `Machine::step` of src/machine.rt that the search leaves open.
 use Rattle.std.proofs.Common.{◌≡◌, None, Some, Ok, refl, sym, ◌∙◌, subst}
 use Rattle.histar_flat.specs.declared.replies.Reply.TheVariants.{Gone}
-use Rattle.histar_process.specs.Caller.{caller_at}
+use Rattle.histar_programs.specs.Caller.{caller_at}
 use Rattle.histar_shell.specs.Machine.{MachineModel, on_line, Makes, AnswersLine}
 use Rattle.histar_syscall.specs.KernelModel.{KernelModel, state}
 use Rattle.histar_shell.proofs.Lines.{had_made, gone_line}

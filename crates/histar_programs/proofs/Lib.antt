@@ -1,0 +1,9 @@
+-- The lemmas of this crate.
+pub mod Running
+pub mod Exits
+pub mod Directories
+pub mod Finding
+pub mod Scanning
+pub mod DenialReplies
+pub mod RepliesOfParts
+pub mod Making
