@@ -120,10 +120,14 @@ group_part users (group ∷ groups) = 0 ∷ numbered (group_entry users) 1 (grou
 abbrev pub user_table : Accounts → List ℕ
 user_table accounts = user_entries accounts.users ++ group_part accounts.users accounts.groups
 
+-- the segment of the user table, which nobody may write
+abbrev pub table_segment : Accounts → Found
+table_segment accounts = segment (written_by root_category) (user_table accounts)
+
 -- 3 + 2n is the user table, 4 + 2n is `/`, and 5 + 2n is its directory segment, which is empty; the first user alone may write the last two
 abbrev pub of_directory : ℕ → Accounts → List Found
 of_directory n accounts =
-    segment (written_by root_category) (user_table accounts)
+    table_segment accounts
     ∷ container (written_by (write_category 1)) ((5 + 2 * n) ∷ [])
     ∷ segment (written_by (write_category 1)) []
     ∷ []

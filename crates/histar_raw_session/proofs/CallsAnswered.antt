@@ -10,7 +10,7 @@ use Rattle.histar_io.proofs.WritingLemmas.{whole_front}
 use Rattle.histar_object.specs.State.{State}
 use Rattle.histar_rules.specs.declared.raw.Denied.{Denied}
 use Rattle.histar_syscall.specs.declared.answers.Answer.{Answer}
-use Rattle.histar_syscall.specs.Answers.{raw_answer}
+use Rattle.histar_syscall.specs.Answers.{IsAnswerValue}
 use Rattle.histar_syscall.specs.KernelModel.{KernelModel, state, Called}
 use Rattle.histar_raw_session.specs.declared.read_session.RawLine.{RawLine}
 use Rattle.histar_raw_session.specs.Answers.{line_text, PrintsCall, PrintsCalls, AnswersCall, IsMadeOnLine, BeginsAnswer, AnswersCalls, BeginsAnswers}
@@ -20,7 +20,7 @@ use Rattle.histar_raw_session.specs.Answers.{line_text, PrintsCall, PrintsCalls,
 -- the kernel's answer is the outcome, and the call's line prints it
 pub granted : {X E : Type 0} (first : State) (old new : KernelModel) (asked : RawLine) (revealed : Answer)
     (items : X → List ℕ) (result : Result X E) → state old ≡ first → Called old new asked.thread asked.call None
-    → raw_answer (state old) asked.thread asked.call ≡ Some revealed
+    → IsAnswerValue (state old) asked.thread asked.call revealed
     → IfOk result (λ line. items line ≡ line_text asked.line (Ok revealed))
     → IfOk result (λ line. PrintsCall first (state new) asked (items line))
 granted first old new asked revealed items (Ok line) same called right text =

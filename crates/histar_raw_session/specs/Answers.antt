@@ -7,7 +7,7 @@ use Rattle.histar_rules.specs.declared.raw.Denied.{Denied}
 use Rattle.histar_rules.specs.declared.raw.RawCall.{RawCall}
 use Rattle.histar_rules.specs.Rules.{check, Changes}
 use Rattle.histar_syscall.specs.declared.answers.Answer.{Answer}
-use Rattle.histar_syscall.specs.Answers.{raw_answer}
+use Rattle.histar_syscall.specs.Answers.{IsAnswerValue}
 use Rattle.histar_syscall.specs.KernelModel.{KernelModel}
 use Rattle.histar_syscall.specs.Runs.{IsMade}
 use Rattle.histar_rawtext.specs.RawText.{answer_text, denied_text}
@@ -16,7 +16,7 @@ use Rattle.histar_raw_session.specs.declared.read_session.RawLine.{RawLine}
 -- By the rules a call of a thread has this outcome and leaves this state: where no check fails, the answer that the state gives and the
 -- changed state, and otherwise the first failing check and the old state.
 abbrev pub HasOutcome : State → ℕ → RawCall → Result Answer Denied → State → Type 0
-HasOutcome s t call (Ok answered) new = (check s t call ≡ None) × (raw_answer s t call ≡ Some answered) × Changes s t call new
+HasOutcome s t call (Ok answered) new = (check s t call ≡ None) × IsAnswerValue s t call answered × Changes s t call new
 HasOutcome s t call (Err denied) new = (check s t call ≡ Some denied) × (new ≡ s)
 
 -- the line of an outcome: the number of the call line, and an equals sign and the answer, or the denial's name

@@ -1,5 +1,5 @@
 -- What boot left stays for good: each user's password and gate, with the numbers of categories that the state has.
-use Rattle.std.proofs.Common.{◌≡◌, ℕ, zero, suc, ◌+◌, ◌*◌, ◌≤◌, Bool, true, false, cond, List, [], ◌∷◌, ◌++◌, length, get_or, Option, None, Some}
+use Rattle.std.proofs.Common.{◌≡◌, ℕ, zero, suc, ◌+◌, ◌*◌, ◌<◌, ◌≤◌, Bool, true, false, cond, List, [], ◌∷◌, ◌++◌, length, get_or, Option, None, Some}
 use Rattle.std.proofs.Common.{arith, refl, sym, ap, ◌∙◌, subst}
 use Rattle.std.specs.Prelude.{map, position, slice_get, nat_le, nat_lt, unwrap_or, option_map}
 use Rattle.std.specs.List.{find, position_or_len}
@@ -20,13 +20,15 @@ use Rattle.histar_object.specs.declared.objects.Object.{Object}
 use Rattle.histar_object.specs.Objects.{Numbers as Links, links_in}
 use Rattle.histar_object.specs.State.{State, Found}
 use Rattle.histar_rules.specs.Sound.{root_number}
-use Rattle.histar_login.specs.Start.{numbered}
+use Rattle.histar_layout.specs.Categories.{read_category, write_category}
+use Rattle.histar_layout.specs.Labelling.{guarded_by, secret_of}
+use Rattle.histar_login.specs.Start.{numbered, gate_label, gate_clearance, of_user}
 use Rattle.histar_login.specs.Login.{password_of, gate_of}
 use Rattle.histar_refinement.specs.Categories.{CategoryName, boot_category, booted, among}
 use Rattle.histar_refinement.specs.Categories.CategoryName.{OfBoot, ReadsUser, WritesUser, ReadsGroup, WritesGroup}
 use Rattle.histar_refinement.specs.Guards.{guard_label, rights_label, rights_clearance}
 use Rattle.histar_refinement.specs.Labels.{boot_guard, private_guard, gate_rights, reading, writing}
-use Rattle.histar_refinement.specs.LeftByBoot.{left_for_user, left_by_boot}
+use Rattle.histar_refinement.specs.LeftByBoot.{left_by_boot}
 use Rattle.histar_refinement.specs.Addresses.{same_step, first_left, table_number}
 use Rattle.histar_refinement.specs.Addresses.Step.{Left}
 use Rattle.histar_refinement.specs.Agrees.{bare}
@@ -37,6 +39,7 @@ use Rattle.histar_layout.proofs.Members.{mapped_from}
 use Rattle.histar_layout.proofs.Declared.{user_range, placed, equal_names}
 use Rattle.histar_refinement.proofs.Growing.{GuardHas, RightsHave, KeepsNumber, same_guard_label, same_rights_label, same_rights_clearance}
 use Rattle.histar_refinement.proofs.Uses.{group_among, groups_within}
+use Rattle.histar_refinement.proofs.GateLabels.{user_reads, user_writes, gate_label_is, gate_clearance_is}
 use Rattle.histar_refinement.proofs.Steps.{step_tests_equality}
 use Rattle.histar_refinement.proofs.Moving.{bare_is, at_number}
 use Rattle.histar_refinement.proofs.Agreeing.{bare_container_is, step_linked}
@@ -96,7 +99,21 @@ unnumbered_user accounts name e =
 
 -- ---- the table of what boot left
 
+-- a user at a place is at one below the length
+user_below : (users : List User) (k : ℕ) (u : User) → slice_get users k ≡ Some u → k < length users
+user_below [] k u e = absurd (none-some u e)
+user_below (v ∷ users) zero u e = omega arith
+user_below (v ∷ users) (suc k) u e = let below = user_below users k u e in omega (arith, below)
+
 module _ (accounts : Accounts) where
+  -- a user's password and gate, as boot made them
+  abbrev password_made : ℕ → User → Object Levels
+  password_made i u = record { label = secret_of (read_category i) (write_category i); kind = Segment u.password }
+
+  abbrev gate_made : ℕ → User → Object Levels
+  gate_made i u = record { label = gate_label accounts i u.name; kind = Gate (gate_clearance accounts i u.name) (Login i) }
+
+  -- and by the names of their categories
   abbrev password_left : ℕ → User → Object Levels
   password_left i u = record { label = guard_label (booted accounts) (private_guard i); kind = Segment u.password }
 
@@ -107,44 +124,67 @@ module _ (accounts : Accounts) where
         kind = Gate (rights_clearance (booted accounts) (gate_rights accounts u.name i)) (Login i);
       }
 
+  -- boot's numbers are those that it gave
+  booted_as_made : (c : CategoryName) (q : ℕ) → boot_category accounts c ≡ Some q → booted accounts c ≡ q
+  booted_as_made c q is = ap (λ (o : Option ℕ). unwrap_or o 0) is
+
+  password_named : (i : ℕ) (u : User) → i ≤ length accounts.users → password_made i u ≡ password_left i u
+  password_named i u h =
+      let reads = user_reads accounts (booted accounts) booted_as_made i h in
+      let writes = user_writes accounts (booted accounts) booted_as_made i h in
+      λ k. record { label = guarded_by (sym reads k ∷ []) (sym writes k ∷ []); kind = Segment u.password }
+
+  gate_named : (i : ℕ) (u : User) → i ≤ length accounts.users → gate_made i u ≡ gate_left i u
+  gate_named i u h =
+      λ k. record {
+        label = gate_label_is accounts (booted accounts) booted_as_made u.name i h k;
+        kind = Gate (gate_clearance_is accounts (booted accounts) booted_as_made u.name i h k) (Login i);
+      }
+
   password_among : (users : List User) (j k : ℕ) (u : User) (more : List Found) → slice_get users k ≡ Some u
-      → get_or (numbered (left_for_user accounts) j users ++ more) (2 * k) None ≡ Some (password_left (j + k) u)
+      → get_or (numbered (of_user accounts) j users ++ more) (2 * k) None ≡ Some (password_made (j + k) u)
   password_among [] j k u more e = absurd (none-some u e)
   password_among (v ∷ users) j zero u more e =
       let is : v ≡ u = same_Some v u e in
       let number : j ≡ j + 0 = omega arith in
-      (λ i. Some (password_left (number i) (is i)))
+      (λ i. Some (password_made (number i) (is i)))
   password_among (v ∷ users) j (suc k) u more e =
       let place : 2 * suc k ≡ suc (suc (2 * k)) = omega arith in
       let number : j + 1 + k ≡ j + suc k = omega arith in
-      ap (λ (m : ℕ). get_or (numbered (left_for_user accounts) j (v ∷ users) ++ more) m None) place
-      ∙ password_among users (j + 1) k u more e ∙ ap (λ (i : ℕ). Some (password_left i u)) number
+      ap (λ (m : ℕ). get_or (numbered (of_user accounts) j (v ∷ users) ++ more) m None) place
+      ∙ password_among users (j + 1) k u more e ∙ ap (λ (i : ℕ). Some (password_made i u)) number
 
   gate_among : (users : List User) (j k : ℕ) (u : User) (more : List Found) → slice_get users k ≡ Some u
-      → get_or (numbered (left_for_user accounts) j users ++ more) (suc (2 * k)) None ≡ Some (gate_left (j + k) u)
+      → get_or (numbered (of_user accounts) j users ++ more) (suc (2 * k)) None ≡ Some (gate_made (j + k) u)
   gate_among [] j k u more e = absurd (none-some u e)
   gate_among (v ∷ users) j zero u more e =
       let is : v ≡ u = same_Some v u e in
       let number : j ≡ j + 0 = omega arith in
-      (λ i. Some (gate_left (number i) (is i)))
+      (λ i. Some (gate_made (number i) (is i)))
   gate_among (v ∷ users) j (suc k) u more e =
       let place : suc (2 * suc k) ≡ suc (suc (suc (2 * k))) = omega arith in
       let number : j + 1 + k ≡ j + suc k = omega arith in
-      ap (λ (m : ℕ). get_or (numbered (left_for_user accounts) j (v ∷ users) ++ more) m None) place
-      ∙ gate_among users (j + 1) k u more e ∙ ap (λ (i : ℕ). Some (gate_left i u)) number
+      ap (λ (m : ℕ). get_or (numbered (of_user accounts) j (v ∷ users) ++ more) m None) place
+      ∙ gate_among users (j + 1) k u more e ∙ ap (λ (i : ℕ). Some (gate_made i u)) number
 
   left_password : (k : ℕ) (u : User) → slice_get accounts.users k ≡ Some u
       → left_by_boot accounts (password_of (k + 1)) ≡ Some (password_left (k + 1) u)
   left_password k u e =
+      let below = user_below accounts.users k u e in
       let place : password_of (k + 1) ≡ suc (suc (suc (2 * k))) = omega arith in
       let number : 1 + k ≡ k + 1 = omega arith in
-      ap (left_by_boot accounts) place ∙ password_among accounts.users 1 k u _ e ∙ ap (λ (i : ℕ). Some (password_left i u)) number
+      let high : k + 1 ≤ length accounts.users = omega (arith, below) in
+      ap (left_by_boot accounts) place ∙ password_among accounts.users 1 k u _ e ∙ ap (λ (i : ℕ). Some (password_made i u)) number
+      ∙ ap (λ (o : Object Levels). Some o) (password_named (k + 1) u high)
 
   left_gate : (k : ℕ) (u : User) → slice_get accounts.users k ≡ Some u → left_by_boot accounts (gate_of (k + 1)) ≡ Some (gate_left (k + 1) u)
   left_gate k u e =
+      let below = user_below accounts.users k u e in
       let place : gate_of (k + 1) ≡ suc (suc (suc (suc (2 * k)))) = omega arith in
       let number : 1 + k ≡ k + 1 = omega arith in
-      ap (left_by_boot accounts) place ∙ gate_among accounts.users 1 k u _ e ∙ ap (λ (i : ℕ). Some (gate_left i u)) number
+      let high : k + 1 ≤ length accounts.users = omega (arith, below) in
+      ap (left_by_boot accounts) place ∙ gate_among accounts.users 1 k u _ e ∙ ap (λ (i : ℕ). Some (gate_made i u)) number
+      ∙ ap (λ (o : Object Levels). Some o) (gate_named (k + 1) u high)
 
 -- ---- in a state that is represented
 

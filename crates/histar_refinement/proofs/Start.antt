@@ -39,7 +39,7 @@ use Rattle.histar_refinement.specs.Categories.CategoryName.{OfBoot, ReadsUser, W
 use Rattle.histar_refinement.specs.Categories.CategoryName.{OfJob}
 use Rattle.histar_refinement.specs.Guards.{Rights, guard_label, rights_label, rights_clearance}
 use Rattle.histar_refinement.specs.Labels.{class_guard, readable_guard, owned_as}
-use Rattle.histar_refinement.specs.LeftByBoot.{left_by_boot, left_for_user}
+use Rattle.histar_refinement.specs.LeftByBoot.{left_by_boot}
 use Rattle.histar_refinement.specs.Addresses.{Step, AddressNumbers, same_step, same_address, if_at, path_at, process_at, inside_at, boot_number}
 use Rattle.histar_refinement.specs.Addresses.Step.{Left, Slash, Listing, Named, Home, Status, Inside, Runner, Child}
 use Rattle.histar_refinement.specs.Directories.{directory_of}
@@ -52,7 +52,7 @@ use Rattle.histar_refinement.proofs.Roots.{address_process, address_inside}
 use Rattle.histar_refinement.proofs.StartNumbers.{is_left, process_address, inside_address, start_number}
 use Rattle.histar_refinement.proofs.StartNames.{place_of_number}
 use Rattle.histar_refinement.proofs.StartTable.{left_plain, slash_agrees, listing_agrees, home_agrees, inside_agrees, runner_agrees, status_agrees}
-use Rattle.histar_refinement.proofs.GateLabels.{user_reads, user_writes, group_test, gate_label_is, gate_clearance_is}
+use Rattle.histar_refinement.proofs.GateLabels.{group_test}
 use Rattle.histar_refinement.proofs.StartTree.{start_naming, place_there, start_matched}
 use Rattle.histar_refinement.proofs.StartCategories.{start_category, start_as_made, start_made, start_different}
 
@@ -116,10 +116,6 @@ module _ (accounts : Accounts) (some_user : 0 < length accounts.users) where
   used_booted (WritesProcess me) u = (5 + 2 * n + 2 * m, ap (λ (x : ProcName). boot_category accounts (WritesProcess x)) (some_first me u))
   used_booted (OfJob job) u = absurd (no_job job u)
 
-  -- boot's numbers are those that it gave
-  booted_as_made : (c : CategoryName) (q : ℕ) → boot_category accounts c ≡ Some q → booted accounts c ≡ q
-  booted_as_made c q is = ap (λ (o : Option ℕ). unwrap_or o 0) is
-
   -- the first user has the number 1
   first_numbered : (names : List User) → 0 < length names → user_number (record { users = names; groups = [] }) (first_user names) ≡ Some 1
   first_numbered [] h = absurd (omega (arith, h))
@@ -163,26 +159,16 @@ module _ (accounts : Accounts) (some_user : 0 < length accounts.users) where
   bare_there (Some o) = refl
 
   -- what boot left
-  same_user : (i : ℕ) (u : User) → i ≤ n → of_user accounts i u ≡ left_for_user accounts i u
-  same_user i u h =
-      let reads = user_reads accounts (booted accounts) booted_as_made i h in
-      let writes = user_writes accounts (booted accounts) booted_as_made i h in
-      λ k. Some (record { label = guarded_by (sym reads k ∷ []) (sym writes k ∷ []); kind = Segment u.password })
-      ∷ Some (record {
-        label = gate_label_is accounts (booted accounts) booted_as_made u.name i h k;
-        kind = Gate (gate_clearance_is accounts (booted accounts) booted_as_made u.name i h k) (Login i);
-      }) ∷ []
-
-  same_left : (i : ℕ) (some : List User) → i + length some ≤ n + 1 → (table : Found) (back : List Found) (k : ℕ) → k ≤ 2 * length some
-      → get_or (numbered (of_user accounts) i some ++ table ∷ back) k None ≡ get_or (numbered (left_for_user accounts) i some ++ table ∷ []) k None
-  same_left i [] h table back zero le = refl
-  same_left i [] h table back (suc k) le = absurd (omega (arith, le))
-  same_left i (u ∷ some) h table back zero le = ap (λ (l : List Found). get_or (l ++ table ∷ []) 0 None) (same_user i u (omega (arith, h)))
-  same_left i (u ∷ some) h table back (suc zero) le = ap (λ (l : List Found). get_or (l ++ table ∷ []) 1 None) (same_user i u (omega (arith, h)))
-  same_left i (u ∷ some) h table back (suc (suc k)) le = same_left (i + 1) some (omega (arith, h)) table back k (omega (arith, le))
+  same_left : (i : ℕ) (some : List User) (table : Found) (back : List Found) (k : ℕ) → k ≤ 2 * length some
+      → get_or (numbered (of_user accounts) i some ++ table ∷ back) k None ≡ get_or (numbered (of_user accounts) i some ++ table ∷ []) k None
+  same_left i [] table back zero le = refl
+  same_left i [] table back (suc k) le = absurd (omega (arith, le))
+  same_left i (u ∷ some) table back zero le = refl
+  same_left i (u ∷ some) table back (suc zero) le = refl
+  same_left i (u ∷ some) table back (suc (suc k)) le = same_left (i + 1) some table back k (omega (arith, le))
 
   beyond_left : (i : ℕ) (some : List User) (table : Found) (k : ℕ) → 2 * length some < k
-      → get_or (numbered (left_for_user accounts) i some ++ table ∷ []) k None ≡ None
+      → get_or (numbered (of_user accounts) i some ++ table ∷ []) k None ≡ None
   beyond_left i [] table zero h = absurd (omega (arith, h))
   beyond_left i [] table (suc k) h = refl
   beyond_left i (u ∷ some) table zero h = absurd (omega (arith, h))
@@ -195,7 +181,7 @@ module _ (accounts : Accounts) (some_user : 0 < length accounts.users) where
   left_same (suc (suc zero)) e = absurd (grind (arith, nat_tests, e))
   left_same (suc (suc (suc k))) e =
       ap (λ (l : List Found). get_or l k None) (append_assoc (of_users accounts accounts.users) (of_directory n accounts) (of_process n owners))
-      ∙ same_left 1 accounts.users (omega arith) (segment (written_by 1) (user_table accounts))
+      ∙ same_left 1 accounts.users (segment (written_by 1) (user_table accounts))
       (drop 1 (of_directory n accounts) ++ of_process n owners) k (grind (arith, nat_tests, e))
 
   nothing_left : (q : ℕ) → is_left n q ≡ false → None ≡ left_by_boot accounts q

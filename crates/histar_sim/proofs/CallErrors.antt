@@ -130,7 +130,10 @@ read_last old mid t calls chain container segment = record {
   before = state mid;
   run = (chain_run t old mid (all_granted calls) chain).run;
   granted = refl;
-  answers = refl;
+  container = container;
+  segment = segment;
+  reads = refl;
+  holds = refl;
 }
 
 module _ (accounts : Accounts) (f : Flat) (me : ProcName) (caller : IsRunning f me) (call : UnixCall)

@@ -13,13 +13,13 @@ use Rattle.histar_flat.specs.Classes.{Class, Process}
 use Rattle.histar_flat.specs.FlatState.{Flat}
 use Rattle.histar_flat.specs.FlatState.Content.{File}
 use Rattle.histar_flat.specs.FlatCalls.{most_bytes, running, reply_to, flat_after}
+use Rattle.histar_object.specs.Objects.{bytes_in}
 use Rattle.histar_object.specs.State.{State}
 use Rattle.histar_rules.specs.declared.raw.Denied.{Denied}
 use Rattle.histar_rules.specs.declared.raw.Denied.TheVariants.{TooBig}
+use Rattle.histar_rules.specs.declared.raw.RawCall.TheVariants.{Read}
 use Rattle.histar_rules.specs.Rules.{check, Leaves, greatest, has_number}
 use Rattle.histar_syscall.specs.declared.trace.TraceEntry.{TraceEntry}
-use Rattle.histar_syscall.specs.declared.answers.Answer.TheVariants as answers
-use Rattle.histar_syscall.specs.Answers.{raw_answer}
 use Rattle.histar_syscall.specs.KernelModel.{KernelModel, state}
 use Rattle.histar_syscall.specs.Runs.{IsBy, IsRun, some_label_refusal, some_range_refusal}
 use Rattle.histar_programs.specs.declared.call_error.Stopped.{Stopped}
@@ -35,7 +35,7 @@ pub record IsRunning (f : Flat) (me : ProcName) : Type 0 where
   pub agrees : f.processes me ≡ Some process
   pub runs : process.exited ≡ None
 
--- from this state on, the last of the entries is a read that the kernel answers with these bytes
+-- from this state on, the last of the entries is a granted read of a segment that has these bytes
 pub record EndsWithRead (s : State) (entries : List TraceEntry) (bytes : List ℕ) : Type 0 where
   pub front : List TraceEntry
   pub last : TraceEntry
@@ -43,7 +43,10 @@ pub record EndsWithRead (s : State) (entries : List TraceEntry) (bytes : List �
   pub before : State
   pub run : IsRun s front before
   pub granted : last.denied ≡ None
-  pub answers : raw_answer before last.thread last.call ≡ Some (answers.Bytes bytes)
+  pub container : ℕ
+  pub segment : ℕ
+  pub reads : last.call ≡ Read container segment
+  pub holds : bytes_in (before.objects segment) ≡ bytes
 
 -- the reply is that of a denial: EACCES if it is by label, EPERM if by range, EFBIG if there are too many bytes; no other has one
 abbrev pub IsReplyOfDenial : Reply → Option Denied → Type 0

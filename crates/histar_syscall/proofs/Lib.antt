@@ -5,4 +5,4 @@ pub mod Sessions
 pub mod Beginnings
 pub mod Confined
 pub mod OneEnd
-pub mod Agreeing
+pub mod Deciding

@@ -1,19 +1,18 @@
 //! How a raw call that comes as data is decided: by the function of its kind.
-ghost use Rattle.std.specs.Prelude.{◌≡◌, Some, Ok, Err};
-ghost use Rattle.std.specs.Result.{MatchResult};
 ghost use Rattle.histar_object.specs.Objects.{objects_of};
 ghost use Rattle.histar_container.specs.ObjectsModel.{state_of};
 ghost use Rattle.histar_container.specs.Tree.{AreTree};
 ghost use Rattle.histar_rules.specs.Rules.{Decides};
-ghost use Rattle.histar_syscall.specs.Answers.{raw_answer};
+ghost use Rattle.histar_syscall.specs.Answers.{IsAnswerValue, IsValueOf};
 ghost use Rattle.histar_syscall.specs.declared.answers.Answer.TheVariants as answers;
 
 use crate::answers::Answer;
 use crate::containers::{label_of, make_container, unlink};
 use crate::segments::{make_segment, read, write};
+use histar_base::Bytes;
 use histar_gate::{enter, make_gate};
-use histar_label::LabelStore;
-use histar_object::ObjId;
+use histar_label::{Category, Label, LabelStore};
+use histar_object::{Entry, ObjId};
 use histar_rules::{LabelledObjects, RawCall, Refusal};
 use histar_thread::{make_category, make_thread, own_label, set_clearance, set_label};
 use std::alloc::Global;
@@ -27,11 +26,11 @@ pub(crate) fn decide<S: LabelStore + Drop>(
 ) -> Result<Answer, Refusal>
     requires { AreTree (objects_of objects.old.objects) }
     ensures { Decides objects.old objects.new thread call.now result
-        (λ a. raw_answer (state_of objects.old) thread call.now ≡ Some a) }
+        (λ a. IsAnswerValue (state_of objects.old) thread call.now a) }
 {
     match call {
-        RawCall::MakeCategory => make_category(objects, thread).map(Answer::Category),
-        RawCall::OwnLabel => own_label(objects, thread).map(|own| Answer::OwnLabel(own.0, own.1)),
+        RawCall::MakeCategory => category(make_category(objects, thread)),
+        RawCall::OwnLabel => own(own_label(objects, thread)),
         RawCall::SetLabel(label) => done(set_label(objects, thread, label)),
         RawCall::SetClearance(clearance) => done(set_clearance(objects, thread, clearance)),
         RawCall::MakeSegment(container, label, bytes) => {
@@ -46,14 +45,11 @@ pub(crate) fn decide<S: LabelStore + Drop>(
         RawCall::MakeGate(container, label, clearance, entry) => {
             made(make_gate(objects, thread, *container, label, clearance, *entry))
         }
-        RawCall::Enter(container, gate, wanted, clearance, verify) => {
-            enter(
-                objects, thread, *container, *gate, wanted, clearance, verify,
-            )
-            .map(Answer::Entry)
-        }
+        RawCall::Enter(container, gate, wanted, clearance, verify) => entry(enter(
+            objects, thread, *container, *gate, wanted, clearance, verify,
+        )),
         RawCall::Read(container, segment) => {
-            read(objects, alloc, thread, *container, *segment).map(Answer::Bytes)
+            bytes(read(objects, alloc, thread, *container, *segment))
         }
         RawCall::Write(container, segment, keep, bytes) => {
             done(write(objects, alloc, thread, *container, *segment, *keep, bytes))
@@ -62,21 +58,56 @@ pub(crate) fn decide<S: LabelStore + Drop>(
             done(unlink(objects, alloc, thread, *container, *object))
         }
         RawCall::LabelOf(container, object) => {
-            label_of(objects, thread, *container, *object).map(Answer::Label)
+            label(label_of(objects, thread, *container, *object))
         }
     }
 }
 
 /// Answers `Done`, where the call was granted.
 fn done(outcome: Result<(), Refusal>) -> Result<Answer, Refusal>
-    ensures { MatchResult outcome (λ _. result ≡ Ok answers.Done) (λ refusal. result ≡ Err refusal) }
+    ensures { IsValueOf outcome (λ _. answers.Done) result }
 {
     outcome.map(|()| Answer::Done)
 }
 
+/// Answers the new category, where the call was granted.
+fn category(outcome: Result<Category, Refusal>) -> Result<Answer, Refusal>
+    ensures { IsValueOf outcome answers.Category result }
+{
+    outcome.map(Answer::Category)
+}
+
+/// Answers the thread's label and clearance, where the call was granted.
+fn own(outcome: Result<(Label, Label), Refusal>) -> Result<Answer, Refusal>
+    ensures { IsValueOf outcome (λ own. answers.OwnLabel own.0 own.1) result }
+{
+    outcome.map(|own| Answer::OwnLabel(own.0, own.1))
+}
+
 /// Answers the number of the new object, where the call was granted.
 fn made(outcome: Result<ObjId, Refusal>) -> Result<Answer, Refusal>
-    ensures { MatchResult outcome (λ number. result ≡ Ok (answers.Object number)) (λ refusal. result ≡ Err refusal) }
+    ensures { IsValueOf outcome answers.Object result }
 {
     outcome.map(Answer::Object)
+}
+
+/// Answers the gate's entry, where the call was granted.
+fn entry(outcome: Result<Entry, Refusal>) -> Result<Answer, Refusal>
+    ensures { IsValueOf outcome answers.Entry result }
+{
+    outcome.map(Answer::Entry)
+}
+
+/// Answers the segment's bytes, where the call was granted.
+fn bytes(outcome: Result<Bytes, Refusal>) -> Result<Answer, Refusal>
+    ensures { IsValueOf outcome answers.Bytes result }
+{
+    outcome.map(Answer::Bytes)
+}
+
+/// Answers the object's label, where the call was granted.
+fn label(outcome: Result<Label, Refusal>) -> Result<Answer, Refusal>
+    ensures { IsValueOf outcome answers.Label result }
+{
+    outcome.map(Answer::Label)
 }

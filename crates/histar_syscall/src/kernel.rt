@@ -7,7 +7,7 @@ ghost use Rattle.histar_rules.specs.Kinds.{kind_there};
 ghost use Rattle.histar_rules.specs.Rules.{IsNextNumber, AreBytesOf, AreLabelsOf, IsLabelOf, IsEntryOf};
 ghost use Rattle.histar_rules.specs.Sound.{IsSound};
 ghost use Rattle.histar_rules.specs.declared.raw.RawCall.TheVariants as calls;
-ghost use Rattle.histar_syscall.specs.Answers.{raw_answer};
+ghost use Rattle.histar_syscall.specs.Answers.{IsAnswerValue};
 ghost use Rattle.histar_syscall.specs.KernelModel.{Answered, ReadsLent, EndsAs, state};
 
 use crate::answers::Answer;
@@ -98,7 +98,7 @@ impl<S: LabelStore + Drop> Kernel<S> {
     /// Makes one raw call of any kind.
     pub fn call(&mut self, alloc: Global, thread: ObjId, call: RawCall) -> Result<Answer, Refusal>
         ensures answered { Answered self.old self.new thread call result
-            (λ a. raw_answer (state self.old) thread call ≡ Some a) }
+            (λ a. IsAnswerValue (state self.old) thread call a) }
 
         // The objects of every kernel are sound.
         ensures sound { IsSound (state self.old) × IsSound (state self.new) }

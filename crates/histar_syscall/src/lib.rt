@@ -1,7 +1,6 @@
 //! The kernel: raw calls, each granted or refused by comparing labels alone, and the trace of them.
 #![tactic(auto)]
 
-pub mod answer_laws;
 mod answers;
 mod containers;
 mod decide;

@@ -1,7 +1,7 @@
 -- Proves the goals of `make_call` of src/session.rt that the search leaves open.
 use Rattle.std.proofs.Common.{◌≡◌, None, Some, Err, ap, subst}
 use Rattle.histar_rules.specs.declared.raw.Refusal.{Refusal}
-use Rattle.histar_syscall.specs.Answers.{raw_answer}
+use Rattle.histar_syscall.specs.Answers.{IsAnswerValue}
 use Rattle.histar_syscall.specs.KernelModel.{state, Answered}
 use Rattle.histar_raw_session.proofs.CallsAnswered.{granted, denied, made_on_line}
 use Rattle.histar_raw_session.proofs.session.make_call.Goals as goal
@@ -24,7 +24,7 @@ returns-in-Err-Denied-clause-prints g c =
     let call = c.args.asked.call in
     let called =
     subst (λ (refusal : Refusal). Answered old c.call.new.self t call (Err refusal)
-    (λ revealed. raw_answer (state old) t call ≡ Some revealed)) c.in-Err-Denied.field-0-is
+    (λ revealed. IsAnswerValue (state old) t call revealed)) c.in-Err-Denied.field-0-is
     c.in-Err-Denied.ensures.answered in
     denied (state c.args.kernel.now) old c.call.new.self c.args.asked c.in-Err-Denied.denied (λ line. line.items)
     c.denial_line.result (ap state c.begin.ensures) called c.denial_line.ensures
@@ -36,6 +36,6 @@ returns-in-Err-Denied-clause-made g c =
     let call = c.args.asked.call in
     let called =
     subst (λ (refusal : Refusal). Answered old c.call.new.self t call (Err refusal)
-    (λ revealed. raw_answer (state old) t call ≡ Some revealed)) c.in-Err-Denied.field-0-is
+    (λ revealed. IsAnswerValue (state old) t call revealed)) c.in-Err-Denied.field-0-is
     c.in-Err-Denied.ensures.answered in
     made_on_line c.args.kernel.now old c.call.new.self c.args.asked (Some c.in-Err-Denied.denied) c.denial_line.result c.begin.ensures called
