@@ -332,3 +332,32 @@ fn stores_stay_without_memory(rt: HostRuntime) -> Result<(), Fail> {
     stays_without_memory(&rt, rt.alloc(), &mut interned)?;
     Ok(())
 }
+
+/// Checks that a store finds a label that was put, and no other, and that an empty store has none.
+fn finds_what_was_put<S: LabelStore + Drop>(
+    rt: &impl Abort,
+    alloc: Global,
+    store: &mut S,
+) -> Result<(), OutOfMemory> {
+    let many = at_many(alloc, Level::L2)?;
+    assert!(rt; store.find(&many).is_none());
+    put_level(alloc, store, Level::L3)?;
+    store.put(at_many(alloc, Level::L2)?)?;
+    let found = store.find(&many).and_then(|id| store.get(id));
+    assert_eq!(rt; found, Some(&many));
+    assert!(rt; store.emptied()?.find(&many).is_none());
+    Ok(())
+}
+
+#[test]
+fn stores_find_labels(rt: HostRuntime) -> Result<(), Fail> {
+    let mut plain = PlainStore::new(rt.alloc());
+    finds_what_was_put(&rt, rt.alloc(), &mut plain)?;
+    let mut interned = InternStore::new(rt.alloc(), 1)?;
+    finds_what_was_put(&rt, rt.alloc(), &mut interned)?;
+    assert_eq!(rt; plain.weight(), 0);
+    assert_eq!(rt; interned.weight(), 13);
+    interned.put(at_many(rt.alloc(), Level::L2)?)?;
+    assert_eq!(rt; interned.weight(), 13);
+    Ok(())
+}

@@ -1,5 +1,5 @@
 //! A store that keeps each label once, and remembers answers of comparisons.
-ghost use Rattle.std.specs.Prelude.{◌≡◌, ◌+◌, ◌<◌, ◌⊎◌, ℕ, Bool, Some, IfOk, IfSome, OnErr};
+ghost use Rattle.std.specs.Prelude.{◌≡◌, ◌+◌, ◌<◌, ◌⊎◌, ◌&&◌, if◌then◌else◌, nat_lt, ℕ, Bool, Some, IfOk, IfSome, OnErr};
 ghost use Rattle.std.specs.Prelude.{[], length, slice_get, slice_set, Contains, Ok, None, All};
 ghost use Rattle.std.specs.Option.{option_copied};
 ghost use Rattle.histar_label.specs.Levels.{exceptions_of};
@@ -56,7 +56,8 @@ impl Comparison {
 }
 
 /// Keeps each label once, so that equal labels have one Id, and remembers the answers of the latest
-/// comparisons of two labels. It forgets no label, so it grows with each new one.
+/// comparisons of two labels. It forgets no label, so it grows with each new one; its weight says when to
+/// move to a new store.
 ///
 /// Each comparison has a place at hand for its answer, which it shares with others, and the latest answer is
 /// there. Next, for labels with many exceptions, the store looks among the remembered answers.
@@ -66,6 +67,8 @@ impl Comparison {
 #[derive(Debug, Drop)]
 pub struct InternStore {
     labels: IndexSet<Label>,
+    // The number of exceptions of the labels that have many.
+    weight: usize,
     answers: LruCache<Comparison, bool>,
     at_hand: Vec<Option<(Comparison, bool)>>,
 }
@@ -91,10 +94,17 @@ impl InternStore {
         requires { 0 < cache }
         ensures { IfOk result (λ store. store ≡ []) }
     {
-        let capacity = NonZeroUsize::new(cache).unwrap();
+        InternStore::with_cache(alloc, NonZeroUsize::new(cache).unwrap())
+    }
+
+    // Makes the same store.
+    fn with_cache(alloc: Global, cache: NonZeroUsize) -> Result<InternStore, OutOfMemory>
+        ensures { IfOk result (λ store. store ≡ []) }
+    {
         Ok(InternStore {
             labels: IndexSet::new(alloc),
-            answers: LruCache::new(alloc, capacity)?,
+            weight: 0,
+            answers: LruCache::new(alloc, cache)?,
             at_hand: no_answers(alloc)?,
         })
     }
@@ -152,7 +162,9 @@ impl LabelStore for InternStore {
         ensures one_id { HasOneId (slice_get self.new) }
         ensures known { (id : ℕ) → slice_get self.old id ≡ Some label → result ≡ Ok id }
     {
-        let (place, _) = self.labels.insert_full(label)?;
+        let exceptions = label.exceptions().len();
+        let (place, is_new) = self.labels.insert_full(label)?;
+        self.weight = self.weight.saturating_add(weight_of(exceptions, is_new));
         Ok(InternId(place))
     }
 
@@ -162,6 +174,19 @@ impl LabelStore for InternStore {
         ensures one_id { HasOneId (slice_get self.now) }
     {
         self.labels.get_index(id.0)
+    }
+
+    fn find(&self, label: &Label) -> Option<InternId> {
+        let place = self.labels.get_index_of(label)?;
+        Some(InternId(place))
+    }
+
+    fn emptied(&self) -> Result<InternStore, OutOfMemory> {
+        InternStore::with_cache(*self.labels.allocator(), self.answers.cap())
+    }
+
+    fn weight(&self) -> usize {
+        self.weight
     }
 
     fn below(&mut self, lower: InternId, upper: InternId) -> bool {
@@ -178,6 +203,18 @@ impl LabelStore for InternStore {
             lower,
             upper,
         })
+    }
+}
+
+// Returns what a label with this number of exceptions adds to the weight of a store at a put: nothing if it
+// was there, or if its exceptions are few.
+fn weight_of(exceptions: usize, is_new: bool) -> usize
+    ensures { result ≡ (if is_new && nat_lt FEW_EXCEPTIONS exceptions then exceptions else 0) }
+{
+    if is_new && FEW_EXCEPTIONS < exceptions {
+        exceptions
+    } else {
+        0
     }
 }
 

@@ -9,3 +9,4 @@ pub mod TaintedCalls
 pub mod Observed
 pub mod LinkedObjects
 pub mod Relabelled
+pub mod Moving

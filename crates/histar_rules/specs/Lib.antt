@@ -1,5 +1,6 @@
 -- The definitions of this crate that contracts cite.
 pub mod Finds
+pub mod InUse
 pub mod Kinds
 pub mod RawAnswers
 pub mod Rights

@@ -18,6 +18,7 @@ ghost use Rattle.histar_rules.specs.Rules.{check, greatest, no_new, no_new_owner
 ghost use Rattle.histar_rules.specs.Rules.{AreBytesOf, IsLabelOf, IsEntryOf};
 ghost use Rattle.histar_rules.specs.declared.raw.RawCall.TheVariants as calls;
 
+use crate::in_use::{LEAST_WEIGHT, forget_unused_in};
 use crate::kinds::ObjectKind;
 use crate::limits::Next;
 use crate::linked::{enter_in, label_in, read_in, unlink_in, write_in};
@@ -38,6 +39,8 @@ pub struct LabelledObjects<S: LabelStore + Drop> {
     table: Table<S::Id>,
     next_object: u64,
     next_category: u64,
+    // The weight of the store above which the labels that objects have move to a new one.
+    limit: usize,
 }
 
 impl<S: LabelStore + Drop> Model for LabelledObjects<S> {
@@ -66,6 +69,7 @@ impl<S: LabelStore + Drop> LabelledObjects<S> {
             table: Table::new(alloc),
             next_object,
             next_category,
+            limit: LEAST_WEIGHT,
         }
     }
 
@@ -368,6 +372,7 @@ impl<S: LabelStore + Drop> LabelledObjects<S> {
             ≡ with_object (state_of self.old) container (record { label = label; kind = kind })) }
         ensures err { OnErr result (state_of self.new ≡ state_of self.old) }
     {
+        self.forget_unused_labels();
         add_in(
             &mut self.store,
             &mut self.table,
@@ -400,6 +405,7 @@ impl<S: LabelStore + Drop> LabelledObjects<S> {
         ensures ok { OnOk result (state_of self.new ≡ with_changed (state_of self.old) thread (with_label label)) }
         ensures err { OnErr result (state_of self.new ≡ state_of self.old) }
     {
+        self.forget_unused_labels();
         set_label_in(&mut self.store, &mut self.table, thread, label)
     }
 
@@ -409,6 +415,7 @@ impl<S: LabelStore + Drop> LabelledObjects<S> {
             ≡ with_changed (state_of self.old) thread (with_clearance clearance)) }
         ensures err { OnErr result (state_of self.new ≡ state_of self.old) }
     {
+        self.forget_unused_labels();
         set_clearance_in(&mut self.store, &mut self.table, thread, clearance)
     }
 
@@ -423,6 +430,7 @@ impl<S: LabelStore + Drop> LabelledObjects<S> {
         ensures ok { OnOk result (state_of self.new ≡ with_own (state_of self.old) thread label clearance) }
         ensures err { OnErr result (state_of self.new ≡ state_of self.old) }
     {
+        self.forget_unused_labels();
         set_own_in(&mut self.store, &mut self.table, thread, label, clearance)
     }
 
@@ -439,6 +447,18 @@ impl<S: LabelStore + Drop> LabelledObjects<S> {
         ensures err { OnErr result (state_of self.new ≡ state_of self.old) }
     {
         splice_in(&mut self.table, alloc, segment, keep, bytes)
+    }
+
+    // Moves the labels that objects have to a new store, once the store weighs more than the limit.
+    fn forget_unused_labels(&mut self)
+        ensures { state_of self.new ≡ state_of self.old }
+    {
+        self.limit = forget_unused_in(
+            &mut self.store,
+            &mut self.table,
+            self.next_object,
+            self.limit,
+        );
     }
 }
 

@@ -4,6 +4,7 @@
 
 mod checks;
 mod handed;
+mod in_use;
 mod kinds;
 mod labelled;
 mod limits;
