@@ -1,5 +1,6 @@
 -- The place of a label in a list: what is found there, and that it is found if it is there.
-use Rattle.std.proofs.Common.{◌≡◌, ℕ, ◌<◌, Bool, true, false, List, Option, Some, None, IsSome, cond, length, get_or, refl, sym, ap, ◌∙◌, arith}
+use Rattle.std.proofs.Common.{◌≡◌, ℕ, ◌<◌, Bool, true, false, List, Option, Some, None, IsSome, cond, length, get_or}
+use Rattle.std.proofs.Common.{refl, sym, ap, ◌∙◌, arith}
 use Rattle.std.specs.Prelude.{position, nat_lt, is_some}
 use Rattle.std.specs.List.{slice_get, position_or_len}
 use mathlib.Core.Bool.{false≢true}

@@ -1,5 +1,6 @@
 -- Objects whose labels move to another store.
-use Rattle.std.proofs.Common.{◌≡◌, ◌≢◌, ℕ, ◌+◌, ◌<◌, ◌≤◌, Option, Some, None, IsSome, Result, Ok, Err, OnOk, inl, inr, unwrap_or, refl, sym, ap, ◌∙◌, subst, arith}
+use Rattle.std.proofs.Common.{◌≡◌, ◌≢◌, ℕ, ◌+◌, ◌<◌, ◌≤◌, Option, Some, None, IsSome, Result, Ok, Err, OnOk, inl, inr, unwrap_or}
+use Rattle.std.proofs.Common.{refl, sym, ap, ◌∙◌, subst, arith}
 use Rattle.std.specs.Prelude.{is_some, option_map}
 use mathlib.Core.Bool.{false≢true}
 use Rattle.std.proofs.lemmas.Bool.{cases_lt}
@@ -12,6 +13,7 @@ use Rattle.histar_object.specs.declared.objects.Object.{Object}
 use Rattle.histar_object.specs.Objects.{TableModel, Objects, objects_of, kind_clearance}
 use Rattle.histar_container.specs.Shown.{kind_by, object_by, objects_shown, KindStands, Stands, AllStand, IsUnusedFrom}
 use Rattle.histar_container.proofs.Shows.{shows}
+use Rattle.histar_container.proofs.Addresses.{inner}
 use Rattle.histar_container.proofs.Keeping.{map_none}
 use Rattle.histar_rules.specs.InUse.{IsIn, HasLabelsIn, HaveLabelsIn, IsMoved}
 
@@ -20,8 +22,8 @@ module _ {Id : Type 0} (old : Id → Option Levels) where
   clearance_stands : (k : Kind Id) (id : Id) → KindStands old k → kind_clearance k ≡ Some id → IsSome (old id)
   clearance_stands (Segment bytes) id stands is = cc
   clearance_stands (Container links) id stands is = cc
-  clearance_stands (Thread clearance) id stands is = let same : clearance ≡ id = cc in subst (λ i. IsSome (old i)) same stands
-  clearance_stands (Gate clearance entry) id stands is = let same : clearance ≡ id = cc in subst (λ i. IsSome (old i)) same stands
+  clearance_stands (Thread clearance) id stands is = subst (λ i. IsSome (old i)) (inner clearance id is) stands
+  clearance_stands (Gate clearance entry) id stands is = subst (λ i. IsSome (old i)) (inner clearance id is) stands
 
   module _ (before after : Id → Option Levels) (keeps : Keeps before after) where
     -- a label stays in a store that keeps all labels
@@ -50,21 +52,11 @@ module _ {Id : Type 0} (old : Id → Option Levels) where
       ];
     }
 
-    -- the object at a number has its labels there once its clearance is put after its label
-    pub labels_put : {A E : Type 0} (here : Option (Object Id)) (p : Object Id) (clearance : Id) (r : Result A E)
-        → Some p ≡ here → Stands old p → kind_clearance p.kind ≡ Some clearance → IsIn old before p.label
-        → OnOk r (IsIn old after clearance) → OnOk r ((o : Object Id) → here ≡ Some o → HasLabelsIn old after o)
-    labels_put here p clearance (Ok x) there stands is label put = λ o same.
-        let own : Some p ≡ Some o = there ∙ same in
-        let one : p ≡ o = cc in
-        subst (HasLabelsIn old after) one (record {
-          label = in_on p.label stands.label label;
-          clearance = λ id has.
-              let equal : Some clearance ≡ Some id = sym is ∙ has in
-              let this : clearance ≡ id = cc in
-              subst (IsIn old after) this put;
-        })
-    labels_put here p clearance (Err e) there stands is label put = tt
+    -- the labels of the object at a number are there once its clearance is put after its label
+    pub labels_put : (here : Option (Object Id)) (o p : Object Id) → Some o ≡ here → here ≡ Some p → Stands old o
+        → IsIn old before o.label → ((id : Id) → kind_clearance o.kind ≡ Some id → IsIn old after id) → HasLabelsIn old after p
+    labels_put here o p there is stands label clearance =
+        subst (HasLabelsIn old after) (inner o p (there ∙ is)) (record { label = in_on o.label stands.label label; clearance = clearance })
 
 module _ {Id : Type 0} (old new : Id → Option Levels) where
   -- an object with the Ids of its labels in another store is moved there
@@ -73,8 +65,7 @@ module _ {Id : Type 0} (old new : Id → Option Levels) where
   object_moved o left stands label kind_stands kind = record {
     same = λ i. Some (record { label = unwrap_or (label i) (constant L1); kind = kind i });
     stands = λ p is.
-        let same : left ≡ p = cc in
-        subst (Stands new) same (record { label = ap is_some label ∙ stands; kind = kind_stands });
+        subst (Stands new) (inner left p is) (record { label = ap is_some label ∙ stands; kind = kind_stands });
   }
 
   -- the objects below a number are moved, and the others are as before

@@ -1,4 +1,4 @@
-//! The labels that a kernel's objects use, and their move to a store that has no others.
+//! The move of a kernel's objects to a new store, which has only the labels that they use.
 ghost use Rattle.std.specs.Prelude.{◌≡◌, ◌≢◌, ◌≤◌, ℕ, Some, IsSome, IfOk, OnOk};
 ghost use Rattle.histar_label.specs.Store.{label_at, Keeps};
 ghost use Rattle.histar_object.specs.declared.objects.Object.{Object as ObjectOf};
@@ -10,13 +10,14 @@ use histar_label::LabelStore;
 use histar_object::{Kind, ObjId, Object, Table};
 use std::alloc::AllocError;
 
-/// The weight that a store has at least when labels move to a new one: 4 MB of exceptions.
+/// The weight up to which the objects never leave a store: 4 MB of exceptions.
 pub(crate) const LEAST_WEIGHT: usize = 262_144;
 
-/// Moves the labels of the objects to a new store once the store weighs more than the limit, and returns the
-/// next limit. Where memory runs out the old store stays, and the limit doubles.
+/// Moves the objects to a new store if theirs weighs more than the limit, and returns the next limit. Where
+/// memory runs out all stays, and the limit doubles, so that the next call doesn't try again.
 ///
-/// The next limit grows with what a move costs, so that moves cost less than the calls between them.
+/// All labels are put into the new store before the first object changes. The next limit grows with what a
+/// move costs, so that the moves cost no more than the puts between them.
 pub(crate) fn forget_unused_in<S: LabelStore + Drop>(
     store: &mut S,
     table: &mut Table<S::Id>,
@@ -31,66 +32,84 @@ pub(crate) fn forget_unused_in<S: LabelStore + Drop>(
     if store.weight() <= limit {
         return limit;
     }
-    let Ok(fresh) = labels_in_use(store, table, next_object) else {
+    let Ok((fresh, looked_at)) = labels_in_use(store, table, next_object) else {
         return limit.saturating_mul(2);
     };
     give_ids(store, &fresh, table, next_object);
     *store = fresh;
-    next_limit(store.weight(), next_object)
+    next_limit(store.weight(), looked_at, next_object)
 }
 
-// Returns twice the weight of a store, and more by the number of objects and the least weight.
-fn next_limit(weight: usize, next_object: u64) -> usize
+// Returns the limit after a move: the weight of the new store, more by the least weight and by what the move
+// has looked at, exceptions and numbers of objects.
+fn next_limit(weight: usize, looked_at: usize, next_object: u64) -> usize
     ensures weight { weight ≤ result }
     ensures least { LEAST_WEIGHT ≤ result }
 {
     weight
-        .saturating_mul(2)
+        .saturating_add(looked_at)
         .saturating_add(next_object as usize)
         .saturating_add(LEAST_WEIGHT)
 }
 
-// Makes a store of the labels of all objects below a number.
+// Makes a store of the labels of all objects below a number, and counts the exceptions that it looked at.
 fn labels_in_use<S: LabelStore + Drop>(
     store: &S,
     table: &Table<S::Id>,
     next_object: u64,
-) -> Result<S, AllocError>
+) -> Result<(S, usize), AllocError>
     requires { AllStand (S.labels store.now) (objects_of table.now) }
-    ensures { IfOk result (λ fresh. HaveLabelsIn (S.labels store.now) (S.labels fresh) (objects_of table.now) next_object) }
+    ensures { IfOk result (λ made. HaveLabelsIn (S.labels store.now) (S.labels made.0) (objects_of table.now) next_object) }
 {
     let mut fresh = store.emptied()?;
+    let mut looked_at: usize = 0;
     'objects: for number in 0..next_object {
-        put_labels_at(store, table, ObjId::new(number), &mut fresh)?;
+        let exceptions = put_labels_at(store, table, ObjId::new(number), &mut fresh)?;
+        looked_at = looked_at.saturating_add(exceptions);
     }
-    Ok(fresh)
+    Ok((fresh, looked_at))
 }
 
-// Puts the labels of the object of this number into a new store.
+// Puts the label and the clearance of the object of this number into a new store, and counts their exceptions.
 fn put_labels_at<S: LabelStore>(
     store: &S,
     table: &Table<S::Id>,
     number: ObjId,
     fresh: &mut S,
-) -> Result<(), AllocError>
+) -> Result<usize, AllocError>
     requires { AllStand (S.labels store.now) (objects_of table.now) }
     ensures has { OnOk result ((o : ObjectOf S.Id) → objects_of table.now number ≡ Some o
         → HasLabelsIn (S.labels store.now) (S.labels fresh.new) o) }
     ensures keeps { Keeps (S.labels fresh.old) (S.labels fresh.new) }
 {
     let Some(object) = table.get(number) else {
-        return Ok(());
+        return Ok(0);
     };
-    put_label(store, object.label, fresh)?;
-    match object.kind {
-        Kind::Thread(clearance) => put_label(store, clearance, fresh),
-        Kind::Gate(clearance, _) => put_label(store, clearance, fresh),
-        _ => Ok(()),
+    let own = put_label(store, object.label, fresh)?;
+    let clearance = put_clearance(store, &object.kind, fresh)?;
+    Ok(own.saturating_add(clearance))
+}
+
+// Puts the clearance of a kind into a new store, if it has one, and counts its exceptions.
+fn put_clearance<S: LabelStore>(
+    store: &S,
+    kind: &Kind<S::Id>,
+    fresh: &mut S,
+) -> Result<usize, AllocError>
+    requires { KindStands (S.labels store.now) kind.now }
+    ensures has { OnOk result ((id : S.Id) → kind_clearance kind.now ≡ Some id
+        → IsIn (S.labels store.now) (S.labels fresh.new) id) }
+    ensures keeps { Keeps (S.labels fresh.old) (S.labels fresh.new) }
+{
+    match kind {
+        Kind::Thread(clearance) => put_label(store, *clearance, fresh),
+        Kind::Gate(clearance, _) => put_label(store, *clearance, fresh),
+        _ => Ok(0),
     }
 }
 
-// Puts the label of an Id into a new store, unless it is there.
-fn put_label<S: LabelStore>(store: &S, id: S::Id, fresh: &mut S) -> Result<(), AllocError>
+// Puts the label of an Id into a new store, unless it is there, and counts its exceptions.
+fn put_label<S: LabelStore>(store: &S, id: S::Id, fresh: &mut S) -> Result<usize, AllocError>
     requires { IsSome (S.labels store.now id) }
     ensures has { OnOk result (IsIn (S.labels store.now) (S.labels fresh.new) id) }
     ensures keeps { Keeps (S.labels fresh.old) (S.labels fresh.new) }
@@ -99,7 +118,7 @@ fn put_label<S: LabelStore>(store: &S, id: S::Id, fresh: &mut S) -> Result<(), A
     if fresh.find(label).is_none() {
         fresh.put(label.copy()?)?;
     }
-    Ok(())
+    Ok(label.exceptions().len())
 }
 
 // Gives each object below a number the Ids of its labels in a new store.

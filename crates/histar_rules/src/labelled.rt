@@ -33,13 +33,16 @@ use std::marker::Model;
 
 /// The objects of a kernel by number, with their labels in a store of labels, and the numbers that the next
 /// object and the next category get. Callers see the labels themselves; no Id of the store leaves this type.
+///
+/// A store forgets no label. Once its labels with many exceptions weigh too much, those that the objects have
+/// move to a new store.
 #[derive(Drop)]
 pub struct LabelledObjects<S: LabelStore + Drop> {
     store: S,
     table: Table<S::Id>,
     next_object: u64,
     next_category: u64,
-    // The weight of the store above which the labels that objects have move to a new one.
+    // The weight above which the objects leave the store for a new one.
     limit: usize,
 }
 
@@ -449,7 +452,7 @@ impl<S: LabelStore + Drop> LabelledObjects<S> {
         splice_in(&mut self.table, alloc, segment, keep, bytes)
     }
 
-    // Moves the labels that objects have to a new store, once the store weighs more than the limit.
+    // Moves the labels that the objects have to a new store, if the store weighs more than the limit.
     fn forget_unused_labels(&mut self)
         ensures { state_of self.new ≡ state_of self.old }
     {

@@ -9,4 +9,4 @@ objects-preserved g c =
     labels_more (g.S.LabelStore.labels c.args.store.now) (g.S.LabelStore.labels c.objects.fresh)
     (g.S.LabelStore.labels c.put_labels_at.new.fresh) c.put_labels_at.ensures.keeps
     (objects_of c.args.table.now) c.objects.number c.requires
-    (λ o is. c.in_ok-put_labels_at.ensures.has o (ap (objects_of c.args.table.now) c.new.ensures ∙ is)) c.objects.invariant
+    (λ o is. c.in_ok-exceptions.ensures.has o (ap (objects_of c.args.table.now) c.new.ensures ∙ is)) c.objects.invariant
