@@ -1,8 +1,8 @@
 //! Objects whose labels move to a new store.
 ghost use Rattle.std.specs.Prelude.{slice_get};
 
-use histar_label::{Category, InternId, InternStore, Label, LabelStore, Level, OutOfMemory};
 use histar_base::Bytes;
+use histar_label::{Category, InternId, InternStore, Label, LabelStore, Level, OutOfMemory};
 use histar_object::{Entry, Kind, Links, ObjId};
 use histar_rules::LabelledObjects;
 use std::alloc::Global;
