@@ -333,6 +333,12 @@ fn stores_stay_without_memory(rt: HostRuntime) -> Result<(), Fail> {
     Ok(())
 }
 
+/// Returns the level at category 100 of the label that a store finds, if it finds one that is equal.
+fn level_found<S: LabelStore>(store: &S, label: &Label) -> Option<Level> {
+    let found = store.find(label)?;
+    Some(store.get(found)?.get(Category::new(100)))
+}
+
 /// Checks that a store finds a label that was put, and no other, and that an empty store has none.
 fn finds_what_was_put<S: LabelStore + Drop>(
     rt: &impl Abort,
@@ -340,12 +346,12 @@ fn finds_what_was_put<S: LabelStore + Drop>(
     store: &mut S,
 ) -> Result<(), OutOfMemory> {
     let many = at_many(alloc, Level::L2)?;
-    assert!(rt; store.find(&many).is_none());
     put_level(alloc, store, Level::L3)?;
+    assert_eq!(rt; level_found(store, &many), None);
     store.put(at_many(alloc, Level::L2)?)?;
-    let found = store.find(&many).and_then(|id| store.get(id));
-    assert_eq!(rt; found, Some(&many));
-    assert!(rt; store.emptied()?.find(&many).is_none());
+    assert_eq!(rt; level_found(store, &many), Some(Level::L2));
+    let empty = store.emptied()?;
+    assert_eq!(rt; level_found(&empty, &many), None);
     Ok(())
 }
 

@@ -1,5 +1,5 @@
 -- What the checks of a call say about the thread and the container that were found.
-use Rattle.std.proofs.Common.{◌≡◌, ℕ, Bool, true, false, List, Option, None, Some, Result, Ok, Err, IsSome, refl, sym, ap, ◌∙◌}
+use Rattle.std.proofs.Common.{◌≡◌, ℕ, Bool, true, false, Option, None, Some, Result, Ok, Err, IsSome, refl, sym, ap, ◌∙◌}
 use Rattle.std.specs.Prelude.{option_map, ◌&&◌}
 use Rattle.std.specs.FinSet as set
 use Rattle.std.specs.Result.{IsErrAnd}

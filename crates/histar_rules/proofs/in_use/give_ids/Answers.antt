@@ -1,5 +1,5 @@
 -- Proves the goals of `give_ids` of src/in_use.rt that the search leaves open.
-use Rattle.std.proofs.Common.{◌≡◌, ℕ, sym, ap, ◌∙◌, subst, arith}
+use Rattle.std.proofs.Common.{◌≡◌, ℕ, sym, ◌∙◌, subst, arith}
 use Rattle.histar_object.specs.Objects.{objects_of}
 use Rattle.histar_rules.specs.InUse.{IsMoved}
 use Rattle.histar_rules.proofs.Moving.{AreMoved, moved_more, moved_shown, moved_stand}
