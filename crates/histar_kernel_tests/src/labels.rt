@@ -332,38 +332,3 @@ fn stores_stay_without_memory(rt: HostRuntime) -> Result<(), Fail> {
     stays_without_memory(&rt, rt.alloc(), &mut interned)?;
     Ok(())
 }
-
-/// Returns the level at category 100 of the label that a store finds, if it finds one that is equal.
-fn level_found<S: LabelStore>(store: &S, label: &Label) -> Option<Level> {
-    let found = store.find(label)?;
-    Some(store.get(found)?.get(Category::new(100)))
-}
-
-/// Checks that a store finds a label that was put, and no other, and that an empty store has none.
-fn finds_what_was_put<S: LabelStore + Drop>(
-    rt: &impl Abort,
-    alloc: Global,
-    store: &mut S,
-) -> Result<(), OutOfMemory> {
-    let many = at_many(alloc, Level::L2)?;
-    put_level(alloc, store, Level::L3)?;
-    assert_eq!(rt; level_found(store, &many), None);
-    store.put(at_many(alloc, Level::L2)?)?;
-    assert_eq!(rt; level_found(store, &many), Some(Level::L2));
-    let empty = store.emptied()?;
-    assert_eq!(rt; level_found(&empty, &many), None);
-    Ok(())
-}
-
-#[test]
-fn stores_find_labels(rt: HostRuntime) -> Result<(), Fail> {
-    let mut plain = PlainStore::new(rt.alloc());
-    finds_what_was_put(&rt, rt.alloc(), &mut plain)?;
-    let mut interned = InternStore::new(rt.alloc(), 1)?;
-    finds_what_was_put(&rt, rt.alloc(), &mut interned)?;
-    assert_eq!(rt; plain.weight(), 0);
-    assert_eq!(rt; interned.weight(), 13);
-    interned.put(at_many(rt.alloc(), Level::L2)?)?;
-    assert_eq!(rt; interned.weight(), 13);
-    Ok(())
-}
