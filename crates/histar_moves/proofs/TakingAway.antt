@@ -8,7 +8,6 @@ use Rattle.histar_syscall.specs.KernelModel.{KernelModel}
 use Rattle.histar_layout.specs.Directory.{Entries, LeadsSomewhere, IsListable}
 use Rattle.histar_layout.specs.Listing.{object_of}
 use Rattle.histar_layout.specs.declared.entry.Target.{Target}
-use Rattle.histar_layout.specs.declared.entry.Target.TheVariants as targets
 use Rattle.histar_programs.specs.declared.directory.Directory.{Directory}
 use Rattle.histar_programs.specs.declared.call_error.CallError.{CallError}
 use Rattle.histar_programs.specs.declared.roots.Place.{Place}

@@ -1,13 +1,13 @@
 -- Birth: a container, an internal container, a thread and a process segment are made for a child, and the parent's segment is written.
 use Rattle.std.proofs.Common.{◌≡◌, ◌≢◌, ℕ, ◌+◌, ◌<◌, Bool, true, false, List, ◌∷◌, None, Some, inl, inr, arith, ap, ◌∙◌, if◌then◌else◌}
-use Rattle.std.specs.Prelude.{nat_eq, option_map}
+use Rattle.std.specs.Prelude.{option_map}
 use Rattle.std.specs.FinSet as set
 use Rattle.std.specs.Ordering.{nat_cmp}
 use Rattle.histar_flat.specs.Words.{ProcName}
 use Rattle.histar_label.specs.Levels.{Levels}
 use Rattle.histar_object.specs.declared.objects.Kind.TheVariants.{Segment, Container}
 use Rattle.histar_object.specs.declared.objects.Object.{Object}
-use Rattle.histar_object.specs.Objects.{Objects, put, changed_at, linking, thread_of, holding, is_present, is_container}
+use Rattle.histar_object.specs.Objects.{thread_of, holding, is_present, is_container}
 use Rattle.histar_object.specs.State.{State, Found, with_object, with_segment_bytes}
 use Rattle.histar_container.specs.Tree.{Address, Naming, with_number, set_at}
 use Rattle.histar_container.proofs.Addresses.{same_tests_equality, same_itself, same_other, longer}

@@ -8,8 +8,8 @@ use Rattle.histar_flat.specs.Words.{ProcName}
 use Rattle.histar_flat.specs.Classes.{Process}
 use Rattle.histar_label.specs.declared.levels.Level.{Level}
 use Rattle.histar_label.specs.declared.levels.Level.TheVariants.{L0, L1, L3}
-use Rattle.histar_label.specs.Levels.{Levels, level_of, default_of, default_of-constant, default_of-with_level, with_level, constant}
-use Rattle.histar_layout.specs.Labelling.{with_levels, each_at, guarded_by}
+use Rattle.histar_label.specs.Levels.{Levels, level_of, default_of, default_of-constant, constant}
+use Rattle.histar_layout.specs.Labelling.{each_at, guarded_by}
 use Rattle.histar_programs.specs.Caller.{is_zero, write_category_in, read_category_in}
 use Rattle.histar_layout.specs.Jobs.{is_three}
 use Rattle.histar_refinement.specs.Categories.{Categories, AreDifferent}

@@ -1,5 +1,5 @@
 -- The object at a path has the label of its class, which determines the class for those who know the users and the groups.
-use Rattle.std.proofs.Common.{◌≡◌, ℕ, zero, suc, ◌+◌, ◌-◌, ◌*◌, ◌<◌, ◌≤◌, ◌⊎◌, inl, inr, true, List, [], ◌∷◌, length, Option, Some, arith, refl, sym}
+use Rattle.std.proofs.Common.{◌≡◌, ℕ, zero, suc, ◌+◌, ◌-◌, ◌*◌, ◌<◌, ◌≤◌, ◌⊎◌, inl, inr, List, [], ◌∷◌, length, Option, Some, arith, refl, sym}
 use Rattle.std.proofs.Common.{ap, ◌∙◌, subst}
 use Rattle.std.specs.Prelude.{map, option_map}
 use Rattle.std.proofs.lemmas.Option.{same_Some}
@@ -13,10 +13,10 @@ use Rattle.histar_flat.specs.Classes.Class.{Private, Readable, Open, Scratch, Gr
 use Rattle.histar_flat.specs.FlatState.{Flat, Node}
 use Rattle.histar_object.specs.State.{State}
 use Rattle.histar_layout.specs.Labelling.{guarded_by, written_by}
-use Rattle.histar_layout.specs.Categories.{read_category, write_category, group_owner, scratch_label}
+use Rattle.histar_layout.specs.Categories.{write_category, group_owner, scratch_label}
 use Rattle.histar_layout.specs.declared.shown.ShownClass.{ShownClass}
 use Rattle.histar_layout.specs.ShownClass.{class_shown, owner_shown, mode_of}
-use Rattle.histar_layout.specs.ClassLabels.{IsRisingFrom, first_after_groups, owned_label, class_label, HasJobs, IsClassLabel, without_jobs}
+use Rattle.histar_layout.specs.ClassLabels.{first_after_groups, owned_label, class_label, HasJobs, IsClassLabel, without_jobs}
 use Rattle.histar_layout.proofs.Members.{is_in, mapped_from}
 use Rattle.histar_layout.proofs.Declared.{user_range, group_range}
 use Rattle.histar_layout.proofs.Rising.{rises_above}

@@ -1,6 +1,6 @@
 -- The states that `create` and `mkdir` leave: the object is linked in its directory, and a directory has an empty segment.
 use Rattle.std.proofs.Common.{◌≡◌, ◌≢◌, ℕ, ◌+◌, ◌<◌, Bool, true, false, [], ◌∷◌, length, Option, None, Some, arith, refl, sym, ap, ◌∙◌, if◌then◌else◌}
-use Rattle.std.specs.Prelude.{IsTrue, nat_eq, option_map}
+use Rattle.std.specs.Prelude.{IsTrue, option_map}
 use Rattle.std.specs.FinMap as map
 use Rattle.std.specs.FinSet as set
 use Rattle.histar_flat.specs.Words.{Name, Path, is_name}
@@ -10,7 +10,7 @@ use Rattle.histar_layout.specs.Directory.{spelling}
 use Rattle.histar_layout.specs.declared.entry.Target.TheVariants as targets
 use Rattle.histar_object.specs.declared.objects.Kind.TheVariants.{Segment, Container}
 use Rattle.histar_object.specs.declared.objects.Object.{Object}
-use Rattle.histar_object.specs.Objects.{put, linking, is_present, is_container}
+use Rattle.histar_object.specs.Objects.{is_present, is_container}
 use Rattle.histar_object.specs.State.{State, Found, with_object, with_segment_bytes}
 use Rattle.histar_container.specs.Tree.{Address, Naming, with_number, set_at}
 use Rattle.histar_container.proofs.Addresses.{same_itself, same_other, longer}

@@ -16,7 +16,6 @@ use Rattle.histar_flat.specs.FlatState.{Node, Flat, Entry, is_dir, entry_in, ent
 use Rattle.histar_flat.proofs.FileLemmas.{same_path_found, same_name_found}
 use Rattle.histar_flat.proofs.WordLemmas.{short_name}
 use Rattle.histar_layout.specs.declared.entry.Target.{Target}
-use Rattle.histar_layout.specs.declared.entry.Target.TheVariants as targets
 use Rattle.histar_layout.specs.Directory.{Entries, IsEntry, IsListable, entry_bytes, target_bytes, spelling}
 use Rattle.histar_layout.proofs.MapLemmas.{by_bytes, antisymmetric, len_sorted}
 use Rattle.histar_layout.proofs.LookingUp.{target_len}

@@ -1,5 +1,5 @@
 -- Labels of the two kinds, at each number, and the tests on them.
-use Rattle.std.proofs.Common.{◌≡◌, ◌≢◌, ℕ, ◌≤◌, ◌==◌, Bool, true, false, ◌&&◌, ◌||◌, List, [], ◌∷◌, ◌++◌, if◌then◌else◌, arith, refl, sym, ap, ◌∙◌}
+use Rattle.std.proofs.Common.{◌≡◌, ◌≢◌, ℕ, ◌≤◌, ◌==◌, Bool, true, false, ◌&&◌, ◌||◌, List, [], ◌∷◌, arith, refl, sym, ap, ◌∙◌}
 use Rattle.std.specs.List.{list_all}
 use Rattle.std.proofs.lemmas.Bool.Decides.{nat_tests}
 use Rattle.std.proofs.lemmas.Bool.{and_from, or_left, or_right}
@@ -7,7 +7,7 @@ use mathlib.Core.Bool.{true≢false}
 use Rattle.histar_label.specs.declared.levels.Level.{Level}
 use Rattle.histar_label.specs.declared.levels.Level.TheVariants.{Star, L0, L1, L2, L3}
 use Rattle.histar_label.specs.Level.{rank, raised}
-use Rattle.histar_label.specs.Levels.{Levels, level_of, constant, with_level, level_of-constant, level_of-with_level, is_below, is_below_raised}
+use Rattle.histar_label.specs.Levels.{Levels, constant, with_level, is_below, is_below_raised}
 use Rattle.histar_label.specs.Levels.{is_made, has_star, same_levels}
 use Rattle.histar_label.proofs.Orders.{is_below-law, is_below_raised-law}
 use Rattle.histar_label.proofs.Made.{is_made-constant, is_made-with_level}

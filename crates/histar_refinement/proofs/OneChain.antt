@@ -1,10 +1,8 @@
 -- A part of 'at most one flat state': the label of a process's container determines the jobs that it is in, since they are in order.
-use Rattle.std.proofs.Common.{◌≡◌, ◌≢◌, ℕ, ◌+◌, ◌<◌, ◌≤◌, ◌==◌, ◌⊎◌, inl, inr, Bool, true, false, ◌||◌, List, [], ◌∷◌, arith, refl, sym, ap, ◌∙◌}
+use Rattle.std.proofs.Common.{◌≡◌, ◌≢◌, ℕ, ◌==◌, ◌⊎◌, inl, inr, Bool, true, false, ◌||◌, List, [], ◌∷◌, arith, refl, sym, ap, ◌∙◌}
 use Rattle.std.proofs.Common.{subst}
 use Rattle.std.specs.Prelude.{map}
 use Rattle.std.proofs.lemmas.Bool.Decides.{eqb_tells}
-use Rattle.std.proofs.lemmas.Bool.{or_left}
-use mathlib.Core.Bool.{true≢false}
 use Rattle.histar_flat.specs.Words.{ProcName}
 use Rattle.histar_label.specs.Level.{rank}
 use Rattle.histar_label.specs.declared.levels.Level.TheVariants.{L1, L3}
@@ -17,7 +15,7 @@ use Rattle.histar_refinement.specs.Guards.{guard_label}
 use Rattle.histar_refinement.specs.Labels.{process_guard}
 use Rattle.histar_refinement.specs.Represents.{AreInOrder}
 use Rattle.histar_layout.proofs.Rising.{one_rising}
-use Rattle.histar_layout.proofs.Members.{is_in, same_truth, equal_itself}
+use Rattle.histar_layout.proofs.Members.{is_in, same_truth}
 use Rattle.histar_layout.proofs.LabelLevels.{at_guarded, guarded_level}
 use Rattle.histar_refinement.proofs.CategoryTests.{among_jobs, is_in_names, named_in}
 use Rattle.histar_refinement.proofs.Uses.{job_among}

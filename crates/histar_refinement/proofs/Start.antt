@@ -1,7 +1,7 @@
 -- The state in which a machine starts represents the flat state at the start.
 use Rattle.std.proofs.Common.{◌≡◌, ◌≢◌, ℕ, zero, suc, ◌+◌, ◌*◌, ◌<◌, ◌≤◌, ◌⊎◌, inl, inr, Bool, true, false, cond, List, [], ◌∷◌, ◌++◌, length, get_or}
 use Rattle.std.proofs.Common.{drop, Option, None, Some, arith, refl, sym, ap, ◌∙◌, subst, append_assoc}
-use Rattle.std.specs.Prelude.{is_some, option_map, option_and_then, map, nat_lt, nat_le, unwrap_or}
+use Rattle.std.specs.Prelude.{is_some, option_map, option_and_then, map, nat_lt, nat_le}
 use Rattle.std.specs.List.{flat_map}
 use Rattle.std.specs.FinSet as set
 use Rattle.std.proofs.lemmas.Bool.Decides.{nat_tests}
@@ -18,8 +18,7 @@ use Rattle.histar_rules.specs.Rules.{greatest}
 use Rattle.histar_layout.specs.Directory.{entry_bytes, spelling}
 use Rattle.histar_layout.proofs.MapLemmas.{entries-empty, listable_empty}
 use Rattle.histar_object.specs.declared.objects.Kind.{Kind}
-use Rattle.histar_object.specs.declared.objects.Kind.TheVariants.{Segment, Container, Gate}
-use Rattle.histar_object.specs.declared.objects.Entry.TheVariants.{Login}
+use Rattle.histar_object.specs.declared.objects.Kind.TheVariants.{Segment, Container}
 use Rattle.histar_object.specs.Objects.{Objects, is_present, thread_of}
 use Rattle.histar_object.specs.State.{Found}
 use Rattle.histar_container.specs.Tree.{Address, objects_at}
@@ -34,7 +33,7 @@ use Rattle.histar_flat.specs.Classes.Class.{Readable}
 use Rattle.histar_flat.specs.FlatState.{Node, Flat, is_given}
 use Rattle.histar_flat.specs.Meaning.{first_user, first_process, boot}
 use Rattle.histar_flat.specs.FlatState.Content.{Dir}
-use Rattle.histar_refinement.specs.Categories.{CategoryName, IsMade, boot_category, booted, is_for, IsKnown, IsServed, IsUsed}
+use Rattle.histar_refinement.specs.Categories.{CategoryName, IsMade, boot_category, is_for, IsKnown, IsServed, IsUsed}
 use Rattle.histar_refinement.specs.Categories.CategoryName.{OfBoot, ReadsUser, WritesUser, ReadsGroup, WritesGroup, ReadsProcess, WritesProcess}
 use Rattle.histar_refinement.specs.Categories.CategoryName.{OfJob}
 use Rattle.histar_refinement.specs.Guards.{Rights, guard_label, rights_label, rights_clearance}

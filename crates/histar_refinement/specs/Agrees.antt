@@ -3,7 +3,7 @@ use Rattle.std.specs.Prelude.{◌≡◌, Bool, is_some, option_map}
 use Rattle.std.specs.FinSet as set
 use Rattle.histar_label.specs.Levels.{Levels}
 use Rattle.histar_object.specs.declared.objects.Kind.{Kind}
-use Rattle.histar_object.specs.declared.objects.Kind.TheVariants.{Segment, Container, Thread, Gate}
+use Rattle.histar_object.specs.declared.objects.Kind.TheVariants.{Container}
 use Rattle.histar_object.specs.declared.objects.Object.{Object}
 use Rattle.histar_object.specs.Objects.{is_present}
 use Rattle.histar_object.specs.State.{State, Found}

@@ -7,7 +7,7 @@ use Rattle.histar_flat.specs.PathOrder.{same}
 use Rattle.histar_flat.specs.Files.{get}
 use Rattle.histar_flat.specs.Accounts.{Accounts, has}
 use Rattle.histar_flat.specs.Classes.{Class, Process, knows}
-use Rattle.histar_flat.specs.Classes.Class.{Private, Readable, Open, Scratch, Grouped}
+use Rattle.histar_flat.specs.Classes.Class.{Scratch}
 use Rattle.histar_flat.specs.FlatState.{Node, Flat}
 
 -- the purpose of a category

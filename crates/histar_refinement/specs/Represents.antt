@@ -1,10 +1,10 @@
 -- The abstraction relation: when the state of a labelled kernel represents a flat state.
-use Rattle.std.specs.Prelude.{◌≡◌, ◌≢◌, ℕ, ◌+◌, ◌≤◌, ◌⊎◌, true, false, List, [], ◌∷◌, length, map, None, Some, is_some}
+use Rattle.std.specs.Prelude.{◌≡◌, ◌≢◌, ℕ, ◌≤◌, ◌⊎◌, true, false, List, [], length, None, Some, is_some}
 use Rattle.histar_flat.specs.Words.{Path, ProcName, greatest_status, most_children}
 use Rattle.histar_flat.specs.Accounts.{Accounts, has, user_number}
 use Rattle.histar_flat.specs.Files.{get}
 use Rattle.histar_flat.specs.Classes.{Class, Process, nobody}
-use Rattle.histar_flat.specs.Classes.Class.{Private, Readable, Open, Scratch, Grouped}
+use Rattle.histar_flat.specs.Classes.Class.{Scratch}
 use Rattle.histar_flat.specs.FlatState.{Node, Flat, is_dir_at, is_given}
 use Rattle.histar_object.specs.State.{State}
 use Rattle.histar_container.specs.Tree.{Address, Naming}

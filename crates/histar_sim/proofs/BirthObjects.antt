@@ -13,7 +13,7 @@ use Rattle.histar_object.specs.declared.objects.Object.{Object}
 use Rattle.histar_object.specs.Objects.{Numbers as Links, changed_at, linking, holding, is_thread}
 use Rattle.histar_rules.specs.Rights.{with_star_at, with_label, with_changed, with_category}
 use Rattle.histar_object.specs.State.{State, Found, with_object, with_segment_bytes}
-use Rattle.histar_container.proofs.TableMoves.{put_here, put_other, changed_here, changed_other, new_there}
+use Rattle.histar_container.proofs.TableMoves.{put_other, changed_here, changed_other, new_there}
 use Rattle.histar_refinement.proofs.RawChecks.{object}
 
 -- a container with this label

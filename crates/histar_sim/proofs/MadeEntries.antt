@@ -20,7 +20,6 @@ use Rattle.histar_flat.specs.Classes.{Class, Process, class_made, may_write}
 use Rattle.histar_flat.specs.FlatState.{Flat, Content, entries_in, with_node, into}
 use Rattle.histar_flat.specs.FlatCalls as flat
 use Rattle.histar_flat.specs.FlatCalls.{refused, changed, most_entries, class_or_open}
-use Rattle.histar_flat.proofs.CommonNeeds.{no_room}
 use Rattle.histar_label.specs.Levels.{Levels}
 use Rattle.histar_object.specs.Objects.{label_there}
 use Rattle.histar_object.specs.State.{State, with_segment_bytes}

@@ -7,9 +7,8 @@ use mathlib.Core.Bool.{true≢false}
 use Rattle.histar_flat.specs.declared.calls.Mode.{Mode}
 use Rattle.histar_flat.specs.declared.calls.Mode.TheVariants as modes
 use Rattle.histar_flat.specs.Words.{Name, ProcName}
-use Rattle.histar_flat.specs.PathOrder.{same}
 use Rattle.histar_flat.specs.Accounts.{Accounts, group_number, is_member, user_number}
-use Rattle.histar_flat.specs.Classes.{Class, Process, nobody, is_free, free_class, class_made, may_read, may_write}
+use Rattle.histar_flat.specs.Classes.{Class, Process, is_free, free_class, class_made, may_read, may_write}
 use Rattle.histar_flat.specs.Classes.Class.{Private, Readable, Open, Scratch, Grouped}
 use Rattle.histar_flat.specs.FlatState.{Flat}
 use Rattle.histar_label.specs.Levels.{Levels}

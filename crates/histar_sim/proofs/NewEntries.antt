@@ -1,5 +1,5 @@
 -- What a new entry needs: a name, and that the directory segment may be written once the new object is linked in the directory.
-use Rattle.std.proofs.Common.{◌≡◌, ◌≢◌, ℕ, ◌+◌, ◌<◌, ◌≤◌, ◌&&◌, ◌||◌, Bool, true, false, List, length, None, arith, sym, ap, ◌∙◌}
+use Rattle.std.proofs.Common.{◌≡◌, ◌≢◌, ℕ, ◌+◌, ◌<◌, ◌≤◌, ◌&&◌, ◌||◌, Bool, true, List, length, None, arith, sym, ap, ◌∙◌}
 use Rattle.std.specs.Prelude.{IsTrue, ◌∷◌, nat_le, option_map}
 use Rattle.std.specs.List.{list_all}
 use Rattle.std.proofs.lemmas.Bool.{and_parts}
@@ -14,7 +14,7 @@ use Rattle.histar_flat.specs.Words.{Name, Path, is_name, is_path, most_names}
 use Rattle.histar_label.specs.Levels.{Levels, is_below, is_below_raised}
 use Rattle.histar_object.specs.declared.objects.Kind.TheVariants.{Segment, Container, Thread}
 use Rattle.histar_object.specs.declared.objects.Object.{Object}
-use Rattle.histar_object.specs.Objects.{Numbers as Links, is_container, put, linking}
+use Rattle.histar_object.specs.Objects.{Numbers as Links, is_container, linking}
 use Rattle.histar_object.specs.State.{State, with_object}
 use Rattle.histar_container.proofs.TableMoves.{new_there, new_holder, new_other}
 use Rattle.histar_rules.specs.declared.raw.Denied.TheVariants.{Modify, TooBig}

@@ -18,8 +18,8 @@ use Rattle.histar_syscall.specs.declared.trace.TraceEntry.{TraceEntry}
 use Rattle.histar_login.specs.Login.{place_of, password_of}
 use Rattle.histar_refinement.specs.Lines.{IsStatusSegment, IsDirectoryAt, IsObjectAt}
 use Rattle.histar_sim.specs.Reads.{Question, AreAmong, is_compared, tested, looked_at, walked, walked_into, walked_unless_full, label_asked}
-use Rattle.histar_sim.specs.Reads.{password_asked, due, Asks, AskAll, HasReads}
-use Rattle.histar_sim.specs.Reads.Question.{EntriesOf, LabelAt, StatusOf, OwnLabel, PasswordAt}
+use Rattle.histar_sim.specs.Reads.{password_asked, AskAll, HasReads}
+use Rattle.histar_sim.specs.Reads.Question.{EntriesOf, StatusOf}
 
 module _ (accounts : Accounts) where
   module _ (s : State) where

@@ -22,9 +22,8 @@ use Rattle.histar_programs.proofs.Exits.{Leaves}
 use Rattle.histar_programs.proofs.Running.{then_part, part_fails}
 use Rattle.histar_layout.proofs.UserOf.{user_is}
 use Rattle.histar_process.specs.Birth.{birth}
-use Rattle.histar_programs.specs.Kin.{Kin, owned_by}
+use Rattle.histar_programs.specs.Kin.{owned_by}
 use Rattle.histar_process.specs.SpawnCall.{room_for_child}
-use Rattle.histar_process.proofs.Calling.{before_birth}
 use Rattle.histar_wrap.specs.Filling.{JobPlan, fill_job, plan_for}
 use Rattle.histar_wrap.specs.Scratch.{ask_or_give_back, directory_label, hold_job, jobs_with, kin_in, make_scratch}
 use Rattle.histar_wrap.specs.WrapCall.{wrap_program}

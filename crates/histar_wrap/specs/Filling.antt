@@ -1,5 +1,5 @@
 -- A job, once its category is made: what it is made of, and the part of the program that makes it.
-use Rattle.std.specs.Prelude.{◌≡◌, ℕ, List, Option, Some, Result}
+use Rattle.std.specs.Prelude.{◌≡◌, ℕ, List, Some, Result}
 use Rattle.histar_flat.specs.Accounts.{Accounts}
 use Rattle.histar_label.specs.Levels.{Levels}
 use Rattle.histar_syscall.specs.KernelModel.{KernelModel}

@@ -1,5 +1,5 @@
 -- Proves the goals of `add_directory` of src/mkdir.rt that the search leaves open.
-use Rattle.std.proofs.Common.{Err, sym, ap, refl}
+use Rattle.std.proofs.Common.{Err, sym, ap}
 use Rattle.histar_rules.specs.declared.raw.RawCall.TheVariants.{MakeContainer, MakeSegment, Write}
 use Rattle.histar_layout.specs.Directory.{spelling}
 use Rattle.histar_programs.specs.declared.call_error.CallError.TheVariants.{Stopped}

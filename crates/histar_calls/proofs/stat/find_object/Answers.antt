@@ -1,5 +1,5 @@
 -- Proves the goals of `find_object` of src/stat.rt that the search leaves open.
-use Rattle.std.proofs.Common.{◌∙◌, ◌-◌, [], length, take, drop, true, refl, sym, ap, subst, arith, Ok, Err}
+use Rattle.std.proofs.Common.{◌-◌, [], length, take, drop, true, refl, sym, ap, subst, arith, Ok, Err}
 use Rattle.histar_rules.specs.Sound.{root_number}
 use Rattle.histar_layout.specs.Listing.{is_directory, object_of}
 use Rattle.histar_layout.specs.declared.entry.Target.{Target}

@@ -1,5 +1,5 @@
 -- Proves the goals of `find_entry` of src/entry.rt that the search leaves open.
-use Rattle.std.proofs.Common.{◌∙◌, ◌-◌, [], length, take, drop, refl, sym, ap, arith, Err}
+use Rattle.std.proofs.Common.{◌-◌, [], length, take, drop, refl, ap, arith, Err}
 use Rattle.histar_flat.specs.declared.replies.Errno.TheVariants.{EBUSY}
 use Rattle.histar_programs.specs.declared.call_error.CallError.TheVariants.{Refused}
 use Rattle.histar_programs.specs.Parts.{entry_at, target_named}

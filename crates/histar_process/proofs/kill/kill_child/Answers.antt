@@ -1,5 +1,5 @@
 -- Proves the goals of `kill_child` of src/kill.rt that the search leaves open.
-use Rattle.std.proofs.Common.{◌≡◌, ℕ, List, ◌∷◌, Some, Ok, Err, sym, subst}
+use Rattle.std.proofs.Common.{◌≡◌, ℕ, List, ◌∷◌, Some, sym, subst}
 use Rattle.histar_flat.specs.declared.replies.Reply.TheVariants.{Done}
 use Rattle.histar_layout.specs.Status.{status_in}
 use Rattle.histar_programs.specs.Programs.Program.{Answers}

@@ -1,5 +1,5 @@
 -- Proves the goals of `kill_known` of src/kill.rt that the search leaves open.
-use Rattle.std.proofs.Common.{ℕ, Ok, Err, refl, ap, ◌∙◌, subst}
+use Rattle.std.proofs.Common.{Ok, Err, refl, ap, ◌∙◌, subst}
 use Rattle.histar_rules.specs.declared.raw.RawCall.TheVariants.{Unlink}
 use Rattle.histar_layout.specs.Status.{status_bytes, without_child}
 use Rattle.histar_programs.specs.Programs.{RunsPart}

@@ -1,5 +1,5 @@
 -- Proves the goals of `find_file` of src/find.rt that the search leaves open.
-use Rattle.std.proofs.Common.{◌∙◌, ℕ, ◌-◌, [], length, take, drop, refl, sym, ap, arith, Ok, Err}
+use Rattle.std.proofs.Common.{ℕ, ◌-◌, [], length, take, drop, refl, ap, arith, Ok, Err}
 use Rattle.histar_flat.specs.declared.replies.Errno.TheVariants.{EISDIR}
 use Rattle.histar_programs.specs.declared.roots.Place.{Place}
 use Rattle.histar_programs.specs.declared.find.FoundFile.{FoundFile}

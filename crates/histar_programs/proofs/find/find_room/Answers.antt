@@ -1,5 +1,5 @@
 -- Proves the goals of `find_room` of src/find.rt that the search leaves open.
-use Rattle.std.proofs.Common.{◌∙◌, ◌-◌, [], length, take, drop, refl, sym, ap, arith, Err}
+use Rattle.std.proofs.Common.{◌-◌, [], length, take, drop, refl, ap, arith, Err}
 use Rattle.std.specs.Prelude.{◌==◌}
 use Rattle.std.specs.FinMap as map
 use Rattle.histar_flat.specs.declared.replies.Errno.TheVariants.{EEXIST}
