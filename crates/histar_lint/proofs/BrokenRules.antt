@@ -1,9 +1,9 @@
 -- Each bad line breaks a rule.
 use Rattle.std.proofs.Common.{◌≡◌, ℕ, ◌+◌, Bool, true, false, cond, eqb, List, [], ◌∷◌, ◌++◌, length, codes, Option, Some, None, ◌||◌}
-use Rattle.std.proofs.Common.{◌&&◌, ◌⊎◌, inl, inr, refl, sym, ap, ◌∙◌, subst, arith}
+use Rattle.std.proofs.Common.{◌&&◌, inl, inr, refl, sym, ap, ◌∙◌, subst, arith}
 use Rattle.std.specs.Prelude.{not, is_some, is_none, unwrap_or, nat_lt, nat_le}
 use Rattle.std.specs.List.{list_all}
-use Rattle.std.specs.Option.{option_and_then, option_map_or}
+use Rattle.std.specs.Option.{option_map_or}
 use Rattle.std.specs.Str.{bytes_eq}
 use Rattle.histar_flat.proofs.Options.{bind_some, either_chosen}
 use Rattle.histar_flat.specs.declared.calls.User.{User}
@@ -21,7 +21,7 @@ use Rattle.histar_lint.specs.Lines.{Rule, after_word, begins_with, byte_rules, e
 use Rattle.histar_lint.specs.declared.shapes.Shape.{Shape}
 use Rattle.histar_lint.specs.Calls.{call_word_rules, has_too_little, has_too_much, shape_named, shape_rules}
 use Rattle.histar_lint.specs.Rules.{call_place_rules, group_place_rules, group_word_rules, has_stranger, has_twin, is_taken, is_undeclared}
-use Rattle.histar_lint.specs.Rules.{kind_rules, rules_for, sentence, user_place_rules, user_word_rules}
+use Rattle.histar_lint.specs.Rules.{kind_rules, rules_for, user_place_rules, user_word_rules}
 use Rattle.histar_lint.specs.Laws.{EachBadLineBreaksOne}
 use Rattle.histar_lint.proofs.Rules.{some_broken, or_first, or_second, is_said, in_front, behind, none_at}
 

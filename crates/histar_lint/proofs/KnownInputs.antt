@@ -1,5 +1,5 @@
 -- From the bytes that were taken to the known input.
-use Rattle.std.proofs.Common.{◌≡◌, ℕ, List, Option, Result, Ok, Err, true, false, sym, ap, ◌∙◌, ◌⊎◌, inl, inr}
+use Rattle.std.proofs.Common.{◌≡◌, ℕ, List, Option, Result, Ok, Err, true, false, ap, ◌⊎◌, inl, inr}
 use Rattle.std.specs.Prelude.{Bool, IfSome, is_ok}
 use Rattle.std.specs.Io.KnownBytes.{Keeps}
 use Rattle.histar_script.specs.declared.fault.Fault.{Fault}
@@ -7,7 +7,7 @@ use Rattle.histar_script.specs.declared.fault.Fault.TheVariants.{BadScript, TooL
 use Rattle.histar_script.specs.Reading.{script_of}
 use Rattle.histar_script.specs.Runs.{RunsInput}
 use Rattle.histar_script.proofs.Inputs.{AreLong, input_known}
-use Rattle.histar_lint.specs.Session.{Lints, Writes}
+use Rattle.histar_lint.specs.Session.{Lints}
 
 -- a text that is too long is no bad script
 not_bad : (text : List ℕ) (n : ℕ) → script_of text ≡ Err TooLong → script_of text ≡ Err (BadScript n) → ⊥

@@ -1,5 +1,5 @@
 -- The sentences of the parts of a line, one after another.
-use Rattle.std.proofs.Common.{◌≡◌, ℕ, true, false, List, ◌∷◌, ◌++◌, Option, Some, None, Result, Ok, Err, refl, sym, ap, subst, ◌∙◌}
+use Rattle.std.proofs.Common.{◌≡◌, ℕ, true, false, List, ◌∷◌, ◌++◌, Option, Some, None, Result, sym, ap, ◌∙◌}
 use Rattle.std.specs.Prelude.{IfOk, is_some, option_map}
 use Rattle.std.proofs.lemmas.Result.{IfOk-weaker}
 use Rattle.histar_flat.specs.declared.calls.CallLine.{CallLine}

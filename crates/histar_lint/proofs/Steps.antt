@@ -1,5 +1,5 @@
 -- The result of taking a right line.
-use Rattle.std.proofs.Common.{◌≡◌, ℕ, true, false, List, Option, Some, None, Result, Ok, Err, refl, sym, ap, ◌∙◌}
+use Rattle.std.proofs.Common.{◌≡◌, ℕ, true, false, List, Option, Some, None, Result, Ok, Err, refl, ap, ◌∙◌}
 use Rattle.std.specs.Prelude.{is_some, IfErr, OnOk}
 use Rattle.std.specs.Option.{option_and_then}
 use Rattle.histar_script.specs.declared.fault.Fault.{Fault}

@@ -1,6 +1,6 @@
 -- The rules for the words of a call.
 use Rattle.std.specs.Prelude.{ℕ, Bool, true, false, ◌==◌, List, [], ◌∷◌, ◌++◌, codes, length, Option, None, Some, is_none, is_some, nat_eq}
-use Rattle.std.specs.Prelude.{map, option_map, if◌then◌else◌}
+use Rattle.std.specs.Prelude.{map, if◌then◌else◌}
 use Rattle.std.specs.Option.{option_map_or}
 use Rattle.std.specs.Str.{bytes_eq}
 use Rattle.strsim.specs.Edits.{levenshtein_row}

@@ -3,6 +3,7 @@ ghost use Rattle.std.specs.Prelude.{◌≡◌, ◌++◌, [], IfOk, OnOk, map, op
 ghost use Rattle.std.specs.Option.{option_copied, option_map_or};
 ghost use Rattle.histar_lint.specs.Lines.{first_sentence, rest_of};
 ghost use Rattle.histar_lint.specs.Calls.{argument_rules, bad_argument, call_word_rules, has_too_little, has_too_much, suggestion, unknown_text};
+ghost use Rattle.histar_script.specs.Reading.{call_of};
 ghost use Rattle.histar_lint.specs.Rules.{call_place_rules, is_undeclared, read_so_far};
 
 use crate::shapes::{Kind, Shape, is_value, kind_text, nearest, shape_named, usage_text};
@@ -137,6 +138,14 @@ fn is_undeclared(accounts: &Accounts, call: Option<&UnixCall>) -> bool
     }
 }
 
+/// Checks whether a text is a call that names a group that is not declared.
+fn call_is_undeclared(alloc: Global, accounts: &Accounts, text: &[u8]) -> Result<bool, AllocError>
+    ensures { IfOk result (λ is_so. is_so ≡ is_undeclared accounts.now (call_of text.now)) }
+{
+    let call = read_call(alloc, text)?;
+    Ok(is_undeclared(accounts, call.as_ref()))
+}
+
 /// Returns the sentence of the first rule by which a call line may not be where it is.
 pub(crate) fn call_place_sentence(
     alloc: Global,
@@ -150,8 +159,7 @@ pub(crate) fn call_place_sentence(
     if accounts.users().is_empty() {
         return Ok(Some("a call line before any user line"));
     }
-    let call = read_call(alloc, text)?;
-    if is_undeclared(accounts, call.as_ref()) {
+    if call_is_undeclared(alloc, accounts, text)? {
         return Ok(Some(kind_text(Kind::Mode)));
     }
     Ok(None)

@@ -3,7 +3,7 @@ ghost use Rattle.std.specs.Prelude.{◌≡◌, ◌++◌, IfOk, option_map};
 ghost use Rattle.std.specs.Option.{option_copied};
 ghost use Rattle.histar_flat.specs.Accounts.{is_group};
 ghost use Rattle.histar_script.specs.Lines.{lines_of};
-ghost use Rattle.histar_script.specs.Reading.{has_user};
+ghost use Rattle.histar_script.specs.Reading.{has_user, item_of};
 ghost use Rattle.histar_lint.specs.Lines.{first_sentence};
 ghost use Rattle.histar_lint.specs.Rules.{declared_on, declared_twice, declares, group_place_rules, group_word_rules};
 ghost use Rattle.histar_lint.specs.Rules.{has_stranger, has_twin, is_taken, read_so_far, user_place_rules, user_word_rules};
@@ -53,6 +53,14 @@ fn declares(name: &[u8], item: Option<&Item>) -> bool
     }
 }
 
+/// Checks whether this line declares the user of this name.
+fn line_declares(alloc: Global, line: &[u8], name: &[u8]) -> Result<bool, AllocError>
+    ensures { IfOk result (λ is_so. is_so ≡ declares name.now (item_of line.now)) }
+{
+    let item = read_item(alloc, line)?;
+    Ok(declares(name, item.as_ref()))
+}
+
 /// Returns the number of the first line of a text that declares the user of this name, or one more than there
 /// are lines.
 fn declared_on(alloc: Global, text: &[u8], name: &[u8]) -> Result<usize, AllocError>
@@ -62,8 +70,7 @@ fn declared_on(alloc: Global, text: &[u8], name: &[u8]) -> Result<usize, AllocEr
     let mut number = 1usize;
     'lines: while !rest.is_empty() {
         let (line, after) = split_line(rest);
-        let item = read_item(alloc, line)?;
-        if declares(name, item.as_ref()) {
+        if line_declares(alloc, line, name)? {
             return Ok(number);
         }
         rest = after;

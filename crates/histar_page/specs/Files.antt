@@ -1,5 +1,5 @@
 -- The files on a page, with the rights of processes.
-use Rattle.std.specs.Prelude.{ℕ, Bool, true, false, List, [], ◌∷◌, ◌++◌, ◌==◌, map, unwrap_or, if◌then◌else◌}
+use Rattle.std.specs.Prelude.{ℕ, Bool, false, List, [], ◌∷◌, ◌++◌, ◌==◌, map, unwrap_or, if◌then◌else◌}
 use Rattle.std.specs.List.{flat_map}
 use Rattle.histar_flat.specs.Words.{split_at_first}
 use Rattle.histar_page.specs.declared.kind.Kind.{Kind}
@@ -22,6 +22,10 @@ runners_of (line ∷ lines) = without_first (words_of line)
 -- the process of a cell is in one of these jobs
 abbrev pub is_job_cell : List (List ℕ) → List ℕ → Bool
 is_job_cell jobs cell = is_in_a_job jobs (process_of cell)
+
+-- for each column whether its process is in one of these jobs
+abbrev pub job_columns : List (List ℕ) → List (List ℕ) → List Bool
+job_columns jobs lines = map (is_job_cell jobs) (first_cells lines)
 
 -- the process of the first column is in a job
 abbrev pub first_flag : List Bool → Bool
@@ -86,4 +90,4 @@ table_items flags lines = column_items flags (first_cells lines) ++ flat_map (li
 
 -- the users of these words, and the table below them, with the columns of processes in these jobs set off
 abbrev pub files_items : List (List ℕ) → List (List ℕ) → List (List ℕ) → List Item
-files_items jobs runners lines = map user_item runners ++ table_items (map (is_job_cell jobs) (first_cells lines)) lines
+files_items jobs runners lines = map user_item runners ++ table_items (job_columns jobs lines) lines

@@ -24,13 +24,21 @@ pub record Sources : Type 0 where
 abbrev pub sources_of : Texts → Sources
 sources_of texts = record { name = texts.name.now; version = texts.version.now; script = texts.script.now; output = texts.output.now; table = texts.table.now; secrets = texts.secrets.now }
 
+-- the files, with the jobs of the session and the users of its processes
+abbrev pub files_shown : Sources → List Item
+files_shown sources =
+    files_items (jobs_of (lines_of sources.script) (lines_of sources.output)) (runners_of (lines_of sources.secrets)) (lines_of sources.table)
+
+-- the files, the secrets and the drawing
+abbrev pub rights_shown : Sources → List Item
+rights_shown sources =
+    files_shown sources ++ secrets_items (lines_of sources.secrets)
+    ++ drawing_items (lines_of sources.script) (lines_of sources.output) (lines_of sources.table)
+
 -- What a page shows: its head, the session, the files, the secrets and the drawing.
 pub record IsReport (sources : Sources) (items : List Item) : Type 0 where
   pub session : List Item
-  pub parts : items ≡ head_items sources.name sources.version (lines_of sources.output) ++ session
-      ++ files_items (jobs_of (lines_of sources.script) (lines_of sources.output)) (runners_of (lines_of sources.secrets)) (lines_of sources.table)
-      ++ secrets_items (lines_of sources.secrets)
-      ++ drawing_items (lines_of sources.script) (lines_of sources.output) (lines_of sources.table)
+  pub parts : items ≡ head_items sources.name sources.version (lines_of sources.output) ++ session ++ rights_shown sources
   pub is_session : IsSession (lines_of sources.script) (lines_of sources.output) session
 
 -- The page is written of pieces that show the session. All else in it is fixed text of the program.
@@ -38,3 +46,9 @@ pub record IsPage (sources : Sources) (page : List ℕ) : Type 0 where
   pub pieces : List Piece
   pub written : page ≡ rendered pieces
   pub shows : IsReport sources (items_of pieces)
+
+-- pieces that show these items were written behind the page so far
+pub record AddsItems (old new : List ℕ) (items : List Item) : Type 0 where
+  pub pieces : List Piece
+  pub written : new ≡ old ++ rendered pieces
+  pub shown : items_of pieces ≡ items

@@ -6,8 +6,8 @@ ghost use Rattle.histar_page.specs.Texts.{texts};
 ghost use Rattle.histar_page.specs.Items.{items_of};
 ghost use Rattle.histar_page.specs.Drawing.{first_cells};
 ghost use Rattle.histar_page.specs.Files.{cell_items, cells_items, column_items, column_kind, files_items, first_flag};
-ghost use Rattle.histar_page.specs.Files.{is_job_cell, later_flags, line_items, process_kind, right_item, right_kind};
-ghost use Rattle.histar_page.specs.Files.{row_items, runners_of, stat_item, user_item};
+ghost use Rattle.histar_page.specs.Files.{is_job_cell, job_columns, later_flags, line_items, process_kind, right_item, right_kind};
+ghost use Rattle.histar_page.specs.Files.{row_items, runners_of, stat_item, table_items, user_item};
 ghost use Rattle.histar_page.specs.Lines.{words_of};
 
 use crate::jobs::{is_in_a_job, process_of};
@@ -38,18 +38,31 @@ pub(crate) fn files_pieces<'a>(
         (runners_of (lines_of secrets.entry.now)) (lines_of table.entry.now)) }
 {
     let lines = lines_in(alloc, table)?;
-    let cells = first_cells(alloc, lines.as_slice())?;
-    let flags = job_flags(alloc, jobs, cells.as_slice())?;
     let runners = runners_in(alloc, secrets)?;
     let mut pieces = Vec::new(alloc);
     fix(&mut pieces, Markup::BeginFiles)?;
     push_users(&mut pieces, runners.as_slice())?;
     fix(&mut pieces, Markup::EndUsers)?;
-    push_columns(&mut pieces, flags.as_slice(), cells.as_slice())?;
-    fix(&mut pieces, Markup::EndColumns)?;
-    push_rows(alloc, &mut pieces, flags.as_slice(), lines.as_slice())?;
+    push_table(alloc, &mut pieces, jobs, lines.as_slice())?;
     fix(&mut pieces, Markup::EndFiles)?;
     Ok(pieces)
+}
+
+/// Adds the process of each column and the rows of the table.
+fn push_table<'a>(
+    alloc: Global,
+    pieces: &mut Vec<Piece<'a>>,
+    jobs: &[&'a [u8]],
+    lines: &[&'a [u8]],
+) -> Result<(), AllocError>
+    ensures { OnOk result (items_of pieces.new.items ≡ items_of pieces.old.items
+        ++ table_items (job_columns (texts jobs.now) (texts lines.now)) (texts lines.now)) }
+{
+    let cells = first_cells(alloc, lines)?;
+    let flags = job_flags(alloc, jobs, cells.as_slice())?;
+    push_columns(pieces, flags.as_slice(), cells.as_slice())?;
+    fix(pieces, Markup::EndColumns)?;
+    push_rows(alloc, pieces, flags.as_slice(), lines)
 }
 
 /// Returns the cells of the first line.

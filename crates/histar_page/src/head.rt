@@ -1,10 +1,11 @@
 //! The head of a page.
-ghost use Rattle.std.specs.Prelude.{◌≡◌, ◌≤◌, length, filter, IfOk, count_by};
+ghost use Rattle.std.specs.Prelude.{◌≡◌, ◌≤◌, ◌++◌, ◌∷◌, [], length, filter, IfOk, OnOk, count_by};
 ghost use Rattle.histar_script.specs.Lines.{lines_of};
 ghost use Rattle.histar_page.specs.Texts.{texts};
 ghost use Rattle.histar_page.specs.Items.{items_of};
 ghost use Rattle.histar_page.specs.Lines.{is_denied, is_refused};
-ghost use Rattle.histar_page.specs.Head.{head_items};
+ghost use Rattle.histar_page.specs.Head.{count_items, head_items};
+ghost use Rattle.histar_page.specs.declared.kind.Kind.TheVariants.{FileName, Title};
 
 use crate::kind::Kind;
 use crate::lines::{after_word, is_denied, lines_in, marked_among, replies_among};
@@ -29,20 +30,36 @@ pub(crate) fn head_pieces<'a>(
         ≡ head_items name.entry.now version.entry.now (lines_of output.entry.now)) }
 {
     let lines = lines_in(alloc, output)?;
-    let replies = replies_among(alloc, lines.as_slice())?;
-    let raw_calls = marked_among(alloc, lines.as_slice(), RAW_MARK)?;
     let mut pieces = Vec::new(alloc);
-    fix(&mut pieces, Markup::Begin)?;
-    show(&mut pieces, Kind::Title, name)?;
-    fix(&mut pieces, Markup::Style)?;
-    show(&mut pieces, Kind::FileName, name)?;
-    fix(&mut pieces, Markup::BeginCounts)?;
-    count(&mut pieces, Kind::Calls, replies.len() as u64)?;
-    count(&mut pieces, Kind::Refusals, refusals(replies.as_slice()))?;
-    count(&mut pieces, Kind::Denials, denials(raw_calls.as_slice()))?;
+    push_names(&mut pieces, name)?;
+    push_counts(alloc, &mut pieces, lines.as_slice())?;
     show(&mut pieces, Kind::Version, version)?;
     fix(&mut pieces, Markup::EndHead)?;
     Ok(pieces)
+}
+
+/// Adds the name of the script's file, as the title and as a heading.
+fn push_names<'a>(pieces: &mut Vec<Piece<'a>>, name: &'a [u8]) -> Result<(), AllocError>
+    ensures { OnOk result (items_of pieces.new.items
+        ≡ items_of pieces.old.items ++ (Title, name.now) ∷ (FileName, name.now) ∷ []) }
+{
+    fix(pieces, Markup::Begin)?;
+    show(pieces, Kind::Title, name)?;
+    fix(pieces, Markup::Style)?;
+    show(pieces, Kind::FileName, name)
+}
+
+/// Adds the numbers of calls, of refusals and of denials in these lines of output.
+fn push_counts(alloc: Global, pieces: &mut Vec<Piece>, lines: &[&[u8]]) -> Result<(), AllocError>
+    ensures { OnOk result (items_of pieces.new.items
+        ≡ items_of pieces.old.items ++ count_items (texts lines.now)) }
+{
+    let replies = replies_among(alloc, lines)?;
+    let raw_calls = marked_among(alloc, lines, RAW_MARK)?;
+    fix(pieces, Markup::BeginCounts)?;
+    count(pieces, Kind::Calls, replies.len() as u64)?;
+    count(pieces, Kind::Refusals, refusals(replies.as_slice()))?;
+    count(pieces, Kind::Denials, denials(raw_calls.as_slice()))
 }
 
 /// Checks whether a reply is a refusal: it is neither `ok`, with or without more, nor bytes that were read.

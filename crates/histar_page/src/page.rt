@@ -1,12 +1,13 @@
 //! The whole page.
-ghost use Rattle.std.specs.Prelude.{IfOk};
-ghost use Rattle.histar_page.specs.Page.{IsPage, sources_of};
+ghost use Rattle.std.specs.Prelude.{◌≡◌, IfOk, OnOk};
+ghost use Rattle.histar_page.specs.Items.{items_of};
+ghost use Rattle.histar_page.specs.Page.{AddsItems, IsPage, files_shown, rights_shown, sources_of};
 
 use crate::drawing::drawing_pieces;
 use crate::files::files_pieces;
 use crate::head::head_pieces;
 use crate::jobs::jobs_of;
-use crate::piece::render;
+use crate::piece::{Piece, render};
 use crate::secrets::secrets_pieces;
 use crate::session::session_pieces;
 use std::alloc::{AllocError, Global};
@@ -29,20 +30,41 @@ pub struct Texts<'a> {
 }
 
 /// Returns the page of a session.
+///
+/// A part is freed as soon as it is written.
 pub fn page_text(alloc: Global, texts: &Texts) -> Result<Vec<u8>, AllocError>
     ensures { IfOk result (λ page. IsPage (sources_of texts.now) page.items) }
 {
-    let head = head_pieces(alloc, texts.name, texts.version, texts.output)?;
-    let session = session_pieces(alloc, texts.script, texts.output)?;
-    let jobs = jobs_of(alloc, texts.script, texts.output)?;
-    let files = files_pieces(alloc, jobs.as_slice(), texts.secrets, texts.table)?;
-    let secrets = secrets_pieces(alloc, texts.secrets)?;
-    let drawing = drawing_pieces(alloc, texts.script, texts.output, texts.table)?;
     let mut page = Vec::new(alloc);
-    render(&mut page, head.as_slice())?;
-    render(&mut page, session.as_slice())?;
-    render(&mut page, files.as_slice())?;
-    render(&mut page, secrets.as_slice())?;
-    render(&mut page, drawing.as_slice())?;
+    render(
+        &mut page,
+        head_pieces(alloc, texts.name, texts.version, texts.output)?.as_slice(),
+    )?;
+    render(
+        &mut page,
+        session_pieces(alloc, texts.script, texts.output)?.as_slice(),
+    )?;
+    render_rights(alloc, &mut page, texts)?;
     Ok(page)
+}
+
+/// Adds the parts that show rights: the files, the secrets and the drawing.
+fn render_rights(alloc: Global, page: &mut Vec<u8>, texts: &Texts) -> Result<(), AllocError>
+    ensures { OnOk result (AddsItems page.old.items page.new.items (rights_shown (sources_of texts.now))) }
+{
+    render(page, files_of(alloc, texts)?.as_slice())?;
+    render(page, secrets_pieces(alloc, texts.secrets)?.as_slice())?;
+    render(
+        page,
+        drawing_pieces(alloc, texts.script, texts.output, texts.table)?.as_slice(),
+    )?;
+    Ok(())
+}
+
+/// Returns the pieces of the part that shows files.
+fn files_of<'a>(alloc: Global, texts: &Texts<'a>) -> Result<Vec<Piece<'a>>, AllocError>
+    ensures { IfOk result (λ pieces. items_of pieces.items ≡ files_shown (sources_of texts.now)) }
+{
+    let jobs = jobs_of(alloc, texts.script, texts.output)?;
+    files_pieces(alloc, jobs.as_slice(), texts.secrets, texts.table)
 }

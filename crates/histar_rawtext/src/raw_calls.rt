@@ -27,6 +27,35 @@ fn push_making(line: &mut Vec<u8>, container: ObjId, label: &Label) -> Result<()
     push_label_word(line, label)
 }
 
+/// Adds the words for a container and for the label and the clearance of the new object in it.
+fn push_bounded(
+    line: &mut Vec<u8>,
+    container: ObjId,
+    label: &Label,
+    clearance: &Label,
+) -> Result<(), AllocError>
+    ensures { OnOk result (line.new.items
+        ≡ line.old.items ++ number_word container ++ label_word label.now ++ label_word clearance.now) }
+{
+    push_making(line, container, label)?;
+    push_label_word(line, clearance)
+}
+
+/// Adds the words for the three labels with which a gate is entered.
+fn push_entering(
+    line: &mut Vec<u8>,
+    wanted: &Label,
+    clearance: &Label,
+    verify: &Label,
+) -> Result<(), AllocError>
+    ensures { OnOk result (line.new.items
+        ≡ line.old.items ++ label_word wanted.now ++ label_word clearance.now ++ label_word verify.now) }
+{
+    push_label_word(line, wanted)?;
+    push_label_word(line, clearance)?;
+    push_label_word(line, verify)
+}
+
 /// Returns the name of a raw call.
 fn call_name(call: &RawCall) -> &'static str
     ensures { result.now ≡ call_name call.now }
@@ -62,19 +91,15 @@ fn push_words(line: &mut Vec<u8>, call: &RawCall) -> Result<(), AllocError>
         }
         RawCall::MakeContainer(container, label) => push_making(line, *container, label.label()),
         RawCall::MakeThread(container, label, clearance) => {
-            push_making(line, *container, label.label())?;
-            push_label_word(line, clearance.label())
+            push_bounded(line, *container, label.label(), clearance.label())
         }
         RawCall::MakeGate(container, label, clearance, entry) => {
-            push_making(line, *container, label.label())?;
-            push_label_word(line, clearance.label())?;
+            push_bounded(line, *container, label.label(), clearance.label())?;
             push_entry_word(line, *entry)
         }
         RawCall::Enter(container, gate, wanted, clearance, verify) => {
             push_pair(line, *container, *gate)?;
-            push_label_word(line, wanted.label())?;
-            push_label_word(line, clearance.label())?;
-            push_label_word(line, verify.label())
+            push_entering(line, wanted.label(), clearance.label(), verify.label())
         }
         RawCall::Read(container, segment) => push_pair(line, *container, *segment),
         RawCall::Write(container, segment, keep, bytes) => {

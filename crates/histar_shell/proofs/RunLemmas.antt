@@ -19,12 +19,13 @@ use Rattle.histar_io.specs.Device.{CountsFailure}
 use Rattle.histar_io.specs.Input.{most_taken, TakesAll, TakesSome}
 use Rattle.histar_flat.specs.Accounts.{Accounts}
 use Rattle.histar_shell.specs.declared.session.Options.{Options}
-use Rattle.histar_shell.specs.Ending.{AppendsEnding, BeginsTheEnding}
+use Rattle.histar_shell.specs.Ending.{BeginsTheEnding}
 use Rattle.histar_shell.specs.Outcome.{IsFaultAt, AgreesWith, AnswersScript, BeginsScript, WritesAtFault, WritesAnswers}
 use Rattle.histar_shell.specs.Meaning.{RunsAsMeant}
 use Rattle.histar_shell.specs.Run.{RunsText}
 use Rattle.histar_shell.specs.Machine.{MachineModel, IsStart}
-use Rattle.histar_shell.specs.AnsweredCalls.{AnswersCalls, BeginsAnswers}
+use Rattle.histar_shell.specs.AnsweredCalls.{AnswersCalls}
+use Rattle.histar_shell.specs.AllAnswers.{AnswersAll, BeginsAll}
 use Rattle.histar_syscall.specs.declared.trace.TraceEntry.{TraceEntry}
 use Rattle.histar_flat.specs.declared.calls.CallLine.{CallLine}
 use Rattle.histar_shell.proofs.CallRefinements.{CallsRefine}
@@ -105,57 +106,41 @@ module _ (options : Options) where
       → IsStart accounts m → IsStart script.accounts m
   starts_with m script accounts same starts = subst (λ (declared : Accounts). IsStart declared m) same starts
 
-  -- a beginning of the calls of the script was answered
-  pub begins_script : (old new : Option (List ℕ)) (script : ScriptModel) (start : MachineModel) (calls : List CallLine)
-      → IsStart script.accounts start → calls ≡ script.calls → BeginsAnswers start old new calls
-      → (read : Result ScriptModel Fault) → read ≡ Ok script → BeginsScript options old new read
-  begins_script old new script start calls starts listed begun read is_read =
-      record {
-        script = script;
-        is_read = is_read;
-        start = start;
-        starts = starts;
-        begun = inl (subst (λ (l : List CallLine). BeginsAnswers start old new l) listed begun);
-      }
+  -- the calls were answered, and a beginning of what follows the replies was written
+  pub begins_ending : (old replied new : Option (List ℕ)) (start end : MachineModel) (calls : List CallLine)
+      → AnswersCalls start end old replied calls → BeginsTheEnding options end replied new → BeginsAll options start old new calls
+  begins_ending old replied new start end calls answered begun =
+      inr (record { end = end; replied = replied; answered = answered; ending = begun.0; ends = begun.1; appended = begun.2 })
 
-  -- the calls of the script were answered, and a beginning of what follows the replies was written
-  pub begins_ending : (old replied new : Option (List ℕ)) (script : ScriptModel) (start end : MachineModel)
-      (calls : List CallLine) → IsStart script.accounts start → calls ≡ script.calls
-      → AnswersCalls start end old replied calls → BeginsTheEnding options end replied new
+  -- a beginning of the answers to the script was written
+  pub begins_script : (old new : Option (List ℕ)) (script : ScriptModel) (start : MachineModel) (calls : List CallLine)
+      → IsStart script.accounts start → calls ≡ script.calls → BeginsAll options start old new calls
       → (read : Result ScriptModel Fault) → read ≡ Ok script → BeginsScript options old new read
-  begins_ending old replied new script start end calls starts listed answered begun read is_read = record {
+  begins_script old new script start calls starts listed begun read is_read = record {
     script = script;
     is_read = is_read;
     start = start;
     starts = starts;
-    begun =
-        inr (record {
-          end = end;
-          replied = replied;
-          answered = subst (λ (l : List CallLine). AnswersCalls start end old replied l) listed answered;
-          ending = begun.0;
-          ends = begun.1;
-          appended = begun.2;
-        });
+    begun = subst (λ (l : List CallLine). BeginsAll options start old new l) listed begun;
   }
 
   -- the calls of the script were answered, what follows the replies was written, and the trace is that of the machine at the end
-  pub answers_script : (old replied new : Option (List ℕ)) (script : ScriptModel) (start end : MachineModel)
+  pub answers_script : (old new : Option (List ℕ)) (script : ScriptModel) (start end : MachineModel)
       (calls : List CallLine) (trace : List TraceEntry) → IsStart script.accounts start → calls ≡ script.calls
-      → AnswersCalls start end old replied calls → AppendsEnding options end replied new → trace ≡ end.kernel.trace
+      → AnswersAll options start end old new calls → trace ≡ end.kernel.trace
       → (read : Result ScriptModel Fault) → read ≡ Ok script
       → AnswersScript options old new read trace
-  answers_script old replied new script start end calls trace starts listed answered whole recorded read is_read = record {
+  answers_script old new script start end calls trace starts listed all recorded read is_read = record {
     script = script;
     is_read = is_read;
     start = start;
     starts = starts;
     end = end;
-    replied = replied;
-    answered = subst (λ (l : List CallLine). AnswersCalls start end old replied l) listed answered;
-    ending = whole.0;
-    ends = whole.1;
-    appended = whole.2;
+    replied = all.replied;
+    answered = subst (λ (l : List CallLine). AnswersCalls start end old all.replied l) listed all.answered;
+    ending = all.ended.0;
+    ends = all.ended.1;
+    appended = all.ended.2;
     recorded = recorded;
   }
 

@@ -1,7 +1,7 @@
 -- What is read of the users and groups of some accounts includes no password.
 use Rattle.std.proofs.Common.{◌≡◌, ◌∙◌, ℕ, zero, suc, ◌+◌, ◌*◌, subst, Bool, false, List, [], ◌∷◌, length, cond, Option, None, Some, refl, sym, ap}
 use Rattle.std.proofs.Common.{if◌then◌else◌}
-use Rattle.std.specs.Prelude.{map, not, nat_lt, option_and_then, option_map}
+use Rattle.std.specs.Prelude.{map, not, nat_lt, option_map}
 use Rattle.std.specs.List.{position_or_len}
 use Rattle.std.specs.FinMap as maps
 use Rattle.std.specs.Str.{bytes_eq}

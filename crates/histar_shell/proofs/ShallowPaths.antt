@@ -1,5 +1,5 @@
 -- No path has more names than can be named, after each line that a script can have.
-use Rattle.std.proofs.Common.{◌≡◌, ℕ, ◌≤◌, Bool, true, false, List, [], ◌∷◌, cond, None, Some, Option, arith, inl, inr, ◌≢◌, refl, sym, ap, ◌∙◌}
+use Rattle.std.proofs.Common.{◌≡◌, ℕ, ◌≤◌, Bool, true, false, [], ◌∷◌, cond, None, arith, inl, inr, ◌≢◌, refl, sym, ap, ◌∙◌}
 use Rattle.std.proofs.Common.{subst, length}
 use Rattle.std.specs.Prelude.{not, nat_le, ◌&&◌, IsTrue}
 use Rattle.std.specs.List.{list_all}
@@ -12,7 +12,7 @@ use Rattle.histar_flat.specs.Accounts.{Accounts}
 use Rattle.histar_flat.specs.Files.{get, empty}
 use Rattle.histar_flat.specs.Classes.{Class, Process}
 use Rattle.histar_flat.specs.Classes.Class.{Readable}
-use Rattle.histar_flat.specs.FlatState.{Flat, Node, Content, is_some_and, bytes_at, is_there, into, writes, moved, with_node, with_renamed}
+use Rattle.histar_flat.specs.FlatState.{Flat, Node, Content, is_some_and, bytes_at, moved, with_node, with_renamed}
 use Rattle.histar_flat.specs.FlatState.{without_below}
 use Rattle.histar_flat.specs.FlatState.Content.{Dir, File}
 use Rattle.histar_flat.specs.Effects.{Effect, apply}

@@ -1,5 +1,5 @@
 -- Each file holds as many bytes as a segment can hold, after each line that a script can have.
-use Rattle.std.proofs.Common.{◌≡◌, ℕ, ◌≤◌, Bool, true, false, List, [], ◌∷◌, ◌++◌, cond, None, Some, Option, arith, inl, inr, ◌≢◌, refl, sym, ap, ◌∙◌}
+use Rattle.std.proofs.Common.{◌≡◌, ℕ, ◌≤◌, Bool, true, false, List, [], ◌∷◌, cond, None, Some, arith, inl, inr, ◌≢◌, refl, sym, ap, ◌∙◌}
 use Rattle.std.proofs.Common.{subst, length}
 use Rattle.std.specs.Prelude.{not, nat_le}
 use Rattle.std.proofs.lemmas.Bool.Decides.{nat_tests}
@@ -12,7 +12,7 @@ use Rattle.histar_flat.specs.Accounts.{Accounts}
 use Rattle.histar_flat.specs.Files.{get, insert, empty}
 use Rattle.histar_flat.specs.Classes.{Class, Process}
 use Rattle.histar_flat.specs.Classes.Class.{Readable}
-use Rattle.histar_flat.specs.FlatState.{Flat, Node, Content, bytes_at, is_there, into, writes, moved, with_node, with_renamed, without_below}
+use Rattle.histar_flat.specs.FlatState.{Flat, Node, Content, bytes_at, moved, with_node, with_renamed, without_below}
 use Rattle.histar_flat.specs.FlatState.Content.{Dir, File}
 use Rattle.histar_flat.specs.Effects.{Effect, apply}
 use Rattle.histar_flat.specs.Effects.Effect.{Makes, Stores, Removes, Renames, Wraps}

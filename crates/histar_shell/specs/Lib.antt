@@ -7,3 +7,5 @@ pub mod Ending
 pub mod Outcome
 pub mod Meaning
 pub mod Run
+pub mod CallKinds
+pub mod AllAnswers

@@ -1,6 +1,7 @@
 //! Runs scripts between a source and a sink of bytes.
 #![tactic(auto)]
 
+mod calls;
 mod ending;
 mod machine;
 mod output;

@@ -8,17 +8,17 @@ ghost use Rattle.histar_shell.specs.Meaning.{FollowsMeaning, ShowsStart};
 ghost use Rattle.histar_syscall.specs.KernelModel.{state};
 ghost use Rattle.histar_readout.specs.TreeEntries.{node_bytes};
 
-use histar_calls::{append, create, list, mkdir, read, stat, write};
+use crate::calls::{
+    CallKind, Maker, kind_of, make_entry_call, make_process_call, make_reading_call,
+    make_writing_call,
+};
 use histar_flat::{Accounts, ProcName, Reply, UnixCall, each_call_is_right};
 use histar_label::LabelStore;
 use histar_layout::UserTable;
-use histar_login::{boot, login};
-use histar_moves::{rename, rmdir, rmtree, unlink};
-use histar_process::{exit, kill, spawn, status, whoami};
+use histar_login::boot;
 use histar_programs::{CallError, Caller, Roots, Stopped, find_caller, settle};
 use histar_readout::{TreeNode, bytes_of, tree_of};
 use histar_syscall::{Kernel, TraceEntry};
-use histar_wrap::wrap;
 use std::alloc::{AllocError, Global};
 use std::marker::Model;
 
@@ -104,10 +104,12 @@ impl<S: LabelStore + Drop> Machine<S> {
         ensures means { FollowsMeaning self.old self.new line process.now call result }
     {
         if self.is_stopped {
+            drop(call);
             return Err(Stopped);
         }
         each_call_is_right(&call);
         let Some(caller) = find_caller(&self.kernel, self.roots.home, process) else {
+            drop(call);
             return Ok(Reply::Gone);
         };
         self.kernel.begin(line);
@@ -196,64 +198,16 @@ fn make<S: LabelStore + Drop>(
 ) -> Result<Reply, CallError>
     ensures { Makes users.now roots.now me.now caller.now kernel.old kernel.new call (settled result) }
 {
-    let thread = caller.thread;
-    match call {
-        UnixCall::Create(path, mode) => create::create(
-            alloc,
-            kernel,
-            roots,
-            users,
-            thread,
-            path.names(),
-            mode,
-        ),
-        UnixCall::Mkdir(path, mode) => mkdir::mkdir(
-            alloc,
-            kernel,
-            roots,
-            users,
-            thread,
-            path.names(),
-            mode,
-        ),
-        UnixCall::Read(path) => read::read(alloc, kernel, roots, thread, path.names()),
-        UnixCall::Write(path, bytes) => write::write(
-            alloc,
-            kernel,
-            roots,
-            thread,
-            path.names(),
-            bytes,
-        ),
-        UnixCall::Append(path, bytes) => append::append(
-            alloc,
-            kernel,
-            roots,
-            thread,
-            path.names(),
-            bytes,
-        ),
-        UnixCall::List(path) => list::list(alloc, kernel, roots, thread, path.names()),
-        UnixCall::Stat(path) => stat::stat(kernel, roots, users, thread, path.names()),
-        UnixCall::Unlink(path) => unlink::unlink(alloc, kernel, roots, thread, path.names()),
-        UnixCall::Rmdir(path) => rmdir::rmdir(alloc, kernel, roots, thread, path.names()),
-        UnixCall::Rmtree(path) => rmtree::rmtree(alloc, kernel, roots, thread, path.names()),
-        UnixCall::Rename(path, name) => rename::rename(
-            alloc,
-            kernel,
-            roots,
-            thread,
-            path.names(),
-            &name,
-        ),
-        UnixCall::Spawn => spawn::spawn(alloc, kernel, users, me, caller),
-        UnixCall::Exit(number) => exit::exit(alloc, kernel, caller, number),
-        UnixCall::Status(name) => status::status(kernel, roots, thread, &name),
-        UnixCall::Kill(name) => kill::kill(alloc, kernel, roots, thread, &name),
-        UnixCall::Whoami => whoami::whoami(kernel, users, thread),
-        UnixCall::Login(name, password) => login::login(
-            alloc, kernel, users, caller, name, password,
-        ),
-        UnixCall::Wrap(path) => wrap::wrap(alloc, kernel, roots, users, me, caller, path.names()),
+    let maker = Maker {
+        roots,
+        users,
+        me,
+        caller,
+    };
+    match kind_of(&call) {
+        CallKind::Reading => make_reading_call(alloc, kernel, &maker, call),
+        CallKind::Writing => make_writing_call(alloc, kernel, &maker, call),
+        CallKind::Entries => make_entry_call(alloc, kernel, &maker, call),
+        CallKind::Processes => make_process_call(alloc, kernel, &maker, call),
     }
 }

@@ -2,6 +2,7 @@
 ghost use Rattle.std.specs.Prelude.{◌≡◌, false, IfErr, IfSome, OnOk, OnErr};
 ghost use Rattle.histar_io.specs.Device.{CountsFailure};
 ghost use Rattle.histar_script.specs.Runs.{IsOutputFault, LeavesSink, is_read_failed, is_write_failed, RunsInput};
+ghost use Rattle.histar_shell.specs.AllAnswers.{AnswersAll, BeginsAll, EndsWithTree};
 ghost use Rattle.histar_shell.specs.AnsweredCalls.{AnswersCall, AnswersCalls, BeginsAnswer, BeginsAnswers};
 ghost use Rattle.histar_shell.specs.Run.{RunsText};
 
@@ -97,9 +98,27 @@ fn run_text<S: LabelStore + Drop, W: Sink>(
     let Ok(mut machine) = Machine::boot(alloc, store, accounts) else {
         return Err(Fault::OutOfMemory);
     };
-    answer_calls(alloc, &mut machine, calls, writer)?;
-    write_ending(alloc, &machine, writer, options)?;
+    answer_all(alloc, &mut machine, calls, writer, options)?;
     Ok(machine.into_trace())
+}
+
+/// Makes the calls on the machine in their order, writes a line for each, and then what is asked for.
+fn answer_all<S: LabelStore + Drop, W: Sink>(
+    alloc: Global,
+    machine: &mut Machine<S>,
+    calls: Vec<CallLine>,
+    writer: &mut W,
+    options: Options,
+) -> Result<(), Fault>
+    requires { EndsWithTree machine.now calls.items }
+    ensures ok { OnOk result (AnswersAll options machine.old machine.new (W.written writer.old)
+        (W.written writer.new) calls.items) }
+    ensures err { OnErr result (BeginsAll options machine.old (W.written writer.old) (W.written writer.new) calls.items) }
+    ensures faults { IfErr result IsOutputFault }
+    ensures count { CountsFailure (W.failures writer.old) (W.failures writer.new) (is_write_failed result) }
+{
+    answer_calls(alloc, machine, calls, writer)?;
+    write_ending(alloc, machine, writer, options)
 }
 
 /// Makes the calls on the machine in their order, and writes a line for each.

@@ -1,5 +1,5 @@
 -- Proves the goals of `push_call` of src/call_rules.rt that the search leaves open.
-use Rattle.std.proofs.Common.{◌≡◌, ℕ, List, ◌++◌, codes, sym, ap, ◌∙◌}
+use Rattle.std.proofs.Common.{ℕ, List, ◌++◌, codes, ap, ◌∙◌}
 use Rattle.std.proofs.lemmas.List.{append_assoc}
 use Rattle.histar_lint.proofs.call_rules.push_call.Goals as goal
 

@@ -1,10 +1,8 @@
 -- Proves the goals of `call_sentence` of src/findings.rt that the search leaves open.
 use Rattle.std.proofs.Common.{◌∙◌}
 use Rattle.std.proofs.lemmas.Result.{IfOk-weaker}
-use Rattle.histar_script.specs.Lines.{lines_of}
-use Rattle.histar_lint.specs.Lines.{byte_rules, word_rules}
 use Rattle.histar_lint.specs.Calls.{call_word_rules}
-use Rattle.histar_lint.specs.Rules.{call_place_rules, kind_rules, read_so_far}
+use Rattle.histar_lint.specs.Rules.{call_place_rules, read_so_far}
 use Rattle.histar_lint.proofs.Sayings.{behind_says, front_says}
 use Rattle.histar_lint.proofs.findings.call_sentence.Goals as goal
 

@@ -1,5 +1,5 @@
 -- Proves the goals of `said_at` of src/session.rt that the search leaves open.
-use Rattle.std.proofs.Common.{◌≡◌, ℕ, List, [], suc, ◌+◌, ◌<◌, ◌≤◌, length, sym, ap, subst, ◌∙◌, rules, arith}
+use Rattle.std.proofs.Common.{◌≡◌, length, sym, subst, arith}
 use Rattle.std.proofs.lemmas.Bool.{cases_lt}
 use Rattle.std.proofs.Common.{inl, inr}
 use Rattle.histar_script.specs.Script.{ScriptModel}

@@ -1,5 +1,5 @@
 -- Proves the goals of `write_nodes` of src/ending.rt that the search leaves open.
-use Rattle.std.proofs.Common.{◌≡◌, rules, ℕ, List, take, subst, ◌∙◌, ap}
+use Rattle.std.proofs.Common.{◌≡◌, rules, take, subst, ◌∙◌, ap}
 use Rattle.std.specs.List.{flat_map}
 use Rattle.std.specs.Io.KnownBytes.{Appends}
 use Rattle.std.proofs.lemmas.List.{take_all}

@@ -1,0 +1,171 @@
+//! The calls of a line, by kind: each runs the program of its call.
+ghost use Rattle.std.specs.Prelude.{◌≡◌};
+ghost use Rattle.histar_programs.specs.Refusals.{settled};
+ghost use Rattle.histar_shell.specs.CallKinds.{kind_of};
+ghost use Rattle.histar_shell.specs.Machine.{Makes};
+ghost use Rattle.histar_shell.specs.declared.calls.CallKind.TheVariants.{Entries, Processes, Reading, Writing};
+
+use histar_calls::{append, create, list, mkdir, read, stat, write};
+use histar_flat::{ProcName, Reply, UnixCall};
+use histar_label::LabelStore;
+use histar_layout::UserTable;
+use histar_login::login;
+use histar_moves::{rename, rmdir, rmtree, unlink};
+use histar_process::{exit, kill, spawn, status, whoami};
+use histar_programs::{CallError, Caller, Roots};
+use histar_syscall::Kernel;
+use histar_wrap::wrap;
+use std::alloc::Global;
+
+/// What kind of call a call is.
+#[derive(Clone, Copy)]
+pub(crate) enum CallKind {
+    /// It reads a file or a directory, or asks what is known of one.
+    Reading,
+    /// It makes a file or a directory, or writes a file.
+    Writing,
+    /// It removes or renames an entry of a directory.
+    Entries,
+    /// It is on processes and their users.
+    Processes,
+}
+
+/// The process that makes a call, with the places and the users of its machine.
+#[derive(Clone, Copy)]
+pub(crate) struct Maker<'a> {
+    pub roots: &'a Roots,
+    pub users: &'a UserTable,
+    pub me: &'a ProcName,
+    pub caller: &'a Caller,
+}
+
+/// Returns the kind of a call.
+pub(crate) fn kind_of(call: &UnixCall) -> CallKind
+    ensures { result ≡ kind_of call.now }
+{
+    match call {
+        UnixCall::Read(_) | UnixCall::List(_) | UnixCall::Stat(_) => CallKind::Reading,
+        UnixCall::Create(..) | UnixCall::Mkdir(..) => CallKind::Writing,
+        UnixCall::Write(..) | UnixCall::Append(..) => CallKind::Writing,
+        UnixCall::Unlink(_) | UnixCall::Rmdir(_) => CallKind::Entries,
+        UnixCall::Rmtree(_) | UnixCall::Rename(..) => CallKind::Entries,
+        _ => CallKind::Processes,
+    }
+}
+
+/// Makes a call that reads a file or a directory, or asks what is known of one.
+pub(crate) fn make_reading_call<S: LabelStore + Drop>(
+    alloc: Global,
+    kernel: &mut Kernel<S>,
+    maker: &Maker,
+    call: UnixCall,
+) -> Result<Reply, CallError>
+    requires { kind_of call ≡ Reading }
+    ensures { Makes maker.now.users.now maker.now.roots.now maker.now.me.now maker.now.caller.now
+        kernel.old kernel.new call (settled result) }
+{
+    let Maker {
+        roots,
+        users,
+        caller,
+        ..
+    } = *maker;
+    let thread = caller.thread;
+    match call {
+        UnixCall::Read(path) => read::read(alloc, kernel, roots, thread, path.names()),
+        UnixCall::List(path) => list::list(alloc, kernel, roots, thread, path.names()),
+        UnixCall::Stat(path) => stat::stat(kernel, roots, users, thread, path.names()),
+        _ => unreachable!(),
+    }
+}
+
+/// Makes a call that makes a file or a directory, or writes a file.
+pub(crate) fn make_writing_call<S: LabelStore + Drop>(
+    alloc: Global,
+    kernel: &mut Kernel<S>,
+    maker: &Maker,
+    call: UnixCall,
+) -> Result<Reply, CallError>
+    requires { kind_of call ≡ Writing }
+    ensures { Makes maker.now.users.now maker.now.roots.now maker.now.me.now maker.now.caller.now
+        kernel.old kernel.new call (settled result) }
+{
+    let Maker {
+        roots,
+        users,
+        caller,
+        ..
+    } = *maker;
+    let thread = caller.thread;
+    match call {
+        UnixCall::Create(path, mode) => {
+            create::create(alloc, kernel, roots, users, thread, path.names(), mode)
+        }
+        UnixCall::Mkdir(path, mode) => {
+            mkdir::mkdir(alloc, kernel, roots, users, thread, path.names(), mode)
+        }
+        UnixCall::Write(path, bytes) => {
+            write::write(alloc, kernel, roots, thread, path.names(), bytes)
+        }
+        UnixCall::Append(path, bytes) => {
+            append::append(alloc, kernel, roots, thread, path.names(), bytes)
+        }
+        _ => unreachable!(),
+    }
+}
+
+/// Makes a call on the entries of a directory.
+pub(crate) fn make_entry_call<S: LabelStore + Drop>(
+    alloc: Global,
+    kernel: &mut Kernel<S>,
+    maker: &Maker,
+    call: UnixCall,
+) -> Result<Reply, CallError>
+    requires { kind_of call ≡ Entries }
+    ensures { Makes maker.now.users.now maker.now.roots.now maker.now.me.now maker.now.caller.now
+        kernel.old kernel.new call (settled result) }
+{
+    let Maker { roots, caller, .. } = *maker;
+    let thread = caller.thread;
+    match call {
+        UnixCall::Unlink(path) => unlink::unlink(alloc, kernel, roots, thread, path.names()),
+        UnixCall::Rmdir(path) => rmdir::rmdir(alloc, kernel, roots, thread, path.names()),
+        UnixCall::Rmtree(path) => rmtree::rmtree(alloc, kernel, roots, thread, path.names()),
+        UnixCall::Rename(path, name) => {
+            rename::rename(alloc, kernel, roots, thread, path.names(), &name)
+        }
+        _ => unreachable!(),
+    }
+}
+
+/// Makes a call on processes and their users.
+pub(crate) fn make_process_call<S: LabelStore + Drop>(
+    alloc: Global,
+    kernel: &mut Kernel<S>,
+    maker: &Maker,
+    call: UnixCall,
+) -> Result<Reply, CallError>
+    requires { kind_of call ≡ Processes }
+    ensures { Makes maker.now.users.now maker.now.roots.now maker.now.me.now maker.now.caller.now
+        kernel.old kernel.new call (settled result) }
+{
+    let Maker {
+        roots,
+        users,
+        me,
+        caller,
+    } = *maker;
+    let thread = caller.thread;
+    match call {
+        UnixCall::Spawn => spawn::spawn(alloc, kernel, users, me, caller),
+        UnixCall::Exit(number) => exit::exit(alloc, kernel, caller, number),
+        UnixCall::Status(name) => status::status(kernel, roots, thread, &name),
+        UnixCall::Kill(name) => kill::kill(alloc, kernel, roots, thread, &name),
+        UnixCall::Whoami => whoami::whoami(kernel, users, thread),
+        UnixCall::Login(name, password) => {
+            login::login(alloc, kernel, users, caller, name, password)
+        }
+        UnixCall::Wrap(path) => wrap::wrap(alloc, kernel, roots, users, me, caller, path.names()),
+        _ => unreachable!(),
+    }
+}
