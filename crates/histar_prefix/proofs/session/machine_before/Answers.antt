@@ -3,9 +3,9 @@ use Rattle.std.proofs.Common.{List, subst}
 use Rattle.histar_flat.specs.declared.calls.CallLine.{CallLine}
 use Rattle.histar_flat.specs.Accounts.{Accounts}
 use Rattle.histar_shell.specs.Meaning.{ShowsStart}
-use Rattle.histar_access.specs.Session.{ShowsAfter, calls_before}
-use Rattle.histar_access.proofs.Runs.{machine_of}
-use Rattle.histar_access.proofs.session.machine_before.Goals as goal
+use Rattle.histar_prefix.specs.Prefix.{ShowsAfter, calls_before}
+use Rattle.histar_prefix.proofs.Calling.{machine_of}
+use Rattle.histar_prefix.proofs.session.machine_before.Goals as goal
 
 pub returns : goal.returns
 returns c =

@@ -5,11 +5,14 @@ use Rattle.histar_flat.specs.declared.calls.CallLine.{CallLine}
 use Rattle.histar_flat.specs.declared.calls.UnixCall.{UnixCall}
 use Rattle.histar_flat.specs.declared.replies.Reply.{Reply}
 use Rattle.histar_flat.specs.Words.{ProcName}
-use Rattle.histar_flat.specs.Meaning.{flat_end}
+use Rattle.histar_flat.specs.Meaning.{boot, flat_end}
 use Rattle.histar_flat.proofs.Laws.{states_go_on}
+use Rattle.histar_script.specs.Script.{ScriptModel}
+use Rattle.histar_script.specs.Reading.{script_of}
+use Rattle.histar_rights.proofs.Named.{processes_are_named}
 use Rattle.histar_shell.specs.Machine.{MachineModel}
-use Rattle.histar_shell.specs.Meaning.{FollowsMeaning, Shows}
-use Rattle.histar_access.specs.Session.{ShowsAfter, calls_before, is_before}
+use Rattle.histar_shell.specs.Meaning.{FollowsMeaning, Shows, ShowsStart}
+use Rattle.histar_prefix.specs.Prefix.{IsMachineOf, ShowsAfter, calls_before, is_before}
 
 -- the machine represents the flat state after one call
 pub after_call : (old new : MachineModel) (line : ℕ) (process : ProcName) (call : UnixCall) (reply : Reply)
@@ -40,3 +43,13 @@ left_more at first mid calls c before earlier accounts f shows =
     let none : calls_before at (c ∷ []) ≡ [] = grind (arith, before) in
     subst (λ (cs : List CallLine). Shows accounts mid (flat_end accounts f cs)) (sym (before_more at calls c [] none
     ∙ append-nil (calls_before at calls))) (earlier accounts f shows)
+
+-- a machine that was booted for a script and made its calls represents the flat state after them
+pub machine_of : (at : Option ℕ) (text : List ℕ) (script : ScriptModel) → script_of text ≡ Ok script → (start end : MachineModel)
+    → ShowsStart script.accounts start → ShowsAfter start end (calls_before at script.calls) → IsMachineOf at text end
+machine_of at text script given start end starts after = record {
+  script = script;
+  is_read = given;
+  shows = after script.accounts (boot script.accounts) starts;
+  named = processes_are_named script.accounts (calls_before at script.calls);
+}

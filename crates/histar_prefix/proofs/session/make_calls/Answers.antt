@@ -1,7 +1,7 @@
 -- Proves the goals of `make_calls` of src/session.rt that the search leaves open.
 use Rattle.std.proofs.Common.{sym, ◌∙◌}
-use Rattle.histar_access.proofs.Calling.{left_more, made_more}
-use Rattle.histar_access.proofs.session.make_calls.Goals as goal
+use Rattle.histar_prefix.proofs.Calling.{left_more, made_more}
+use Rattle.histar_prefix.proofs.session.make_calls.Goals as goal
 
 pub calls-preserved-in-Continue-1 : goal.calls-preserved-in-Continue-1
 calls-preserved-in-Continue-1 g c =
