@@ -25,7 +25,7 @@ use Rattle.histar_diff.proofs.ShownTables.{shown_tables_rise}
 use Rattle.histar_access.specs.Diff.{AreChangesOf, BeginsChanges, ChangesAtFault, ComparesInputs, ComparesTaken, ComparesTexts}
 use Rattle.histar_access.specs.Diff.{CountsOneFailure, Inputs, IsFaultOf, IsTableOf, Scripts, StopsAtInput, both_read, scripts_of}
 use Rattle.histar_access.specs.Diff.{WritesChanges}
-use Rattle.histar_access.specs.Session.{calls_before}
+use Rattle.histar_prefix.specs.Prefix.{calls_before}
 use Rattle.histar_access.proofs.Runs.{same_script}
 
 -- the result of `diff`

@@ -1,7 +1,6 @@
 -- The lemmas of this crate.
 pub mod Descent
 pub mod Visiting
-pub mod SameProcesses
 pub mod Matching
 pub mod Tables
 pub mod Writing
@@ -10,7 +9,6 @@ pub mod ShownTables
 pub mod RightsLines
 pub mod Spots
 pub mod SpotRights
-pub mod Calling
 pub mod TableLemmas
 pub mod RowLemmas
 pub mod Pieces

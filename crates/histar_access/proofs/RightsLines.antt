@@ -18,7 +18,7 @@ use Rattle.histar_shell.specs.Machine.{MachineModel}
 use Rattle.histar_access.specs.declared.cells.Cell.{Cell}
 use Rattle.histar_access.specs.Cells.{line_of_node, lines_from, visitors_among}
 use Rattle.histar_access.specs.RightsTable.{ShowsTable, line_rights, runner_of}
-use Rattle.histar_access.specs.Shown.{AreProcessesIn}
+use Rattle.histar_prefix.specs.Listing.{AreProcessesIn}
 use Rattle.histar_access.proofs.ShownTables.{machine_table, runners_found}
 use Rattle.histar_access.proofs.Writing.{next_row}
 

@@ -9,7 +9,6 @@ use Rattle.std.proofs.KnownBytes.{Keeps-refl}
 use Rattle.histar_io.specs.declared.input.InputError.{InputError}
 use Rattle.histar_io.specs.declared.input.InputError.TheVariants as input
 use Rattle.histar_io.specs.Input.{most_taken, TakesAll, TakesSome}
-use Rattle.histar_flat.specs.Meaning.{boot}
 use Rattle.histar_script.specs.declared.fault.Fault.{Fault}
 use Rattle.histar_script.specs.declared.fault.Fault.TheVariants.{BadScript, TooLong, OutOfMemory, ReadFailed, WriteFailed}
 use Rattle.histar_script.specs.Script.{ScriptModel}
@@ -18,11 +17,10 @@ use Rattle.histar_script.specs.Lines.{most_script_bytes}
 use Rattle.histar_script.specs.Reading.{script_of}
 use Rattle.histar_script.specs.Runs.{IsOutputFault, LeavesSink, StopsReading, is_read_failed, is_write_failed, RunsTaken, RunsInput}
 use Rattle.histar_shell.proofs.RunLemmas.{sink_called}
-use Rattle.histar_rights.proofs.Named.{processes_are_named}
 use Rattle.histar_shell.specs.Machine.{MachineModel}
-use Rattle.histar_shell.specs.Meaning.{ShowsStart}
 use Rattle.histar_shell.specs.Outcome.{AgreesWith, IsFaultAt}
-use Rattle.histar_access.specs.Session.{AccessText, BeginsToWrite, IsMachineOf, ShowsAfter, WritesAtFault, WritesTable, calls_before, state_before}
+use Rattle.histar_prefix.specs.Prefix.{IsMachineOf, state_before}
+use Rattle.histar_access.specs.Session.{AccessText, BeginsToWrite, WritesAtFault, WritesTable}
 use Rattle.histar_access.specs.Shown.{AppendsTable, BeginsTable, IsShown}
 
 -- the result of `access`
@@ -94,16 +92,6 @@ module _ (at : Option ℕ) where
   unwritten_text text w = record { faults = tt; writes = inl (Keeps-refl w) }
 
   -- ---- a machine after the calls
-
-  -- a machine that was booted for a script and made its calls represents the flat state after them
-  pub machine_of : (text : List ℕ) (script : ScriptModel) → script_of text ≡ Ok script → (start end : MachineModel) → ShowsStart script.accounts start
-      → ShowsAfter start end (calls_before at script.calls) → IsMachineOf at text end
-  machine_of text script given start end starts after = record {
-    script = script;
-    is_read = given;
-    shows = after script.accounts (boot script.accounts) starts;
-    named = processes_are_named script.accounts (calls_before at script.calls);
-  }
 
   module _ (text : List ℕ) (end : MachineModel) (is : IsMachineOf at text end) where
     -- such a machine represents some flat state

@@ -31,24 +31,22 @@ use Rattle.histar_readout.specs.ProcessLines.{ProcessLine, flat_processes, proce
 use Rattle.histar_readout.specs.Tree.{IsTreeOf, levels_at as tree_levels}
 use Rattle.histar_readout.proofs.FlatTree.{walks_meet_all}
 use Rattle.histar_readout.proofs.OneTree.{states_have_one_tree}
-use Rattle.histar_readout.proofs.ProcessesMatched.{flat_states_have_their_processes}
-use Rattle.histar_readout.proofs.TreeMatched.{flat_states_have_their_trees}
-use Rattle.histar_shell.specs.Ending.{HasTree, IsTreeIn}
+use Rattle.histar_shell.specs.Ending.{IsTreeIn}
 use Rattle.histar_shell.specs.Machine.{MachineModel}
 use Rattle.histar_shell.specs.Meaning.{Shows}
-use Rattle.histar_shell.proofs.SameUsers.{tree_unproved}
 use Rattle.histar_shell.proofs.Users.{is_accounts}
+use Rattle.histar_prefix.proofs.Listed.{filter_map_map, flat_list, flat_tree, tree_here}
+use Rattle.histar_prefix.proofs.SameProcesses.{one_list, processes_unproved}
 use Rattle.histar_access.specs.declared.cells.Cell.{Cell}
 use Rattle.histar_access.specs.Cells.{lines_from, visitors_among}
 use Rattle.histar_access.specs.RightsTable.{runner_of}
 use Rattle.histar_access.specs.Rows.{rows_from}
-use Rattle.histar_access.specs.Shown.{AreVisitors, HasProcesses}
+use Rattle.histar_access.specs.Shown.{AreVisitors}
 use Rattle.histar_access.proofs.Descent.{descent, found_above, found_at}
 use Rattle.histar_access.proofs.Matching.{AreMatched, tree_labelled, tree_matched}
 use Rattle.histar_access.proofs.Runners.{line_runner, runners_listed}
-use Rattle.histar_access.proofs.SameProcesses.{one_list, processes_proved, processes_unproved}
 use Rattle.histar_access.proofs.Tables.{flat_below, lines_matched, map_twice, start, table_lines, value, zipped, zipped_values}
-use Rattle.histar_access.proofs.Visiting.{Visitor, cell_by, cells_are, filter_map_map, named_are, named_by, named_of, running_listed}
+use Rattle.histar_access.proofs.Visiting.{Visitor, cell_by, cells_are, named_are, named_by, named_of, running_listed}
 use Rattle.histar_access.proofs.Visiting.{start_cell, visitors}
 
 module _ (accounts : Accounts) (s : State) (f : Flat) (l : ObjectsMatch accounts s f) where
@@ -129,30 +127,11 @@ module _ (accounts : Accounts) (m : MachineModel) (f : Flat) (shows : Shows acco
   ok = is_accounts accounts shows.declared
 
   -- the tree and the processes of the flat state
-  has_tree : HasTreeOf accounts s f l.category
-  has_tree = flat_states_have_their_trees accounts s f shows.represents shows.shallow
+  abbrev has_tree : HasTreeOf accounts s f l.category
+  has_tree = flat_tree accounts m f shows named
 
-  tree_here : IsTreeIn m has_tree.tree
-  tree_here =
-      subst (λ (users : Accounts). IsTreeOf users s m.roots has_tree.tree) (sym shows.users)
-      (tree_unproved accounts s m.roots has_tree.tree
-      (subst (λ (roots : Roots). IsTreeOf accounts s roots has_tree.tree) (sym shows.roots) has_tree.is_tree))
-
-  -- the machine has a tree
-  pub tree_there : HasTree m
-  tree_there = (has_tree.tree, tree_here)
-
-  has_processes : HasProcessesOf accounts s f l.category
-  has_processes = flat_states_have_their_processes accounts s f shows.represents named
-
-  -- the machine has processes
-  pub processes_there : HasProcesses m
-  processes_there = (
-    has_processes.processes,
-    subst (λ (users : Accounts). AreProcessesOf users s m.roots has_processes.processes) (sym shows.users)
-        (processes_proved accounts s m.roots has_processes.processes
-        (subst (λ (roots : Roots). AreProcessesOf accounts s roots has_processes.processes) (sym shows.roots) has_processes.are_processes)),
-  )
+  abbrev has_processes : HasProcessesOf accounts s f l.category
+  has_processes = flat_list accounts m f shows named
 
   -- the names of processes
   abbrev names : List ProcessNode → List ProcName
@@ -200,5 +179,5 @@ module _ (accounts : Accounts) (m : MachineModel) (f : Flat) (shows : Shows acco
       (Directory (roots_of (length accounts.users)).slash.container
       (roots_of (length accounts.users)).slash.listing) has_tree.tree has_tree.is_tree in
       let match = tree_matched accounts s f l ok has_tree.tree labelled has_tree.same has_tree.lines in
-      (λ i. lines_from s ((are.2 ∙ cells_found are.0 are.1) i) [] (states_have_one_tree m.users s m.roots tree has_tree.tree is tree_here i))
+      (λ i. lines_from s ((are.2 ∙ cells_found are.0 are.1) i) [] (states_have_one_tree m.users s m.roots tree has_tree.tree is (tree_here accounts m f shows named) i))
       ∙ lines_are accounts s f l (few_bytes f shows.small) ok vs shows.shallow has_tree.tree match (named_found are.0 are.1)

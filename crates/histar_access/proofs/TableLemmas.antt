@@ -9,8 +9,10 @@ use Rattle.histar_readout.specs.declared.tree.TreeNode.{TreeNode}
 use Rattle.histar_shell.specs.Ending.{HasTree, IsTreeIn}
 use Rattle.histar_shell.specs.Machine.{MachineModel}
 use Rattle.histar_access.specs.declared.cells.Cell.{Cell}
-use Rattle.histar_access.specs.Shown.{AppendsTable, AreVisitors, BeginsTable, HasProcesses, IsShown}
-use Rattle.histar_access.proofs.ShownTables.{machine_table, processes_there, tree_there}
+use Rattle.histar_prefix.specs.Listing.{HasProcesses}
+use Rattle.histar_prefix.proofs.Listed.{processes_there, tree_there}
+use Rattle.histar_access.specs.Shown.{AppendsTable, AreVisitors, BeginsTable, IsShown}
+use Rattle.histar_access.proofs.ShownTables.{machine_table}
 use Rattle.histar_access.proofs.Writing.{whole}
 
 -- nothing was written

@@ -23,11 +23,6 @@ use Rattle.histar_rights.specs.Running.{Named, and_children, itself, running_fro
 use Rattle.histar_readout.specs.ProcessLines.{ProcessLine, flat_processes, with_children}
 use Rattle.histar_access.specs.declared.cells.Cell.{Cell}
 
--- mapping a function and then filtering is filtering by their composition
-pub filter_map_map : {A B C : Type 0} (g : B → Option C) (h : A → B) (xs : List A) → filter_map g (map h xs) ≡ filter_map (λ x. g (h x)) xs
-filter_map_map g h [] = refl
-filter_map_map g h (x ∷ xs) = ap (cons_option (g (h x))) (filter_map_map g h xs)
-
 module _ (accounts : Accounts) (s : State) (f : Flat) (l : ObjectsMatch accounts s f) where
   -- a running process, with its thread
   pub record Visitor : Type 0 where

@@ -14,7 +14,7 @@ use Rattle.histar_diff.specs.declared.table.Table.{Table}
 use Rattle.histar_diff.specs.Changes.{AreChanges}
 use Rattle.histar_diff.specs.Shown.{ShowsRights}
 use Rattle.histar_diff.specs.Texts.{differences_text}
-use Rattle.histar_access.specs.Session.{state_before}
+use Rattle.histar_prefix.specs.Prefix.{state_before}
 
 -- ---- two scripts
 

@@ -8,23 +8,15 @@ use Rattle.histar_syscall.specs.KernelModel.{state}
 use Rattle.histar_rights.specs.Running.{HaveShownNames}
 use Rattle.histar_rights.specs.Table.{access_table, access_text}
 use Rattle.histar_readout.specs.declared.process.ProcessNode.{ProcessNode}
-use Rattle.histar_readout.specs.Processes.{AreProcessesOf}
 use Rattle.histar_shell.specs.Machine.{MachineModel}
 use Rattle.histar_shell.specs.Meaning.{Shows}
+use Rattle.histar_prefix.specs.Listing.{AreProcessesIn}
 use Rattle.histar_access.specs.declared.cells.Cell.{Cell}
 use Rattle.histar_access.specs.Cells.{visitors_among}
 
 -- a machine represents some flat state, whose processes have names that can be shown
 abbrev pub IsShown : MachineModel → Type 0
 IsShown m = (accounts : Accounts) × (f : Flat) × Shows accounts m f × HaveShownNames f
-
--- the objects of a machine's kernel list these processes from process 0 on
-abbrev pub AreProcessesIn : MachineModel → List ProcessNode → Type 0
-AreProcessesIn m processes = AreProcessesOf m.users (state m.kernel) m.roots processes
-
--- the objects of a machine's kernel list some processes
-abbrev pub HasProcesses : MachineModel → Type 0
-HasProcesses m = (processes : List ProcessNode) × AreProcessesIn m processes
 
 -- the cells of the running ones of these processes of a machine
 abbrev pub visitors_in : MachineModel → List ProcessNode → List Cell

@@ -8,9 +8,9 @@ ghost use Rattle.histar_diff.specs.Texts.{differences_text};
 ghost use Rattle.histar_access.specs.Diff.{ComparesInputs, ComparesTexts, CountsOneFailure, ReadsTable};
 
 use crate::rights_table::table_of;
-use crate::session::machine_before;
 use histar_diff::{Difference, Table, differences_between, push_difference};
 use histar_io::{Sink, Source, read_input, write_bytes};
+use histar_prefix::machine_before;
 use histar_script::Fault;
 use std::alloc::Global;
 

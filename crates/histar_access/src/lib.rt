@@ -12,4 +12,4 @@ mod table;
 pub use cells::Cell;
 pub use changes::diff;
 pub use one_path::rights_of;
-pub use session::{access, machine_before};
+pub use session::access;

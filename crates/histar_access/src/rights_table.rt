@@ -9,9 +9,10 @@ ghost use Rattle.histar_access.specs.Shown.{IsShown};
 ghost use Rattle.histar_access.specs.RightsTable.{line_rights, runner_of, ShowsTable};
 
 use crate::cells::{Cell, row_below};
-use crate::table::{last_row, processes, visitors_among};
+use crate::table::{last_row, visitors_among};
 use histar_diff::{Runner, Table, TableLine};
 use histar_label::LabelStore;
+use histar_prefix::processes;
 use histar_readout::{Life, ProcessNode, TreeNode};
 use histar_rights::Rights;
 use histar_shell::Machine;

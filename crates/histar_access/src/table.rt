@@ -8,15 +8,15 @@ ghost use Rattle.histar_script.specs.Runs.{IsOutputFault, is_write_failed};
 ghost use Rattle.histar_syscall.specs.KernelModel.{state};
 ghost use Rattle.histar_access.specs.Cells.{line_of_node, lines_from, visitor_at};
 ghost use Rattle.histar_access.specs.Rows.{last_or};
-ghost use Rattle.histar_access.specs.Shown.{AppendsTable, AreProcessesIn, BeginsTable};
-ghost use Rattle.histar_access.specs.Shown.{HasProcesses, IsShown, visitors_in};
+ghost use Rattle.histar_access.specs.Shown.{AppendsTable, BeginsTable, IsShown, visitors_in};
 
 use crate::cells::{Cell, push_cells, row_below};
 use histar_flat::ProcName;
 use histar_io::{Sink, write_bytes};
 use histar_label::LabelStore;
+use histar_prefix::processes;
 use histar_programs::find_caller;
-use histar_readout::{ProcessNode, TreeNode, procs_of};
+use histar_readout::{ProcessNode, TreeNode};
 use histar_rights::Rights;
 use histar_script::Fault;
 use histar_shell::{Machine, push_path, push_stat};
@@ -42,20 +42,6 @@ pub fn write_table<S: LabelStore + Drop, W: Sink>(
     let processes = processes(alloc, machine)?;
     let visitors = visitors_among(alloc, machine, processes.as_slice())?;
     write_lines(alloc, machine, visitors.as_slice(), tree.as_slice(), writer)
-}
-
-/// Returns the processes of a machine, in the order of their names.
-pub(crate) fn processes<S: LabelStore + Drop>(
-    alloc: Global,
-    machine: &Machine<S>,
-) -> Result<Vec<ProcessNode>, AllocError>
-    requires { HasProcesses machine.now }
-    ensures { IfOk result (λ processes. AreProcessesIn machine.now processes.items) }
-{
-    match procs_of(alloc, machine.kernel(), machine.roots(), machine.users())? {
-        Some(processes) => Ok(processes),
-        None => unreachable!(),
-    }
 }
 
 /// Returns the processes that run, each with its thread.

@@ -1,13 +1,10 @@
 //! The text of a difference.
 ghost use Rattle.std.specs.Prelude.{◌≡◌, ◌++◌, OnOk};
-ghost use Rattle.std.specs.Fmt.{decimal};
-ghost use Rattle.histar_flat.specs.Texts.{names_text, path_text, process_text};
 ghost use Rattle.histar_diff.specs.Texts.{change_text, difference_text};
 
 use crate::differences::Difference;
-use histar_flat::{Name, Path, ProcName};
 use histar_rights::Rights;
-use itoa::Buffer;
+use histar_texts::{push_path, push_process};
 use std::alloc::AllocError;
 
 /// Adds the line of a difference: the path, the process, its user, and its rights in the old and in
@@ -32,46 +29,4 @@ fn push_change(line: &mut Vec<u8>, before: Rights, after: Rights) -> Result<(), 
     line.extend_from_slice(b" ")?;
     after.push_letters(line)?;
     line.extend_from_slice(b"\n")
-}
-
-/// Adds a number, in decimal digits.
-fn push_number(line: &mut Vec<u8>, number: u32) -> Result<(), AllocError>
-    ensures { OnOk result (line.new.items ≡ line.old.items ++ decimal number) }
-{
-    let mut digits = Buffer::new();
-    line.extend_from_slice(digits.format(number).as_bytes())
-}
-
-/// Adds a process's name: 0, and a dot before each further number.
-fn push_process(line: &mut Vec<u8>, process: &ProcName) -> Result<(), AllocError>
-    ensures { OnOk result (line.new.items ≡ line.old.items ++ process_text process.now) }
-{
-    let numbers = process.numbers();
-    line.extend_from_slice(b"0")?;
-    for i in 0..numbers.len() {
-        line.extend_from_slice(b".")?;
-        push_number(line, u32::from(numbers[numbers.len() - 1 - i]))?;
-    }
-    Ok(())
-}
-
-/// Adds the names of a path, of which the last comes first, each after a slash.
-fn push_names(line: &mut Vec<u8>, names: &[Name]) -> Result<(), AllocError>
-    ensures { OnOk result (line.new.items ≡ line.old.items ++ names_text names.now) }
-{
-    for i in 0..names.len() {
-        line.extend_from_slice(b"/")?;
-        line.extend_from_slice(names[names.len() - 1 - i].as_bytes())?;
-    }
-    Ok(())
-}
-
-/// Adds a path, each name after a slash.
-fn push_path(line: &mut Vec<u8>, path: &Path) -> Result<(), AllocError>
-    ensures { OnOk result (line.new.items ≡ line.old.items ++ path_text path.now) }
-{
-    match path.names() {
-        [] => line.extend_from_slice(b"/"),
-        names => push_names(line, names),
-    }
 }

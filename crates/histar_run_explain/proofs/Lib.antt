@@ -1,10 +1,7 @@
 -- The lemmas of this crate.
-pub mod Parts
-pub mod Remembering
 pub mod Replays
 pub mod Turns
 pub mod Scripts
+pub mod WholeRuns
 pub mod TextRuns
-pub mod NamedCategories
-pub mod NamedObjects
 pub mod Outputs

@@ -13,9 +13,8 @@ use Rattle.histar_syscall.specs.declared.trace.TraceEntry.{TraceEntry}
 use Rattle.histar_syscall.specs.KernelModel.{KernelModel, state}
 use Rattle.histar_syscall.specs.Runs.{IsRun, IsMade}
 use Rattle.histar_syscall.proofs.OneEnd.{one_end}
-use Rattle.std.specs.Prelude.{IfOk, OnOk}
+use Rattle.std.specs.Prelude.{OnOk}
 use Rattle.std.proofs.lemmas.Bool.{true≢false}
-use Rattle.std.specs.Global.{Vec}
 use Rattle.histar_explain.specs.declared.explanations.Explanation.{Explanation}
 use Rattle.histar_explain.specs.Explanations.{ExplainsDenial}
 use Rattle.histar_raw_explain.specs.Texts.{Words, explanation_text}

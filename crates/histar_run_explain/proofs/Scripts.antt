@@ -31,10 +31,10 @@ use Rattle.histar_shell.proofs.RefinedRuns.{run_after, refinements_run}
 use Rattle.histar_shell.proofs.SessionMeanings.{boot_trace, whole_is, longer_front, answers_begin}
 use Rattle.histar_shell.proofs.Starts.{start_is_matched, start_shows}
 use Rattle.histar_shell.proofs.Users.{AreScriptable}
-use Rattle.histar_run_explain.specs.Births.{Births, births_after}
-use Rattle.histar_run_explain.specs.Clues.{clue_of}
+use Rattle.histar_names.specs.Births.{Births, births_after}
+use Rattle.histar_names.specs.Clues.{clue_of}
 use Rattle.histar_run_explain.specs.Entries.{ExplainsEntries}
-use Rattle.histar_run_explain.specs.NamedWords.{words_at}
+use Rattle.histar_names.specs.NamedWords.{words_at}
 use Rattle.histar_run_explain.specs.Session.{births_by, ExplainsInTurn, ExplainsCalls, ExplainsLine}
 use Rattle.histar_run_explain.specs.Run.{births_of, words_of, ExplainsCallLines, ExplainsTrace, ExplainsAs}
 use Rattle.histar_run_explain.proofs.Turns.{answers_calls}

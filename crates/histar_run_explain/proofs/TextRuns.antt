@@ -21,17 +21,16 @@ use Rattle.histar_script.specs.Reading.{script_of}
 use Rattle.histar_script.specs.Runs.{IsOutputFault, LeavesSink, StopsReading, is_read_failed, RunsTaken, RunsInput}
 use Rattle.histar_shell.proofs.RunLemmas.{sink_called}
 use Rattle.histar_shell.specs.AnsweredCalls.{BeginsAnswers}
-use Rattle.histar_shell.specs.Ending.{AppendsEnding, BeginsTheEnding, HasTree}
+use Rattle.histar_shell.specs.Ending.{AppendsEnding, BeginsTheEnding}
 use Rattle.histar_shell.specs.Machine.{MachineModel, IsStart, IsTraced}
 use Rattle.histar_shell.specs.Outcome.{AgreesWith, IsFaultAt}
 use Rattle.histar_shell.specs.declared.session.Options.{Options}
 use Rattle.histar_shell.proofs.CallRefinements.{calls_refine}
 use Rattle.histar_shell.proofs.SessionMeanings.{booted_traced, tree_at_last}
 use Rattle.histar_shell.proofs.Users.{script_says}
-use Rattle.histar_run_explain.specs.Births.{Births}
-use Rattle.histar_run_explain.specs.Session.{ExplainsCalls}
+use Rattle.histar_names.specs.Births.{Births}
+use Rattle.histar_run_explain.specs.Session.{BeginsRun, EndsWithTree, ExplainsCalls, WritesRun}
 use Rattle.histar_run_explain.specs.Run.{ExplainsText, ExplainsScript, BeginsExplained, ExplainsAtFault}
-use Rattle.histar_run_explain.proofs.Turns.{answers_calls}
 use Rattle.histar_run_explain.proofs.Scripts.{all_explained, front_explained, ending_begun, replies_begun}
 
 -- what `explain_script` returns
@@ -109,7 +108,7 @@ module _ (options : Options) where
     begins WriteFailed old new h b = record { faults = ap is_ok given; writes = b }
 
     -- the first lines were answered
-    pub begun_replies : (f : Fault) (old new : Option (List ℕ)) → IsOutputFault f → BeginsAnswers start old new calls
+    begun_replies : (f : Fault) (old new : Option (List ℕ)) → IsOutputFault f → BeginsAnswers start old new calls
         → ExplainsText options text old new (Err f)
     begun_replies f old new h b =
         let says = script_says text script given in
@@ -125,14 +124,8 @@ module _ (options : Options) where
       all_lines : ExplainsCalls start end old replied script.calls lines born
       all_lines = subst (λ (cs : List CallLine). ExplainsCalls start end old replied cs lines born) calls_are all
 
-      -- all lines were answered, so the machine has a tree
-      pub has_tree : HasTree end
-      has_tree =
-          tree_at_last calls_refine text script given start end started calls calls_are old replied
-          (answers_calls start end old replied calls lines born all)
-
       -- a beginning of what follows the replies was written
-      pub begun_ending : (f : Fault) (new : Option (List ℕ)) → IsOutputFault f → BeginsTheEnding options end replied new
+      begun_ending : (f : Fault) (new : Option (List ℕ)) → IsOutputFault f → BeginsTheEnding options end replied new
           → ExplainsText options text old new (Err f)
       begun_ending f new h b =
           let says = script_says text script given in
@@ -144,7 +137,7 @@ module _ (options : Options) where
           })
 
       -- all that, and a beginning of the explanations, was written
-      pub begun_explanations : (f : Fault) (mid new : Option (List ℕ)) → IsOutputFault f
+      begun_explanations : (f : Fault) (mid new : Option (List ℕ)) → IsOutputFault f
           → AppendsEnding options end replied mid → AppendsFront mid new lines
           → ExplainsText options text old new (Err f)
       begun_explanations f mid new h ending b =
@@ -157,7 +150,7 @@ module _ (options : Options) where
           })
 
       -- all explanations were written
-      pub explained_text : (mid new : Option (List ℕ)) → AppendsEnding options end replied mid → Appends mid new lines
+      explained_text : (mid new : Option (List ℕ)) → AppendsEnding options end replied mid → Appends mid new lines
           → ExplainsText options text old new (Ok tt)
       explained_text mid new ending written =
           let says = script_says text script given in
@@ -171,12 +164,30 @@ module _ (options : Options) where
             };
           }
 
-      -- the text was explained, whatever writing the explanations returns
-      pub last_written : (mid new : Option (List ℕ)) (bytes : List ℕ) → bytes ≡ lines → (r : Answer)
-          → AppendsEnding options end replied mid → OnOk r (Appends mid new bytes)
-          → OnErr r (AppendsFront mid new bytes) → IfErr r IsOutputFault → ExplainsText options text old new r
-      last_written mid new bytes same (Ok done) ending a b h = explained_text mid new ending (subst (Appends mid new) same a)
-      last_written mid new bytes same (Err f) ending a b h = begun_explanations f mid new h ending (subst (AppendsFront mid new) same b)
+    -- each machine that has answered the lines has a tree
+    pub ends_with_tree : EndsWithTree start calls
+    ends_with_tree end old new answered = tree_at_last calls_refine text script given start end started calls calls_are old new answered
+
+    -- all was written
+    whole_run : (old new : Option (List ℕ)) → WritesRun options start old new calls → ExplainsText options text old new (Ok tt)
+    whole_run old new run =
+        explained_text old run.replied run.end run.text run.born run.answered run.rest.ended new run.rest.ending
+        run.rest.explanations
+
+    -- a beginning of the replies, of what follows them or of the explanations was written
+    begun_run : (f : Fault) (old new : Option (List ℕ)) → IsOutputFault f → BeginsRun options start old new calls
+        → ExplainsText options text old new (Err f)
+    begun_run f old new h (inl b) = begun_replies f old new h b
+    begun_run f old new h (inr run) = elim run.rest [
+      | inl b ↦ begun_ending old run.replied run.end run.text run.born run.answered f new h b
+      | inr b ↦ begun_explanations old run.replied run.end run.text run.born run.answered f b.ended new h b.ending b.explanations
+    ]
+
+    -- the text was explained, whatever the run of its calls returns
+    pub run_ends : (old new : Option (List ℕ)) (r : Answer) → OnOk r (WritesRun options start old new calls)
+        → OnErr r (BeginsRun options start old new calls) → IfErr r IsOutputFault → ExplainsText options text old new r
+    run_ends old new (Ok done) whole begun h = whole_run old new whole
+    run_ends old new (Err f) whole begun h = begun_run f old new h begun
 
   -- ---- an input that is taken
 

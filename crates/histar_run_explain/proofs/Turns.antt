@@ -1,5 +1,5 @@
 -- A machine answers call lines in turn, and each is explained.
-use Rattle.std.proofs.Common.{◌≡◌, ℕ, ◌≤◌, Bool, true, false, List, [], ◌∷◌, ◌++◌, length, drop, Option, None, Some, Result, Ok, refl, sym, ap, ◌∙◌}
+use Rattle.std.proofs.Common.{◌≡◌, ℕ, ◌≤◌, Bool, true, false, List, [], ◌∷◌, ◌++◌, length, drop, Option, None, Some, Result, Ok, Err, refl, sym, ap, ◌∙◌}
 use Rattle.std.proofs.Common.{subst, append-nil, append_assoc, arith}
 use Rattle.std.proofs.lemmas.List.{length-append}
 use Rattle.std.proofs.lemmas.Grind.{flat_map-append}
@@ -11,8 +11,10 @@ use Rattle.histar_flat.specs.declared.calls.CallLine.{CallLine}
 use Rattle.histar_flat.specs.declared.calls.UnixCall.{UnixCall}
 use Rattle.histar_flat.specs.declared.replies.Reply.{Reply}
 use Rattle.histar_flat.specs.Meaning.{RepliedCall}
+use Rattle.histar_flat.specs.Accounts.{Accounts}
 use Rattle.histar_flat.specs.Words.{ProcName}
 use Rattle.histar_object.specs.State.{State, empty_state}
+use Rattle.histar_programs.specs.declared.roots.Roots.{Roots}
 use Rattle.histar_programs.specs.declared.caller.Caller.{Caller}
 use Rattle.histar_programs.specs.Caller.{caller_at}
 use Rattle.histar_syscall.specs.declared.trace.TraceEntry.{TraceEntry}
@@ -24,12 +26,12 @@ use Rattle.histar_shell.specs.Machine.{MachineModel, AnswersFound, AnswersIf, An
 use Rattle.histar_shell.proofs.AnswerLemmas.{calls_more}
 use Rattle.histar_shell.proofs.TraceRuns.{GoesBy, by_program}
 use Rattle.histar_raw_explain.specs.Texts.{Words}
-use Rattle.histar_run_explain.specs.Births.{Births}
-use Rattle.histar_run_explain.specs.declared.clues.Clue.{Clue}
-use Rattle.histar_run_explain.specs.Clues.{clue_of}
-use Rattle.histar_run_explain.specs.NamedWords.{words_at}
+use Rattle.histar_names.specs.Births.{Births}
+use Rattle.histar_names.specs.declared.clues.Clue.{Clue}
+use Rattle.histar_names.specs.Clues.{clue_of}
+use Rattle.histar_names.specs.NamedWords.{words_at}
 use Rattle.histar_run_explain.specs.Entries.{AddsEntries, ExplainsEntries, IsRunFrom, EndsAsRun}
-use Rattle.histar_run_explain.specs.Session.{births_by, words_after, ExplainsLine, ExplainsInTurn, ExplainsCall, ExplainsCalls}
+use Rattle.histar_run_explain.specs.Session.{births_by, words_after, ExplainsLine, ExplainsInTurn, ExplainsCall, ExplainsCalls, HasExplained}
 
 -- what is after the front of a list
 dropped : (front back : List TraceEntry) → drop (length front) (front ++ back) ≡ back
@@ -114,11 +116,19 @@ module _ (old new : MachineModel) (a b : Option (List ℕ)) (asked : CallLine) (
 pub line_begins : (old new : MachineModel) (a b : Option (List ℕ)) (asked : CallLine) → AnswersCall old new a b asked → BeginsAnswer old new a b asked
 line_begins old new a b asked one = record { outcome = Ok one.reply; answered = one.answered; written = whole_front a b _ one.written }
 
--- the same entries have the same explanations and end
-module _ (words : Words) (s last : State) (es fs : List TraceEntry) (same : es ≡ fs) where
+-- the names of objects and categories are those of the machine that lends its parts
+pub words_lent : (m : MachineModel) (clue : Clue) (births : Births) {users : Accounts} {roots : Roots} {k : KernelModel}
+    → users ≡ m.users → roots ≡ m.roots → k ≡ m.kernel
+    → words_at users roots (state k) clue births ≡ words_at m.users m.roots (state m.kernel) clue births
+words_lent m clue births lent found at = λ i. words_at (lent i) (found i) (state (at i)) clue births
+
+-- the same entries have the same explanations, in the same words, and the same end
+module _ {words other : Words} (named : words ≡ other) (s last : State) {es fs : List TraceEntry} (same : es ≡ fs) where
   pub entries_are : {X E : Type 0} (r : Result X E) (old new : List ℕ) → OnOk r (AddsEntries words s es last old new)
-      → OnOk r (AddsEntries words s fs last old new)
-  entries_are r old new h = subst (λ (l : List TraceEntry). OnOk r (AddsEntries words s l last old new)) same h
+      → OnOk r (AddsEntries other s fs last old new)
+  entries_are r old new h =
+      subst (λ (w : Words). OnOk r (AddsEntries w s fs last old new)) named
+      (subst (λ (l : List TraceEntry). OnOk r (AddsEntries words s l last old new)) same h)
 
 pub ends_are : {X E : Type 0} (r : Result X E) (s last : State) (es fs : List TraceEntry) → es ≡ fs
     → OnOk r (EndsAsRun s es last) → OnOk r (EndsAsRun s fs last)
@@ -192,6 +202,13 @@ module _ (mid last : MachineModel) (born : Births) (a : RepliedCall) (lines : Li
 -- the text of one more answer
 text_more : (answers : List RepliedCall) (a : RepliedCall) → answers_text (answers ++ a ∷ []) ≡ answers_text answers ++ answer_text a
 text_more answers a = flat_map-append answer_text answers (a ∷ []) ∙ ap (λ (l : List ℕ). answers_text answers ++ l) (append-nil (answer_text a))
+
+-- what an outcome says of the explanations and the births, without the births
+pub has_explained : {X E : Type 0} (r : Result X E) (m end : MachineModel) (a b : Option (List ℕ)) (calls : List CallLine)
+    (text : List ℕ) (born : Births) → OnOk r (ExplainsCalls m end a b calls text born)
+    → OnOk r (HasExplained m end a b calls text)
+has_explained (Ok x) m end a b calls text born h = (born, h)
+has_explained (Err e) m end a b calls text born h = tt
 
 -- one line more
 module _ (first mid last : MachineModel) (a b c : Option (List ℕ)) (calls : List CallLine) (call : CallLine)

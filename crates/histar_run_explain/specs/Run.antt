@@ -21,10 +21,10 @@ use Rattle.histar_shell.specs.Ending.{asked_trace}
 use Rattle.histar_shell.specs.Meaning.{IsMeantTrace, meaning_text}
 use Rattle.histar_shell.specs.Outcome.{AgreesWith}
 use Rattle.histar_raw_explain.specs.Texts.{Words}
-use Rattle.histar_run_explain.specs.Births.{Births, births_after}
-use Rattle.histar_run_explain.specs.Clues.{clue_of}
+use Rattle.histar_names.specs.Births.{Births, births_after}
+use Rattle.histar_names.specs.Clues.{clue_of}
 use Rattle.histar_run_explain.specs.Entries.{ExplainsEntries}
-use Rattle.histar_run_explain.specs.NamedWords.{words_at}
+use Rattle.histar_names.specs.NamedWords.{words_at}
 
 -- the names of objects and categories in the state after a line
 abbrev pub words_of : Accounts → State → CallLine → Births → Words

@@ -6,19 +6,19 @@ ghost use Rattle.histar_io.specs.Writing.{AppendsFront};
 ghost use Rattle.histar_script.specs.Runs.{IsOutputFault, LeavesSink, RunsInput, is_read_failed, is_write_failed};
 ghost use Rattle.histar_syscall.specs.KernelModel.{state};
 ghost use Rattle.histar_shell.specs.AnsweredCalls.{BeginsAnswer, BeginsAnswers};
+ghost use Rattle.histar_shell.specs.Ending.{HasTree};
 ghost use Rattle.histar_shell.specs.Machine.{IsTraced};
 ghost use Rattle.histar_run_explain.specs.Entries.{Adds, AddsEntries, EndsAsRun, IsRunFrom};
-ghost use Rattle.histar_run_explain.specs.NamedWords.{words_at};
-ghost use Rattle.histar_run_explain.specs.Session.{ExplainsCall, ExplainsCalls, births_by};
+ghost use Rattle.histar_names.specs.NamedWords.{words_at};
+ghost use Rattle.histar_run_explain.specs.Session.{AppendsRest, BeginsRest, BeginsRun, EndsWithTree, WritesRun};
+ghost use Rattle.histar_run_explain.specs.Session.{ExplainsCall, ExplainsCalls, HasExplained, IsWithText, births_by};
 ghost use Rattle.histar_run_explain.specs.Run.{ExplainsText};
 
-use crate::births::note_births;
-use crate::clues::{Clue, clue_of};
-use crate::named_words::Names;
 use crate::replaying::explain_entries;
 use histar_flat::{CallLine, ProcName};
 use histar_io::{Sink, Source, read_input, write_bytes};
 use histar_label::{InternStore, LabelStore, OutOfMemory};
+use histar_names::{Clue, Names, clue_of, note_births};
 use histar_raw_explain::ByNumber;
 use histar_script::{Fault, read_script};
 use histar_shell::{Machine, Options, answer_call, write_ending};
@@ -88,15 +88,78 @@ fn explain_text<W: Sink>(
     let Ok(mut machine) = Machine::boot(alloc, store, accounts) else {
         return Err(Fault::OutOfMemory);
     };
-    let second = second_kernel(alloc, &machine)?;
+    run_calls(alloc, &mut machine, calls, writer, options)
+}
+
+/// Makes the calls on a machine that was booted, and writes the replies, what follows them, and the
+/// explanations.
+fn run_calls<S: LabelStore + Drop, W: Sink>(
+    alloc: Global,
+    machine: &mut Machine<S>,
+    calls: Vec<CallLine>,
+    writer: &mut W,
+    options: Options,
+) -> Result<(), Fault>
+    requires traced { IsTraced machine.old.kernel }
+    requires tree { EndsWithTree machine.old calls.items }
+    ensures ok { OnOk result (WritesRun options machine.old (W.written writer.old) (W.written writer.new) calls.items) }
+    ensures err { OnErr result (BeginsRun options machine.old (W.written writer.old) (W.written writer.new) calls.items) }
+    ensures faults { IfErr result IsOutputFault }
+    ensures count { CountsFailure (W.failures writer.old) (W.failures writer.new) (is_write_failed result) }
+{
+    let text = explain_calls(alloc, machine, calls, writer)?;
+    write_rest(alloc, machine, writer, options, text.as_slice())
+}
+
+/// Makes the calls on a machine that was booted, writes the replies, and returns the explanations.
+fn explain_calls<S: LabelStore + Drop, W: Sink>(
+    alloc: Global,
+    machine: &mut Machine<S>,
+    calls: Vec<CallLine>,
+    writer: &mut W,
+) -> Result<Vec<u8>, Fault>
+    requires { IsTraced machine.old.kernel }
+    ensures ok { IfOk result (λ text. HasExplained machine.old machine.new
+        (W.written writer.old) (W.written writer.new) calls.items text.items) }
+    ensures err { OnErr result (BeginsAnswers machine.old (W.written writer.old) (W.written writer.new) calls.items) }
+    ensures faults { IfErr result IsOutputFault }
+    ensures count { CountsFailure (W.failures writer.old) (W.failures writer.new) (is_write_failed result) }
+{
     let mut explainer = Explainer {
-        second,
+        second: second_kernel(alloc, machine)?,
         births: Vec::new(alloc),
         text: Vec::new(alloc),
     };
-    answer_calls(alloc, &mut machine, &mut explainer, calls, writer)?;
-    write_ending(alloc, &machine, writer, options)?;
-    write_explanations(writer, explainer.text.as_slice())
+    let outcome = answer_calls(alloc, machine, &mut explainer, calls, writer);
+    with_text(outcome, explainer.text)
+}
+
+/// Returns a text where the outcome is no fault.
+fn with_text(outcome: Result<(), Fault>, text: Vec<u8>) -> Result<Vec<u8>, Fault>
+    ensures { IsWithText outcome text result }
+{
+    match outcome {
+        Ok(()) => Ok(text),
+        Err(fault) => Err(fault),
+    }
+}
+
+/// Writes what follows the replies, and then the explanations.
+fn write_rest<S: LabelStore + Drop, W: Sink>(
+    alloc: Global,
+    machine: &Machine<S>,
+    writer: &mut W,
+    options: Options,
+    text: &[u8],
+) -> Result<(), Fault>
+    requires { HasTree machine.now }
+    ensures ok { OnOk result (AppendsRest options machine.now (W.written writer.old) (W.written writer.new) text.now) }
+    ensures err { OnErr result (BeginsRest options machine.now (W.written writer.old) (W.written writer.new) text.now) }
+    ensures faults { IfErr result IsOutputFault }
+    ensures count { CountsFailure (W.failures writer.old) (W.failures writer.new) (is_write_failed result) }
+{
+    write_ending(alloc, machine, writer, options)?;
+    write_explanations(writer, text)
 }
 
 /// Writes the explanations.
@@ -171,7 +234,12 @@ fn answer_and_explain<S: LabelStore + Drop, T: LabelStore + Drop, W: Sink>(
     let clue = clue_of(&call.process, &call.call);
     let before = machine.trace().len();
     answer_call(alloc, machine, call, writer)?;
-    note_births(machine, &clue.caller, &mut explainer.births)?;
+    note_births(
+        machine.kernel(),
+        machine.roots(),
+        &clue.caller,
+        &mut explainer.births,
+    )?;
     Ok(explain_line(alloc, machine, explainer, &clue, before)?)
 }
 
@@ -204,7 +272,9 @@ fn explain_line<S: LabelStore + Drop, T: LabelStore + Drop>(
         (state explainer.new.second)) }
 {
     let names = Names {
-        machine,
+        kernel: machine.kernel(),
+        roots: machine.roots(),
+        users: machine.users(),
         clue,
         births: explainer.births.as_slice(),
     };

@@ -23,7 +23,7 @@ use Rattle.histar_rights.specs.Rights.{rights_text}
 use Rattle.histar_rights.proofs.Spelling.{letters_spell_rights}
 use Rattle.histar_diff.specs.Shown.{rights_of}
 use Rattle.histar_diff.proofs.Changes.{rights_answered}
-use Rattle.histar_access.specs.Session.{calls_before, state_before}
+use Rattle.histar_prefix.specs.Prefix.{calls_before, state_before}
 use Rattle.histar_test.specs.declared.checks.Check.{Check}
 use Rattle.histar_test.specs.declared.checks.Made.{Made}
 use Rattle.histar_test.specs.declared.questions.Question.{Question}

@@ -10,7 +10,7 @@ use Rattle.histar_script.specs.Reading.{script_of}
 use Rattle.histar_rights.specs.declared.rights.Rights.{Rights}
 use Rattle.histar_rights.specs.Rights.{rights_text}
 use Rattle.histar_diff.specs.Changes.{IsAnsweredBy}
-use Rattle.histar_access.specs.Session.{calls_before, state_before}
+use Rattle.histar_prefix.specs.Prefix.{calls_before, state_before}
 use Rattle.histar_test.specs.declared.checks.Check.{Check}
 use Rattle.histar_test.specs.declared.checks.Made.{Made}
 use Rattle.histar_test.specs.declared.questions.Question.{Question}

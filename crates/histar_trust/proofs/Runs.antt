@@ -19,7 +19,7 @@ use Rattle.histar_script.specs.Reading.{script_of}
 use Rattle.histar_script.specs.Runs.{StopsReading, is_read_failed, is_write_failed, RunsTaken, RunsInput}
 use Rattle.histar_shell.specs.Machine.{MachineModel}
 use Rattle.histar_shell.specs.Outcome.{AgreesWith, IsFaultAt}
-use Rattle.histar_access.specs.Session.{IsMachineOf, calls_before, state_before}
+use Rattle.histar_prefix.specs.Prefix.{IsMachineOf, calls_before, state_before}
 use Rattle.histar_trust.specs.Findings.{HasState, ShowsReached}
 use Rattle.histar_trust.specs.Session.{WritesAtFault, WritesOf, WritesText}
 

@@ -45,10 +45,9 @@ use Rattle.histar_readout.proofs.TreeMatched.{flat_states_have_their_trees}
 use Rattle.histar_shell.specs.Ending.{HasTree, IsTreeIn}
 use Rattle.histar_shell.specs.Machine.{MachineModel}
 use Rattle.histar_shell.proofs.SameUsers.{tree_unproved}
-use Rattle.histar_access.specs.Shown.{AreProcessesIn, HasProcesses}
-use Rattle.histar_access.proofs.SameProcesses.{one_list, processes_unproved}
-use Rattle.histar_access.proofs.ShownTables.{processes_there, tree_there}
-use Rattle.histar_access.proofs.Visiting.{filter_map_map}
+use Rattle.histar_prefix.specs.Listing.{AreProcessesIn, HasProcesses}
+use Rattle.histar_prefix.proofs.Listed.{filter_map_map, processes_there, tree_there}
+use Rattle.histar_prefix.proofs.SameProcesses.{one_list, processes_unproved}
 use Rattle.histar_trust.specs.Findings.{ShowsReached, class_flat, classes_to, head_text, node_at, runner_of, running_node, shown_changers}
 use Rattle.histar_trust.specs.Findings.{shown_readers, shown_roles}
 use Rattle.histar_trust.specs.TrustText.{changers_text, is_for_everyone, process_lines, readers_text, running_where, roles_text, trust_text}

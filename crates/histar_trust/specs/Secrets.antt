@@ -8,7 +8,7 @@ use Rattle.histar_flat.specs.FlatState.{Flat, Node, is_dir}
 use Rattle.histar_flat.specs.Texts.{path_text, process_text}
 use Rattle.histar_rights.specs.Running.{Named, running_in}
 use Rattle.histar_script.specs.Script.{ScriptModel}
-use Rattle.histar_access.specs.Session.{state_before}
+use Rattle.histar_prefix.specs.Prefix.{state_before}
 use Rattle.histar_trust.specs.TrustText.{confined_by, is_for_everyone, login_readers, trusted_with}
 
 -- it is no directory, and not every process may read it

@@ -8,7 +8,7 @@ use Rattle.histar_script.specs.Reading.{script_of}
 use Rattle.histar_script.specs.declared.fault.Fault.{Fault}
 use Rattle.histar_script.specs.declared.fault.Fault.TheVariants.{WriteFailed}
 use Rattle.histar_shell.specs.Outcome.{AgreesWith}
-use Rattle.histar_access.specs.Session.{state_before}
+use Rattle.histar_prefix.specs.Prefix.{state_before}
 use Rattle.histar_trust.specs.Secrets.{secrets_after}
 use Rattle.histar_trust.specs.TrustText.{trust_text}
 

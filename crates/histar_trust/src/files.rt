@@ -6,12 +6,13 @@ ghost use Rattle.histar_secrecy.specs.ShownRoles.{flat_class};
 ghost use Rattle.histar_trust.specs.Findings.{AddsSecrets, HasState, ShowsSecrets, shown_members, shown_runner, shown_runners};
 ghost use Rattle.histar_trust.specs.Secrets.{is_secret, process_mark, user_mark};
 
-use crate::members::{members_among, processes, user_names};
+use crate::members::{members_among, user_names};
 use crate::output::is_for_everyone;
 use crate::way::file_class;
 use histar_flat::{Name, ProcName};
 use histar_label::LabelStore;
 use histar_layout::UserTable;
+use histar_prefix::processes;
 use histar_readout::TreeNode;
 use histar_secrecy::{FileClass, Member, Role, login_readers, with_role};
 use histar_shell::{Machine, push_path, push_process};

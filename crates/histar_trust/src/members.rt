@@ -1,30 +1,14 @@
 //! The running processes of a machine, and its users.
 ghost use Rattle.std.specs.Prelude.{◌≡◌, IfOk, map, option_map, Some};
 ghost use Rattle.std.specs.List.{filter_map};
-ghost use Rattle.histar_access.specs.Shown.{AreProcessesIn, HasProcesses};
 ghost use Rattle.histar_trust.specs.Findings.{names_of, runner_of, running_node};
 
 use histar_flat::Name;
-use histar_label::{Category, LabelStore};
+use histar_label::Category;
 use histar_layout::UserTable;
-use histar_readout::{Life, ProcessNode, procs_of};
+use histar_readout::{Life, ProcessNode};
 use histar_secrecy::Member;
-use histar_shell::Machine;
 use std::alloc::{AllocError, Global};
-
-/// Returns the processes of a machine, in the order of their names.
-pub fn processes<S: LabelStore + Drop>(
-    alloc: Global,
-    machine: &Machine<S>,
-) -> Result<Vec<ProcessNode>, AllocError>
-    requires { HasProcesses machine.now }
-    ensures { IfOk result (λ processes. AreProcessesIn machine.now processes.items) }
-{
-    match procs_of(alloc, machine.kernel(), machine.roots(), machine.users())? {
-        Some(processes) => Ok(processes),
-        None => unreachable!(),
-    }
-}
 
 /// Returns the processes that run.
 pub fn members_among(alloc: Global, processes: &[ProcessNode]) -> Result<Vec<Member>, AllocError>

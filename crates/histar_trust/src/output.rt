@@ -4,11 +4,12 @@ ghost use Rattle.histar_secrecy.specs.ShownRoles.{flat_class};
 ghost use Rattle.histar_trust.specs.Findings.{HasState, ShowsTrust, head_text, shown_changers, shown_readers, shown_roles};
 ghost use Rattle.histar_trust.specs.TrustText.{is_for_everyone, process_line, process_lines, user_lines};
 
-use crate::members::{members_among, processes, user_names};
+use crate::members::{members_among, user_names};
 use crate::way::{file_class, node_at, push_classes};
 use histar_flat::{Name, Path, ProcName};
 use histar_label::LabelStore;
 use histar_layout::UserTable;
+use histar_prefix::processes;
 use histar_readout::TreeNode;
 use histar_secrecy::{
     FileClass, Member, Role, changers_of, login_changers, login_readers, with_role,

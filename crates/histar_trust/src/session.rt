@@ -6,9 +6,9 @@ ghost use Rattle.histar_trust.specs.Session.{SecretsText, TrustText};
 
 use crate::files::secret_lines;
 use crate::output::trust_lines;
-use histar_access::machine_before;
 use histar_flat::Path;
 use histar_io::{Sink, Source, read_input, write_bytes};
+use histar_prefix::machine_before;
 use histar_script::Fault;
 use std::alloc::Global;
 

@@ -2,8 +2,8 @@
 use Rattle.std.proofs.Common.{◌≤◌, length, refl, sym, ap, ◌∙◌, subst}
 use Rattle.histar_syscall.specs.KernelModel.{state}
 use Rattle.histar_raw_explain.proofs.Errors.{on_err}
-use Rattle.histar_run_explain.specs.declared.clues.Clue.{Clue}
-use Rattle.histar_run_explain.specs.Births.{births_after}
+use Rattle.histar_names.specs.declared.clues.Clue.{Clue}
+use Rattle.histar_names.specs.Births.{births_after}
 use Rattle.histar_run_explain.proofs.Turns.{grown, runs_on, same_end, line_said, line_begins}
 use Rattle.histar_run_explain.proofs.session.answer_and_explain.Goals as goal
 
@@ -37,6 +37,7 @@ returns-clause-ok g c =
 pub returns-clause-births : goal.returns-clause-births
 returns-clause-births g c =
     c.in_ok-explain_line.ensures.births ∙ c.in_ok-note_births.ensures
+    ∙ (λ i. births_after (state (c.kernel.ensures i)) (c.roots.ensures i) c.clue_of-clue.result.caller c.args.explainer.now.births.items)
     ∙ ap (λ (clue : Clue).
     births_after (state c.answer_call.new.machine.kernel) c.answer_call.new.machine.roots clue.caller
     c.args.explainer.now.births.items) c.clue_of-clue.ensures

@@ -2,7 +2,7 @@
 use Rattle.std.proofs.Common.{◌∙◌, sym, ap, drop, subst}
 use Rattle.histar_syscall.specs.KernelModel.{state}
 use Rattle.histar_run_explain.specs.Entries.{IsRunFrom}
-use Rattle.histar_run_explain.proofs.Turns.{entries_are, ends_are}
+use Rattle.histar_run_explain.proofs.Turns.{ends_are, entries_are, words_lent}
 use Rattle.histar_run_explain.proofs.session.explain_line.Goals as goal
 
 pub explain_entries-requires : goal.explain_entries-requires
@@ -12,8 +12,10 @@ explain_entries-requires g c =
 
 pub returns-clause-explained : goal.returns-clause-explained
 returns-clause-explained g c =
-    rw (sym c.as_slice.ensures.value) (entries_are _ _ _ _ _ (c.entries_behind.ensures ∙ ap (drop c.args.before) c.trace.ensures)
-    c.explain_entries.result _ _ c.explain_entries.ensures.explained)
+    let named = words_lent c.args.machine.now c.args.clue.now c.as_slice.result.now c.users.ensures c.roots.ensures c.kernel.ensures in
+    rw (sym c.as_slice.ensures.value)
+    (entries_are named _ _ (c.entries_behind.ensures ∙ ap (drop c.args.before) c.trace.ensures) c.explain_entries.result
+    _ _ c.explain_entries.ensures.explained)
 
 pub returns-clause-ends : goal.returns-clause-ends
 returns-clause-ends g c =

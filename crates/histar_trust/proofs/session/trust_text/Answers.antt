@@ -1,7 +1,7 @@
 -- Proves the goals of `trust_text` of src/session.rt that the search leaves open.
 use Rattle.std.proofs.Common.{◌≡◌, ◌∙◌, refl}
 use Rattle.std.proofs.lemmas.Result.{err_from_is_err_and}
-use Rattle.histar_access.specs.Session.{state_before}
+use Rattle.histar_prefix.specs.Prefix.{state_before}
 use Rattle.histar_trust.specs.Session.{text_before}
 use Rattle.histar_trust.proofs.Runs.{begun_text, has_state, shows_reached, unwritten_text, written_text}
 use Rattle.histar_trust.proofs.session.trust_text.Goals as goal

@@ -1,0 +1,84 @@
+-- The names of objects and categories are right in a state that represents a flat state.
+use Rattle.std.specs.Prelude.{◌≡◌, ℕ, ◌-◌, ◌+◌, ◌*◌, ◌≤◌, ◌⊎◌, true, false, ◌∷◌, [], length, nat_le, Some, if◌then◌else◌}
+use Rattle.histar_flat.specs.Words.{ProcName}
+use Rattle.histar_flat.specs.Accounts.{Accounts, has}
+use Rattle.histar_flat.specs.Classes.{Process}
+use Rattle.histar_flat.specs.FlatState.{Flat}
+use Rattle.histar_object.specs.State.{State}
+use Rattle.histar_layout.specs.UserTable.{without_passwords}
+use Rattle.histar_login.specs.Start.{roots_of}
+use Rattle.histar_refinement.specs.Addresses.{home_address, table_number}
+use Rattle.histar_refinement.specs.Addresses.Step.{Left, Status, Inside, Runner}
+use Rattle.histar_refinement.specs.Categories.{CategoryName, CategoryName as names, IsUsed}
+use Rattle.histar_refinement.specs.Represents.{ObjectsMatch}
+use Rattle.histar_refinement.specs.Laws.{StandsFor}
+use Rattle.histar_names.specs.Births.{Births}
+use Rattle.histar_names.specs.declared.clues.Clue.{Clue}
+use Rattle.histar_names.specs.declared.purposes.Purpose.{Purpose}
+use Rattle.histar_names.specs.declared.purposes.Purpose.TheVariants.{Boot, Reads, Writes, ReadsProcess, WritesProcess, Job}
+use Rattle.histar_names.specs.declared.location.Location.{Location}
+use Rattle.histar_names.specs.declared.location.Location.TheVariants.{Root, Password, Gate, Users, At, Part}
+use Rattle.histar_names.specs.Purposes.{purpose_of}
+use Rattle.histar_names.specs.Location.{location_of}
+
+-- ---- categories
+
+-- the category by which nobody, a user or a group reads: nobody is number 0, then come the users, then the groups
+abbrev pub reads_of : Accounts → ℕ → CategoryName
+reads_of accounts i = if nat_le i (length accounts.users) then names.ReadsUser i else names.ReadsGroup (i - length accounts.users)
+
+-- the category by which nobody, a user or a group writes
+abbrev pub writes_of : Accounts → ℕ → CategoryName
+writes_of accounts i = if nat_le i (length accounts.users) then names.WritesUser i else names.WritesGroup (i - length accounts.users)
+
+-- a process is in a job, and the one above it isn't
+pub record BeginsJob (f : Flat) (job : ProcName) (n : ℕ) (above : ProcName) : Type 0 where
+  pub process : Process
+  pub there : f.processes (n ∷ above) ≡ Some process
+  pub inside : has process.chain job ≡ true
+  pub outside : (parent : Process) → f.processes above ≡ Some parent → has parent.chain job ≡ false
+
+-- this is the purpose of the category of this name: a job's is given by a process that is in it and whose parent isn't
+abbrev pub IsPurposeOf : Accounts → Flat → CategoryName → Purpose → Type 0
+IsPurposeOf accounts f name Boot = name ≡ names.OfBoot
+IsPurposeOf accounts f name (Reads i) = name ≡ reads_of accounts i
+IsPurposeOf accounts f name (Writes i) = name ≡ writes_of accounts i
+IsPurposeOf accounts f name (ReadsProcess me) = name ≡ names.ReadsProcess me
+IsPurposeOf accounts f name (WritesProcess me) = name ≡ names.WritesProcess me
+IsPurposeOf accounts f name (Job me) = (job : ProcName) × (n : ℕ) × (above : ProcName) × (me ≡ n ∷ above) × (name ≡ names.OfJob job) × BeginsJob f job n above
+
+-- Under each naming by which the state represents the flat state, a category with a purpose has a name that is used, and this purpose.
+abbrev pub PurposesAreRight : Type 0
+PurposesAreRight =
+    (accounts : Accounts) (s : State) (f : Flat) (l : ObjectsMatch accounts s f) (clue : Clue) (births : Births) (c : ℕ) (purpose : Purpose)
+    → purpose_of (without_passwords accounts) (roots_of (length accounts.users)) s clue births c ≡ Some purpose
+    → (name : CategoryName) × (l.category name ≡ c) × IsUsed accounts f name × IsPurposeOf accounts f name purpose
+
+-- ---- objects
+
+module _ (accounts : Accounts) (s : State) (f : Flat) (l : ObjectsMatch accounts s f) where
+  -- what boot left in the root container under this number
+  abbrev pub IsLeft : ℕ → Type 0
+  IsLeft q = l.naming.number (Left q ∷ []) ≡ Some q
+
+  -- a part of a process has this number
+  abbrev pub IsPartOf : ProcName → ℕ → Type 0
+  IsPartOf me q =
+      ((l.naming.number (home_address me) ≡ Some q) ⊎ (l.naming.number (Status ∷ home_address me) ≡ Some q))
+      ⊎ ((l.naming.number (Inside ∷ home_address me) ≡ Some q) ⊎ (l.naming.number (Runner ∷ Inside ∷ home_address me) ≡ Some q))
+
+  -- the object of this number is at this location: boot left the password and the gate of user i under 1 + 2i and 2 + 2i
+  abbrev pub StandsAs : ℕ → Location → Type 0
+  StandsAs q Root = l.naming.number [] ≡ Some q
+  StandsAs q (Password i) = IsLeft q × (q ≡ 1 + 2 * i) × (1 ≤ i) × (i ≤ length accounts.users)
+  StandsAs q (Gate i) = IsLeft q × (q ≡ 2 + 2 * i) × (1 ≤ i) × (i ≤ length accounts.users)
+  StandsAs q Users = IsLeft q × (q ≡ table_number (length accounts.users))
+  StandsAs q (At path) = StandsFor accounts s f l path q
+  StandsAs q (Part me) = IsPartOf me q
+
+-- Under each naming by which the state represents the flat state, an object's location is that of the address that has its number.
+abbrev pub LocationsAreRight : Type 0
+LocationsAreRight =
+    (accounts : Accounts) (s : State) (f : Flat) (l : ObjectsMatch accounts s f) (clue : Clue) (q : ℕ) (location : Location)
+    → location_of (without_passwords accounts) (roots_of (length accounts.users)) s clue q ≡ Some location
+    → StandsAs accounts s f l q location

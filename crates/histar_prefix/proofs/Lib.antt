@@ -1,0 +1,4 @@
+-- The lemmas of this crate.
+pub mod Calling
+pub mod SameProcesses
+pub mod Listed
