@@ -10,7 +10,7 @@ use crate::tasks::{
     access_file, check_each_job, check_file, diff_files, lint_file, report_file, run_file,
     run_raw_file, test_files, trust_file,
 };
-use histar_command_line::{Task, read_words};
+use histar_command_line::{CheckFlags, Task, read_words};
 use histar_flat::{ProcName, read_path, read_process};
 use histar_script::Fault;
 use std::alloc::Global;
@@ -61,24 +61,68 @@ fn read_job(word: &str) -> Result<ProcName, BadWord> {
     read_process(word.as_bytes()).ok_or(BadWord::Job)
 }
 
-/// Does a task. It does nothing, and opens no file, if a word of the task can't be read.
-fn perform<R: Files + Input + Print>(
+/// What a task came to, unless a word of it can't be read.
+type Performed = Result<Result<Outcome, Fault>, BadWord>;
+
+/// Compares the script in a file with the one without this job.
+fn check_job<R: Files + Input + Print>(
     rt: &R,
     alloc: Global,
-    task: Task<'_>,
-) -> Result<Result<Outcome, Fault>, BadWord> {
+    job: &str,
+    path: &str,
+    flags: CheckFlags,
+) -> Performed {
+    let job = read_job(job)?;
+    Ok(check_file(rt, alloc, &job, path, flags))
+}
+
+/// Prints who may do what after the script in a file, or before this line.
+fn access_at<R: Files + Input + Print>(
+    rt: &R,
+    alloc: Global,
+    path: &str,
+    line: Option<&str>,
+) -> Performed {
+    let line = read_line(line)?;
+    Ok(access_file(rt, alloc, path, line))
+}
+
+/// Prints whose rights differ after two scripts, or before this line of both.
+fn diff_at<R: Files + Input + Print>(
+    rt: &R,
+    alloc: Global,
+    old: &str,
+    new: &str,
+    line: Option<&str>,
+) -> Performed {
+    let line = read_line(line)?;
+    Ok(diff_files(rt, alloc, old, new, line))
+}
+
+/// Prints who has to be trusted with this path after the script in a file, or before this line.
+fn trust_at<R: Files + Input + Print>(
+    rt: &R,
+    alloc: Global,
+    path: &str,
+    file: &str,
+    line: Option<&str>,
+) -> Performed {
+    let path = read_path(path.as_bytes()).ok_or(BadWord::Path)?;
+    let line = read_line(line)?;
+    Ok(trust_file(rt, alloc, &path, file, line))
+}
+
+/// Does a task. It does nothing, and opens no file, if a word of the task can't be read.
+fn perform<R: Files + Input + Print>(rt: &R, alloc: Global, task: &Task<'_>) -> Performed {
     match task {
-        Task::Run(path, flags) => Ok(run_file(rt, alloc, path, flags)),
-        Task::Raw(path, explain) => Ok(run_raw_file(rt, alloc, path, explain)),
-        Task::Check(job, path, flags) => Ok(check_file(rt, alloc, &read_job(job)?, path, flags)),
-        Task::CheckAll(path, flags) => Ok(check_each_job(rt, alloc, path, flags)),
-        Task::Access(path, line) => Ok(access_file(rt, alloc, path, read_line(line)?)),
-        Task::Diff(old, new, line) => Ok(diff_files(rt, alloc, old, new, read_line(line)?)),
-        Task::Trust(path, file, line) => {
-            let path = read_path(path.as_bytes()).ok_or(BadWord::Path)?;
-            Ok(trust_file(rt, alloc, &path, file, read_line(line)?))
-        }
-        Task::Lint(path, is_raw) => Ok(lint_file(rt, alloc, path, is_raw)),
+        Task::Run(path, flags) => Ok(run_file(rt, alloc, path, *flags)),
+        Task::Raw(path, explain) => Ok(run_raw_file(rt, alloc, path, *explain)),
+        Task::Check(job, path, flags) => check_job(rt, alloc, job, path, *flags),
+        Task::CheckAll(path, flags) => Ok(check_each_job(rt, alloc, path, *flags)),
+        Task::Access(path, line) => access_at(rt, alloc, path, *line),
+        Task::Diff(old, new, line) => diff_at(rt, alloc, old, new, *line),
+        Task::Trust(path, file, line) => trust_at(rt, alloc, path, file, *line),
+        Task::Lint(path, is_raw) => Ok(lint_file(rt, alloc, path, *is_raw)),
         Task::Report(path) => Ok(report_file(rt, alloc, path)),
         Task::Test(files) => Ok(test_files(rt, alloc, files.as_slice())),
     }
@@ -110,7 +154,7 @@ fn explain<R: Print + Eprint>(rt: &R, error: &clap::Error) -> u8 {
 fn obey<R: Files + Input + Print + Eprint>(rt: &R, alloc: Global, words: &[&str]) -> u8 {
     match read_words(alloc, words) {
         Err(error) => explain(rt, &error),
-        Ok(task) => match perform(rt, alloc, task) {
+        Ok(task) => match perform(rt, alloc, &task) {
             Err(word) => refuse_word(rt, &word),
             Ok(Ok(outcome)) => outcome_status(outcome),
             Ok(Err(fault)) => report(rt, &fault),

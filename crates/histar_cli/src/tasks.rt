@@ -1,10 +1,14 @@
 //! The tasks of the program, one for each subcommand.
+ghost use Rattle.std.specs.Prelude.{◌≡◌, IfOk};
+ghost use Rattle.std.specs.List.{flat_map, list_all};
+ghost use Rattle.histar_comparison.specs.Jobs.{job_text};
+ghost use Rattle.histar_cli.specs.Checks.{is_same_without};
 
 use crate::files::{finish, open, output};
 use crate::status::Outcome;
 use histar_access::{access, diff};
 use histar_command_line::{CheckFlags, RunFlags, VERSION};
-use histar_comparison::{Verdict, compare, compare_all, explain_comparison};
+use histar_comparison::{JobVerdict, Verdict, compare, compare_all, explain_comparison};
 use histar_flat::{Path, ProcName};
 use histar_io::read_input;
 use histar_lint::lint;
@@ -18,7 +22,7 @@ use histar_shell::{Options, run};
 use histar_test::{TestFile, test};
 use histar_transcript::transcribe;
 use histar_trust::trust;
-use std::alloc::Global;
+use std::alloc::{AllocError, Global};
 use std::io::{self, Write};
 use std::mem::forget;
 use std::rt::Files;
@@ -73,8 +77,7 @@ pub fn check_file<R: Files + Input + Print>(
     path: &str,
     flags: CheckFlags,
 ) -> Result<Outcome, Fault> {
-    let mut reader = open(rt, path)?;
-    let input = read_input(alloc, &mut reader)?;
+    let input = read_file(rt, alloc, path)?;
     let (line, verdict) = compared(alloc, input.as_slice(), job, flags.why)?;
     print_text(rt, line.as_slice())?;
     Ok(is_so(!flags.exit_code || matches!(verdict, Verdict::Same)))
@@ -103,18 +106,39 @@ pub fn check_each_job<R: Files + Input + Print>(
     path: &str,
     flags: CheckFlags,
 ) -> Result<Outcome, Fault> {
-    let mut reader = open(rt, path)?;
-    let input = read_input(alloc, &mut reader)?;
+    let input = read_file(rt, alloc, path)?;
     let verdicts = compare_all(alloc, input.as_slice())?;
-    let mut text = Vec::new(alloc);
-    let mut are_same = true;
-    for verdict in &verdicts {
-        let line = verdict.line(alloc, flags.why)?;
-        text.extend_from_slice(line.as_slice())?;
-        are_same = are_same && matches!(verdict.found.verdict, Verdict::Same);
-    }
+    let text = verdict_lines(alloc, verdicts.as_slice(), flags.why)?;
     print_text(rt, text.as_slice())?;
-    Ok(is_so(!flags.exit_code || are_same))
+    Ok(is_so(!flags.exit_code || are_same(verdicts.as_slice())))
+}
+
+/// Returns what is printed of these verdicts on jobs.
+fn verdict_lines(alloc: Global, verdicts: &[JobVerdict], why: bool) -> Result<Vec<u8>, AllocError>
+    ensures { IfOk result (λ text. text.items ≡ flat_map (job_text why) verdicts.now) }
+{
+    let mut text = Vec::new(alloc);
+    let mut rest = verdicts;
+    'verdicts: while let [verdict, more @ ..] = rest {
+        let line = verdict.line(alloc, why)?;
+        text.extend_from_slice(line.as_slice())?;
+        rest = more;
+    }
+    Ok(text)
+}
+
+/// Checks whether nothing differs for outsiders without any of the jobs.
+fn are_same(verdicts: &[JobVerdict]) -> bool
+    ensures { result ≡ list_all is_same_without verdicts.now }
+{
+    let mut rest = verdicts;
+    'verdicts: while let [verdict, more @ ..] = rest {
+        if !matches!(verdict.found.verdict, Verdict::Same) {
+            return false;
+        }
+        rest = more;
+    }
+    true
 }
 
 /// Writes a text to standard output, and flushes it.
@@ -232,6 +256,13 @@ pub fn test_files<R: Files + Input + Print>(
     finish(done.map(|holds| is_so(holds)), writer)
 }
 
+/// Reads the whole of a file.
+fn read_file<R: Files + Input>(rt: &R, alloc: Global, path: &str) -> Result<Vec<u8>, Fault> {
+    let mut reader = open(rt, path)?;
+    let input = read_input(alloc, &mut reader)?;
+    Ok(input)
+}
+
 /// Reads files, each with its name.
 fn read_files<R: Files + Input>(
     rt: &R,
@@ -240,9 +271,8 @@ fn read_files<R: Files + Input>(
 ) -> Result<Vec<TestFile>, Fault> {
     let mut files = Vec::with_capacity(alloc, paths.len())?;
     for path in paths {
-        let mut reader = open(rt, path)?;
+        let text = read_file(rt, alloc, path)?;
         let name = Vec::from_slice(alloc, path.as_bytes())?;
-        let text = read_input(alloc, &mut reader)?;
         files.push(TestFile { name, text })?;
     }
     Ok(files)

@@ -1,7 +1,7 @@
 //! Raw sessions, run line by line and as one list of calls.
 use crate::devices::{ByteReader, ByteWriter};
 use crate::script::{DIFFERS, with_fault};
-use histar_label::{InternStore, PlainStore};
+use histar_label::{InternStore, LabelStore, PlainStore};
 use histar_object::ObjId;
 use histar_raw_session::run_raw_script;
 use histar_rawtext::{denial_name, read_raw};
@@ -49,14 +49,30 @@ fn shows(text: &[u8], trace: &[TraceEntry]) -> bool {
     rest.is_empty()
 }
 
-/// Checks that all calls of a session, made at once, are granted and denied as these answers say.
+/// Checks that all calls of a session, made at once, are granted and denied as these answers say, over every
+/// store of labels.
 fn is_so_at_once(alloc: Global, session: &[u8], text: &[u8]) -> Result<bool, Fault> {
     let calls = read_calls(alloc, session)?;
-    let mut kernel = Kernel::new(alloc, InternStore::new(alloc, 256)?)?;
-    run_raw(alloc, &mut kernel, calls.as_slice())?;
-    let mut plain = Kernel::new(alloc, PlainStore::new(alloc))?;
-    run_raw(alloc, &mut plain, calls.as_slice())?;
-    Ok(shows(text, kernel.trace()) && shows(text, plain.trace()))
+    let interned = is_so_over(
+        alloc,
+        InternStore::new(alloc, 256)?,
+        calls.as_slice(),
+        text,
+    )?;
+    let plain = is_so_over(alloc, PlainStore::new(alloc), calls.as_slice(), text)?;
+    Ok(interned && plain)
+}
+
+/// Checks that these calls, made at once over a store of labels, are granted and denied as these answers say.
+fn is_so_over<S: LabelStore + Drop>(
+    alloc: Global,
+    store: S,
+    calls: &[(ObjId, RawCall)],
+    text: &[u8],
+) -> Result<bool, Fault> {
+    let mut kernel = Kernel::new(alloc, store)?;
+    run_raw(alloc, &mut kernel, calls)?;
+    Ok(shows(text, kernel.trace()))
 }
 
 /// Runs a session as the program does, and returns what it writes.
