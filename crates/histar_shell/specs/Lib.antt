@@ -7,5 +7,4 @@ pub mod Ending
 pub mod Outcome
 pub mod Meaning
 pub mod Run
-pub mod CallKinds
 pub mod AllAnswers

@@ -13,7 +13,7 @@ use Rattle.histar_object.specs.State.{empty_state}
 use Rattle.histar_syscall.specs.KernelModel.{KernelModel, coded_kernel_model, state}
 use Rattle.histar_syscall.specs.Runs.{IsRun}
 use Rattle.histar_programs.specs.declared.roots.Roots.{Roots}
-use Rattle.histar_calls.specs.contracts.roots.Roots as where_is
+use Rattle.histar_programs.specs.contracts.roots.Roots as where_is
 use Rattle.histar_programs.specs.Programs.{Program, Runs}
 use Rattle.histar_layout.specs.UserTable.{without_passwords}
 use Rattle.histar_calls.specs.Create.{create_program}
@@ -39,6 +39,8 @@ use Rattle.histar_process.specs.KillCall.{kill_program}
 use Rattle.histar_process.specs.Whoami.{whoami_program}
 use Rattle.histar_login.specs.Start.{roots_of, start_state}
 use Rattle.histar_programs.specs.declared.call_error.Stopped.{Stopped}
+use Rattle.histar_shell.specs.declared.calls.CallKind.{CallKind}
+use Rattle.histar_shell.specs.declared.calls.CallKind.TheVariants.{Entries, Processes, Reading, Writing}
 
 -- the kernel of a machine, the places of `/` and process 0, its users and groups with no passwords, and whether a call of it has ended
 -- without a reply
@@ -69,6 +71,21 @@ pub record IsStart (declared : Accounts) (m : MachineModel) : Type 0 where
 -- the kernel with this line for its next raw calls
 abbrev pub on_line : ℕ → KernelModel → KernelModel
 on_line line k = record { kept = k.kept; line = line; trace = k.trace }
+
+-- a call reads or writes files and directories, or is on the entries of a directory or on processes
+abbrev pub kind_of : UnixCall → CallKind
+kind_of (Create path mode) = Writing
+kind_of (Mkdir path mode) = Writing
+kind_of (Write path bytes) = Writing
+kind_of (Append path bytes) = Writing
+kind_of (Read path) = Reading
+kind_of (ListCall path) = Reading
+kind_of (Stat path) = Reading
+kind_of (Unlink path) = Entries
+kind_of (Rmdir path) = Entries
+kind_of (Rmtree path) = Entries
+kind_of (Rename path name) = Entries
+kind_of call = Processes
 
 -- the program of raw calls that a call of a process runs
 abbrev pub program_of : Accounts → Roots → ProcName → Caller → UnixCall → Program

@@ -1,8 +1,7 @@
 //! The calls of a line, by kind: each runs the program of its call.
 ghost use Rattle.std.specs.Prelude.{◌≡◌};
 ghost use Rattle.histar_programs.specs.Refusals.{settled};
-ghost use Rattle.histar_shell.specs.CallKinds.{kind_of};
-ghost use Rattle.histar_shell.specs.Machine.{Makes};
+ghost use Rattle.histar_shell.specs.Machine.{Makes, kind_of};
 ghost use Rattle.histar_shell.specs.declared.calls.CallKind.TheVariants.{Entries, Processes, Reading, Writing};
 
 use histar_calls::{append, create, list, mkdir, read, stat, write};
