@@ -53,12 +53,7 @@ fn shows(text: &[u8], trace: &[TraceEntry]) -> bool {
 /// store of labels.
 fn is_so_at_once(alloc: Global, session: &[u8], text: &[u8]) -> Result<bool, Fault> {
     let calls = read_calls(alloc, session)?;
-    let interned = is_so_over(
-        alloc,
-        InternStore::new(alloc, 256)?,
-        calls.as_slice(),
-        text,
-    )?;
+    let interned = is_so_over(alloc, InternStore::new(alloc, 256)?, calls.as_slice(), text)?;
     let plain = is_so_over(alloc, PlainStore::new(alloc), calls.as_slice(), text)?;
     Ok(interned && plain)
 }
