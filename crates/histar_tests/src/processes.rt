@@ -160,8 +160,19 @@ fn slash_and_the_processes_are_found(rt: HostRuntime) -> Result<(), Fail> {
     assert!(rt; !accounts.users().is_empty());
     let users = UserTable::of(alloc, &accounts)?;
     let (mut kernel, roots) = boot(alloc, PlainStore::new(alloc), &accounts)?;
-    check_slash(&rt, &kernel, &roots);
-    check_listed(&rt, alloc, &kernel, &roots, &users, AFTER_BOOT)?;
-    make_calls(alloc, &mut kernel, &roots, &users)?;
-    check_listed(&rt, alloc, &kernel, &roots, &users, AT_THE_END)
+    check_session(&rt, alloc, &mut kernel, &roots, &users)
+}
+
+/// Checks what is found after boot, and after the calls.
+fn check_session(
+    rt: &impl Abort,
+    alloc: Global,
+    kernel: &mut Kernel<PlainStore>,
+    roots: &Roots,
+    users: &UserTable,
+) -> Result<(), Fail> {
+    check_slash(rt, kernel, roots);
+    check_listed(rt, alloc, kernel, roots, users, AFTER_BOOT)?;
+    make_calls(alloc, kernel, roots, users)?;
+    check_listed(rt, alloc, kernel, roots, users, AT_THE_END)
 }

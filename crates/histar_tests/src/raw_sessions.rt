@@ -269,10 +269,22 @@ fn check_call<S: LabelStore + Drop>(
     kernel: &mut Kernel<S>,
     row: Row,
 ) -> Result<(), Refusal> {
-    let (line, thread, asked, expected) = row;
+    let (line, thread, asked, _) = row;
     let call = raw_call(alloc, asked)?;
     kernel.begin(line);
-    match kernel.call(alloc, ObjId::new(thread), call) {
+    let outcome = kernel.call(alloc, ObjId::new(thread), call);
+    check_outcome(rt, alloc, outcome, row)
+}
+
+/// Checks the outcome of one call against the table.
+fn check_outcome(
+    rt: &impl Abort,
+    alloc: Global,
+    outcome: Result<Answer, Refusal>,
+    row: Row,
+) -> Result<(), Refusal> {
+    let (line, thread, _, expected) = row;
+    match outcome {
         Ok(answer) => {
             let is_expected = is_answer(alloc, &answer, expected)?;
             assert!(rt; is_expected, "thread {thread} on line {line}");
