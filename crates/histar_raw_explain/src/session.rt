@@ -10,9 +10,9 @@ use crate::lines::push_explanation;
 use crate::wording::ByNumber;
 use histar_explain::explain;
 use histar_io::{Sink, Source, read_input, write_bytes};
-use histar_label::{LabelStore, OutOfMemory, PlainStore};
+use histar_label::{LabelStore, OutOfMemory};
 use histar_raw_session::read_session::read_session;
-use histar_raw_session::{RawLine, answer_call};
+use histar_raw_session::{RawLine, answer_call, empty_kernel};
 use histar_script::Fault;
 use histar_syscall::Kernel;
 use std::alloc::Global;
@@ -56,7 +56,7 @@ fn explain_text<W: Sink>(alloc: Global, text: &[u8], writer: &mut W) -> Result<(
     ensures runs { RunsExplained text.now (W.written writer.old) (W.written writer.new) result }
 {
     let calls = read_session(alloc, text)?;
-    let mut kernel = Kernel::new(alloc, PlainStore::new(alloc))?;
+    let mut kernel = empty_kernel(alloc)?;
     explain_calls(alloc, &mut kernel, calls, writer)
 }
 

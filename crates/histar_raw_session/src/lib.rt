@@ -7,4 +7,4 @@ pub mod read_session;
 mod session;
 
 pub use read_session::RawLine;
-pub use session::{answer_call, run_raw_script};
+pub use session::{answer_call, empty_kernel, run_raw_script};

@@ -1,6 +1,7 @@
 //! A raw session, from bytes to bytes.
 ghost use Rattle.std.specs.Prelude.{◌≡◌, false, IfErr, IfOk, IfSome, OnOk, OnErr};
 ghost use Rattle.histar_io.specs.Device.{CountsFailure};
+ghost use Rattle.histar_object.specs.State.{empty_state};
 ghost use Rattle.histar_script.specs.Runs.{IsOutputFault, LeavesSink, RunsInput, is_read_failed, is_write_failed};
 ghost use Rattle.histar_syscall.specs.KernelModel.{state};
 ghost use Rattle.histar_raw_session.specs.Answers.{AnswersCall, AnswersCalls, BeginsAnswer, BeginsAnswers, IsMadeOnLine, PrintsCall};
@@ -9,10 +10,21 @@ ghost use Rattle.histar_raw_session.specs.Run.{RunsSession};
 use crate::lines::{answer_line, denial_line};
 use crate::read_session::{RawLine, read_session};
 use histar_io::{Sink, Source, read_input, write_bytes};
-use histar_label::{LabelStore, OutOfMemory, PlainStore};
+use histar_label::{InternStore, LabelStore, OutOfMemory};
 use histar_script::Fault;
 use histar_syscall::{Kernel, Refusal};
 use std::alloc::Global;
+
+/// How many answers of comparisons the store of labels remembers beside those at hand.
+const REMEMBERED_ANSWERS: usize = 256;
+
+/// Makes the kernel of a raw session, over a store that keeps each label once.
+pub fn empty_kernel(alloc: Global) -> Result<Kernel<InternStore>, OutOfMemory>
+    ensures { IfOk result (λ kernel. state kernel ≡ empty_state) }
+{
+    let store = InternStore::new(alloc, REMEMBERED_ANSWERS)?;
+    Kernel::new(alloc, store)
+}
 
 /// Reads a raw session, has the kernel make its calls from the empty kernel on, and writes one line for each
 /// as soon as it is made: its answer, or the reason of its denial.
@@ -53,7 +65,7 @@ fn run_text<W: Sink>(alloc: Global, text: &[u8], writer: &mut W) -> Result<(), F
     ensures runs { RunsSession text.now (W.written writer.old) (W.written writer.new) result }
 {
     let calls = read_session(alloc, text)?;
-    let mut kernel = Kernel::new(alloc, PlainStore::new(alloc))?;
+    let mut kernel = empty_kernel(alloc)?;
     answer_calls(alloc, &mut kernel, calls, writer)
 }
 
