@@ -26,7 +26,7 @@ use Rattle.histar_programs.specs.Caller.{if_runs, is_zero, status_at}
 use Rattle.histar_refinement.specs.Addresses.{same_step, home_address}
 use Rattle.histar_refinement.specs.Addresses.Step.{Inside, Runner}
 use Rattle.histar_refinement.specs.Categories.{CategoryName, CategoryName as names, IsUsed, among}
-use Rattle.histar_refinement.specs.Expected.{home_object, inside_object, expected}
+use Rattle.histar_refinement.proofs.Expected.{home_object, inside_object, expected}
 use Rattle.histar_refinement.specs.Guards.{guard_label}
 use Rattle.histar_refinement.specs.Labels.{process_guard, inside_guard}
 use Rattle.histar_refinement.specs.Represents.{ObjectsMatch}
@@ -45,6 +45,7 @@ use Rattle.histar_names.specs.Purposes.{owner_in, pair_purpose, boot_purpose, ou
 use Rattle.histar_names.specs.Purposes.{purpose_born, purpose_by, purpose_up}
 use Rattle.histar_names.specs.Laws.{IsPurposeOf, PurposesAreRight}
 use Rattle.histar_names.proofs.Parts.{either_there, step_there, tested, both}
+use Rattle.histar_refinement.proofs.Agreement.{agreement}
 
 -- ---- levels of what is guarded
 
@@ -99,7 +100,7 @@ module _ (accounts : Accounts) (s : State) (f : Flat) (l : ObjectsMatch accounts
       ap (option_and_then (λ (home : Where). label_there (s.objects home.container)))
       (home_is accounts s f l me ∙ ap (option_map (λ (q : Process). there_is me)) here)
       ∙ sym (label_bare (s.objects (there_is me).container))
-      ∙ ap label_there (at_number same_step step_tests_equality s l.naming (expected accounts l.category f l.naming.number) l.agrees
+      ∙ ap label_there (at_number same_step step_tests_equality s l.naming (expected accounts l.category f l.naming.number) (agreement l)
       (home_address me) (there_is me).container
       (is_or_zero _ (numbered_home accounts s f l me ∙ ap is_some here)))
       ∙ ap label_there (asked_home accounts l.category f l.naming.number me ∙ ap (home_object accounts l.category me) here)
@@ -128,11 +129,11 @@ module _ (accounts : Accounts) (s : State) (f : Flat) (l : ObjectsMatch accounts
   inner_there : (me : ProcName) (p : Process) → f.processes me ≡ Some p → p.exited ≡ None
       → inner_label s first me ≡ Some (guard_label l.category (inside_guard me p))
   inner_there me p here runs =
-      let inside = l.agrees.tree.held Runner (Inside ∷ home_address me) (numbered_runner accounts s f l me p here runs) in
+      let inside = (agreement l).tree.held Runner (Inside ∷ home_address me) (numbered_runner accounts s f l me p here runs) in
       inner_revealed me p here
       ∙ ap (λ (e : Option ℕ). if_runs e (label_there (s.objects (or_zero (l.naming.number (Inside ∷ home_address me)))))) runs
       ∙ sym (label_bare (s.objects (or_zero (l.naming.number (Inside ∷ home_address me)))))
-      ∙ ap label_there (at_number same_step step_tests_equality s l.naming (expected accounts l.category f l.naming.number) l.agrees
+      ∙ ap label_there (at_number same_step step_tests_equality s l.naming (expected accounts l.category f l.naming.number) (agreement l)
       (Inside ∷ home_address me) (or_zero (l.naming.number (Inside ∷ home_address me))) (is_or_zero _ inside))
       ∙ ap label_there (asked_inside accounts l.category f l.naming.number me ∙ ap (inside_object accounts l.category me) here)
       ∙ ap (λ (e : Option ℕ). label_there (inside_object accounts l.category me (Some (record p { exited = e })))) runs

@@ -41,6 +41,7 @@ use Rattle.histar_names.specs.Location.{users_own, left_location, listing_in, ta
 use Rattle.histar_names.specs.Location.{at_path, of_process}
 use Rattle.histar_names.specs.Laws.{IsLeft, IsPartOf, StandsAs, LocationsAreRight}
 use Rattle.histar_names.proofs.Parts.{either_there, step_there, tested, both, one_of}
+use Rattle.histar_refinement.proofs.Agreement.{agreement}
 
 module _ (accounts : Accounts) (s : State) (f : Flat) (l : ObjectsMatch accounts s f) where
   abbrev roots : Roots
@@ -200,7 +201,7 @@ module _ (accounts : Accounts) (s : State) (f : Flat) (l : ObjectsMatch accounts
       by (Some n) exited = absurd (true≢false (sym halves.0 ∙ ap (λ (x : Option ℕ). not (is_some x)) exited))
       by None runs =
           let runner = numbered_runner accounts s f l me p here runs in
-          let inner = l.agrees.tree.held Runner (Inside ∷ home_address me) runner in
+          let inner = (agreement l).tree.held Runner (Inside ∷ home_address me) runner in
           elim (one_of _ _ halves.1) [
             | inl inside ↦ inr (inl (is_or_zero _ inner ∙ ap Some (sym (equal q _ inside))))
             | inr thread ↦ inr (inr (is_or_zero _ runner ∙ ap Some (sym (equal q _ thread))))

@@ -25,14 +25,15 @@ use Rattle.histar_refinement.specs.Addresses.{Step, same_step, address_of, home_
 use Rattle.histar_refinement.specs.Addresses.Step.{Slash, Listing, Named, Inside, Runner}
 use Rattle.histar_refinement.specs.Directories.{directory_of}
 use Rattle.histar_refinement.specs.Agrees.{kind_bare, bare}
-use Rattle.histar_refinement.specs.Expected.{bare_container, content_kind, guarded_object, node_object, listing_object, home_object, thread_object}
-use Rattle.histar_refinement.specs.Expected.{expected}
+use Rattle.histar_refinement.proofs.Expected.{bare_container, content_kind, guarded_object, node_object, listing_object, home_object, thread_object}
+use Rattle.histar_refinement.proofs.Expected.{expected}
 use Rattle.histar_login.specs.Start.{segment}
 use Rattle.histar_refinement.specs.Represents.{ObjectsMatch}
 use Rattle.histar_refinement.proofs.Steps.{step_tests_equality}
 use Rattle.histar_refinement.proofs.Moving.{bare_is, at_number}
 use Rattle.histar_refinement.proofs.Roots.{asked_home, asked_runner, asked_path, asked_listing}
 use Rattle.histar_refinement.proofs.ListedFiles.{numbered_path, nothing_in}
+use Rattle.histar_refinement.proofs.Agreement.{agreement}
 
 -- a container but for its links is one with some links
 container_kind : (label : Levels) (k : Kind Levels) (m : Levels)
@@ -72,7 +73,7 @@ module _ (accounts : Accounts) (s : State) (f : Flat) (l : ObjectsMatch accounts
   thread_found me p here running t at_thread =
       bare_is (s.objects t) (thread_of (rights_label l.category (thread_rights accounts me p))
       (rights_clearance l.category (thread_rights accounts me p))) refl
-      (at_number same_step step_tests_equality s l.naming asked l.agrees (Runner ∷ Inside ∷ home_address me) t at_thread
+      (at_number same_step step_tests_equality s l.naming asked (agreement l) (Runner ∷ Inside ∷ home_address me) t at_thread
       ∙ asked_runner accounts l.category f l.naming.number me ∙ ap (thread_object accounts l.category me) here
       ∙ (λ i. elim (running i) as (λ _. Found) [
         | None ↦ Some (thread_of (rights_label l.category (thread_rights accounts me p))
@@ -84,7 +85,7 @@ module _ (accounts : Accounts) (s : State) (f : Flat) (l : ObjectsMatch accounts
   pub home_found : (me : ProcName) (p : Process) → f.processes me ≡ Some p → (C : ℕ) → l.naming.number (home_address me) ≡ Some C
       → (links : Links) × (s.objects C ≡ Some (record { label = guard_label l.category (process_guard me p); kind = Container links }))
   home_found me p here C at_home = bare_container_is (s.objects C) (guard_label l.category (process_guard me p))
-      (at_number same_step step_tests_equality s l.naming asked l.agrees (home_address me) C at_home
+      (at_number same_step step_tests_equality s l.naming asked (agreement l) (home_address me) C at_home
       ∙ asked_home accounts l.category f l.naming.number me ∙ ap (home_object accounts l.category me) here)
 
   -- the guard of the object at a path
@@ -96,7 +97,7 @@ module _ (accounts : Accounts) (s : State) (f : Flat) (l : ObjectsMatch accounts
       → class_guard accounts there.class ≡ Some g → (o : ℕ) → l.naming.number (address_of q) ≡ Some o
       → bare (s.objects o) ≡ Some (record { label = guard_label l.category g; kind = content_kind there.content })
   path_agrees q there at g is o at_object =
-      at_number same_step step_tests_equality s l.naming asked l.agrees (address_of q) o at_object
+      at_number same_step step_tests_equality s l.naming asked (agreement l) (address_of q) o at_object
       ∙ asked_path accounts l.category f l.naming.number q ∙ ap (node_object accounts l.category) at
       ∙ ap (guarded_object accounts l.category (content_kind there.content)) is
 
@@ -126,7 +127,7 @@ module _ (accounts : Accounts) (s : State) (f : Flat) (l : ObjectsMatch accounts
           label = guard_label l.category g;
           kind = Segment (spelling (directory_of f.files l.naming.number d));
         }) refl
-        (at_number same_step step_tests_equality s l.naming asked l.agrees (Listing ∷ address_of d) N at_listing
+        (at_number same_step step_tests_equality s l.naming asked (agreement l) (Listing ∷ address_of d) N at_listing
         ∙ asked_listing accounts l.category f l.naming.number d
         ∙ ap (listing_object accounts l.category (spelling (directory_of f.files l.naming.number d))) at
         ∙ ap (guarded_object accounts l.category (Segment (spelling (directory_of f.files l.naming.number d)))) is)
@@ -135,8 +136,8 @@ module _ (accounts : Accounts) (s : State) (f : Flat) (l : ObjectsMatch accounts
   pub step_linked : (x : Step) (a : Address Step) (above below : ℕ) → l.naming.number a ≡ Some above
       → l.naming.number (x ∷ a) ≡ Some below → set.contains (links_in (s.objects above)) below ≡ true
   step_linked x a above below at_above at_below =
-      l.agrees.tree.links above below a (l.agrees.tree.addressed a above at_above)
-      ∙ ap (is_one_below same_step a) (l.agrees.tree.addressed (x ∷ a) below at_below)
+      (agreement l).tree.links above below a ((agreement l).tree.addressed a above at_above)
+      ∙ ap (is_one_below same_step a) ((agreement l).tree.addressed (x ∷ a) below at_below)
       ∙ same_itself same_step step_tests_equality a
 
   -- what has a directory segment is a directory
@@ -145,7 +146,7 @@ module _ (accounts : Accounts) (s : State) (f : Flat) (l : ObjectsMatch accounts
   listed_is_dir d numbered = by (get f.files d) refl
     where
       there : is_present (listing_object accounts l.category (spelling (directory_of f.files l.naming.number d)) (get f.files d)) ≡ true
-      there = sym (l.agrees.named (Listing ∷ address_of d) ∙ ap is_present (asked_listing accounts l.category f l.naming.number d)) ∙ numbered
+      there = sym ((agreement l).named (Listing ∷ address_of d) ∙ ap is_present (asked_listing accounts l.category f l.naming.number d)) ∙ numbered
 
       by : (o : Option Node) → get f.files d ≡ o → (class : Class) × (get f.files d ≡ Some (record { class = class; content = Dir }))
       by None is =

@@ -31,13 +31,14 @@ use Rattle.histar_refinement.specs.Addresses.{Step, same_step, home_address}
 use Rattle.histar_refinement.specs.Addresses.Step.{Inside, Runner}
 use Rattle.histar_refinement.specs.Processes.{process_bytes}
 use Rattle.histar_refinement.specs.Agrees.{kind_bare, bare}
-use Rattle.histar_refinement.specs.Expected.{home_object, status_object, inside_object, thread_object, bytes_for, expected_status, expected}
+use Rattle.histar_refinement.proofs.Expected.{home_object, status_object, inside_object, thread_object, bytes_for, expected_status, expected}
 use Rattle.histar_login.specs.Start.{segment}
 use Rattle.histar_refinement.specs.Represents.{AreInOrder, IsProcess, ObjectsMatch}
 use Rattle.histar_refinement.proofs.ProcessBytes.{alike_bytes}
 use Rattle.histar_refinement.proofs.Roots.{AsksAlike, asked_alike, asked_runner}
 use Rattle.histar_refinement.proofs.Steps.{step_tests_equality}
 use Rattle.histar_refinement.proofs.Moving.{at_number, bare_is, agrees_changed, agrees_same}
+use Rattle.histar_refinement.proofs.Agreement.{agreement, as_asked}
 
 -- a thread is given another label and another clearance
 abbrev becoming : Levels → Levels → Object Levels → Object Levels
@@ -115,7 +116,7 @@ module _ (accounts : Accounts) (s : State) (f : Flat) (l : ObjectsMatch accounts
   pub thread_agrees : s.objects T ≡ Some old_thread
   thread_agrees =
       bare_is (s.objects T) old_thread refl
-      (at_number same_step step_tests_equality s l.naming old_asked l.agrees runner T at_thread ∙ old_runner)
+      (at_number same_step step_tests_equality s l.naming old_asked (agreement l) runner T at_thread ∙ old_runner)
 
   there_alike : (x : ProcName) → is_some (f.processes x) ≡ is_some (after.processes x)
   there_alike x = elim (which x) [
@@ -254,10 +255,11 @@ module _ (accounts : Accounts) (s : State) (f : Flat) (l : ObjectsMatch accounts
     record {
       naming = l.naming;
       category = l.category;
-      agrees = agrees_same same_step _ new l.naming _ wish
-          (agrees_changed same_step step_tests_equality s l.naming old_asked l.agrees T runner
+      agrees = as_asked accounts l.category after l.naming.number new l.naming
+          (agrees_same same_step _ new l.naming _ wish
+          (agrees_changed same_step step_tests_equality s l.naming old_asked (agreement l) T runner
           (becoming label clearance) at_thread (same_links label clearance) (bared label clearance)) asks
-          (λ q. objects q ∙ same_objects q) next_is;
+          (λ q. objects q ∙ same_objects q) next_is);
       numbered = subst (λ (m : ℕ). m ≤ greatest) (sym next_is) l.numbered;
       as_booted = l.as_booted;
       different = l.different;

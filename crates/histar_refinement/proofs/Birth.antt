@@ -16,7 +16,7 @@ use Rattle.histar_container.proofs.TableMoves.{new_none}
 use Rattle.histar_container.proofs.Trees.{kind_held_links}
 use Rattle.histar_refinement.specs.Addresses.{Step, same_step, home_address}
 use Rattle.histar_refinement.specs.Addresses.Step.{Status, Inside, Runner, Child}
-use Rattle.histar_refinement.specs.Agrees.{Agrees}
+use Rattle.histar_refinement.proofs.AgreesAt.{AgreesAt}
 use Rattle.histar_refinement.proofs.Steps.{step_tests_equality}
 use Rattle.histar_refinement.proofs.Moving.{bare_held, agrees_added, agrees_changed}
 
@@ -27,7 +27,7 @@ given naming k a = ap (λ (t : Bool). if t then Some k else naming.number a) (sa
 pub given_other : (naming : Naming Step) (k : ℕ) (a b : Address Step) → a ≢ b → (with_number same_step naming k a).number b ≡ naming.number b
 given_other naming k a b other = ap (λ (t : Bool). if t then Some k else naming.number b) (same_other same_step step_tests_equality a b other)
 
-module _ (s : State) (naming : Naming Step) (asked : Address Step → Found) (agrees : Agrees same_step s naming asked) (me : ProcName) (n C S : ℕ)
+module _ (s : State) (naming : Naming Step) (asked : Address Step → Found) (agrees : AgreesAt same_step s naming asked) (me : ProcName) (n C S : ℕ)
     (at_home : naming.number (home_address me) ≡ Some C) (at_status : naming.number (Status ∷ home_address me) ≡ Some S)
     (holder : is_container (asked (home_address me)) ≡ true)
     (no_home : is_present (asked (home_address (n ∷ me))) ≡ false) (no_inside : is_present (asked (Inside ∷ home_address (n ∷ me))) ≡ false)
@@ -103,23 +103,23 @@ module _ (s : State) (naming : Naming Step) (asked : Address Step → Found) (ag
       ap (λ (t : Bool). is_container (if t then Some internal else asked_first (Inside ∷ home)))
       (same_itself same_step step_tests_equality (Inside ∷ home))
 
-  agrees_first : Agrees same_step first naming_first asked_first
+  agrees_first : AgreesAt same_step first naming_first asked_first
   agrees_first =
       agrees_added same_step step_tests_equality s naming asked agrees C (home_address me) (Child n) container at_home
       holder no_home empty_links
 
-  agrees_second : Agrees same_step second naming_second asked_second
+  agrees_second : AgreesAt same_step second naming_second asked_second
   agrees_second =
       agrees_added same_step step_tests_equality first naming_first asked_first agrees_first s.next_object home Inside
       internal (given naming s.next_object home) home_holds no_inside empty_links
 
-  agrees_third : Agrees same_step third naming_third asked_third
+  agrees_third : AgreesAt same_step third naming_third asked_third
   agrees_third =
       agrees_added same_step step_tests_equality second naming_second asked_second agrees_second (s.next_object + 1)
       (Inside ∷ home) Runner (thread_of label clearance)
       (given naming_first (s.next_object + 1) (Inside ∷ home)) inside_holds no_runner empty_links
 
-  agrees_fourth : Agrees same_step fourth born_naming asked_fourth
+  agrees_fourth : AgreesAt same_step fourth born_naming asked_fourth
   agrees_fourth =
       agrees_added same_step step_tests_equality third naming_third asked_third agrees_third s.next_object home Status
       segment (given naming s.next_object home) home_holds no_status empty_links
@@ -131,7 +131,7 @@ module _ (s : State) (naming : Naming Step) (asked : Address Step → Found) (ag
   status_stays : born_naming.number (Status ∷ home_address me) ≡ Some S
   status_stays = given_other naming_third (s.next_object + 1 + 1 + 1) (Status ∷ home) (Status ∷ home_address me) apart_status ∙ at_status
 
-  pub agrees_born : Agrees same_step born_state born_naming born_asked
+  pub agrees_born : AgreesAt same_step born_state born_naming born_asked
   agrees_born =
       agrees_changed same_step step_tests_equality fourth born_naming asked_fourth agrees_fourth S
       (Status ∷ home_address me) (holding own_bytes) status_stays (λ o. kind_held_links own_bytes o.kind)

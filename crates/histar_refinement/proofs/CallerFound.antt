@@ -27,7 +27,7 @@ use Rattle.histar_refinement.specs.Guards.{guard_label}
 use Rattle.histar_refinement.specs.Labels.{process_guard, inside_guard}
 use Rattle.histar_refinement.specs.Addresses.{same_step, home_address}
 use Rattle.histar_refinement.specs.Addresses.Step.{Home, Status, Inside, Runner, Child}
-use Rattle.histar_refinement.specs.Expected.{home_object, inside_object, expected}
+use Rattle.histar_refinement.proofs.Expected.{home_object, inside_object, expected}
 use Rattle.histar_refinement.specs.Processes.{or_zero, children, listed_by, status_by}
 use Rattle.histar_refinement.specs.Represents.{ObjectsMatch}
 use Rattle.histar_refinement.specs.Laws.{IsCallerOf, CallersAreFound, CallersAreThere}
@@ -39,6 +39,7 @@ use Rattle.histar_refinement.proofs.Agreeing.{some_of}
 use Rattle.histar_refinement.proofs.StatusFound.{child_range, listed_there, listed_back, numbered_home, numbered_status, numbered_runner}
 use Rattle.histar_refinement.proofs.StatusMatched.{holds_status}
 use Rattle.histar_refinement.proofs.Steps.{step_tests_equality}
+use Rattle.histar_refinement.proofs.Agreement.{agreement}
 
 -- a number that is there
 pub is_or_zero : (o : Option ℕ) → is_some o ≡ true → o ≡ Some (or_zero o)
@@ -101,7 +102,7 @@ module _ (accounts : Accounts) (s : State) (f : Flat) (l : ObjectsMatch accounts
       by None is = refl
       by (Some q) is =
           let numbered = numbered_home accounts s f l (n ∷ me) ∙ ap is_some is in
-          let above = l.agrees.tree.held (Child n) (home_address me) numbered in
+          let above = (agreement l).tree.held (Child n) (home_address me) numbered in
           absurd (true≢false (sym (sym (numbered_home accounts s f l me) ∙ above) ∙ ap is_some none))
 
   -- from the process above on to a child
@@ -158,7 +159,7 @@ module _ (accounts : Accounts) (s : State) (f : Flat) (l : ObjectsMatch accounts
     outer_label =
         sym (label_bare (s.objects (where_is me).container))
         ∙ ap label_there (at_number same_step step_tests_equality s l.naming (expected accounts l.category f l.naming.number)
-        l.agrees (home_address me) (where_is me).container
+        (agreement l) (home_address me) (where_is me).container
         (is_or_zero _ (numbered_home accounts s f l me ∙ ap is_some here)))
         ∙ ap label_there (asked_home accounts l.category f l.naming.number me ∙ ap (home_object accounts l.category me) here)
 
@@ -176,13 +177,13 @@ module _ (accounts : Accounts) (s : State) (f : Flat) (l : ObjectsMatch accounts
 
     module _ (runs : p.exited ≡ None) where
       inner_there : is_some (l.naming.number (Inside ∷ home_address me)) ≡ true
-      inner_there = l.agrees.tree.held Runner (Inside ∷ home_address me) (numbered_runner accounts s f l me p here runs)
+      inner_there = (agreement l).tree.held Runner (Inside ∷ home_address me) (numbered_runner accounts s f l me p here runs)
 
       inner_label : label_there (s.objects (or_zero (l.naming.number (Inside ∷ home_address me)))) ≡ Some (guard_label l.category (inside_guard me p))
       inner_label =
           sym (label_bare (s.objects (or_zero (l.naming.number (Inside ∷ home_address me)))))
           ∙ ap label_there (at_number same_step step_tests_equality s l.naming (expected accounts l.category f l.naming.number)
-          l.agrees (Inside ∷ home_address me) (or_zero (l.naming.number (Inside ∷ home_address me)))
+          (agreement l) (Inside ∷ home_address me) (or_zero (l.naming.number (Inside ∷ home_address me)))
           (is_or_zero _ inner_there))
           ∙ ap label_there (asked_inside accounts l.category f l.naming.number me ∙ ap (inside_object accounts l.category me) here)
           ∙ ap (λ (e : Option ℕ). label_there (inside_object accounts l.category me (Some (record p { exited = e })))) runs

@@ -21,7 +21,7 @@ use Rattle.histar_refinement.specs.Addresses.{home_address}
 use Rattle.histar_refinement.specs.Addresses.Step.{Inside, Runner}
 use Rattle.histar_refinement.specs.Directories.{directory_of}
 use Rattle.histar_refinement.specs.Agrees.{bare}
-use Rattle.histar_refinement.specs.Expected.{content_kind}
+use Rattle.histar_refinement.proofs.Expected.{content_kind}
 use Rattle.histar_refinement.specs.Represents.{ObjectsMatch}
 use Rattle.histar_refinement.specs.Laws.{StandsFor}
 use Rattle.histar_refinement.proofs.ClassTests.{observes_class, modifies_class}

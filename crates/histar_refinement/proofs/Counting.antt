@@ -22,7 +22,7 @@ use Rattle.histar_refinement.specs.Categories.CategoryName.{OfJob}
 use Rattle.histar_refinement.specs.Addresses.{Step, same_step}
 use Rattle.histar_refinement.specs.Directories.{directory_of}
 use Rattle.histar_refinement.specs.Processes.{process_bytes}
-use Rattle.histar_refinement.specs.Expected.{status_object, bytes_for, expected}
+use Rattle.histar_refinement.proofs.Expected.{status_object, bytes_for, expected}
 use Rattle.histar_login.specs.Start.{segment}
 use Rattle.histar_refinement.specs.Represents.{IsInOrder, IsProcess, ObjectsMatch}
 use Rattle.histar_layout.proofs.Members.{first_of, second_of}
@@ -30,6 +30,7 @@ use Rattle.histar_refinement.proofs.Growing.{new_number, old_number, still_diffe
 use Rattle.histar_refinement.proofs.Roots.{asked_alike}
 use Rattle.histar_refinement.proofs.Moving.{agrees_same}
 use Rattle.histar_refinement.proofs.Uses.{keep_node, keep_listing, keep_process_label, keep_home, keep_inside, keep_runner, keep_order}
+use Rattle.histar_refinement.proofs.Agreement.{agreement, as_asked}
 
 module _ (accounts : Accounts) (f : Flat) (first : is_some (f.processes []) ≡ true) where
   -- boot's names are used
@@ -115,7 +116,8 @@ module _ (accounts : Accounts) (s : State) (f : Flat) (l : ObjectsMatch accounts
     record {
       naming = l.naming;
       category = l.category;
-      agrees = agrees_same same_step s new l.naming _ _ l.agrees (λ a. refl) objects next_is;
+      agrees = as_asked accounts l.category f l.naming.number new l.naming
+          (agrees_same same_step s new l.naming _ _ (agreement l) (λ a. refl) objects next_is);
       numbered = subst (λ (m : ℕ). m ≤ greatest) (sym next_is) l.numbered;
       as_booted = l.as_booted;
       different = l.different;
@@ -151,9 +153,9 @@ module _ (accounts : Accounts) (s : State) (f : Flat) (l : ObjectsMatch accounts
       record {
         naming = l.naming;
         category = named;
-        agrees =
-            agrees_same same_step s new l.naming _ _ l.agrees
-            (asked_kept accounts f l.category named keeps_named l.naming.number) objects next_is;
+        agrees = as_asked accounts named f l.naming.number new l.naming
+            (agrees_same same_step s new l.naming _ _ (agreement l)
+            (asked_kept accounts f l.category named keeps_named l.naming.number) objects next_is);
         numbered = subst (λ (m : ℕ). m ≤ greatest) (sym next_is) l.numbered;
         as_booted = l.as_booted;
         different = still_different l.category l.different s.next_category c;

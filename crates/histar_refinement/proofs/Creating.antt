@@ -29,8 +29,8 @@ use Rattle.histar_refinement.specs.Labels.{class_guard}
 use Rattle.histar_refinement.specs.Addresses.{Step, same_step, address_of}
 use Rattle.histar_refinement.specs.Addresses.Step.{Listing, Named}
 use Rattle.histar_refinement.specs.Directories.{both_numbers, directory_of}
-use Rattle.histar_refinement.specs.Agrees.{Agrees}
-use Rattle.histar_refinement.specs.Expected.{bare_container, guarded_object, node_object, listing_object, expected}
+use Rattle.histar_refinement.proofs.AgreesAt.{AgreesAt}
+use Rattle.histar_refinement.proofs.Expected.{bare_container, guarded_object, node_object, listing_object, expected}
 use Rattle.histar_login.specs.Start.{segment}
 use Rattle.histar_refinement.specs.Represents.{ObjectsMatch}
 use Rattle.histar_refinement.proofs.Steps.{step_tests_equality}
@@ -38,6 +38,7 @@ use Rattle.histar_refinement.proofs.Moving.{number_below, agrees_added, number_n
 use Rattle.histar_refinement.proofs.Roots.{asked_path, asked_listing}
 use Rattle.histar_refinement.proofs.ListedFiles.{SameNumbers, ClassFits}
 use Rattle.histar_refinement.proofs.Making.{boot_thread_below, Agreeing, same_numbers, matched_made}
+use Rattle.histar_refinement.proofs.Agreement.{agreement}
 
 -- what was nothing and is not the next number stays nothing
 gone_added : (s : State) (d b : ℕ) (o : Object Levels) → s.objects b ≡ None → b ≢ s.next_object → (with_object s d o).objects b ≡ None
@@ -80,7 +81,7 @@ module _ (accounts : Accounts) (s : State) (f : Flat) (l : ObjectsMatch accounts
   parent_is_dir = ap (λ (o : Option Node). is_some_and o is_dir) at_parent
 
   below : D < s.next_object
-  below = number_below same_step step_tests_equality s l.naming old_asked l.agrees (address_of d) D at_directory
+  below = number_below same_step step_tests_equality s l.naming old_asked (agreement l) (address_of d) D at_directory
 
   not_boot : boot_thread_number ≢ s.next_object
   not_boot e = let low = boot_thread_below accounts s f l in absurd (omega (arith, low, e))
@@ -109,11 +110,11 @@ module _ (accounts : Accounts) (s : State) (f : Flat) (l : ObjectsMatch accounts
   file_agrees : s.next_object < greatest → Agreeing accounts s f l d m class (File []) absent fits with_file file_naming file_asked
   file_agrees few = record {
     agrees =
-        agrees_added same_step step_tests_equality s l.naming old_asked l.agrees D (address_of d) (Named m)
+        agrees_added same_step step_tests_equality s l.naming old_asked (agreement l) D (address_of d) (Named m)
         empty_segment at_directory holder free (λ c. sym (none_linked c));
     elsewhere =
         λ a not_here not_inner.
-        number_old same_step step_tests_equality s l.naming old_asked l.agrees D (address_of d) (Named m)
+        number_old same_step step_tests_equality s l.naming old_asked (agreement l) D (address_of d) (Named m)
         empty_segment at_directory holder free (λ c. sym (none_linked c)) a not_here;
     asked_new = itself_set old_asked here (segment label []) ∙ sym (ap (guarded_object accounts l.category (Segment [])) class_has);
     asked_inner =
@@ -133,7 +134,7 @@ module _ (accounts : Accounts) (s : State) (f : Flat) (l : ObjectsMatch accounts
   matched_created name room few =
       matched_made accounts s f l d m class (File []) absent fits with_file file_naming file_asked (file_agrees few) N
       at_listing (targets.File s.next_object)
-      (ap (option_map targets.File) (number_new same_step step_tests_equality s l.naming old_asked l.agrees D (address_of d) (Named m)
+      (ap (option_map targets.File) (number_new same_step step_tests_equality s l.naming old_asked (agreement l) D (address_of d) (Named m)
       empty_segment at_directory holder free (λ c. sym (none_linked c))))
       name (omega (arith, below), omega (arith, few)) parent_is_dir room
 
@@ -161,14 +162,14 @@ module _ (accounts : Accounts) (s : State) (f : Flat) (l : ObjectsMatch accounts
   abbrev directory_asked : Address Step → Found
   directory_asked = set_at same_step container_asked (Listing ∷ here) (segment label [])
 
-  container_agrees : Agrees same_step with_container container_naming container_asked
+  container_agrees : AgreesAt same_step with_container container_naming container_asked
   container_agrees =
-      agrees_added same_step step_tests_equality s l.naming old_asked l.agrees D (address_of d) (Named m)
+      agrees_added same_step step_tests_equality s l.naming old_asked (agreement l) D (address_of d) (Named m)
       empty_container at_directory holder free (λ c. sym (none_linked c))
 
   number_here : container_naming.number here ≡ Some s.next_object
   number_here =
-      number_new same_step step_tests_equality s l.naming old_asked l.agrees D (address_of d) (Named m) empty_container
+      number_new same_step step_tests_equality s l.naming old_asked (agreement l) D (address_of d) (Named m) empty_container
       at_directory holder free (λ c. sym (none_linked c))
 
   holder_here : is_container (container_asked here) ≡ true
@@ -189,7 +190,7 @@ module _ (accounts : Accounts) (s : State) (f : Flat) (l : ObjectsMatch accounts
         number_old same_step step_tests_equality with_container container_naming container_asked container_agrees
         s.next_object here Listing empty_segment number_here holder_here free_here (λ c. sym (none_linked c)) a
         not_inner
-        ∙ number_old same_step step_tests_equality s l.naming old_asked l.agrees D (address_of d) (Named m)
+        ∙ number_old same_step step_tests_equality s l.naming old_asked (agreement l) D (address_of d) (Named m)
         empty_container at_directory holder free (λ c. sym (none_linked c)) a not_here;
     asked_new =
         other_set container_asked (Listing ∷ here) here (segment label []) (λ e. inner_other (sym e))

@@ -28,12 +28,13 @@ use Rattle.histar_refinement.specs.Categories.CategoryName.{OfBoot, ReadsUser, W
 use Rattle.histar_refinement.specs.Categories.CategoryName.{OfJob}
 use Rattle.histar_refinement.specs.Guards.{guard_label}
 use Rattle.histar_refinement.specs.Labels.{process_guard}
-use Rattle.histar_refinement.specs.Addresses.{Step, same_step, address_of, home_address, path_at, process_at, inside_at, boot_number}
+use Rattle.histar_refinement.specs.Addresses.{Step, same_step, address_of, home_address, boot_number}
+use Rattle.histar_refinement.proofs.Expected.{path_at, process_at, inside_at}
 use Rattle.histar_refinement.specs.Addresses.Step.{Left, Slash, Listing, Named, Home, Status, Inside, Runner, Child}
 use Rattle.histar_refinement.specs.Processes.{or_zero, children, listed_by, process_bytes}
-use Rattle.histar_refinement.specs.Agrees.{Agrees}
-use Rattle.histar_refinement.specs.Expected.{listing_object, home_object, status_object, inside_object, thread_object, expected_node, listing_at}
-use Rattle.histar_refinement.specs.Expected.{expected_home, bytes_for, expected_status, container_inside, thread_at, expected}
+use Rattle.histar_refinement.proofs.AgreesAt.{AgreesAt}
+use Rattle.histar_refinement.proofs.Expected.{listing_object, home_object, status_object, inside_object, thread_object, expected_node, listing_at}
+use Rattle.histar_refinement.proofs.Expected.{expected_home, bytes_for, expected_status, container_inside, thread_at, expected}
 use Rattle.histar_login.specs.Start.{segment}
 use Rattle.histar_refinement.specs.Represents.{IsProcess, AreJobsGiven, ObjectsMatch, Represents}
 use Rattle.histar_refinement.proofs.ProcessBytes.{alike_bytes}
@@ -41,6 +42,7 @@ use Rattle.histar_refinement.proofs.Roots.{address_path, address_process, addres
 use Rattle.histar_refinement.proofs.Roots.{asked_status}
 use Rattle.histar_refinement.proofs.Steps.{step_tests_equality}
 use Rattle.histar_refinement.proofs.Moving.{bare_held, agrees_changed, agrees_cut, agrees_same, no_address}
+use Rattle.histar_refinement.proofs.Agreement.{agreement, as_asked}
 
 module _ (accounts : Accounts) (s : State) (f : Flat) (l : ObjectsMatch accounts s f) (me : ProcName) (p : Process)
     (here : f.processes me ≡ Some p) (n : ℕ) (small : n ≤ greatest_status) (C S o : ℕ)
@@ -112,9 +114,9 @@ module _ (accounts : Accounts) (s : State) (f : Flat) (l : ObjectsMatch accounts
   abbrev asked_first : Address Step → Found
   asked_first = set_at same_step old_asked (Status ∷ home_address me) (option_map (holding written) (old_asked (Status ∷ home_address me)))
 
-  agrees_first : Agrees same_step state_written l.naming asked_first
+  agrees_first : AgreesAt same_step state_written l.naming asked_first
   agrees_first =
-      agrees_changed same_step step_tests_equality s l.naming old_asked l.agrees S (Status ∷ home_address me)
+      agrees_changed same_step step_tests_equality s l.naming old_asked (agreement l) S (Status ∷ home_address me)
       (holding written) at_own (λ x. kind_held_links written x.kind) (bare_held written)
 
   -- no path leads below the internal container
@@ -372,7 +374,7 @@ module _ (accounts : Accounts) (s : State) (f : Flat) (l : ObjectsMatch accounts
       by false i = sym (kept a i) ∙ l.as_booted a q e
 
   module _ (new : State) (cuts : CutsOff state_written C o new) where
-    agrees_then : Agrees same_step new naming (cut same_step asked_first top)
+    agrees_then : AgreesAt same_step new naming (cut same_step asked_first top)
     agrees_then =
         agrees_cut same_step step_tests_equality state_written l.naming asked_first agrees_first new C o
         (home_address me) Inside cuts at_inside at_home
@@ -381,7 +383,7 @@ module _ (accounts : Accounts) (s : State) (f : Flat) (l : ObjectsMatch accounts
     gone_then =
         agrees_then.tree.as_expected boot_thread_number
         ∙ ap (wanted (objects_at new.objects naming)) (ap (λ (x : Option (Address Step)). if is_under same_step top x then None else x)
-        (no_address same_step s l.naming old_asked l.agrees boot_thread_number l.boot_thread_gone))
+        (no_address same_step s l.naming old_asked (agreement l) boot_thread_number l.boot_thread_gone))
 
     -- the numbers in the names of jobs were given as before
     pub jobs_exited : AreJobsGiven f → AreJobsGiven after
@@ -397,7 +399,8 @@ module _ (accounts : Accounts) (s : State) (f : Flat) (l : ObjectsMatch accounts
       record {
         naming = naming;
         category = l.category;
-        agrees = agrees_same same_step new new naming _ wish agrees_then asks (λ q. refl) refl;
+        agrees = as_asked accounts l.category after naming.number new naming
+            (agrees_same same_step new new naming _ wish agrees_then asks (λ q. refl) refl);
         numbered = subst (λ (m : ℕ). m ≤ greatest) (sym cuts.next_object) l.numbered;
         as_booted = as_booted_then;
         different = l.different;

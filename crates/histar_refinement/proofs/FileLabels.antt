@@ -21,7 +21,7 @@ use Rattle.histar_refinement.specs.Labels.{boot_guard, class_guard, thread_right
 use Rattle.histar_refinement.specs.Addresses.{address_of, slash_number}
 use Rattle.histar_refinement.specs.Addresses.Step.{Slash}
 use Rattle.histar_refinement.specs.Agrees.{bare}
-use Rattle.histar_refinement.specs.Expected.{content_kind}
+use Rattle.histar_refinement.proofs.Expected.{content_kind}
 use Rattle.histar_refinement.specs.Represents.{ObjectsMatch}
 use Rattle.histar_refinement.specs.Laws.{RunsAs}
 use Rattle.histar_refinement.proofs.RawChecks.{label_check}

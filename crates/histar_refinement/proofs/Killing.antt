@@ -28,12 +28,13 @@ use Rattle.histar_refinement.specs.Categories.CategoryName.{OfBoot, ReadsUser, W
 use Rattle.histar_refinement.specs.Categories.CategoryName.{OfJob}
 use Rattle.histar_refinement.specs.Guards.{guard_label}
 use Rattle.histar_refinement.specs.Labels.{process_guard}
-use Rattle.histar_refinement.specs.Addresses.{Step, same_step, address_of, home_address, path_at, process_at, inside_at, boot_number}
+use Rattle.histar_refinement.specs.Addresses.{Step, same_step, address_of, home_address, boot_number}
+use Rattle.histar_refinement.proofs.Expected.{path_at, process_at, inside_at}
 use Rattle.histar_refinement.specs.Addresses.Step.{Left, Slash, Listing, Named, Home, Status, Inside, Runner, Child}
 use Rattle.histar_refinement.specs.Processes.{process_bytes}
-use Rattle.histar_refinement.specs.Agrees.{Agrees}
-use Rattle.histar_refinement.specs.Expected.{listing_object, home_object, status_object, inside_object, thread_object, expected_node, listing_at}
-use Rattle.histar_refinement.specs.Expected.{expected_home, bytes_for, expected_status, container_inside, thread_at, expected}
+use Rattle.histar_refinement.proofs.AgreesAt.{AgreesAt}
+use Rattle.histar_refinement.proofs.Expected.{listing_object, home_object, status_object, inside_object, thread_object, expected_node, listing_at}
+use Rattle.histar_refinement.proofs.Expected.{expected_home, bytes_for, expected_status, container_inside, thread_at, expected}
 use Rattle.histar_login.specs.Start.{segment}
 use Rattle.histar_refinement.specs.Represents.{AreJobsGiven, ObjectsMatch, Represents}
 use Rattle.histar_refinement.proofs.ProcessBytes.{alike_bytes}
@@ -42,6 +43,7 @@ use Rattle.histar_refinement.proofs.Roots.{address_path, address_process, addres
 use Rattle.histar_refinement.proofs.Roots.{asked_status}
 use Rattle.histar_refinement.proofs.Steps.{step_tests_equality}
 use Rattle.histar_refinement.proofs.Moving.{bare_held, agrees_changed, agrees_cut, agrees_same, no_address}
+use Rattle.histar_refinement.proofs.Agreement.{agreement, as_asked}
 
 module _ (accounts : Accounts) (s : State) (f : Flat) (l : ObjectsMatch accounts s f) (me : ProcName) (p : Process)
     (here : f.processes me ≡ Some p) (n C S o : ℕ)
@@ -103,10 +105,10 @@ module _ (accounts : Accounts) (s : State) (f : Flat) (l : ObjectsMatch accounts
   abbrev pub state_left : State
   state_left = with_segment_bytes mid S own_written
 
-  agrees_mid : Agrees same_step mid naming (cut same_step old_asked (home_address top))
-  agrees_mid = agrees_cut same_step step_tests_equality s l.naming old_asked l.agrees mid C o (home_address me) (Child n) cuts at_victim at_home
+  agrees_mid : AgreesAt same_step mid naming (cut same_step old_asked (home_address top))
+  agrees_mid = agrees_cut same_step step_tests_equality s l.naming old_asked (agreement l) mid C o (home_address me) (Child n) cuts at_victim at_home
 
-  agrees_left : Agrees same_step state_left naming (set_at same_step (cut same_step old_asked (home_address top)) (Status ∷ home_address me)
+  agrees_left : AgreesAt same_step state_left naming (set_at same_step (cut same_step old_asked (home_address top)) (Status ∷ home_address me)
       (option_map (holding own_written) (cut same_step old_asked (home_address top) (Status ∷ home_address me))))
   agrees_left =
       agrees_changed same_step step_tests_equality mid naming (cut same_step old_asked (home_address top)) agrees_mid S
@@ -328,7 +330,7 @@ module _ (accounts : Accounts) (s : State) (f : Flat) (l : ObjectsMatch accounts
       agrees_mid.tree.as_expected boot_thread_number
       ∙ ap (wanted (objects_at mid.objects naming)) (ap
       (λ (x : Option (Address Step)). if is_under same_step (home_address top) x then None else x)
-      (no_address same_step s l.naming old_asked l.agrees boot_thread_number l.boot_thread_gone))
+      (no_address same_step s l.naming old_asked (agreement l) boot_thread_number l.boot_thread_gone))
 
   -- the numbers in the names of jobs were given as before
   pub jobs_left : AreJobsGiven f → AreJobsGiven after
@@ -344,7 +346,8 @@ module _ (accounts : Accounts) (s : State) (f : Flat) (l : ObjectsMatch accounts
     record {
       naming = naming;
       category = l.category;
-      agrees = agrees_same same_step state_left state_left naming _ wish agrees_left left_asks (λ q. refl) refl;
+      agrees = as_asked accounts l.category after naming.number state_left naming
+          (agrees_same same_step state_left state_left naming _ wish agrees_left left_asks (λ q. refl) refl);
       numbered = subst (λ (m : ℕ). m ≤ greatest) (sym cuts.next_object) l.numbered;
       as_booted = as_booted_then;
       different = l.different;

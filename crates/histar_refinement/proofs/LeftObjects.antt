@@ -32,7 +32,7 @@ use Rattle.histar_refinement.specs.LeftByBoot.{left_by_boot}
 use Rattle.histar_refinement.specs.Addresses.{same_step, first_left, table_number}
 use Rattle.histar_refinement.specs.Addresses.Step.{Left}
 use Rattle.histar_refinement.specs.Agrees.{bare}
-use Rattle.histar_refinement.specs.Expected.{expected}
+use Rattle.histar_refinement.proofs.Expected.{expected}
 use Rattle.histar_refinement.specs.Represents.{ObjectsMatch}
 use Rattle.histar_refinement.proofs.AmongNames.{each_head, each_append}
 use Rattle.histar_layout.proofs.Members.{mapped_from}
@@ -43,6 +43,7 @@ use Rattle.histar_refinement.proofs.GateLabels.{user_reads, user_writes, gate_la
 use Rattle.histar_refinement.proofs.Steps.{step_tests_equality}
 use Rattle.histar_refinement.proofs.Moving.{bare_is, at_number}
 use Rattle.histar_refinement.proofs.Agreeing.{bare_container_is, step_linked}
+use Rattle.histar_refinement.proofs.Agreement.{agreement}
 
 no_truth : false ≡ true → ⊥
 no_truth e = true≢false (sym e)
@@ -194,7 +195,7 @@ module _ (accounts : Accounts) (s : State) (f : Flat) (l : ObjectsMatch accounts
       × (s.objects root_number
       ≡ Some (record { label = guard_label (booted accounts) boot_guard; kind = Container links }))
   root_found = bare_container_is (s.objects root_number) (guard_label (booted accounts) boot_guard)
-      (at_number same_step step_tests_equality s l.naming (expected accounts l.category f l.naming.number) l.agrees []
+      (at_number same_step step_tests_equality s l.naming (expected accounts l.category f l.naming.number) (agreement l) []
       root_number (l.as_booted [] root_number refl))
 
   -- what boot left has the numbers that boot gave
@@ -206,7 +207,7 @@ module _ (accounts : Accounts) (s : State) (f : Flat) (l : ObjectsMatch accounts
 
   left_bare : (q : ℕ) → first_left ≤ q → q ≤ table_number (length accounts.users) → bare (s.objects q) ≡ left_by_boot accounts q
   left_bare q low high =
-      at_number same_step step_tests_equality s l.naming (expected accounts l.category f l.naming.number) l.agrees
+      at_number same_step step_tests_equality s l.naming (expected accounts l.category f l.naming.number) (agreement l)
       (Left q ∷ []) q (left_number q low high)
 
   left_linked : (q : ℕ) → first_left ≤ q → q ≤ table_number (length accounts.users) → set.contains (links_in (s.objects root_number)) q ≡ true

@@ -9,9 +9,12 @@ pub mod Growing
 pub mod MakingRanges
 pub mod Ranges
 pub mod Uses
+pub mod AgreesAt
+pub mod Expected
 pub mod Moving
 pub mod Steps
 pub mod Roots
+pub mod Agreement
 pub mod StartNumbers
 pub mod StartNames
 pub mod StartTable

@@ -24,7 +24,7 @@ use Rattle.histar_refinement.specs.Addresses.{AddressNumbers, address_of}
 use Rattle.histar_refinement.specs.Addresses.Step.{Slash, Listing, Named}
 use Rattle.histar_refinement.specs.Agrees.{bare}
 use Rattle.histar_refinement.specs.Directories.{both_numbers, target_for, directory_of}
-use Rattle.histar_refinement.specs.Expected.{guarded_object, listing_object}
+use Rattle.histar_refinement.proofs.Expected.{guarded_object, listing_object}
 use Rattle.histar_login.specs.Start.{segment}
 use Rattle.histar_refinement.specs.Represents.{ObjectsMatch}
 use Rattle.histar_refinement.specs.Lines.{IsDirectoryAt}
@@ -34,6 +34,7 @@ use Rattle.histar_refinement.proofs.Agreeing.{some_of, root_is_dir, parent_is_di
 use Rattle.histar_refinement.proofs.ListedFiles.{leads_at}
 use Rattle.histar_layout.proofs.DirectoryLemmas.{same_directory}
 use Rattle.histar_refinement.proofs.SameLines.{container_in, listing_in}
+use Rattle.histar_refinement.proofs.Agreement.{agreement}
 
 -- an object has the same bytes without its links
 pub bytes_bare : (o : Found) → bytes_in (bare o) ≡ bytes_in o
@@ -121,7 +122,7 @@ module _ (accounts : Accounts) (s : State) (f : Flat) (l : ObjectsMatch accounts
 
   has_listing : (d : Path) → is_dir_at f d ≡ true → is_some (l.naming.number (Listing ∷ address_of d)) ≡ true
   has_listing d is =
-      l.agrees.named (Listing ∷ address_of d)
+      (agreement l).named (Listing ∷ address_of d)
       ∙ ap is_present (asked_listing accounts l.category f l.naming.number d ∙ (listed_here d is).1)
 
   pub holds_directory : (d : Path) (g : ℕ) → is_dir_at f d ≡ true → l.naming.number (Listing ∷ address_of d) ≡ Some g
@@ -131,7 +132,7 @@ module _ (accounts : Accounts) (s : State) (f : Flat) (l : ObjectsMatch accounts
     spelled =
         sym (bytes_bare (s.objects g))
         ∙ ap (λ (q : Option ℕ). bytes_in (bare (option_and_then s.objects q))) (sym at)
-        ∙ ap bytes_in (l.agrees.objects (Listing ∷ address_of d) ∙ asked_listing accounts l.category f l.naming.number d ∙ (listed_here d is).1);
+        ∙ ap bytes_in ((agreement l).objects (Listing ∷ address_of d) ∙ asked_listing accounts l.category f l.naming.number d ∙ (listed_here d is).1);
   }
 
   -- The segments lead to the numbers of each directory.
@@ -142,7 +143,7 @@ module _ (accounts : Accounts) (s : State) (f : Flat) (l : ObjectsMatch accounts
   directory_found (n ∷ d) c g is here listing =
       let there = node_there (get f.files (n ∷ d)) is in
       let dir = parent_is_dir accounts s f l n d there.0 there.1 in
-      let above = some_of (l.naming.number (address_of d)) (l.agrees.tree.held (Named n) (address_of d) (ap is_some here)) in
+      let above = some_of (l.naming.number (address_of d)) ((agreement l).tree.held (Named n) (address_of d) (ap is_some here)) in
       let segment_above = some_of (l.naming.number (Listing ∷ address_of d)) (has_listing d dir) in (
         above.0,
         segment_above.0,

@@ -34,13 +34,14 @@ use Rattle.histar_refinement.specs.Categories.CategoryName.{OfBoot, ReadsUser, W
 use Rattle.histar_refinement.specs.Categories.CategoryName.{OfJob}
 use Rattle.histar_refinement.specs.Guards.{Guard, guard_label}
 use Rattle.histar_refinement.specs.Labels.{class_guard, process_guard}
-use Rattle.histar_refinement.specs.Addresses.{Step, AddressNumbers, same_step, address_of, home_address, path_at, boot_number}
+use Rattle.histar_refinement.specs.Addresses.{Step, AddressNumbers, same_step, address_of, home_address, boot_number}
+use Rattle.histar_refinement.proofs.Expected.{path_at}
 use Rattle.histar_refinement.specs.Addresses.Step.{Listing, Named, Status, Inside, Runner}
 use Rattle.histar_refinement.specs.Processes.{status_by, process_bytes}
 use Rattle.histar_refinement.specs.Directories.{both_numbers, target_for, directory_of}
-use Rattle.histar_refinement.specs.Agrees.{Agrees}
-use Rattle.histar_refinement.specs.Expected.{guarded_object, content_kind, node_object, listing_object, status_object, bytes_for, expected_status}
-use Rattle.histar_refinement.specs.Expected.{expected}
+use Rattle.histar_refinement.proofs.AgreesAt.{AgreesAt}
+use Rattle.histar_refinement.proofs.Expected.{guarded_object, content_kind, node_object, listing_object, status_object, bytes_for, expected_status}
+use Rattle.histar_refinement.proofs.Expected.{expected}
 use Rattle.histar_login.specs.Start.{segment}
 use Rattle.histar_refinement.specs.Represents.{IsInOrder, AreJobsGiven, ObjectsMatch}
 use Rattle.histar_refinement.proofs.ProcessBytes.{alike_status}
@@ -48,6 +49,7 @@ use Rattle.histar_refinement.proofs.Roots.{path_address, AsksAlikeAt, asked_alik
 use Rattle.histar_refinement.proofs.Steps.{step_tests_equality}
 use Rattle.histar_refinement.proofs.Moving.{bare_held, agrees_changed, agrees_same}
 use Rattle.histar_refinement.proofs.DirectoryLaws.{get_directory}
+use Rattle.histar_refinement.proofs.Agreement.{agreement, as_asked}
 
 -- the same processes, and these files
 abbrev pub with_files : Flat → Files Node → Flat
@@ -187,20 +189,20 @@ module _ (accounts : Accounts) (s : State) (f : Flat) (l : ObjectsMatch accounts
   -- the object at a path has a number
   pub numbered_path : (q : Path) (there : Node) → get f.files q ≡ Some there → is_some (l.naming.number (address_of q)) ≡ true
   numbered_path q there at =
-      l.agrees.named (address_of q) ∙ ap is_present (asked_path accounts l.category f l.naming.number q ∙ ap (node_object accounts l.category) at)
+      (agreement l).named (address_of q) ∙ ap is_present (asked_path accounts l.category f l.naming.number q ∙ ap (node_object accounts l.category) at)
       ∙ guard_there (content_kind there.content) (class_guard accounts there.class) (l.guarded q there at)
 
   -- where there is a number there is an object
   pub nothing_unnumbered : (q : Path) → get f.files q ≡ None → is_some (l.naming.number (address_of q)) ≡ false
   nothing_unnumbered q at =
-      l.agrees.named (address_of q)
+      (agreement l).named (address_of q)
       ∙ ap is_present (asked_path accounts l.category f l.naming.number q ∙ ap (node_object accounts l.category) at)
 
   -- a directory's segment has a number
   pub numbered_listing : (q : Path) (class : Class) → get f.files q ≡ Some (record { class = class; content = Dir })
       → is_some (l.naming.number (Listing ∷ address_of q)) ≡ true
   numbered_listing q class at =
-      l.agrees.named (Listing ∷ address_of q)
+      (agreement l).named (Listing ∷ address_of q)
       ∙ ap is_present (asked_listing accounts l.category f l.naming.number q
       ∙ ap (listing_object accounts l.category (spelling (directory_of f.files l.naming.number q))) at)
       ∙ guard_there (Segment (spelling (directory_of f.files l.naming.number q))) (class_guard accounts class)
@@ -213,7 +215,7 @@ module _ (accounts : Accounts) (s : State) (f : Flat) (l : ObjectsMatch accounts
       by : (o : Option Node) → get f.files (n ∷ d) ≡ o → o ≡ None
       by None at = refl
       by (Some there) at =
-          absurd (true≢false (sym (l.agrees.tree.held (Named n) (address_of d) (numbered_path (n ∷ d) there at))
+          absurd (true≢false (sym ((agreement l).tree.held (Named n) (address_of d) (numbered_path (n ∷ d) there at))
           ∙ nothing_unnumbered d nothing))
 
   -- a class that can be represented: it has a guard, its jobs are in order, and the category of each was made
@@ -296,7 +298,7 @@ module _ (accounts : Accounts) (s : State) (f : Flat) (l : ObjectsMatch accounts
       -- A state with the objects that are asked for, whose directories can be listed, has the objects of the flat state with these
       -- files.
       pub matched_files : (new : State) (naming : Naming Step)
-          → Agrees same_step new naming (expected accounts l.category refiled naming.number)
+          → AgreesAt same_step new naming (expected accounts l.category refiled naming.number)
           → new.next_object ≤ greatest
           → ((a : Address Step) (q : ℕ) → boot_number (length accounts.users) a ≡ Some q → naming.number a ≡ Some q)
           → ((d : Path) → is_dir_at refiled d ≡ true → IsListable (directory_of files naming.number d))
@@ -306,7 +308,7 @@ module _ (accounts : Accounts) (s : State) (f : Flat) (l : ObjectsMatch accounts
         record {
           naming = naming;
           category = l.category;
-          agrees = agrees;
+          agrees = as_asked accounts l.category refiled naming.number new naming agrees;
           numbered = numbered;
           as_booted = booted;
           different = l.different;
@@ -326,7 +328,7 @@ module _ (accounts : Accounts) (s : State) (f : Flat) (l : ObjectsMatch accounts
 
       -- The same after the write of one directory segment, where all other objects are those asked for.
       pub matched_listed : (mid : State) (naming : Naming Step) (asked : Address Step → Found)
-          → Agrees same_step mid naming asked → mid.next_object ≤ greatest
+          → AgreesAt same_step mid naming asked → mid.next_object ≤ greatest
           → (d : Path) (N : ℕ) → naming.number (Listing ∷ address_of d) ≡ Some N
           → (old : List ℕ) → asked (Listing ∷ address_of d) ≡ listing_object accounts l.category old (get files d)
           → ((a : Address Step) → Listing ∷ address_of d ≢ a → asked a ≡ expected accounts l.category refiled naming.number a)
@@ -342,7 +344,7 @@ module _ (accounts : Accounts) (s : State) (f : Flat) (l : ObjectsMatch accounts
           (expected accounts l.category refiled naming.number) written asks (λ q. refl) refl) numbered
           booted listable same_next (by_bytes mid.objects N boot_thread_number gone)
         where
-          written : Agrees same_step (with_segment_bytes mid N (spelling (directory_of files naming.number d))) naming
+          written : AgreesAt same_step (with_segment_bytes mid N (spelling (directory_of files naming.number d))) naming
               (set_at same_step asked (Listing ∷ address_of d) (option_map (holding (spelling (directory_of files naming.number d)))
               (asked (Listing ∷ address_of d))))
           written =

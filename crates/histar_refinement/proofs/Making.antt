@@ -26,11 +26,12 @@ use Rattle.histar_flat.specs.Classes.{Class}
 use Rattle.histar_flat.specs.FlatState.{Node, Content, Flat, is_dir, is_dir_at, is_some_and, entries_in, with_node}
 use Rattle.histar_flat.specs.FlatCalls.{most_entries}
 use Rattle.histar_flat.specs.FlatState.Content.{Dir, File}
-use Rattle.histar_refinement.specs.Addresses.{Step, same_step, address_of, home_address, process_at, boot_number}
+use Rattle.histar_refinement.specs.Addresses.{Step, same_step, address_of, home_address, boot_number}
+use Rattle.histar_refinement.proofs.Expected.{process_at}
 use Rattle.histar_refinement.specs.Addresses.Step.{Slash, Listing, Status, Inside, Runner}
 use Rattle.histar_refinement.specs.Directories.{both_numbers, target_for, directory_of}
-use Rattle.histar_refinement.specs.Agrees.{Agrees}
-use Rattle.histar_refinement.specs.Expected.{node_object, listing_object, listing_at, expected}
+use Rattle.histar_refinement.proofs.AgreesAt.{AgreesAt}
+use Rattle.histar_refinement.proofs.Expected.{node_object, listing_object, listing_at, expected}
 use Rattle.histar_refinement.specs.Represents.{AreJobsGiven, ObjectsMatch}
 use Rattle.histar_refinement.proofs.Roots.{process_address, asked_path, asked_listing}
 use Rattle.histar_refinement.proofs.Steps.{step_tests_equality}
@@ -39,6 +40,7 @@ use Rattle.histar_refinement.proofs.DirectoryLaws.{get_directory, len_directory}
 use Rattle.histar_refinement.proofs.ListedFiles.{SameNumbers, not_home, not_begun, same_address_path, asked_same, leads_at, directories_alike}
 use Rattle.histar_refinement.proofs.ListedFiles.{same_leads, numbered_path, numbered_listing, nothing_in, ClassFits, AreKnown, old_known, old_fits}
 use Rattle.histar_refinement.proofs.ListedFiles.{jobs_kept, matched_listed}
+use Rattle.histar_refinement.proofs.Agreement.{agreement}
 
 -- a directory segment's address is no process's
 pub listing_not_home : (a : Address Step) (q : ProcName) → Listing ∷ a ≢ home_address q
@@ -83,7 +85,7 @@ module _ (accounts : Accounts) (s : State) (f : Flat) (l : ObjectsMatch accounts
   boot_thread_below =
       let below =
       number_below same_step step_tests_equality s l.naming (expected accounts l.category f l.naming.number)
-      l.agrees (Slash ∷ []) (4 + 2 * length accounts.users)
+      (agreement l) (Slash ∷ []) (4 + 2 * length accounts.users)
       (l.as_booted (Slash ∷ []) (4 + 2 * length accounts.users) refl) in
       omega (arith, below)
 
@@ -130,7 +132,7 @@ module _ (accounts : Accounts) (s : State) (f : Flat) (l : ObjectsMatch accounts
 
     -- The objects after the new ones were made: as before but for the new one and, for a directory, its segment.
     pub record Agreeing (mid : State) (naming : Naming Step) (asked : Address Step → Found) : Type 0 where
-      pub agrees : Agrees same_step mid naming asked
+      pub agrees : AgreesAt same_step mid naming asked
       pub elsewhere : (a : Address Step) → new_address ≢ a → Listing ∷ new_address ≢ a → naming.number a ≡ l.naming.number a
       pub asked_new : asked new_address ≡ node_object accounts l.category (Some made)
       pub asked_inner : asked (Listing ∷ new_address) ≡ listing_object accounts l.category [] (Some made)

@@ -22,7 +22,8 @@ use Rattle.histar_container.proofs.Reaching.{not_reached}
 use Rattle.histar_container.proofs.TableMoves.{changed_here, changed_other, new_there, new_holder, new_other, matched_new, matched_changed}
 use Rattle.histar_container.proofs.TableMoves.{matched_without}
 use Rattle.histar_container.proofs.Trees.{matched_itself}
-use Rattle.histar_refinement.specs.Agrees.{kind_bare, bare, Agrees}
+use Rattle.histar_refinement.specs.Agrees.{kind_bare, bare}
+use Rattle.histar_refinement.proofs.AgreesAt.{AgreesAt}
 
 -- a container that links one number more or less is the same, but for its links
 pub bare_linked : (n : ℕ) (o : Found) → bare (option_map (linking n) o) ≡ bare o
@@ -93,7 +94,7 @@ not_some None e = refl
 not_some (Some x) e = absurd (true≢false e)
 
 module _ {X : Type 0} (same_step : X → X → Bool) (decides : TestsEquality same_step) (s : State) (naming : Naming X)
-    (asked : Address X → Found) (agrees : Agrees same_step s naming asked) where
+    (asked : Address X → Found) (agrees : AgreesAt same_step s naming asked) where
   -- a number that an address has is below the next one
   pub number_below : (a : Address X) (q : ℕ) → naming.number a ≡ Some q → q < s.next_object
   number_below a q is = elim (cases_lt q s.next_object) [
@@ -162,7 +163,7 @@ module _ {X : Type 0} (same_step : X → X → Bool) (decides : TestsEquality sa
         by true = refl
         by false = agrees.named b
 
-    pub agrees_added : Agrees same_step (with_object s d o) grown_naming (set_at same_step asked (x ∷ a) (bare (Some o)))
+    pub agrees_added : AgreesAt same_step (with_object s d o) grown_naming (set_at same_step asked (x ∷ a) (bare (Some o)))
     agrees_added = record {
       tree = matched_itself same_step (with_object s d o).objects (s.next_object + 1) _ grown_naming
           (matched_new same_step decides s.objects s.next_object (objects_at s.objects naming) naming agrees.tree d a
@@ -206,7 +207,7 @@ module _ {X : Type 0} (same_step : X → X → Bool) (decides : TestsEquality sa
       | inr e ↦ agrees.named b ∙ sym (ap (λ (t : Bool). is_present (if t then option_map change (asked a) else asked b)) e.0)
     ]
 
-    pub agrees_changed : Agrees same_step changed_state naming (set_at same_step asked a (option_map change (asked a)))
+    pub agrees_changed : AgreesAt same_step changed_state naming (set_at same_step asked a (option_map change (asked a)))
     agrees_changed = record {
       tree = matched_itself same_step changed_state.objects s.next_object _ naming
           (matched_changed same_step decides s.objects s.next_object (objects_at s.objects naming) naming agrees.tree
@@ -250,7 +251,7 @@ module _ {X : Type 0} (same_step : X → X → Bool) (decides : TestsEquality sa
         by true = refl
         by false = agrees.named b
 
-    pub agrees_cut : Agrees same_step new left_naming (cut same_step asked (x ∷ a))
+    pub agrees_cut : AgreesAt same_step new left_naming (cut same_step asked (x ∷ a))
     agrees_cut = record {
       tree = subst (λ (next : ℕ). MatchesNaming same_step new.objects next (objects_at new.objects left_naming) left_naming) (sym cuts.next_object)
           (matched_itself same_step new.objects s.next_object _ left_naming
@@ -262,9 +263,9 @@ module _ {X : Type 0} (same_step : X → X → Bool) (decides : TestsEquality sa
 
 -- the same is asked for everywhere, and the state has the same objects and the same next number
 pub agrees_same : {X : Type 0} (same_step : X → X → Bool) (s new : State) (naming : Naming X)
-    (asked other : Address X → Found) → Agrees same_step s naming asked
+    (asked other : Address X → Found) → AgreesAt same_step s naming asked
     → ((a : Address X) → asked a ≡ other a) → ((q : ℕ) → new.objects q ≡ s.objects q) → new.next_object ≡ s.next_object
-    → Agrees same_step new naming other
+    → AgreesAt same_step new naming other
 agrees_same same_step s new naming asked other agrees alike same_objects same_next =
     let objects : s.objects ≡ new.objects = λ i q. sym (same_objects q) i in
     record {
@@ -276,7 +277,7 @@ agrees_same same_step s new naming asked other agrees alike same_objects same_ne
 
 -- where a number has no object, it has no address
 pub no_address : {X : Type 0} (same_step : X → X → Bool) (s : State) (naming : Naming X) (asked : Address X → Found)
-    → Agrees same_step s naming asked → (q : ℕ) → s.objects q ≡ None → naming.address q ≡ None
+    → AgreesAt same_step s naming asked → (q : ℕ) → s.objects q ≡ None → naming.address q ≡ None
 no_address {X} same_step s naming asked agrees q e = by (naming.address q) refl
   where
     by : (o : Option (Address X)) → naming.address q ≡ o → o ≡ None

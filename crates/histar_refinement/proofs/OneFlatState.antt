@@ -26,7 +26,7 @@ use Rattle.histar_refinement.specs.Addresses.{AddressNumbers, same_step, address
 use Rattle.histar_refinement.specs.Addresses.Step.{Slash, Listing, Status, Inside, Runner}
 use Rattle.histar_refinement.specs.Directories.{both_numbers, target_for, directory_of}
 use Rattle.histar_refinement.specs.Agrees.{bare}
-use Rattle.histar_refinement.specs.Expected.{content_kind, home_object, expected}
+use Rattle.histar_refinement.proofs.Expected.{content_kind, home_object, expected}
 use Rattle.histar_refinement.specs.Represents.{IsInOrder, IsProcess, ObjectsMatch}
 use Rattle.histar_refinement.specs.Laws.{AreAlike}
 use Rattle.histar_refinement.specs.Processes.{or_zero, status_by}
@@ -44,6 +44,7 @@ use Rattle.histar_refinement.proofs.StatusFound.{zero_there, numbered_home, numb
 use Rattle.histar_refinement.proofs.OneChain.{one_chain}
 use Rattle.histar_refinement.proofs.OneProcess.{one_user, one_held}
 use Rattle.histar_refinement.proofs.OneClass.{one_class}
+use Rattle.histar_refinement.proofs.Agreement.{agreement}
 
 -- ---- from an object to what is at its path
 
@@ -206,7 +207,7 @@ module _ (accounts : Accounts) (s : State) (f g : Flat) (l : ObjectsMatch accoun
         → j.naming.number (home_address me) ≡ Some c
         → label_there (bare (s.objects c)) ≡ Some (guard_label j.category (process_guard me x))
     homes h j x at home = ap label_there
-        (at_number same_step step_tests_equality s j.naming (expected accounts j.category h j.naming.number) j.agrees (home_address me) c home
+        (at_number same_step step_tests_equality s j.naming (expected accounts j.category h j.naming.number) (agreement j) (home_address me) c home
         ∙ asked_home accounts j.category h j.naming.number me ∙ ap (home_object accounts j.category me) at)
 
     guards : guard_label l.category (process_guard me p) ≡ guard_label l.category (process_guard me q)

@@ -11,6 +11,7 @@ use Rattle.histar_rules.specs.Sound.{root_number}
 use Rattle.histar_refinement.specs.Addresses.{Step, same_step}
 use Rattle.histar_refinement.specs.Represents.{ObjectsMatch}
 use Rattle.histar_refinement.proofs.Steps.{step_tests_equality}
+use Rattle.histar_refinement.proofs.Agreement.{agreement}
 
 -- each address lies at or below that of the root container
 below_root : (a : Address Step) → under same_step [] a ≡ true
@@ -23,7 +24,7 @@ pub objects_reached : (accounts : Accounts) (s : State) (f : Flat) → ObjectsMa
 objects_reached accounts s f l q is = by (l.naming.address q) refl
   where
     by : (a : Option (Address Step)) → l.naming.address q ≡ a → Reached s.objects root_number q
-    by None e = absurd (false≢true (sym (ap is_present (l.agrees.tree.as_expected q ∙ ap (wanted (objects_at s.objects l.naming)) e)) ∙ is))
+    by None e = absurd (false≢true (sym (ap is_present ((agreement l).tree.as_expected q ∙ ap (wanted (objects_at s.objects l.naming)) e)) ∙ is))
     by (Some a) e =
-        under_reached same_step step_tests_equality s.objects s.next_object (objects_at s.objects l.naming) l.naming l.agrees.tree
-        root_number [] (l.agrees.tree.addressed [] root_number (l.as_booted [] root_number refl)) a q e (below_root a)
+        under_reached same_step step_tests_equality s.objects s.next_object (objects_at s.objects l.naming) l.naming (agreement l).tree
+        root_number [] ((agreement l).tree.addressed [] root_number (l.as_booted [] root_number refl)) a q e (below_root a)

@@ -25,12 +25,13 @@ use Rattle.histar_login.specs.Boot.{boot_thread_number}
 use Rattle.histar_flat.specs.Accounts.{Accounts}
 use Rattle.histar_flat.specs.FlatState.{Node, Flat, is_dir, is_dir_at, is_some_and, without_below as without_below_path}
 use Rattle.histar_flat.specs.PathOrder.{under_path}
-use Rattle.histar_refinement.specs.Addresses.{Step, same_step, address_of, home_address, path_at, process_at, inside_at, boot_number}
+use Rattle.histar_refinement.specs.Addresses.{Step, same_step, address_of, home_address, boot_number}
+use Rattle.histar_refinement.proofs.Expected.{path_at, process_at, inside_at}
 use Rattle.histar_refinement.specs.Addresses.Step.{Left, Slash, Listing, Named, Home, Status, Inside, Runner, Child}
 use Rattle.histar_refinement.specs.Directories.{directory_of}
-use Rattle.histar_refinement.specs.Agrees.{Agrees}
-use Rattle.histar_refinement.specs.Expected.{node_object, listing_object, expected_node, listing_at, expected_home, expected_status, container_inside}
-use Rattle.histar_refinement.specs.Expected.{thread_at, expected}
+use Rattle.histar_refinement.proofs.AgreesAt.{AgreesAt}
+use Rattle.histar_refinement.proofs.Expected.{node_object, listing_object, expected_node, listing_at, expected_home, expected_status, container_inside}
+use Rattle.histar_refinement.proofs.Expected.{thread_at, expected}
 use Rattle.histar_refinement.specs.Represents.{AreJobsGiven, ObjectsMatch, Represents}
 use Rattle.histar_refinement.proofs.Roots.{address_path, address_process, address_inside, asked_listing}
 use Rattle.histar_refinement.proofs.Steps.{step_tests_equality}
@@ -38,6 +39,7 @@ use Rattle.histar_refinement.proofs.Moving.{agrees_cut, no_address}
 use Rattle.histar_refinement.proofs.DirectoryLaws.{get_directory}
 use Rattle.histar_refinement.proofs.ListedFiles.{SameNumbers, not_begun, same_address_path, asked_same, leads_at, directories_alike, same_leads}
 use Rattle.histar_refinement.proofs.ListedFiles.{old_known, old_fits, ClassFits, matched_listed, jobs_kept}
+use Rattle.histar_refinement.proofs.Agreement.{agreement}
 
 -- ---- what lies below a path, as an address
 
@@ -123,8 +125,8 @@ module _ (accounts : Accounts) (s : State) (f : Flat) (l : ObjectsMatch accounts
   directory_outside : under_path (m ∷ d) d ≡ false
   directory_outside = sym (under_address (m ∷ d) d) ∙ above same_step step_tests_equality (address_of d) (Named m)
 
-  agrees_mid : Agrees same_step mid naming (cut same_step old_asked top)
-  agrees_mid = agrees_cut same_step step_tests_equality s l.naming old_asked l.agrees mid D o (address_of d) (Named m) cuts at_entry at_directory
+  agrees_mid : AgreesAt same_step mid naming (cut same_step old_asked top)
+  agrees_mid = agrees_cut same_step step_tests_equality s l.naming old_asked (agreement l) mid D o (address_of d) (Named m) cuts at_entry at_directory
 
   leads_kept : (p : Path) → under_path (m ∷ d) p ≡ false → leads_at f.files l.naming.number p ≡ leads_at after.files naming.number p
   leads_kept p out =
@@ -261,7 +263,7 @@ module _ (accounts : Accounts) (s : State) (f : Flat) (l : ObjectsMatch accounts
   gone_then =
       agrees_mid.tree.as_expected boot_thread_number
       ∙ ap (wanted (objects_at mid.objects naming)) (ap (λ (x : Option (Address Step)). if is_under same_step top x then None else x)
-      (no_address same_step s l.naming old_asked l.agrees boot_thread_number l.boot_thread_gone))
+      (no_address same_step s l.naming old_asked (agreement l) boot_thread_number l.boot_thread_gone))
 
   -- the parent directory with one entry less
   abbrev pub smaller : Entries

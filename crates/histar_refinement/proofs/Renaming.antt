@@ -19,13 +19,14 @@ use Rattle.histar_container.specs.Tree.{Address, Naming}
 use Rattle.histar_flat.specs.Accounts.{Accounts}
 use Rattle.histar_flat.specs.FlatState.{Node, Flat, is_dir, is_dir_at, is_some_and, with_renamed}
 use Rattle.histar_flat.specs.PathOrder.{under_path}
-use Rattle.histar_refinement.specs.Addresses.{Step, same_step, same_address, address_of, path_at, process_at, inside_at, boot_number}
+use Rattle.histar_refinement.specs.Addresses.{Step, same_step, same_address, address_of, boot_number}
+use Rattle.histar_refinement.proofs.Expected.{path_at, process_at, inside_at}
 use Rattle.histar_refinement.specs.Addresses.Step.{Left, Slash, Listing, Named, Home, Status, Inside, Runner, Child}
 use Rattle.histar_refinement.specs.LeftByBoot.{left_by_boot}
 use Rattle.histar_refinement.specs.Directories.{directory_of}
-use Rattle.histar_refinement.specs.Agrees.{Agrees}
-use Rattle.histar_refinement.specs.Expected.{node_object, listing_object, expected_node, listing_at, expected_home, expected_status, container_inside}
-use Rattle.histar_refinement.specs.Expected.{thread_at, expected}
+use Rattle.histar_refinement.proofs.AgreesAt.{AgreesAt}
+use Rattle.histar_refinement.proofs.Expected.{node_object, listing_object, expected_node, listing_at, expected_home, expected_status, container_inside}
+use Rattle.histar_refinement.proofs.Expected.{thread_at, expected}
 use Rattle.histar_refinement.specs.Represents.{AreJobsGiven, ObjectsMatch, Represents}
 use Rattle.histar_refinement.proofs.Roots.{address_path, asked_listing}
 use Rattle.histar_refinement.proofs.Steps.{step_tests_equality}
@@ -36,6 +37,7 @@ use Rattle.histar_refinement.proofs.ListedFiles.{ClassFits, matched_listed, jobs
 use Rattle.histar_refinement.proofs.Turning.{turned_name, turned_step, turned_n, turned_k, turned_else, turned, turned_address, address_back}
 use Rattle.histar_refinement.proofs.Turning.{directory_stays, address_stays, same_tests, turned_path_address, turned_home, process_turned}
 use Rattle.histar_refinement.proofs.Turning.{inside_turned, path_turned, get_renamed}
+use Rattle.histar_refinement.proofs.Agreement.{agreement}
 
 module _ (accounts : Accounts) (s : State) (f : Flat) (l : ObjectsMatch accounts s f) where
   -- where nothing is at a path, nothing is below it
@@ -73,11 +75,11 @@ module _ (accounts : Accounts) (s : State) (f : Flat) (l : ObjectsMatch accounts
     abbrev pub asked : Address Step → Found
     asked = λ a. expected accounts l.category f l.naming.number (turned_address n k d a)
 
-    agrees_turned : Agrees same_step s naming asked
+    agrees_turned : AgreesAt same_step s naming asked
     agrees_turned =
         agrees_renamed same_step step_tests_equality (turned_address n k d) (turned_address n k d) (address_back n k d)
         (address_back n k d) refl (λ x a. (turned_step n k (same_address (address_of d) a) x, refl)) s l.naming
-        (expected accounts l.category f l.naming.number) l.agrees
+        (expected accounts l.category f l.naming.number) (agreement l)
 
     got : (q : Path) → get after.files q ≡ get f.files (turned n k d q)
     got q = get_renamed n k d f.files (not_under (k ∷ d) absent) q

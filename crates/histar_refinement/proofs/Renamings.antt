@@ -5,7 +5,7 @@ use Rattle.std.proofs.lemmas.Option.{none-some, same_Some}
 use Rattle.histar_object.specs.State.{State, Found}
 use Rattle.histar_container.specs.Tree.{Address, Naming, wanted, is_one_below, same_steps, objects_at}
 use Rattle.histar_container.proofs.Addresses.{TestsEquality, same_tests_equality}
-use Rattle.histar_refinement.specs.Agrees.{Agrees}
+use Rattle.histar_refinement.proofs.AgreesAt.{AgreesAt}
 
 module _ {X : Type 0} (same_step : X → X → Bool) (decides : TestsEquality same_step) (to from : Address X → Address X)
     (there : (a : Address X) → to (from a) ≡ a) (back : (a : Address X) → from (to a) ≡ a)
@@ -54,7 +54,7 @@ module _ {X : Type 0} (same_step : X → X → Bool) (decides : TestsEquality sa
   abbrev pub renamed_naming : Naming X → Naming X
   renamed_naming naming = record { address = λ q. option_map to (naming.address q); number = λ a. naming.number (from a) }
 
-  module _ (s : State) (naming : Naming X) (asked : Address X → Found) (agrees : Agrees same_step s naming asked) where
+  module _ (s : State) (naming : Naming X) (asked : Address X → Found) (agrees : AgreesAt same_step s naming asked) where
     -- the address of a number comes from the old one
     came_from : (o : Option (Address X)) (a : Address X) → option_map to o ≡ Some a → o ≡ Some (from a)
     came_from None a e = absurd (none-some a e)
@@ -73,7 +73,7 @@ module _ {X : Type 0} (same_step : X → X → Bool) (decides : TestsEquality sa
     held_then x a e = let one = below x a in agrees.tree.held one.0 (from a) (ap (λ (w : Address X). is_some (naming.number w)) (sym one.1) ∙ e)
 
     -- The same objects are at their new addresses.
-    pub agrees_renamed : Agrees same_step s (renamed_naming naming) (λ a. asked (from a))
+    pub agrees_renamed : AgreesAt same_step s (renamed_naming naming) (λ a. asked (from a))
     agrees_renamed = record {
       tree = record {
         as_expected = as_expected_then;

@@ -14,11 +14,12 @@ use Rattle.histar_flat.specs.Accounts.{Accounts}
 use Rattle.histar_flat.specs.FlatState.{Node, Content, Flat}
 use Rattle.histar_flat.specs.FlatState.Content.{Dir, File}
 use Rattle.histar_refinement.specs.Categories.{Categories}
-use Rattle.histar_refinement.specs.Addresses.{Step, AddressNumbers, address_of, home_address, path_at, process_at, inside_at}
+use Rattle.histar_refinement.specs.Addresses.{Step, AddressNumbers, address_of, home_address}
+use Rattle.histar_refinement.proofs.Expected.{path_at, process_at, inside_at}
 use Rattle.histar_refinement.specs.Addresses.Step.{Left, Slash, Listing, Named, Home, Status, Inside, Runner, Child}
 use Rattle.histar_refinement.specs.Directories.{both_numbers, target_for, target_in, directory_of}
-use Rattle.histar_refinement.specs.Expected.{node_object, home_object, inside_object, thread_object, expected_node, listing_at, expected_home}
-use Rattle.histar_refinement.specs.Expected.{expected_status, container_inside, thread_at, expected}
+use Rattle.histar_refinement.proofs.Expected.{node_object, home_object, inside_object, thread_object, expected_node, listing_at, expected_home}
+use Rattle.histar_refinement.proofs.Expected.{expected_status, container_inside, thread_at, expected}
 
 -- a path's address is that of the path
 pub path_address : (q : Path) → path_at (address_of q) ≡ Some q

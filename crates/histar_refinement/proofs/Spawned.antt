@@ -20,7 +20,7 @@ use Rattle.histar_refinement.specs.Guards.{rights_label, rights_clearance}
 use Rattle.histar_refinement.specs.Labels.{thread_rights}
 use Rattle.histar_refinement.specs.Addresses.{same_step, home_address}
 use Rattle.histar_refinement.specs.Addresses.Step.{Status, Inside, Runner}
-use Rattle.histar_refinement.specs.Expected.{thread_object, expected}
+use Rattle.histar_refinement.proofs.Expected.{thread_object, expected}
 use Rattle.histar_refinement.specs.Represents.{Represents, ObjectsMatch}
 use Rattle.histar_rules.specs.Rules.{greatest}
 use Rattle.histar_refinement.proofs.Roots.{asked_runner}
@@ -28,6 +28,7 @@ use Rattle.histar_refinement.proofs.Steps.{step_tests_equality}
 use Rattle.histar_refinement.proofs.Moving.{number_below, at_number, bare_is}
 use Rattle.histar_refinement.proofs.Beside.{Beside, beside_itself, beside_added, beside_written, beside_uncounted, own_set, back}
 use Rattle.histar_refinement.proofs.Spawning.{outer, inner, label, clearance, child_written, own_written, matched_born, job_used, given_then}
+use Rattle.histar_refinement.proofs.Agreement.{agreement}
 
 -- the thread of a process that runs
 module _ (accounts : Accounts) (s : State) (f : Flat) (l : ObjectsMatch accounts s f) (me : ProcName) (p : Process)
@@ -41,14 +42,14 @@ module _ (accounts : Accounts) (s : State) (f : Flat) (l : ObjectsMatch accounts
 
   pub thread_agrees : s.objects T ≡ Some (thread_of own_label own_clearance)
   thread_agrees = bare_is (s.objects T) (thread_of own_label own_clearance) refl
-      (at_number same_step step_tests_equality s l.naming (expected accounts l.category f l.naming.number) l.agrees
+      (at_number same_step step_tests_equality s l.naming (expected accounts l.category f l.naming.number) (agreement l)
       (Runner ∷ Inside ∷ home_address me) T at_thread
       ∙ asked_runner accounts l.category f l.naming.number me ∙ ap (thread_object accounts l.category me) here
       ∙ ap (λ (e : Option ℕ). elim e as (λ _. Found) [ None ↦ Some (thread_of own_label own_clearance) | Some n ↦ None ]) runs)
 
   pub below_next : T < s.next_object
   below_next =
-      number_below same_step step_tests_equality s l.naming (expected accounts l.category f l.naming.number) l.agrees
+      number_below same_step step_tests_equality s l.naming (expected accounts l.category f l.naming.number) (agreement l)
       (Runner ∷ Inside ∷ home_address me) T at_thread
 
   pub beside_start : Beside T own_label own_clearance s s

@@ -27,13 +27,14 @@ use Rattle.histar_refinement.specs.Categories.CategoryName.{OfBoot, ReadsUser, W
 use Rattle.histar_refinement.specs.Categories.CategoryName.{OfJob}
 use Rattle.histar_refinement.specs.Guards.{guard_label, rights_label, rights_clearance}
 use Rattle.histar_refinement.specs.Labels.{process_guard, inside_guard, thread_rights}
-use Rattle.histar_refinement.specs.Addresses.{Step, same_step, address_of, home_address, path_at, boot_number}
+use Rattle.histar_refinement.specs.Addresses.{Step, same_step, address_of, home_address, boot_number}
+use Rattle.histar_refinement.proofs.Expected.{path_at}
 use Rattle.histar_refinement.specs.Addresses.Step.{Left, Slash, Listing, Named, Home, Status, Inside, Runner, Child}
 use Rattle.histar_refinement.specs.Processes.{process_bytes}
 use Rattle.histar_refinement.specs.Directories.{directory_of}
-use Rattle.histar_refinement.specs.Agrees.{Agrees}
-use Rattle.histar_refinement.specs.Expected.{listing_object, home_object, status_object, inside_object, thread_object, bytes_for, expected_status}
-use Rattle.histar_refinement.specs.Expected.{expected}
+use Rattle.histar_refinement.proofs.AgreesAt.{AgreesAt}
+use Rattle.histar_refinement.proofs.Expected.{listing_object, home_object, status_object, inside_object, thread_object, bytes_for, expected_status}
+use Rattle.histar_refinement.proofs.Expected.{expected}
 use Rattle.histar_login.specs.Start.{segment}
 use Rattle.histar_refinement.specs.Represents.{IsInOrder, AreInOrder, IsProcess, ObjectsMatch}
 use Rattle.histar_refinement.proofs.ProcessBytes.{alike_bytes}
@@ -47,6 +48,7 @@ use Rattle.histar_refinement.proofs.Counting.{boot_used}
 use Rattle.histar_refinement.proofs.Steps.{step_tests_equality}
 use Rattle.histar_refinement.proofs.Uses.{keep_node, keep_listing, keep_process_label, keep_home, keep_inside, keep_runner, keep_order}
 use Rattle.histar_refinement.proofs.Birth.{born_state, born_naming, agrees_born, number_kept, asks_born, gone_born}
+use Rattle.histar_refinement.proofs.Agreement.{agreement, as_asked}
 
 -- an address with no path is the address of no path
 not_path : (p : Path) (a : Address Step) → path_at a ≡ None → a ≢ address_of p
@@ -226,7 +228,7 @@ module _ (accounts : Accounts) (s : State) (f : Flat) (l : ObjectsMatch accounts
   -- the numbers after the birth don't depend on what is written
   abbrev pub naming : Naming Step
   naming =
-      born_naming s l.naming old_asked l.agrees me (p.born + 1) C S at_home at_status holder no_home no_inside no_runner
+      born_naming s l.naming old_asked (agreement l) me (p.born + 1) C S at_home at_status holder no_home no_inside no_runner
       no_status outer inner label clearance [] []
 
   abbrev pub child_written : List ℕ
@@ -238,13 +240,13 @@ module _ (accounts : Accounts) (s : State) (f : Flat) (l : ObjectsMatch accounts
   -- the state after the birth, once the new categories are counted and the thread has its own labels again
   abbrev pub state_born : State
   state_born =
-      born_state s l.naming old_asked l.agrees me (p.born + 1) C S at_home at_status holder no_home no_inside no_runner
+      born_state s l.naming old_asked (agreement l) me (p.born + 1) C S at_home at_status holder no_home no_inside no_runner
       no_status outer inner label clearance child_written own_written
 
   kept : (b : Address Step) → home_address child ≢ b → Inside ∷ home_address child ≢ b
       → Runner ∷ Inside ∷ home_address child ≢ b → Status ∷ home_address child ≢ b → naming.number b ≡ l.naming.number b
   kept =
-      number_kept s l.naming old_asked l.agrees me (p.born + 1) C S at_home at_status holder no_home no_inside no_runner
+      number_kept s l.naming old_asked (agreement l) me (p.born + 1) C S at_home at_status holder no_home no_inside no_runner
       no_status outer inner label clearance [] []
 
   -- addresses of paths, and of other processes
@@ -405,11 +407,11 @@ module _ (accounts : Accounts) (s : State) (f : Flat) (l : ObjectsMatch accounts
       status_object accounts category (bytes_for accounts category after naming.number me o) me o) at_me)
 
   -- the kernel's objects are what the flat state with the child asks for
-  agrees_after : Agrees same_step state_born naming wish
+  agrees_after : AgreesAt same_step state_born naming wish
   agrees_after = agrees_same same_step state_born state_born naming _ wish
-      (agrees_born s l.naming old_asked l.agrees me (p.born + 1) C S at_home at_status holder no_home no_inside
+      (agrees_born s l.naming old_asked (agreement l) me (p.born + 1) C S at_home at_status holder no_home no_inside
       no_runner no_status outer inner label clearance child_written own_written)
-      (asks_born s l.naming old_asked l.agrees me (p.born + 1) C S at_home at_status holder no_home no_inside no_runner
+      (asks_born s l.naming old_asked (agreement l) me (p.born + 1) C S at_home at_status holder no_home no_inside no_runner
       no_status outer inner label clearance child_written own_written wish
       (sym (asked_home accounts category after naming.number child ∙ ap (home_object accounts category child) at_child))
       (sym (asked_inside accounts category after naming.number child ∙ ap (inside_object accounts category child) at_child))
@@ -565,13 +567,13 @@ module _ (accounts : Accounts) (s : State) (f : Flat) (l : ObjectsMatch accounts
   boot_below : boot_thread_number < s.next_object
   boot_below =
       let below =
-      number_below same_step step_tests_equality s l.naming old_asked l.agrees (Slash ∷ [])
+      number_below same_step step_tests_equality s l.naming old_asked (agreement l) (Slash ∷ [])
       (4 + 2 * length accounts.users) (l.as_booted (Slash ∷ []) (4 + 2 * length accounts.users) refl) in
       omega (arith, below)
 
   gone_then : state_born.objects boot_thread_number ≡ None
   gone_then =
-      gone_born s l.naming old_asked l.agrees me (p.born + 1) C S at_home at_status holder no_home no_inside no_runner
+      gone_born s l.naming old_asked (agreement l) me (p.born + 1) C S at_home at_status holder no_home no_inside no_runner
       no_status outer inner label clearance child_written own_written boot_thread_number l.boot_thread_gone
       boot_below
 
@@ -584,7 +586,8 @@ module _ (accounts : Accounts) (s : State) (f : Flat) (l : ObjectsMatch accounts
     record {
       naming = naming;
       category = category;
-      agrees = agrees_same same_step state_born new naming wish wish agrees_after (λ a. refl) objects next_is;
+      agrees = as_asked accounts category after naming.number new naming
+          (agrees_same same_step state_born new naming wish wish agrees_after (λ a. refl) objects next_is);
       numbered = omega (arith, next_is, few);
       as_booted = as_booted_then;
       different = different;

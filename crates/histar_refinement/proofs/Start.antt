@@ -39,12 +39,14 @@ use Rattle.histar_refinement.specs.Categories.CategoryName.{OfJob}
 use Rattle.histar_refinement.specs.Guards.{Rights, guard_label, rights_label, rights_clearance}
 use Rattle.histar_refinement.specs.Labels.{class_guard, readable_guard, owned_as}
 use Rattle.histar_refinement.specs.LeftByBoot.{left_by_boot}
-use Rattle.histar_refinement.specs.Addresses.{Step, AddressNumbers, same_step, same_address, if_at, path_at, process_at, inside_at, boot_number}
+use Rattle.histar_refinement.specs.Addresses.{Step, AddressNumbers, same_step, same_address, if_at, boot_number}
+use Rattle.histar_refinement.proofs.Expected.{path_at, process_at, inside_at}
 use Rattle.histar_refinement.specs.Addresses.Step.{Left, Slash, Listing, Named, Home, Status, Inside, Runner, Child}
 use Rattle.histar_refinement.specs.Directories.{directory_of}
-use Rattle.histar_refinement.specs.Agrees.{bare, Agrees}
-use Rattle.histar_refinement.specs.Expected.{bare_container, node_object, listing_object, guarded_object, expected_node, listing_at, expected_home}
-use Rattle.histar_refinement.specs.Expected.{expected_status, container_inside, thread_at, expected}
+use Rattle.histar_refinement.specs.Agrees.{bare}
+use Rattle.histar_refinement.proofs.AgreesAt.{AgreesAt}
+use Rattle.histar_refinement.proofs.Expected.{bare_container, node_object, listing_object, guarded_object, expected_node, listing_at, expected_home}
+use Rattle.histar_refinement.proofs.Expected.{expected_status, container_inside, thread_at, expected}
 use Rattle.histar_refinement.specs.Represents.{IsInOrder, IsProcess, ObjectsMatch, Represents}
 use Rattle.histar_refinement.proofs.Steps.{step_tests_equality}
 use Rattle.histar_refinement.proofs.Roots.{address_process, address_inside}
@@ -54,6 +56,7 @@ use Rattle.histar_refinement.proofs.StartTable.{left_plain, slash_agrees, listin
 use Rattle.histar_refinement.proofs.GateLabels.{group_test}
 use Rattle.histar_refinement.proofs.StartTree.{start_naming, place_there, start_matched}
 use Rattle.histar_refinement.proofs.StartCategories.{start_category, start_as_made, start_made, start_different}
+use Rattle.histar_refinement.proofs.Agreement.{bare_there, as_asked}
 
 module _ (accounts : Accounts) (some_user : 0 < length accounts.users) where
   -- how many users there are, how many groups, and how many of both
@@ -152,10 +155,6 @@ module _ (accounts : Accounts) (some_user : 0 < length accounts.users) where
       by : (b : Bool) → bare (option_and_then objects (cond b x None)) ≡ cond b y None
       by true = h
       by false = refl
-
-  bare_there : (found : Found) → is_present (bare found) ≡ is_present found
-  bare_there None = refl
-  bare_there (Some o) = refl
 
   -- what boot left
   same_left : (i : ℕ) (some : List User) (table : Found) (back : List Found) (k : ℕ) → k ≤ 2 * length some
@@ -309,7 +308,7 @@ module _ (accounts : Accounts) (some_user : 0 < length accounts.users) where
     number_there a None e = refl
     number_there a (Some q) e = sym (place_there accounts q a (place_of_number n q a e))
 
-    start_agrees : Agrees same_step (start_state accounts) (start_naming n) wish
+    start_agrees : AgreesAt same_step (start_state accounts) (start_naming n) wish
     start_agrees = record {
       tree = start_matched accounts;
       objects = start_expected;
@@ -347,7 +346,7 @@ module _ (accounts : Accounts) (some_user : 0 < length accounts.users) where
     start_is_matched = record {
       naming = start_naming n;
       category = start_category accounts;
-      agrees = start_agrees;
+      agrees = as_asked accounts (start_category accounts) f number (start_state accounts) (start_naming n) start_agrees;
       numbered = room;
       as_booted = as_booted_then;
       different = start_different accounts;

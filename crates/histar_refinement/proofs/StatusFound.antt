@@ -17,7 +17,7 @@ use Rattle.histar_layout.specs.declared.status.Child.{Child as Listed}
 use Rattle.histar_layout.specs.Status.{ProcessStatus, child_at}
 use Rattle.histar_refinement.specs.Addresses.{AddressNumbers, home_address}
 use Rattle.histar_refinement.specs.Addresses.Step.{Home, Status, Inside, Runner, Child}
-use Rattle.histar_refinement.specs.Expected.{home_object, status_object, thread_object, bytes_for}
+use Rattle.histar_refinement.proofs.Expected.{home_object, status_object, thread_object, bytes_for}
 use Rattle.histar_refinement.specs.Represents.{ObjectsMatch}
 use Rattle.histar_refinement.specs.Lines.{IsStatusSegment, IsThreadOf}
 use Rattle.histar_refinement.specs.Processes.{or_zero, listed_by, status_by}
@@ -26,6 +26,7 @@ use Rattle.histar_refinement.proofs.Roots.{asked_home, asked_status, asked_runne
 use Rattle.histar_refinement.proofs.Agreeing.{some_of}
 use Rattle.histar_refinement.proofs.SameLines.{same_status}
 use Rattle.histar_refinement.proofs.StatusMatched.{holds_status}
+use Rattle.histar_refinement.proofs.Agreement.{agreement}
 
 -- ---- a child in the list of children
 
@@ -84,7 +85,7 @@ zero_there (Some q) k some e = ap Some e
 module _ (accounts : Accounts) (s : State) (f : Flat) (l : ObjectsMatch accounts s f) where
   -- the addresses of a process have numbers where it is there
   pub numbered_home : (me : ProcName) → is_some (l.naming.number (home_address me)) ≡ is_some (f.processes me)
-  numbered_home me = l.agrees.named (home_address me) ∙ ap is_present (asked_home accounts l.category f l.naming.number me) ∙ by (f.processes me)
+  numbered_home me = (agreement l).named (home_address me) ∙ ap is_present (asked_home accounts l.category f l.naming.number me) ∙ by (f.processes me)
     where
       by : (o : Option Process) → is_present (home_object accounts l.category me o) ≡ is_some o
       by None = refl
@@ -92,7 +93,7 @@ module _ (accounts : Accounts) (s : State) (f : Flat) (l : ObjectsMatch accounts
 
   pub numbered_status : (me : ProcName) → is_some (l.naming.number (Status ∷ home_address me)) ≡ is_some (f.processes me)
   numbered_status me =
-      l.agrees.named (Status ∷ home_address me) ∙ ap is_present (asked_status accounts l.category f l.naming.number me)
+      (agreement l).named (Status ∷ home_address me) ∙ ap is_present (asked_status accounts l.category f l.naming.number me)
       ∙ by (f.processes me)
     where
       by : (o : Option Process)
@@ -105,7 +106,7 @@ module _ (accounts : Accounts) (s : State) (f : Flat) (l : ObjectsMatch accounts
   pub numbered_runner : (me : ProcName) (p : Process) → f.processes me ≡ Some p → p.exited ≡ None
       → is_some (l.naming.number (Runner ∷ Inside ∷ home_address me)) ≡ true
   numbered_runner me p here running =
-      l.agrees.named (Runner ∷ Inside ∷ home_address me)
+      (agreement l).named (Runner ∷ Inside ∷ home_address me)
       ∙ ap is_present
       (asked_runner accounts l.category f l.naming.number me ∙ ap (thread_object accounts l.category me) here)
       ∙ by p.exited running
@@ -132,7 +133,7 @@ module _ (accounts : Accounts) (s : State) (f : Flat) (l : ObjectsMatch accounts
   status_found [] p c g here home status =
       (same_Some c _ (sym home ∙ l.as_booted (Home ∷ []) _ refl), same_Some g _ (sym status ∙ l.as_booted (Status ∷ Home ∷ []) _ refl))
   status_found (n ∷ me) p c g here home status =
-      let c_above = some_of (l.naming.number (home_address me)) (l.agrees.tree.held (Child n) (home_address me) (ap is_some home)) in
+      let c_above = some_of (l.naming.number (home_address me)) ((agreement l).tree.held (Child n) (home_address me) (ap is_some home)) in
       let above = some_of (f.processes me) (sym (numbered_home me) ∙ ap is_some c_above.1) in
       let g_above = some_of (l.naming.number (Status ∷ home_address me)) (numbered_status me ∙ ap is_some above.1) in
       let range = child_range n me above.0 above.1 (ap is_some here) in (

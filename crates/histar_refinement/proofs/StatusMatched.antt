@@ -16,10 +16,11 @@ use Rattle.histar_refinement.specs.Addresses.{Step, home_address}
 use Rattle.histar_refinement.specs.Addresses.Step.{Status, Inside, Runner}
 use Rattle.histar_refinement.specs.Agrees.{bare}
 use Rattle.histar_refinement.specs.Processes.{or_zero, listed_by, status_by, children}
-use Rattle.histar_refinement.specs.Expected.{bytes_for, status_object}
+use Rattle.histar_refinement.proofs.Expected.{bytes_for, status_object}
 use Rattle.histar_refinement.specs.Represents.{ObjectsMatch}
 use Rattle.histar_refinement.proofs.Roots.{asked_status}
 use Rattle.histar_refinement.proofs.LinesMatched.{bytes_bare}
+use Rattle.histar_refinement.proofs.Agreement.{agreement}
 
 module _ (accounts : Accounts) (s : State) (f : Flat) (l : ObjectsMatch accounts s f) where
   number_small : (a : Address Step) → or_zero (l.naming.number a) < 2 ^ 64
@@ -29,7 +30,7 @@ module _ (accounts : Accounts) (s : State) (f : Flat) (l : ObjectsMatch accounts
       by None e = omega arith
       by (Some q) e = elim (cases_lt q s.next_object) [
         | inl lt ↦ let few = l.numbered in omega (arith, lt, few)
-        | inr le ↦ absurd (none-some a (sym (l.agrees.tree.unused q le) ∙ l.agrees.tree.addressed a q e))
+        | inr le ↦ absurd (none-some a (sym ((agreement l).tree.unused q le) ∙ (agreement l).tree.addressed a q e))
       ]
 
   each_small : (me : ProcName) (ns : List ℕ) → AllByRecursion IsChild (map (listed_by l.naming.number me) ns)
@@ -46,6 +47,6 @@ module _ (accounts : Accounts) (s : State) (f : Flat) (l : ObjectsMatch accounts
     spelled =
         sym (bytes_bare (s.objects g))
         ∙ ap (λ (q : Option ℕ). bytes_in (bare (option_and_then s.objects q))) (sym at)
-        ∙ ap bytes_in (l.agrees.objects (Status ∷ home_address me) ∙ asked_status accounts l.category f l.naming.number me)
+        ∙ ap bytes_in ((agreement l).objects (Status ∷ home_address me) ∙ asked_status accounts l.category f l.naming.number me)
         ∙ ap (λ (o : Option Process). bytes_in (status_object accounts l.category (bytes_for accounts l.category f l.naming.number me o) me o)) is;
   }

@@ -15,7 +15,8 @@ use Rattle.histar_flat.proofs.Finding.{first, second, find_first, find_later}
 use Rattle.histar_container.specs.Tree.{Address}
 use Rattle.histar_container.proofs.Addresses.{same_tests_equality, same_itself, same_other}
 use Rattle.histar_flat.specs.FlatState.{moved}
-use Rattle.histar_refinement.specs.Addresses.{Step, same_step, same_address, address_of, home_address, path_at, process_at, inside_at}
+use Rattle.histar_refinement.specs.Addresses.{Step, same_step, same_address, address_of, home_address}
+use Rattle.histar_refinement.proofs.Expected.{path_at, process_at, inside_at}
 use Rattle.histar_refinement.specs.Addresses.Step.{Left, Slash, Listing, Named, Home, Status, Inside, Runner, Child}
 use Rattle.histar_refinement.proofs.Steps.{step_tests_equality}
 use Rattle.histar_refinement.proofs.Roots.{address_path}

@@ -24,8 +24,8 @@ use Rattle.histar_refinement.specs.Categories.CategoryName.{ReadsUser, WritesUse
 use Rattle.histar_refinement.specs.Guards.{Guard, guard_label, rights_label, rights_clearance}
 use Rattle.histar_refinement.specs.Labels.{class_guard, private_guard, readable_guard, scratch_guard, group_guard, open_guard, process_guard}
 use Rattle.histar_refinement.specs.Labels.{inside_guard, reading, writing, owned_as, thread_rights}
-use Rattle.histar_refinement.specs.Expected.{bare_container, guarded_object, content_kind, node_object, listing_object, home_object, inside_object}
-use Rattle.histar_refinement.specs.Expected.{thread_object}
+use Rattle.histar_refinement.proofs.Expected.{bare_container, guarded_object, content_kind, node_object, listing_object, home_object, inside_object}
+use Rattle.histar_refinement.proofs.Expected.{thread_object}
 use Rattle.histar_refinement.specs.Represents.{AreInOrder}
 use Rattle.histar_layout.specs.ClassLabels.{IsRisingFrom}
 use Rattle.histar_refinement.proofs.CategoryTests.{same_revealed}

@@ -20,14 +20,15 @@ use Rattle.histar_flat.specs.FlatState.{Node, Flat, is_some_and, is_dir, is_dir_
 use Rattle.histar_flat.specs.FlatState.Content.{File}
 use Rattle.histar_refinement.specs.Addresses.{Step, same_step, address_of}
 use Rattle.histar_refinement.specs.Directories.{target_for, directory_of}
-use Rattle.histar_refinement.specs.Agrees.{Agrees}
-use Rattle.histar_refinement.specs.Expected.{node_object, listing_object, listing_at, expected}
+use Rattle.histar_refinement.proofs.AgreesAt.{AgreesAt}
+use Rattle.histar_refinement.proofs.Expected.{node_object, listing_object, listing_at, expected}
 use Rattle.histar_refinement.specs.Represents.{AreJobsGiven, ObjectsMatch, Represents}
 use Rattle.histar_refinement.proofs.Steps.{step_tests_equality}
 use Rattle.histar_refinement.proofs.Moving.{bare_held, agrees_changed, agrees_same}
 use Rattle.histar_refinement.proofs.Roots.{asked_path}
 use Rattle.histar_refinement.proofs.ListedFiles.{asked_same, held_node, leads_at, directories_alike, same_leads, ClassFits, AreKnown, old_known}
 use Rattle.histar_refinement.proofs.ListedFiles.{old_fits, jobs_kept, matched_files}
+use Rattle.histar_refinement.proofs.Agreement.{agreement}
 
 module _ (accounts : Accounts) (s : State) (f : Flat) (l : ObjectsMatch accounts s f) (q : Path) (class : Class)
     (old bytes : List ℕ) (at : get f.files q ≡ Some (record { class = class; content = File old })) (O : ℕ)
@@ -69,10 +70,10 @@ module _ (accounts : Accounts) (s : State) (f : Flat) (l : ObjectsMatch accounts
     | inr e ↦ λ i. listing_object accounts l.category (spelling (directory_all d i)) (sym (got_else d e.1) i)
   ]
 
-  agrees_then : Agrees same_step (with_segment_bytes s O bytes) l.naming
+  agrees_then : AgreesAt same_step (with_segment_bytes s O bytes) l.naming
       (set_at same_step old_asked (address_of q) (option_map (holding bytes) (old_asked (address_of q))))
   agrees_then =
-      agrees_changed same_step step_tests_equality s l.naming old_asked l.agrees O (address_of q) (holding bytes)
+      agrees_changed same_step step_tests_equality s l.naming old_asked (agreement l) O (address_of q) (holding bytes)
       at_file (λ x. kind_held_links bytes x.kind) (bare_held bytes)
 
   asks : (a : Address Step)

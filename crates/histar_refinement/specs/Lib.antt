@@ -8,7 +8,7 @@ pub mod LeftByBoot
 pub mod Addresses
 pub mod Processes
 pub mod Directories
-pub mod Expected
+pub mod Asked
 pub mod Agrees
 pub mod Represents
 pub mod Lines

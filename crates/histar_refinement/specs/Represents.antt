@@ -18,7 +18,7 @@ use Rattle.histar_refinement.specs.NumberedClasses.{job_numbers}
 use Rattle.histar_refinement.specs.Addresses.{Step, same_step, boot_number}
 use Rattle.histar_refinement.specs.Agrees.{Agrees}
 use Rattle.histar_refinement.specs.Directories.{directory_of}
-use Rattle.histar_refinement.specs.Expected.{expected}
+use Rattle.histar_refinement.specs.Asked.{AsksFor}
 
 -- jobs are in the order in which their categories were made, so that a set of categories determines the list of jobs
 abbrev pub AreInOrder : Categories → List ProcName → Type 0
@@ -48,7 +48,7 @@ pub record ObjectsMatch (accounts : Accounts) (s : State) (f : Flat) : Type 0 wh
   pub category : Categories
   -- each object has an address, links exactly what is one step below it, and is what the flat state asks for there: its
   -- label, its clearance and its bytes
-  pub agrees : Agrees same_step s naming (expected accounts category f naming.number)
+  pub agrees : Agrees same_step s naming (AsksFor accounts category f naming.number)
   -- the numbers of objects are numbers of 64 bits
   pub numbered : s.next_object ≤ greatest
   -- what boot made for good has the numbers that boot gave

@@ -20,7 +20,7 @@ use Rattle.histar_refinement.specs.Guards.{Rights, guard_label, rights_label, ri
 use Rattle.histar_refinement.specs.Labels.{process_guard, inside_guard, thread_rights}
 use Rattle.histar_refinement.specs.Addresses.{same_step, home_address}
 use Rattle.histar_refinement.specs.Addresses.Step.{Status, Inside, Runner}
-use Rattle.histar_refinement.specs.Expected.{status_object, bytes_for, expected}
+use Rattle.histar_refinement.proofs.Expected.{status_object, bytes_for, expected}
 use Rattle.histar_refinement.specs.Represents.{ObjectsMatch}
 use Rattle.histar_refinement.specs.Processes.{process_bytes}
 use Rattle.histar_refinement.proofs.AmongNames.{each_head, each_append}
@@ -37,6 +37,7 @@ use Rattle.histar_refinement.proofs.Tested.{AreMade, guard_made, rights_made, cl
 use Rattle.histar_refinement.proofs.Uses.{process_used, inside_used, rights_used, keep_process_label}
 use Rattle.histar_sim.proofs.BirthObjects.{Around, around_category}
 use Rattle.histar_sim.proofs.BirthChecks.{IsModified, IsLesser, IsTaken}
+use Rattle.histar_refinement.proofs.Agreement.{agreement}
 
 module _ (accounts : Accounts) (s : State) (f : Flat) (l : ObjectsMatch accounts s f) (me : ProcName) (p : Process)
     (here : f.processes me ≡ Some p) (runs : p.exited ≡ None)
@@ -62,19 +63,19 @@ module _ (accounts : Accounts) (s : State) (f : Flat) (l : ObjectsMatch accounts
           ∙ step_linked accounts s f l Status (home_address me) C S at_home at_status,
     );
     segment = bare_is (s.objects S) (record { label = old_label; kind = Segment held }) refl
-        (at_number same_step step_tests_equality s l.naming (expected accounts l.category f l.naming.number) l.agrees
+        (at_number same_step step_tests_equality s l.naming (expected accounts l.category f l.naming.number) (agreement l)
         (Status ∷ home_address me) S at_status
         ∙ asked_status accounts l.category f l.naming.number me
         ∙ ap (λ o. status_object accounts l.category (bytes_for accounts l.category f l.naming.number me o) me o)
         here);
     thread_below =
-        number_below same_step step_tests_equality s l.naming (expected accounts l.category f l.naming.number) l.agrees
+        number_below same_step step_tests_equality s l.naming (expected accounts l.category f l.naming.number) (agreement l)
         (Runner ∷ Inside ∷ home_address me) T at_thread;
     home_below =
-        number_below same_step step_tests_equality s l.naming (expected accounts l.category f l.naming.number) l.agrees
+        number_below same_step step_tests_equality s l.naming (expected accounts l.category f l.naming.number) (agreement l)
         (home_address me) C at_home;
     segment_below =
-        number_below same_step step_tests_equality s l.naming (expected accounts l.category f l.naming.number) l.agrees
+        number_below same_step step_tests_equality s l.naming (expected accounts l.category f l.naming.number) (agreement l)
         (Status ∷ home_address me) S at_status;
   }
 

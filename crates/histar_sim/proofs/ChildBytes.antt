@@ -27,7 +27,7 @@ use Rattle.histar_refinement.specs.Categories.{IsUsed}
 use Rattle.histar_refinement.specs.Categories.CategoryName.{OfJob}
 use Rattle.histar_refinement.specs.Addresses.{Step, AddressNumbers, home_address}
 use Rattle.histar_refinement.specs.Addresses.Step.{Status, Inside, Runner}
-use Rattle.histar_refinement.specs.Expected.{expected}
+use Rattle.histar_refinement.proofs.Expected.{expected}
 use Rattle.histar_refinement.specs.Represents.{ObjectsMatch, AreInOrder}
 use Rattle.histar_refinement.specs.Processes.{or_zero, children, listed_by, status_by}
 use Rattle.histar_refinement.proofs.Birth.{at_new_home, at_new_inside, at_new_runner, at_new_status}
@@ -35,6 +35,7 @@ use Rattle.histar_refinement.proofs.Spawning.{after, outer, inner, label, cleara
 use Rattle.histar_refinement.proofs.Spawning.{there_alike, kept_home, kept_status, kept_inside, kept_runner, holder, no_home, no_inside, no_runner}
 use Rattle.histar_refinement.proofs.Spawning.{no_status}
 use Rattle.histar_sim.proofs.OwnSegment.{children_long}
+use Rattle.histar_refinement.proofs.Agreement.{agreement}
 
 -- ---- how many bytes there are
 
@@ -169,11 +170,11 @@ module _ (accounts : Accounts) (s : State) (f : Flat) (l : ObjectsMatch accounts
     exited = None;
     born = 0;
     internal =
-        or_zero (sym (at_new_inside s l.naming asked l.agrees me (p.born + 1) C S at_home at_status holds no_home_yet
+        or_zero (sym (at_new_inside s l.naming asked (agreement l) me (p.born + 1) C S at_home at_status holds no_home_yet
         no_inside_yet no_runner_yet no_status_yet child_outer child_inner child_label child_clearance []
         []) i);
     thread =
-        or_zero (sym (at_new_runner s l.naming asked l.agrees me (p.born + 1) C S at_home at_status holds no_home_yet
+        or_zero (sym (at_new_runner s l.naming asked (agreement l) me (p.born + 1) C S at_home at_status holds no_home_yet
         no_inside_yet no_runner_yet no_status_yet child_outer child_inner child_label child_clearance []
         []) i);
     children = [];
@@ -212,11 +213,11 @@ module _ (accounts : Accounts) (s : State) (f : Flat) (l : ObjectsMatch accounts
       ∙ (λ i. map (listed_by l.naming.number me) (children f.processes me p.born) ++ record {
         number = p.born + 1;
         container =
-            or_zero (at_new_home s l.naming asked l.agrees me (p.born + 1) C S at_home at_status holds no_home_yet
+            or_zero (at_new_home s l.naming asked (agreement l) me (p.born + 1) C S at_home at_status holds no_home_yet
             no_inside_yet no_runner_yet no_status_yet child_outer child_inner child_label child_clearance [] []
             i);
         segment =
-            or_zero (at_new_status s l.naming asked l.agrees me (p.born + 1) C S at_home at_status holds no_home_yet
+            or_zero (at_new_status s l.naming asked (agreement l) me (p.born + 1) C S at_home at_status holds no_home_yet
             no_inside_yet no_runner_yet no_status_yet child_outer child_inner child_label child_clearance [] []
             i);
       } ∷ [])

@@ -49,6 +49,7 @@ use Rattle.histar_sim.specs.Laws.{ExitRefines}
 use Rattle.histar_sim.proofs.FoundProcesses.{at_container, at_segment, container_found, segment_found, step_below, observed, modified, thread}
 use Rattle.histar_sim.proofs.OwnSegment.{status_few, listed_few, segment_apart, thread_no_segment, write_granted, unlink_granted}
 use Rattle.histar_sim.proofs.Searches.{runs_as, status_of, read_of, status_step}
+use Rattle.histar_refinement.proofs.Agreement.{agreement}
 
 module _ (accounts : Accounts) (ok : AreAccounts accounts) (number : ℕ) (small : number ≤ greatest_status)
     (old new : KernelModel) (f : Flat) (me : ProcName) (t : ℕ) (ready : IsReady accounts (state old) f me t)
@@ -80,7 +81,7 @@ module _ (accounts : Accounts) (ok : AreAccounts accounts) (number : ℕ) (small
 
   at_inside : l.naming.number (Inside ∷ home_address me) ≡ Some o
   at_inside =
-      zero_there _ o (l.agrees.tree.held Runner (Inside ∷ home_address me)
+      zero_there _ o ((agreement l).tree.held Runner (Inside ∷ home_address me)
       (numbered_runner accounts (state old) f l me p here ready.caller.runs)) refl
 
   -- the labels of the thread, and of the container and the process segment

@@ -30,7 +30,7 @@ use Rattle.histar_refinement.specs.Labels.{class_guard, thread_rights}
 use Rattle.histar_refinement.specs.Addresses.{Step, same_step, address_of, home_address}
 use Rattle.histar_refinement.specs.Addresses.Step.{Listing, Inside, Runner}
 use Rattle.histar_refinement.specs.Directories.{directory_of}
-use Rattle.histar_refinement.specs.Expected.{expected}
+use Rattle.histar_refinement.proofs.Expected.{expected}
 use Rattle.histar_refinement.specs.Represents.{ObjectsMatch}
 use Rattle.histar_refinement.specs.Processes.{or_zero}
 use Rattle.histar_refinement.proofs.Steps.{step_tests_equality}
@@ -45,6 +45,7 @@ use Rattle.histar_refinement.proofs.Agreeing.{thread_found, guard_at, container_
 use Rattle.histar_sim.specs.Simulation.{IsReady}
 use Rattle.histar_sim.proofs.Walks.{runs, place_at, agrees, at_container, at_listing, dir, seen, file_number}
 use Rattle.histar_sim.proofs.NewEntries.{HasSegment, still_there, there_then, making_inside}
+use Rattle.histar_refinement.proofs.Agreement.{agreement}
 
 module _ (accounts : Accounts) (ok : AreAccounts accounts) (s : State) (f : Flat) (me : ProcName) (t : ℕ) (ready : IsReady accounts s f me t) where
   abbrev p : Process
@@ -68,7 +69,7 @@ module _ (accounts : Accounts) (ok : AreAccounts accounts) (s : State) (f : Flat
 
   -- a number that is given is below the next one
   pub below : (a : Address Step) (q : ℕ) → l.naming.number a ≡ Some q → q < s.next_object
-  below a q at = number_below same_step step_tests_equality s l.naming (expected accounts l.category f l.naming.number) l.agrees a q at
+  below a q at = number_below same_step step_tests_equality s l.naming (expected accounts l.category f l.naming.number) (agreement l) a q at
 
   pub thread_below : t < s.next_object
   thread_below = below runner t (runs accounts ok s f me t ready).2

@@ -23,7 +23,7 @@ use Rattle.histar_refinement.specs.Guards.{guard_label, rights_label, rights_cle
 use Rattle.histar_refinement.specs.Labels.{process_guard, thread_rights}
 use Rattle.histar_refinement.specs.Addresses.{Step, same_step, home_address, home_number, status_number}
 use Rattle.histar_refinement.specs.Addresses.Step.{Home as HomeStep, Status}
-use Rattle.histar_refinement.specs.Expected.{home_object, status_object, bytes_for, expected}
+use Rattle.histar_refinement.proofs.Expected.{home_object, status_object, bytes_for, expected}
 use Rattle.histar_refinement.specs.Represents.{ObjectsMatch}
 use Rattle.histar_refinement.specs.Laws.{RunsAs}
 use Rattle.histar_refinement.specs.Lines.{IsStatusSegment}
@@ -38,6 +38,7 @@ use Rattle.histar_refinement.proofs.RawChecks.{object, read_blocked, read_check,
 use Rattle.histar_layout.proofs.Declared.{equal_names}
 use Rattle.histar_refinement.proofs.Agreeing.{bare_container_is, thread_found, step_linked}
 use Rattle.histar_refinement.proofs.StatusFound.{numbered_home, numbered_status, zero_there, status_found}
+use Rattle.histar_refinement.proofs.Agreement.{agreement}
 
 module _ (accounts : Accounts) (s : State) (f : Flat) (l : ObjectsMatch accounts s f) where
   -- process 0 is found where boot left it
@@ -72,7 +73,7 @@ module _ (accounts : Accounts) (s : State) (f : Flat) (l : ObjectsMatch accounts
         × (s.objects (where_is accounts s f l name).container
         ≡ object (guard_label l.category (process_guard name other)) (Container links))
     container_found = bare_container_is (s.objects container) due
-        (at_number same_step step_tests_equality s l.naming (expected accounts l.category f l.naming.number) l.agrees
+        (at_number same_step step_tests_equality s l.naming (expected accounts l.category f l.naming.number) (agreement l)
         (home_address name) container at_container
         ∙ asked_home accounts l.category f l.naming.number name ∙ ap (home_object accounts l.category name) here)
 
@@ -80,7 +81,7 @@ module _ (accounts : Accounts) (s : State) (f : Flat) (l : ObjectsMatch accounts
         ≡ object (guard_label l.category (process_guard name other))
         (Segment (process_bytes f.processes l.naming.number name other))
     segment_found = bare_is (s.objects segment) (record { label = due; kind = Segment (process_bytes f.processes l.naming.number name other) }) refl
-        (at_number same_step step_tests_equality s l.naming (expected accounts l.category f l.naming.number) l.agrees
+        (at_number same_step step_tests_equality s l.naming (expected accounts l.category f l.naming.number) (agreement l)
         (Status ∷ home_address name) segment at_segment
         ∙ asked_status accounts l.category f l.naming.number name
         ∙ ap (λ (x : Option Process).

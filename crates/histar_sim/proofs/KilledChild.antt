@@ -26,7 +26,7 @@ use Rattle.histar_container.proofs.Reaching.{not_reached}
 use Rattle.histar_refinement.specs.Addresses.{Step, AddressNumbers, same_step, home_address}
 use Rattle.histar_refinement.specs.Addresses.Step.{Status, Inside, Runner}
 use Rattle.histar_refinement.specs.Addresses.Step.{Child as Below}
-use Rattle.histar_refinement.specs.Expected.{expected}
+use Rattle.histar_refinement.proofs.Expected.{expected}
 use Rattle.histar_refinement.specs.Guards.{guard_label, rights_label, rights_clearance}
 use Rattle.histar_refinement.specs.Labels.{process_guard, thread_rights}
 use Rattle.histar_refinement.specs.Represents.{ObjectsMatch}
@@ -39,6 +39,7 @@ use Rattle.histar_refinement.proofs.RawChecks.{object}
 use Rattle.histar_refinement.proofs.Steps.{step_tests_equality}
 use Rattle.histar_sim.proofs.FoundProcesses.{at_container, at_segment, container_found, segment_found, step_below, thread}
 use Rattle.histar_sim.proofs.OwnSegment.{status_few, listed_few, thread_apart, segment_apart}
+use Rattle.histar_refinement.proofs.Agreement.{agreement}
 
 -- ---- lists of children
 
@@ -187,8 +188,8 @@ module _ (accounts : Accounts) (s : State) (f : Flat) (l : ObjectsMatch accounts
     remains b k at_k out other =
         cuts.is_cut.stays k
         (not_reached same_step step_tests_equality s.objects s.next_object (objects_at s.objects l.naming) l.naming
-        l.agrees.tree o (home_address top) (l.agrees.tree.addressed (home_address top) o at_victim) k
-        (ap (is_under same_step (home_address top)) (l.agrees.tree.addressed b k at_k) ∙ out)) other
+        (agreement l).tree o (home_address top) ((agreement l).tree.addressed (home_address top) o at_victim) k
+        (ap (is_under same_step (home_address top)) ((agreement l).tree.addressed b k at_k) ∙ out)) other
 
     pub thread_then : cut.objects t
         ≡ object (rights_label l.category (thread_rights accounts caller q))
@@ -213,7 +214,7 @@ module _ (accounts : Accounts) (s : State) (f : Flat) (l : ObjectsMatch accounts
     segment_other : S ≢ o
     segment_other e =
         let same = one_address same_step step_tests_equality s l.naming (expected accounts l.category f l.naming.number)
-        l.agrees (Status ∷ home_address me) (home_address top) S (at_segment accounts s f l me p here)
+        (agreement l) (Status ∷ home_address me) (home_address top) S (at_segment accounts s f l me p here)
         (at_victim ∙ ap Some (sym e)) in absurd cc
 
     pub linked_then : set.contains

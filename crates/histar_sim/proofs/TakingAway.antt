@@ -45,7 +45,7 @@ use Rattle.histar_refinement.specs.Labels.{class_guard, thread_rights}
 use Rattle.histar_refinement.specs.Addresses.{Step, same_step, address_of, home_address}
 use Rattle.histar_refinement.specs.Addresses.Step.{Listing, Named, Inside, Runner}
 use Rattle.histar_refinement.specs.Directories.{directory_of}
-use Rattle.histar_refinement.specs.Expected.{expected}
+use Rattle.histar_refinement.proofs.Expected.{expected}
 use Rattle.histar_refinement.specs.Represents.{ObjectsMatch, Represents}
 use Rattle.histar_refinement.specs.Laws.{RunsAs}
 use Rattle.histar_refinement.proofs.Steps.{step_tests_equality}
@@ -63,6 +63,7 @@ use Rattle.histar_sim.proofs.CallErrors.{IsBacked, ReadsAmong}
 use Rattle.histar_sim.proofs.Steps.{Goal, granted_step, refused_step, answered_step}
 use Rattle.histar_sim.proofs.Walks.{runs, place_at, agrees, at_container, at_listing, dir, seen, among_granted_all, among_then, among_also}
 use Rattle.histar_sim.proofs.Entries.{object_at, entry_of, object_led_to, object_numbered}
+use Rattle.histar_refinement.proofs.Agreement.{agreement}
 
 -- ---- the state between the two raw calls
 
@@ -106,8 +107,8 @@ module _ (accounts : Accounts) (s : State) (f : Flat) (l : ObjectsMatch accounts
   stays b q at_q outside other =
       cuts.is_cut.stays q
       (not_reached same_step step_tests_equality s.objects s.next_object (objects_at s.objects l.naming) l.naming
-      l.agrees.tree O top (l.agrees.tree.addressed top O at_entry) q
-      (ap (is_under same_step top) (l.agrees.tree.addressed b q at_q) ∙ outside)) other
+      (agreement l).tree O top ((agreement l).tree.addressed top O at_entry) q
+      (ap (is_under same_step top) ((agreement l).tree.addressed b q at_q) ∙ outside)) other
 
   other_thread : t ≢ D
   other_thread e = true≢false (sym (ap is_container (ap s.objects e ∙ holder)) ∙ ap is_container thread)
@@ -129,7 +130,7 @@ module _ (accounts : Accounts) (s : State) (f : Flat) (l : ObjectsMatch accounts
   other_object : N ≢ O
   other_object e =
       let same = one_address same_step step_tests_equality s l.naming (expected accounts l.category f l.naming.number)
-      l.agrees (Listing ∷ address_of d) top N at_listing (at_entry ∙ ap Some (sym e)) in absurd cc
+      (agreement l) (Listing ∷ address_of d) top N at_listing (at_entry ∙ ap Some (sym e)) in absurd cc
 
   -- the directory segment is still linked
   linked_then : set.contains (set.remove links O) N ≡ true

@@ -1,4 +1,4 @@
--- The objects that a flat state asks for at each address, but for their links.
+-- The object that a flat state asks for at each address, computed; `AsksFor` is the definition.
 use Rattle.std.specs.Prelude.{ℕ, List, [], ◌∷◌, Option, None, Some, option_and_then, option_map}
 use Rattle.std.specs.FinSet as set
 use Rattle.histar_flat.specs.Words.{Path, ProcName}
@@ -19,10 +19,27 @@ use Rattle.histar_refinement.specs.Categories.{Categories, booted}
 use Rattle.histar_refinement.specs.Guards.{Guard, guard_label, rights_label, rights_clearance}
 use Rattle.histar_refinement.specs.Labels.{boot_guard, class_guard, process_guard, inside_guard, thread_rights}
 use Rattle.histar_refinement.specs.LeftByBoot.{left_by_boot}
-use Rattle.histar_refinement.specs.Addresses.{Step, AddressNumbers, if_at, path_at, process_at, inside_at}
+use Rattle.histar_refinement.specs.Addresses.{Step, AddressNumbers, if_at}
 use Rattle.histar_refinement.specs.Addresses.Step.{Left, Slash, Listing, Named, Home, Status, Inside, Runner, Child}
 use Rattle.histar_refinement.specs.Processes.{process_bytes}
 use Rattle.histar_refinement.specs.Directories.{directory_of}
+
+-- the path that the address is of, if it is that of a file or a directory
+abbrev pub path_at : Address Step → Option Path
+path_at (Slash ∷ a) = if_at [] a (Some [])
+path_at (Named n ∷ a) = option_map (λ d. n ∷ d) (path_at a)
+path_at a = None
+
+-- the process that the address is of, if it is that of a process's container
+abbrev pub process_at : Address Step → Option ProcName
+process_at (Home ∷ a) = if_at [] a (Some [])
+process_at (Child n ∷ a) = option_map (λ p. n ∷ p) (process_at a)
+process_at a = None
+
+-- the process that the address is of, if it is that of an internal container
+abbrev pub inside_at : Address Step → Option ProcName
+inside_at (Inside ∷ a) = process_at a
+inside_at a = None
 
 -- a container with this label, which links nothing
 abbrev pub bare_container : Levels → Found
