@@ -1,14 +1,11 @@
 -- The lemmas of this crate.
 pub mod Descent
-pub mod Visiting
 pub mod Matching
 pub mod Tables
 pub mod Writing
 pub mod Runners
 pub mod ShownTables
 pub mod RightsLines
-pub mod Spots
-pub mod SpotRights
 pub mod TableLemmas
 pub mod RowLemmas
 pub mod Pieces

@@ -34,7 +34,7 @@ use Rattle.histar_readout.specs.declared.tree.TreeNode.{TreeNode}
 use Rattle.histar_readout.specs.Tree.{AreListed, IsBelow, IsNodeAt, IsTreeAt, Listed}
 use Rattle.histar_readout.specs.TreeEntries.{TreeEntry, flat_entry, tree_entry}
 use Rattle.histar_readout.specs.TreeLines.{TreeLine, flat_line, line_at, node_stat}
-use Rattle.histar_access.proofs.Visiting.{Visitor}
+use Rattle.histar_cells.proofs.Visiting.{Visitor}
 
 -- ---- the labels of the nodes of a tree
 

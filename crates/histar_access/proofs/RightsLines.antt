@@ -15,7 +15,7 @@ use Rattle.histar_readout.specs.declared.process.ProcessNode.{ProcessNode}
 use Rattle.histar_readout.specs.declared.tree.TreeNode.{TreeNode}
 use Rattle.histar_shell.specs.Ending.{IsTreeIn}
 use Rattle.histar_shell.specs.Machine.{MachineModel}
-use Rattle.histar_access.specs.declared.cells.Cell.{Cell}
+use Rattle.histar_cells.specs.declared.cells.Cell.{Cell}
 use Rattle.histar_access.specs.Cells.{line_of_node, lines_from, visitors_among}
 use Rattle.histar_access.specs.RightsTable.{ShowsTable, line_rights, runner_of}
 use Rattle.histar_prefix.specs.Listing.{AreProcessesIn}

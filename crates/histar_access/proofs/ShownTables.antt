@@ -37,7 +37,7 @@ use Rattle.histar_shell.specs.Meaning.{Shows}
 use Rattle.histar_shell.proofs.Users.{is_accounts}
 use Rattle.histar_prefix.proofs.Listed.{filter_map_map, flat_list, flat_tree, tree_here}
 use Rattle.histar_prefix.proofs.SameProcesses.{one_list, processes_unproved}
-use Rattle.histar_access.specs.declared.cells.Cell.{Cell}
+use Rattle.histar_cells.specs.declared.cells.Cell.{Cell}
 use Rattle.histar_access.specs.Cells.{lines_from, visitors_among}
 use Rattle.histar_access.specs.RightsTable.{runner_of}
 use Rattle.histar_access.specs.Rows.{rows_from}
@@ -46,21 +46,11 @@ use Rattle.histar_access.proofs.Descent.{descent, found_above, found_at}
 use Rattle.histar_access.proofs.Matching.{AreMatched, tree_labelled, tree_matched}
 use Rattle.histar_access.proofs.Runners.{line_runner, runners_listed}
 use Rattle.histar_access.proofs.Tables.{flat_below, lines_matched, map_twice, start, table_lines, value, zipped, zipped_values}
-use Rattle.histar_access.proofs.Visiting.{Visitor, cell_by, cells_are, named_are, named_by, named_of, running_listed}
-use Rattle.histar_access.proofs.Visiting.{start_cell, visitors}
+use Rattle.histar_cells.proofs.Visiting.{Visitor, cell_by, cells_are, named_are, named_by, named_of, running_listed}
+use Rattle.histar_cells.proofs.Visiting.{start_cell, visitors}
+use Rattle.histar_cells.proofs.FlatTrees.{are_tree, few_bytes}
 
 module _ (accounts : Accounts) (s : State) (f : Flat) (l : ObjectsMatch accounts s f) where
-  -- the paths are a tree
-  pub are_tree : IsTree f
-  are_tree = record {
-    root = ap (λ (o : Option Node). is_some_and o is_dir) (root_is_dir accounts s f l).1;
-    below = λ n d is. by n d (get f.files (n ∷ d)) refl is;
-  }
-    where
-      by : (n : Name) (d : Path) (o : Option Node) → get f.files (n ∷ d) ≡ o → is_some_and o (λ x. true) ≡ true → is_dir_at f d ≡ true
-      by n d None e is = absurd (cc)
-      by n d (Some there) e is = parent_is_dir accounts s f l n d there e
-
   -- the rights of each process at a path are those that its directory gives
   module _ (small : HaveFewBytes f) (ok : AreAccounts accounts) (vs : List (Visitor accounts s f l)) where
     above_is : (q : Path) (v : Visitor accounts s f l)
@@ -100,21 +90,6 @@ module _ (accounts : Accounts) (s : State) (f : Flat) (l : ObjectsMatch accounts
         lines_matched accounts s f l ok vs tree es match [] ∙ ap (zipped accounts s f l ok vs es) found ∙ zipped_values accounts s f l ok vs es
         ∙ table_lines accounts s f l ok vs es
         ∙ ap (λ (ps : List Named). map (line_of accounts f ps) es) named
-
--- files have few bytes
-pub few_bytes : (f : Flat)
-    → ((q : Path) (class : Class) (bytes : List ℕ) → get f.files q ≡ Some
-    (record { class = class; content = File bytes }) → length bytes ≤ most_bytes) → HaveFewBytes f
-few_bytes f small q = by (get f.files q) refl
-  where
-    of_content : (class : Class) (content : Content) → get f.files q ≡ Some (record { class = class; content = content })
-        → length (bytes_of (Some (record { class = class; content = content }))) ≤ most_bytes
-    of_content class Dir e = omega arith
-    of_content class (File bytes) e = small q class bytes e
-
-    by : (o : Option Node) → get f.files q ≡ o → length (bytes_of o) ≤ most_bytes
-    by None e = omega arith
-    by (Some node) e = of_content node.class node.content e
 
 module _ (accounts : Accounts) (m : MachineModel) (f : Flat) (shows : Shows accounts m f) (named : HaveShownNames f) where
   abbrev s : State

@@ -8,7 +8,7 @@ use Rattle.histar_rights.specs.Table.{access_table, access_text}
 use Rattle.histar_readout.specs.declared.tree.TreeNode.{TreeNode}
 use Rattle.histar_shell.specs.Ending.{HasTree, IsTreeIn}
 use Rattle.histar_shell.specs.Machine.{MachineModel}
-use Rattle.histar_access.specs.declared.cells.Cell.{Cell}
+use Rattle.histar_cells.specs.declared.cells.Cell.{Cell}
 use Rattle.histar_prefix.specs.Listing.{HasProcesses}
 use Rattle.histar_prefix.proofs.Listed.{processes_there, tree_there}
 use Rattle.histar_access.specs.Shown.{AppendsTable, AreVisitors, BeginsTable, IsShown}

@@ -15,11 +15,12 @@ use Rattle.histar_rights.specs.Rights.{above_root, rights_at, rights_below}
 use Rattle.histar_rights.specs.Table.{AccessLine, Cell as NamedRights, cell_at, line_of}
 use Rattle.histar_readout.specs.declared.tree.TreeNode.{TreeNode}
 use Rattle.histar_readout.specs.TreeLines.{flat_line}
-use Rattle.histar_access.specs.declared.cells.Cell.{Cell}
-use Rattle.histar_access.specs.Cells.{cell_below, line_of_node, lines_from, row_below, shown}
+use Rattle.histar_cells.specs.declared.cells.Cell.{Cell}
+use Rattle.histar_access.specs.Cells.{line_of_node, lines_from, row_below, shown}
+use Rattle.histar_cells.specs.Cells.{cell_below}
 use Rattle.histar_access.specs.Rows.{last_or, rows_from}
 use Rattle.histar_access.proofs.Matching.{AreMatched, IsMatch}
-use Rattle.histar_access.proofs.Visiting.{Visitor, named_of}
+use Rattle.histar_cells.proofs.Visiting.{Visitor, named_of}
 
 -- mapping two functions one after the other is mapping their composition
 pub map_twice : {A B C : Type 0} (g : B → C) (h : A → B) (xs : List A) → map g (map h xs) ≡ map (λ x. g (h x)) xs

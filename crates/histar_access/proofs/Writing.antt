@@ -12,7 +12,7 @@ use Rattle.histar_object.specs.State.{State}
 use Rattle.histar_layout.specs.Listing.{object_of}
 use Rattle.histar_rights.specs.Table.{access_line_text, access_text, cell_text}
 use Rattle.histar_readout.specs.declared.tree.TreeNode.{TreeNode}
-use Rattle.histar_access.specs.declared.cells.Cell.{Cell}
+use Rattle.histar_cells.specs.declared.cells.Cell.{Cell}
 use Rattle.histar_access.specs.Cells.{line_of_node, lines_from, row_below, shown, shown_text}
 use Rattle.histar_access.specs.Rows.{last_or}
 

@@ -1,4 +1,4 @@
--- The rights of threads at the paths of a state, by the labels of its objects.
+-- The rights of all running processes at the paths of a state, by the labels of its objects.
 use Rattle.std.specs.Prelude.{ℕ, List, [], ◌∷◌, ◌++◌, length, map, take, Option, option_map}
 use Rattle.std.specs.List.{filter_map}
 use Rattle.histar_flat.specs.Words.{ProcName}
@@ -13,16 +13,9 @@ use Rattle.histar_rights.specs.Table.{AccessLine, Cell as NamedRights, cell_text
 use Rattle.histar_readout.specs.declared.process.ProcessNode.{ProcessNode}
 use Rattle.histar_readout.specs.declared.tree.TreeNode.{TreeNode}
 use Rattle.histar_readout.specs.TreeLines.{node_stat}
-use Rattle.histar_access.specs.declared.cells.Cell.{Cell}
+use Rattle.histar_cells.specs.declared.cells.Cell.{Cell}
+use Rattle.histar_cells.specs.Cells.{cell_below, visitor_at}
 use Rattle.histar_access.specs.Rows.{last_or}
-
--- the cell of a running process, with the rights that each process has above `/`
-abbrev pub visitor : ProcName → Caller → Cell
-visitor me caller = record { process = me; thread = caller.thread; rights = above_root }
-
--- the cell of the process of this name, if it runs
-abbrev pub visitor_at : State → Roots → ProcName → Option Cell
-visitor_at s roots me = option_map (visitor me) (caller_at s roots.home me)
 
 -- the cell of a process, if it runs
 abbrev pub visitor_of : State → Roots → ProcessNode → Option Cell
@@ -32,13 +25,7 @@ visitor_of s roots node = visitor_at s roots node.name
 abbrev pub visitors_among : State → Roots → List ProcessNode → List Cell
 visitors_among s roots processes = filter_map (visitor_of s roots) processes
 
--- the cell at an entry of a directory, by the cell at the directory and what the labels of the thread and of this object allow
-abbrev pub cell_below : State → ℕ → Cell → Cell
-cell_below s object c = record c {
-  rights = rights_below c.rights (observes (s.objects c.thread) (s.objects object)) (modifies (s.objects c.thread) (s.objects object));
-}
-
--- the same for each process
+-- the cells of processes at an entry of a directory, by their cells at the directory
 abbrev pub row_below : State → ℕ → List Cell → List Cell
 row_below s object above = map (cell_below s object) above
 

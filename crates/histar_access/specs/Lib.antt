@@ -2,7 +2,6 @@
 pub mod Rows
 pub mod Cells
 pub mod Shown
-pub mod OnePath
 pub mod Session
 pub mod RightsTable
 pub mod Diff

@@ -11,7 +11,7 @@ use Rattle.histar_readout.specs.declared.process.ProcessNode.{ProcessNode}
 use Rattle.histar_shell.specs.Machine.{MachineModel}
 use Rattle.histar_shell.specs.Meaning.{Shows}
 use Rattle.histar_prefix.specs.Listing.{AreProcessesIn}
-use Rattle.histar_access.specs.declared.cells.Cell.{Cell}
+use Rattle.histar_cells.specs.declared.cells.Cell.{Cell}
 use Rattle.histar_access.specs.Cells.{visitors_among}
 
 -- a machine represents some flat state, whose processes have names that can be shown

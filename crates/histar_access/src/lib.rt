@@ -4,12 +4,9 @@
 
 mod cells;
 mod changes;
-mod one_path;
 mod rights_table;
 mod session;
 mod table;
 
-pub use cells::Cell;
 pub use changes::diff;
-pub use one_path::rights_of;
 pub use session::access;

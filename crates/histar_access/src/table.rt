@@ -6,18 +6,16 @@ ghost use Rattle.histar_io.specs.Writing.{AppendsFront};
 ghost use Rattle.histar_rights.specs.Table.{access_line_text, access_text};
 ghost use Rattle.histar_script.specs.Runs.{IsOutputFault, is_write_failed};
 ghost use Rattle.histar_syscall.specs.KernelModel.{state};
-ghost use Rattle.histar_access.specs.Cells.{line_of_node, lines_from, visitor_at};
+ghost use Rattle.histar_access.specs.Cells.{line_of_node, lines_from};
 ghost use Rattle.histar_access.specs.Rows.{last_or};
 ghost use Rattle.histar_access.specs.Shown.{AppendsTable, BeginsTable, IsShown, visitors_in};
 
-use crate::cells::{Cell, push_cells, row_below};
-use histar_flat::ProcName;
+use crate::cells::{push_cells, row_below};
+use histar_cells::{Cell, visitor_at};
 use histar_io::{Sink, write_bytes};
 use histar_label::LabelStore;
 use histar_prefix::processes;
-use histar_programs::find_caller;
 use histar_readout::{ProcessNode, TreeNode};
-use histar_rights::Rights;
 use histar_script::Fault;
 use histar_shell::{Machine, push_path, push_stat};
 use std::alloc::{AllocError, Global};
@@ -59,21 +57,6 @@ pub(crate) fn visitors_among<S: LabelStore + Drop>(
         }
     }
     Ok(visitors)
-}
-
-/// Returns the process of a name with its thread, if it runs.
-pub(crate) fn visitor_at<S: LabelStore + Drop>(
-    machine: &Machine<S>,
-    process: &ProcName,
-) -> Option<Cell>
-    ensures { result ≡ visitor_at (state machine.now.kernel) machine.now.roots process.now }
-{
-    let caller = find_caller(machine.kernel(), machine.roots().home, process)?;
-    Some(Cell {
-        process: *process,
-        thread: caller.thread,
-        rights: Rights::ABOVE_ROOT,
-    })
 }
 
 /// Writes the lines of files and directories of a machine, each after that of its directory.

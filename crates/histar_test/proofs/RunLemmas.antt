@@ -18,7 +18,7 @@ use Rattle.histar_flat.specs.Words.{Path}
 use Rattle.histar_rights.specs.declared.rights.Rights.{Rights}
 use Rattle.histar_rights.specs.Rights.{rights_text}
 use Rattle.histar_diff.specs.Shown.{rights_of}
-use Rattle.histar_access.specs.OnePath.{AreRightsOf}
+use Rattle.histar_cells.specs.OnePath.{AreRightsOf}
 use Rattle.histar_shell.specs.Machine.{MachineModel}
 use Rattle.histar_shell.specs.Meaning.{FollowsMeaning, Shows}
 use Rattle.histar_shell.proofs.AnswerLemmas.{front_after}

@@ -6,8 +6,8 @@ ghost use Rattle.histar_test.specs.Running.{AsksMachine};
 ghost use Rattle.histar_test.specs.Steps.{asked_of, process_and_rights_of, question_of};
 
 use crate::checks::{Check, Made};
-use histar_access::rights_of;
 use histar_base::Bytes;
+use histar_cells::rights_of;
 use histar_flat::{OwnedPath, ProcName, read_path, read_process};
 use histar_label::InternStore;
 use histar_rights::{Rights, read_rights};

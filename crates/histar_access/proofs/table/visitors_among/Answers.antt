@@ -2,7 +2,7 @@
 use Rattle.std.proofs.Common.{rules, sym, ap, ◌∙◌, ◌++◌, [], append-nil}
 use Rattle.std.specs.List.{cons_option}
 use Rattle.std.specs.Global.{Vec}
-use Rattle.histar_access.specs.declared.cells.Cell.{Cell}
+use Rattle.histar_cells.specs.declared.cells.Cell.{Cell}
 use Rattle.histar_syscall.specs.KernelModel.{state}
 use Rattle.histar_access.specs.Cells.{visitor_of}
 use Rattle.histar_access.proofs.RowLemmas.{kept_more}

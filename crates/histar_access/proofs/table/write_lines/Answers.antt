@@ -5,7 +5,7 @@ use Rattle.std.proofs.KnownBytes.{Appends-nil}
 use Rattle.std.proofs.lemmas.Result.{err_from_is_err_and}
 use Rattle.histar_syscall.specs.KernelModel.{state}
 use Rattle.histar_rights.specs.Table.{access_line_text}
-use Rattle.histar_access.specs.declared.cells.Cell.{Cell}
+use Rattle.histar_cells.specs.declared.cells.Cell.{Cell}
 use Rattle.histar_access.specs.Cells.{line_of_node, row_below}
 use Rattle.histar_access.specs.Rows.{last_or}
 use Rattle.histar_access.proofs.RowLemmas.{cells_of, kept_way, way_more}

@@ -3,7 +3,7 @@ use Rattle.std.proofs.Common.{◌≡◌, drop}
 use Rattle.std.specs.Global.{Vec}
 use Rattle.std.specs.Prelude.{map}
 use Rattle.histar_syscall.specs.KernelModel.{state}
-use Rattle.histar_access.specs.declared.cells.Cell.{Cell}
+use Rattle.histar_cells.specs.declared.cells.Cell.{Cell}
 use Rattle.histar_access.proofs.Writing.{IsWritten}
 use Rattle.histar_access.proofs.table.write_lines.Given as goal
 

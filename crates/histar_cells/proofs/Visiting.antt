@@ -21,7 +21,7 @@ use Rattle.histar_refinement.proofs.CallerFound.{callers_are_found, callers_are_
 use Rattle.histar_rights.specs.Rights.{above_root}
 use Rattle.histar_rights.specs.Running.{Named, and_children, itself, running_from}
 use Rattle.histar_readout.specs.ProcessLines.{ProcessLine, flat_processes, with_children}
-use Rattle.histar_access.specs.declared.cells.Cell.{Cell}
+use Rattle.histar_cells.specs.declared.cells.Cell.{Cell}
 
 module _ (accounts : Accounts) (s : State) (f : Flat) (l : ObjectsMatch accounts s f) where
   -- a running process, with its thread

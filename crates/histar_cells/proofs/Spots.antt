@@ -16,9 +16,9 @@ use Rattle.histar_layout.proofs.DirectoryLemmas.{same_directory}
 use Rattle.histar_programs.specs.declared.roots.Roots.{Roots}
 use Rattle.histar_readout.specs.Resolve.{LeadsNowhere, LeadsTo}
 use Rattle.histar_readout.proofs.OneTarget.{paths_lead_to_one_target}
-use Rattle.histar_access.specs.declared.cells.Cell.{Cell}
-use Rattle.histar_access.specs.declared.one_path.Spot.{Spot}
-use Rattle.histar_access.specs.OnePath.{FindsEntry, FindsSpot, Lists, Reaches, spot_below}
+use Rattle.histar_cells.specs.declared.cells.Cell.{Cell}
+use Rattle.histar_cells.specs.declared.one_path.Spot.{Spot}
+use Rattle.histar_cells.specs.OnePath.{FindsEntry, FindsSpot, Lists, Reaches, spot_below}
 
 -- ---- one entry
 

@@ -1,7 +1,7 @@
 -- Proves the goals of `rights_of` of src/one_path.rt that the search leaves open.
 use Rattle.std.proofs.Common.{None, Some, sym, ◌∙◌}
-use Rattle.histar_access.proofs.SpotRights.{found_there, not_running, nowhere, spot_rights}
-use Rattle.histar_access.proofs.one_path.rights_of.Goals as goal
+use Rattle.histar_cells.proofs.SpotRights.{found_there, not_running, nowhere, spot_rights}
+use Rattle.histar_cells.proofs.one_path.rights_of.Goals as goal
 
 pub returns-in_default : goal.returns-in_default
 returns-in_default g c =

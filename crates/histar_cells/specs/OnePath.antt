@@ -16,9 +16,9 @@ use Rattle.histar_diff.specs.Shown.{rights_of}
 use Rattle.histar_readout.specs.Resolve.{LeadsNowhere}
 use Rattle.histar_shell.specs.Machine.{MachineModel}
 use Rattle.histar_shell.specs.Meaning.{Shows}
-use Rattle.histar_access.specs.declared.cells.Cell.{Cell}
-use Rattle.histar_access.specs.declared.one_path.Spot.{Spot}
-use Rattle.histar_access.specs.Cells.{cell_below}
+use Rattle.histar_cells.specs.declared.cells.Cell.{Cell}
+use Rattle.histar_cells.specs.declared.one_path.Spot.{Spot}
+use Rattle.histar_cells.specs.Cells.{cell_below}
 
 -- the directory at the one target lists this name, and its entry leads to the other target
 abbrev pub Lists : State → Target → Name → Target → Type 0

@@ -1,10 +1,9 @@
 //! The rights of one process at one path.
 ghost use Rattle.std.specs.Prelude.{◌≡◌};
 ghost use Rattle.histar_syscall.specs.KernelModel.{state};
-ghost use Rattle.histar_access.specs.OnePath.{AreRightsOf, FindsEntry, FindsSpot, spot_below};
+ghost use Rattle.histar_cells.specs.OnePath.{AreRightsOf, FindsEntry, FindsSpot, spot_below};
 
-use crate::cells::Cell;
-use crate::table::visitor_at;
+use crate::cells::{Cell, visitor_at};
 use histar_flat::{Name, Path, ProcName};
 use histar_label::LabelStore;
 use histar_layout::{Target, look_up_checked};

@@ -1,7 +1,7 @@
 -- Proves the goals of `entry_at` of src/one_path.rt that the search leaves open.
 use Rattle.histar_syscall.specs.KernelModel.{state}
-use Rattle.histar_access.proofs.Spots.{entry_found, none_in_file, none_unlisted}
-use Rattle.histar_access.proofs.one_path.entry_at.Goals as goal
+use Rattle.histar_cells.proofs.Spots.{entry_found, none_in_file, none_unlisted}
+use Rattle.histar_cells.proofs.one_path.entry_at.Goals as goal
 
 pub returns-in_default : goal.returns-in_default
 returns-in_default g c = none_in_file (state c.args.kernel.now) c.args.above.now c.args.name.now c.in_default.field-0 c.in_default.is

@@ -1,7 +1,7 @@
 -- Proves the goals of `+spot_at` of src/one_path.rt that the search leaves open.
 use Rattle.histar_syscall.specs.KernelModel.{state}
-use Rattle.histar_access.proofs.Spots.{nowhere_above, nowhere_listed, slash_found, spot_found}
-use Rattle.histar_access.proofs.one_path.+spot_at.Goals as goal
+use Rattle.histar_cells.proofs.Spots.{nowhere_above, nowhere_listed, slash_found, spot_found}
+use Rattle.histar_cells.proofs.one_path.+spot_at.Goals as goal
 
 pub returns-in_default : goal.returns-in_default
 returns-in_default g t c =

@@ -47,13 +47,13 @@ use Rattle.histar_readout.proofs.PathsMatched.{flat_states_are_resolved}
 use Rattle.histar_readout.proofs.TreeMatched.{led_to_directory, led_to_file}
 use Rattle.histar_shell.specs.Machine.{MachineModel}
 use Rattle.histar_shell.proofs.Users.{is_accounts}
-use Rattle.histar_access.specs.declared.cells.Cell.{Cell}
-use Rattle.histar_access.specs.declared.one_path.Spot.{Spot}
-use Rattle.histar_access.specs.Cells.{cell_below, visitor, visitor_at}
-use Rattle.histar_access.specs.OnePath.{AreRightsOf, FindsSpot, Lists, Reaches}
-use Rattle.histar_access.proofs.ShownTables.{are_tree, few_bytes}
-use Rattle.histar_access.proofs.Spots.{leads_there}
-use Rattle.histar_access.proofs.Visiting.{Visitor, runs_there, start_cell}
+use Rattle.histar_cells.specs.declared.cells.Cell.{Cell}
+use Rattle.histar_cells.specs.declared.one_path.Spot.{Spot}
+use Rattle.histar_cells.specs.Cells.{cell_below, visitor, visitor_at}
+use Rattle.histar_cells.specs.OnePath.{AreRightsOf, FindsSpot, Lists, Reaches}
+use Rattle.histar_cells.proofs.FlatTrees.{are_tree, few_bytes}
+use Rattle.histar_cells.proofs.Spots.{leads_there}
+use Rattle.histar_cells.proofs.Visiting.{Visitor, runs_there, start_cell}
 
 module _ (accounts : Accounts) (s : State) where
   abbrev roots : Roots
