@@ -8,8 +8,9 @@ ghost use Rattle.histar_access.specs.Cells.{cell_rights, line_of_node, lines_fro
 ghost use Rattle.histar_access.specs.Shown.{IsShown};
 ghost use Rattle.histar_access.specs.RightsTable.{line_rights, runner_of, ShowsTable};
 
-use crate::cells::{Cell, row_below};
+use crate::cells::row_below;
 use crate::table::{last_row, visitors_among};
+use histar_cells::Cell;
 use histar_diff::{Runner, Table, TableLine};
 use histar_label::LabelStore;
 use histar_prefix::processes;
