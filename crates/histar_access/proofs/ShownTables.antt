@@ -71,7 +71,7 @@ module _ (accounts : Accounts) (s : State) (f : Flat) (l : ObjectsMatch accounts
         (value accounts s f l ok vs) q) ≡ value accounts s f l ok vs q node
     is_given q node at = λ i v.
         (ap (λ r. rights_below r (may_read accounts v.process node.class) (may_write accounts v.process node.class)) (above_is q v)
-        ∙ sym (directories_give_rights accounts f are_tree small v.name v.process q node at)) i
+        ∙ sym (directories_give_rights accounts f (are_tree accounts s f l) small v.name v.process q node at)) i
 
     -- the lines of a tree that matches are those of the table
     lines_are : (shallow : (q : Path) → is_there f q ≡ true → length q ≤ most_names) (tree : List TreeNode)
@@ -80,7 +80,7 @@ module _ (accounts : Accounts) (s : State) (f : Flat) (l : ObjectsMatch accounts
     lines_are shallow tree match named =
         let es = f.files.entries in
         let root = root_is_dir accounts s f l in
-        let met = walks_meet_all f are_tree most_names shallow (record { class = root.0; content = Dir }) root.1 in
+        let met = walks_meet_all f (are_tree accounts s f l) most_names shallow (record { class = root.0; content = Dir }) root.1 in
         let rows = rows_from (λ (e : Path × Node). length e.0) (flat_below accounts s f l ok vs) (start accounts s f l ok vs) [] in
         let found : rows es ≡ map (λ (e : Path × Node). value accounts s f l ok vs e.0 e.1) es =
         ap rows (sym met)
