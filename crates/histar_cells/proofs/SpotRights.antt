@@ -22,7 +22,7 @@ use Rattle.histar_layout.proofs.DirectoryLemmas.{same_directory}
 use Rattle.histar_programs.specs.declared.roots.Roots.{Roots}
 use Rattle.histar_programs.specs.declared.caller.Caller.{Caller}
 use Rattle.histar_programs.specs.Caller.{caller_at}
-use Rattle.histar_login.specs.Start.{roots_of}
+use Rattle.histar_programs.specs.Start.{roots_of}
 use Rattle.histar_refinement.specs.Addresses.{address_of}
 use Rattle.histar_refinement.specs.Addresses.Step.{Listing, Slash}
 use Rattle.histar_refinement.specs.Directories.{directory_of, target_for}

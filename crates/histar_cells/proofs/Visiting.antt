@@ -13,7 +13,7 @@ use Rattle.histar_object.specs.State.{State}
 use Rattle.histar_programs.specs.declared.roots.Home.{Home}
 use Rattle.histar_programs.specs.declared.caller.Caller.{Caller}
 use Rattle.histar_programs.specs.Caller.{caller_at}
-use Rattle.histar_login.specs.Start.{roots_of}
+use Rattle.histar_programs.specs.Start.{roots_of}
 use Rattle.histar_refinement.specs.Categories.{Categories}
 use Rattle.histar_refinement.specs.Represents.{ObjectsMatch}
 use Rattle.histar_refinement.specs.Laws.{RunsAs}

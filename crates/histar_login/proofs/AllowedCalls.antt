@@ -21,8 +21,9 @@ use Rattle.histar_rules.specs.Rules.{check, no_thread, no_container, no_making, 
 use Rattle.histar_rules.specs.Sound.{root_number}
 use Rattle.histar_syscall.specs.KernelModel.{KernelModel}
 use Rattle.histar_layout.specs.Labelling.{written_by}
-use Rattle.histar_login.specs.Start.{object_at, state_with, container, root_category}
-use Rattle.histar_login.specs.Boot.{boot_thread_number, last_call}
+use Rattle.histar_programs.specs.Start.{object_at, state_with, container, root_category}
+use Rattle.histar_login.specs.Boot.{last_call}
+use Rattle.histar_programs.specs.Start.{boot_thread_number}
 use Rattle.histar_login.specs.Booting.{Part, Boots, OwnsMade, Allows, table_of, next_number, next_made}
 use Rattle.histar_login.proofs.MadeLabels.{IsMadeLabel, IsMadeGuard, under_made, sees_made, cleared_made, written_made}
 

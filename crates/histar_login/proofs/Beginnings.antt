@@ -5,7 +5,7 @@ use Rattle.histar_rules.specs.declared.raw.RawCall.{RawCall}
 use Rattle.histar_syscall.specs.KernelModel.{KernelModel, IsUnchanged}
 use Rattle.histar_syscall.specs.Runs.{Granted}
 use Rattle.histar_syscall.proofs.Runs.{made_unchanged}
-use Rattle.histar_login.specs.Boot.{boot_thread_number}
+use Rattle.histar_programs.specs.Start.{boot_thread_number}
 use Rattle.histar_login.specs.Booting.{Part, Boots, HasBegun}
 
 -- boot stops after this many raw calls of a part

@@ -10,8 +10,9 @@ use Rattle.histar_rules.specs.Sound.{root_number}
 use Rattle.histar_syscall.specs.KernelModel.{KernelModel, Called, IsUnchanged}
 use Rattle.histar_layout.specs.Categories.{write_category}
 use Rattle.histar_layout.specs.Labelling.{written_by}
-use Rattle.histar_login.specs.Start.{root_category, container, user_table}
-use Rattle.histar_login.specs.Boot.{boot_thread_number, table_call, slash_call, listing_call, directory_calls}
+use Rattle.histar_programs.specs.Start.{root_category, container, user_table}
+use Rattle.histar_login.specs.Boot.{table_call, slash_call, listing_call, directory_calls}
+use Rattle.histar_programs.specs.Start.{boot_thread_number}
 use Rattle.histar_login.specs.Booting.{Part, and_then, next_number, next_made, Boots, HasBegun, Allows, IsBeforeDirectory, directory_part}
 use Rattle.histar_login.proofs.Stages.{boots_same}
 use Rattle.histar_login.proofs.MadeLabels.{IsMadeGuard, written_made}

@@ -15,7 +15,7 @@ use Rattle.histar_object.specs.Objects.{Numbers, unlinking, links_in, kind_links
 use Rattle.histar_object.specs.State.{State, Found, empty_state, boot_thread}
 use Rattle.histar_container.specs.Tree.{Reached, here, there}
 use Rattle.histar_container.specs.ObjectsModel.{CutsOff}
-use Rattle.histar_login.specs.Start.{object_at, state_with}
+use Rattle.histar_programs.specs.Start.{object_at, state_with}
 use Rattle.histar_login.specs.Booting.{table_of, nothing_yet}
 
 -- 3 and more is not 2

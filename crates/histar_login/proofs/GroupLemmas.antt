@@ -14,7 +14,7 @@ use Rattle.histar_layout.specs.Categories.{read_category, write_category, group_
 use Rattle.histar_layout.specs.Labelling.{with_levels, labelled}
 use Rattle.histar_layout.proofs.LabellingLemmas.{take_next}
 use Rattle.histar_layout.proofs.OwnersOf.{behind_choice}
-use Rattle.histar_login.specs.Start.{numbered, at_both, declared, own_read_category, numbers_among, group_entry, group_part}
+use Rattle.histar_programs.specs.Start.{numbered, at_both, declared, own_read_category, numbers_among, group_entry, group_part}
 use Rattle.histar_login.proofs.StartLemmas.{numbered_next}
 
 -- both categories of one more owner come last

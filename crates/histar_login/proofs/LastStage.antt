@@ -9,11 +9,13 @@ use Rattle.histar_rules.specs.Sound.{root_number}
 use Rattle.histar_syscall.specs.KernelModel.{KernelModel, state, Called}
 use Rattle.histar_syscall.proofs.Runs.{granted_more, made_run}
 use Rattle.histar_layout.specs.Labelling.{written_by}
-use Rattle.histar_login.specs.Start.{root_category, declared, own_read_category, container, state_with, of_users, of_directory, start_state}
-use Rattle.histar_login.specs.Boot.{boot_calls, boot_thread_number, IsBooted}
+use Rattle.histar_programs.specs.Start.{root_category, declared, own_read_category, container, state_with, of_users, of_directory, start_state}
+use Rattle.histar_login.specs.Boot.{boot_calls, IsBooted}
+use Rattle.histar_programs.specs.Start.{boot_thread_number}
 use Rattle.histar_login.specs.Booting.{Part, and_then, nothing_yet, next_number, Boots, BootsOn, IsAnywhere, IsBefore, IsBeforeBoth, categories_part}
 use Rattle.histar_login.specs.Booting.{users_part, directory_part, process_part}
-use Rattle.histar_login.proofs.Stages.{boots_same, length-numbered}
+use Rattle.histar_login.proofs.Stages.{boots_same}
+use Rattle.histar_programs.proofs.StartLengths.{length-numbered}
 use Rattle.histar_login.proofs.StartLemmas.{range-suc}
 use Rattle.histar_login.proofs.FirstAndLast.{two_not_in_row}
 use Rattle.histar_login.proofs.Parts.{boots_last, boots_first}

@@ -1,5 +1,5 @@
 -- How the code of a login runs its program, from one part to the next.
-use Rattle.std.proofs.Common.{◌≡◌, ℕ, Bool, List, Result, Ok, Err, sym, ap, ◌∙◌, subst}
+use Rattle.std.proofs.Common.{◌≡◌, ℕ, Bool, List, Result, Ok, Err, sym, subst}
 use Rattle.std.specs.Str.{bytes_eq}
 use Rattle.histar_label.specs.Levels.{Levels}
 use Rattle.histar_object.specs.declared.objects.Entry.{Entry}
@@ -14,7 +14,8 @@ use Rattle.histar_programs.proofs.Exits.{Leaves}
 use Rattle.histar_programs.proofs.Running.{hands, part_fails, then_part}
 use Rattle.histar_programs.specs.declared.caller.Caller.{Caller}
 use Rattle.histar_login.specs.declared.login.EntryLabels.{EntryLabels}
-use Rattle.histar_login.specs.Login.{AreEntryLabels, ask_password, clearance_if, entering, gate_of, label_if, login_as_program, password_of, reply_if}
+use Rattle.histar_login.specs.Login.{AreEntryLabels, ask_password, clearance_if, entering, label_if, login_as_program, reply_if}
+use Rattle.histar_programs.specs.Users.{gate_of, password_of}
 use Rattle.histar_login.specs.Login.{take_due}
 
 -- a gate that is entered by the labels that were made is the user's

@@ -17,7 +17,7 @@ use Rattle.histar_rules.specs.Rights.{with_star_at, kind_with_three_at}
 use Rattle.histar_object.specs.State.{boot_thread}
 use Rattle.histar_layout.specs.Categories.{read_category, write_category}
 use Rattle.histar_layout.specs.Labelling.{with_levels, written_by, secret_of, owner_of, cleared_of}
-use Rattle.histar_login.specs.Start.{at_both, owners_label, owners_clearance}
+use Rattle.histar_programs.specs.Start.{at_both, owners_label, owners_clearance}
 use Rattle.histar_login.specs.Booting.{was_made, OwnsMade}
 
 -- a label that names only categories that were made, and has this level at all others

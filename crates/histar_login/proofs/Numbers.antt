@@ -9,7 +9,8 @@ use Rattle.histar_layout.specs.Categories.{owners_of}
 use Rattle.histar_programs.specs.Programs.{Program}
 use Rattle.histar_programs.specs.Programs.Program.{Answers}
 use Rattle.histar_programs.specs.declared.caller.Caller.{Caller}
-use Rattle.histar_login.specs.Login.{place_of, login_at, login_as_program, login_program}
+use Rattle.histar_login.specs.Login.{login_at, login_as_program, login_program}
+use Rattle.histar_programs.specs.Users.{place_of}
 
 module _ (accounts : Accounts) (caller : Caller) (name : Name) (password : List ℕ) where
   -- the login as the user of a number, if there is one

@@ -21,8 +21,8 @@ use Rattle.histar_syscall.specs.KernelModel.{KernelModel, state, Called, Answere
 use Rattle.histar_syscall.proofs.Runs.{granted_none, granted_more}
 use Rattle.histar_container.specs.ObjectsModel.{CutsOff}
 use Rattle.histar_layout.specs.Labelling.{written_by}
-use Rattle.histar_login.specs.Start.{state_with, container, root_category}
-use Rattle.histar_login.specs.Boot.{boot_thread_number}
+use Rattle.histar_programs.specs.Start.{state_with, container, root_category}
+use Rattle.histar_programs.specs.Start.{boot_thread_number}
 use Rattle.histar_login.specs.Booting.{Part, nothing_yet, next_number, next_made, table_of, Boots, OwnsMade, Allows, IsUndenied, Passes, Grants}
 use Rattle.histar_login.proofs.Tables.{changed, changed_behind, with_category_is, added_is}
 use Rattle.histar_login.proofs.MadeLabels.{boot_owns, owns_next}

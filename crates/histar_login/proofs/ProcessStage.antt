@@ -11,8 +11,9 @@ use Rattle.histar_rules.specs.Sound.{root_number}
 use Rattle.histar_label.specs.declared.levels.Level.TheVariants.{Star, L1, L2, L3}
 use Rattle.histar_syscall.specs.KernelModel.{KernelModel, Called, IsUnchanged}
 use Rattle.histar_layout.specs.Labelling.{written_by, secret_of, owner_of, cleared_of}
-use Rattle.histar_login.specs.Start.{own_read_category, own_write_category, container, segment, first_process_bytes}
-use Rattle.histar_login.specs.Boot.{boot_thread_number, outer_call, inner_call, thread_call, status_call, process_calls}
+use Rattle.histar_programs.specs.Start.{own_read_category, own_write_category, container, segment, first_process_bytes}
+use Rattle.histar_login.specs.Boot.{outer_call, inner_call, thread_call, status_call, process_calls}
+use Rattle.histar_programs.specs.Start.{boot_thread_number}
 use Rattle.histar_login.specs.Booting.{Part, and_then, next_number, next_made, Boots, HasBegun, HasRoom, Allows, IsBeforeBoth, process_part}
 use Rattle.histar_login.proofs.Stages.{boots_same}
 use Rattle.histar_login.proofs.MadeLabels.{IsMadeGuard, written_made, secret_made, two_made, owner_below}

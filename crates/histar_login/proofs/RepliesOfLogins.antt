@@ -10,7 +10,8 @@ use Rattle.histar_programs.specs.Laws.{RepliesToRefusals}
 use Rattle.histar_programs.specs.Programs.Program.{Answers}
 use Rattle.histar_programs.proofs.RepliesOfParts.{denial_of_call_has_reply}
 use Rattle.histar_programs.specs.declared.caller.Caller.{Caller}
-use Rattle.histar_login.specs.Login.{place_of, password_of, entering, label_if, clearance_if, reply_if, login_as_program, login_at}
+use Rattle.histar_login.specs.Login.{entering, label_if, clearance_if, reply_if, login_as_program, login_at}
+use Rattle.histar_programs.specs.Users.{place_of, password_of}
 use Rattle.histar_login.specs.Login.{LoginsReplyToRefusals}
 
 -- the reply after the gate is no refusal that the kernel caused

@@ -17,8 +17,9 @@ use Rattle.histar_rules.specs.Sound.{root_number}
 use Rattle.histar_syscall.specs.KernelModel.{KernelModel, Called, IsUnchanged}
 use Rattle.histar_layout.specs.Categories.{read_category, write_category, owners_of}
 use Rattle.histar_layout.specs.Labelling.{secret_of}
-use Rattle.histar_login.specs.Start.{numbered, gate_label, gate_clearance, owners_label, owners_clearance, of_user, of_users}
-use Rattle.histar_login.specs.Boot.{boot_thread_number, category_calls, user_calls, password_call, gate_call}
+use Rattle.histar_programs.specs.Start.{numbered, gate_label, gate_clearance, owners_label, owners_clearance, of_user, of_users}
+use Rattle.histar_login.specs.Boot.{category_calls, user_calls, password_call, gate_call}
+use Rattle.histar_programs.specs.Start.{boot_thread_number}
 use Rattle.histar_login.specs.Booting.{Part, and_then, next_number, next_made, Boots, BootsOn, BeginsOn, BeginsUser, BeginsUsers, HasBegun, HasRoom}
 use Rattle.histar_login.specs.Booting.{Allows, IsUnderWay, IsAnywhere, IsBefore, IsBeforeUser, two_categories, categories_part, user_part, users_part}
 use Rattle.histar_login.proofs.StartLemmas.{numbered_next, range-suc}
@@ -27,6 +28,7 @@ use Rattle.histar_login.proofs.MadeLabels.{made_constant, secret_made, both_made
 use Rattle.histar_login.proofs.AllowedCalls.{category_allowed, segment_allowed, gate_allowed, root_there}
 use Rattle.histar_login.proofs.Beginnings.{begun_at, begun_more, begun_after}
 use Rattle.histar_login.proofs.Parts.{one_category, one_object, boots_category, boots_shared}
+use Rattle.histar_programs.proofs.StartLengths.{length-numbered}
 
 -- parts with equal fields are equal
 pub boots_same : (first now : KernelModel) (p q : Part) → Boots first now p → p.calls ≡ q.calls → p.linked ≡ q.linked
@@ -197,17 +199,6 @@ module _ (accounts : Accounts) (i : ℕ) (user : User) (first k0 : KernelModel) 
         (append_assoc p.linked (next_number p ∷ []) (next_number p1 ∷ []) ∙ (λ j. p.linked ++ at j ∷ next j ∷ []))
         (append_assoc p.objects (Some password_object ∷ []) (Some o2 ∷ []))
         (omega arith)
-
--- each user has two objects
-pub length-numbered : (accounts : Accounts) (i : ℕ) (users : List User) → length (numbered (of_user accounts) i users) ≡ 2 * length users
-length-numbered accounts i [] = refl
-length-numbered accounts i (user ∷ users) =
-    omega (
-      arith,
-      length-append (of_user accounts i user) (numbered (of_user accounts) (i + 1) users),
-      length-numbered
-          accounts (i + 1) users,
-    )
 
 -- the objects of no user
 pub users_none : (accounts : Accounts) (k : KernelModel) (users : List User) → BootsOn k k (IsBefore 3) (users_part accounts (take 0 users))

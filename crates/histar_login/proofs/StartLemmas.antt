@@ -8,7 +8,7 @@ use Rattle.histar_flat.specs.Words.{Name}
 use Rattle.std.specs.Int.{w64, to_be_bytes}
 use Rattle.histar_layout.specs.Categories.{read_category, write_category}
 use Rattle.histar_layout.proofs.LabellingLemmas.{take_next}
-use Rattle.histar_login.specs.Start.{numbered, user_entry, user_entries, entry_of}
+use Rattle.histar_programs.specs.Start.{numbered, user_entry, user_entries, entry_of}
 
 -- a range with the next number
 pub range-suc : (a n : ℕ) → range_with_len a (suc n) ≡ range_with_len a n ++ (a + n) ∷ []

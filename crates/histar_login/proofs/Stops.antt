@@ -4,7 +4,7 @@ use Rattle.histar_flat.specs.Accounts.{Accounts, IsSmall}
 use Rattle.histar_object.specs.State.{empty_state}
 use Rattle.histar_rules.specs.declared.raw.RawCall.{RawCall}
 use Rattle.histar_syscall.specs.KernelModel.{KernelModel, state, IsUnchanged}
-use Rattle.histar_login.specs.Start.{numbered, declared}
+use Rattle.histar_programs.specs.Start.{numbered, declared}
 use Rattle.histar_login.specs.Boot.{boot_calls, category_calls, user_calls, directory_calls, process_calls, last_calls, last_call, HasBegunBoot}
 use Rattle.histar_login.specs.Booting.{and_then, nothing_yet, next_number, Boots, BootsOn, BeginsOn, BeginsUsers, BeginsDirectory, BeginsProcess}
 use Rattle.histar_login.specs.Booting.{MakesUsers, MakesDirectory, MakesProcess, HasBegun, HasRoom, Allows, IsUnderWay, IsAnywhere, IsBeforeUser}

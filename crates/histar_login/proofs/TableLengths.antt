@@ -6,7 +6,7 @@ use Rattle.histar_flat.specs.declared.calls.User.{User}
 use Rattle.histar_flat.specs.Accounts.{Group, has}
 use Rattle.histar_flat.specs.Words.{Name}
 use Rattle.histar_layout.specs.Categories.{read_category, write_category, group_owner}
-use Rattle.histar_login.specs.Start.{numbers_among, user_entry, group_entry}
+use Rattle.histar_programs.specs.Start.{numbers_among, user_entry, group_entry}
 
 -- a list that may begin with one number more has at most one more
 longer : (b : Bool) (i n : ℕ) (xs : List ℕ) → length xs ≤ n → length (if b then i ∷ xs else xs) ≤ n + 1

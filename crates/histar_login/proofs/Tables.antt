@@ -9,7 +9,7 @@ use Rattle.histar_object.specs.declared.objects.Object.{Object}
 use Rattle.histar_object.specs.Objects.{put, changed_at, linking}
 use Rattle.histar_rules.specs.Rights.{with_category, with_star_at}
 use Rattle.histar_object.specs.State.{Found, with_object}
-use Rattle.histar_login.specs.Start.{object_at, state_with}
+use Rattle.histar_programs.specs.Start.{object_at, state_with}
 
 -- a table with one of its entries changed, if it has an object
 abbrev pub changed : (Object Levels → Object Levels) → ℕ → List Found → List Found

@@ -12,12 +12,8 @@ use Rattle.histar_syscall.specs.KernelModel.{KernelModel, state}
 use Rattle.histar_syscall.specs.Runs.{Granted}
 use Rattle.histar_layout.specs.Categories.{read_category, write_category, owners_of}
 use Rattle.histar_layout.specs.Labelling.{written_by, secret_of, owner_of, cleared_of}
-use Rattle.histar_login.specs.Start.{numbered, root_category, declared, own_read_category, own_write_category, owners_label, owners_clearance}
-use Rattle.histar_login.specs.Start.{user_table, first_process_bytes}
-
--- the boot thread, which makes all raw calls of boot
-abbrev pub boot_thread_number : ℕ
-boot_thread_number = 2
+use Rattle.histar_programs.specs.Start.{boot_thread_number, numbered, root_category, declared, own_read_category, own_write_category, owners_label, owners_clearance}
+use Rattle.histar_programs.specs.Start.{user_table, first_process_bytes}
 
 -- this many pairs of categories are made
 abbrev pub category_calls : ℕ → List RawCall

@@ -19,9 +19,10 @@ use Rattle.histar_syscall.specs.Runs.{Granted}
 use Rattle.histar_layout.specs.Labelling.{written_by}
 use Rattle.histar_programs.specs.declared.roots.Home.{Home}
 use Rattle.histar_programs.specs.declared.roots.Place.{Place}
-use Rattle.histar_login.specs.Start.{numbered, root_category, declared, own_read_category, container, state_with, roots_of, of_user, of_users}
-use Rattle.histar_login.specs.Start.{of_directory, of_process}
-use Rattle.histar_login.specs.Boot.{boot_thread_number, category_calls, user_calls, directory_calls, process_calls}
+use Rattle.histar_programs.specs.Start.{numbered, root_category, declared, own_read_category, container, state_with, roots_of, of_user, of_users}
+use Rattle.histar_programs.specs.Start.{of_directory, of_process}
+use Rattle.histar_login.specs.Boot.{category_calls, user_calls, directory_calls, process_calls}
+use Rattle.histar_programs.specs.Start.{boot_thread_number}
 
 -- A part of boot: its raw calls, the numbers that the root container links by them, the objects that they make, and how many
 -- categories they make.

@@ -2,4 +2,3 @@
 pub mod Boot
 pub mod Booting
 pub mod Login
-pub mod Start

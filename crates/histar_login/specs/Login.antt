@@ -1,7 +1,6 @@
 -- Logging in: the program of a login, and the labels that it asks for.
-use Rattle.std.specs.Prelude.{◌≡◌, ℕ, ◌+◌, ◌*◌, Bool, true, false, List, [], ◌∷◌, Option, None, Some, position}
+use Rattle.std.specs.Prelude.{◌≡◌, ℕ, ◌+◌, Bool, true, false, List, Option, None, Some}
 use Rattle.std.specs.Str.{bytes_eq}
-use Rattle.histar_flat.specs.declared.calls.User.{User}
 use Rattle.histar_flat.specs.declared.replies.Errno.TheVariants.{ENOENT, EAUTH}
 use Rattle.histar_flat.specs.declared.replies.Reply.{Reply}
 use Rattle.histar_flat.specs.declared.replies.Reply.TheVariants.{Done, Refused}
@@ -13,38 +12,14 @@ use Rattle.histar_rules.specs.declared.raw.RawCall.{RawCall}
 use Rattle.histar_rules.specs.declared.raw.RawCall.TheVariants.{OwnLabel, SetLabel, SetClearance, Enter, Read}
 use Rattle.histar_rules.specs.Sound.{root_number}
 use Rattle.histar_layout.specs.Categories.{owners_of}
-use Rattle.histar_layout.specs.Labelling.{owner_label, cleared_at}
 use Rattle.histar_programs.specs.Laws.{RepliesToRefusals}
 use Rattle.histar_programs.specs.Programs.{Part, Program}
 use Rattle.histar_programs.specs.Programs.Program.{Answers}
 use Rattle.histar_programs.specs.Parts.{◌>>=◌, ◌>>◌, ask}
 use Rattle.histar_programs.specs.declared.caller.Caller.{Caller}
-use Rattle.histar_programs.specs.Kin.{categories_of}
-use Rattle.histar_login.specs.Start.{owners_label, owners_clearance}
+use Rattle.histar_programs.specs.Start.{owners_label, owners_clearance}
+use Rattle.histar_programs.specs.Users.{place_of, password_of, gate_of, user_label, user_clearance}
 use Rattle.histar_login.specs.declared.login.EntryLabels.{EntryLabels}
-
--- the place of the user with this name
-abbrev pub place_of : List User → Name → Option ℕ
-place_of users name = position (λ u. bytes_eq u.name name) users
-
--- the segment with the password of user i, and the user's gate, which boot made
-abbrev pub password_of : ℕ → ℕ
-password_of i = 1 + 2 * i
-
-abbrev pub gate_of : ℕ → ℕ
-gate_of i = 2 + 2 * i
-
--- the categories that a process owns as a user with the categories of these users and groups: its own two, and those
-abbrev pub owned_as_user : Caller → List ℕ → List ℕ
-owned_as_user caller owners = caller.read ∷ caller.write ∷ categories_of owners true
-
--- the label of the process's thread as that user: it owns these, and is in no job
-abbrev pub user_label : Caller → List ℕ → Levels
-user_label caller owners = owner_label (owned_as_user caller owners) []
-
--- the clearance of the process's thread as that user
-abbrev pub user_clearance : Caller → List ℕ → Levels
-user_clearance caller owners = cleared_at (owned_as_user caller owners)
 
 -- a thread that has this label and this clearance enters the gate of user i, which gives the categories of these users and groups: it
 -- wants all that it owns and all that the gate gives, and its verify label is its own label

@@ -6,14 +6,15 @@ ghost use Rattle.histar_rules.specs.declared.raw.RawCall.TheVariants as calls;
 ghost use Rattle.histar_syscall.specs.KernelModel.{state};
 ghost use Rattle.histar_layout.specs.Categories.{write_category};
 ghost use Rattle.histar_layout.specs.Labelling.{written_by};
-ghost use Rattle.histar_login.specs.Boot.{HasBegunBoot, IsBooted, boot_thread_number, gate_call, inner_call, last_call};
+ghost use Rattle.histar_login.specs.Boot.{HasBegunBoot, IsBooted, gate_call, inner_call, last_call};
+ghost use Rattle.histar_programs.specs.Start.{boot_thread_number};
 ghost use Rattle.histar_login.specs.Boot.{listing_call, outer_call, password_call, slash_call, status_call, table_call};
 ghost use Rattle.histar_login.specs.Boot.{thread_call};
 ghost use Rattle.histar_login.specs.Booting.{Allows, BeginsDirectory, BeginsOn, BeginsProcess, BeginsUser, BeginsUsers, BootsOn};
 ghost use Rattle.histar_login.specs.Booting.{Grants, HasRoom, IsAnywhere, IsBeforeDirectory, IsBeforeUser, IsFirstDirectory};
 ghost use Rattle.histar_login.specs.Booting.{IsFirstHome, IsNextCategory, IsUnderWay, IsUndenied, MakesDirectory, MakesObject};
 ghost use Rattle.histar_login.specs.Booting.{MakesProcess, MakesUser, MakesUsers, Passes, categories_part, two_categories};
-ghost use Rattle.histar_login.specs.Start.{first_process_bytes, start_state, roots_of};
+ghost use Rattle.histar_programs.specs.Start.{first_process_bytes, start_state, roots_of};
 
 use crate::gates::gate_labels;
 use crate::table::user_table;

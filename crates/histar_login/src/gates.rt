@@ -1,7 +1,7 @@
 //! What the gates of users give.
 ghost use Rattle.std.specs.Prelude.{◌≡◌, IfOk};
 ghost use Rattle.histar_layout.specs.Labelling.{labelled};
-ghost use Rattle.histar_login.specs.Start.{at_both, owners_label, owners_clearance};
+ghost use Rattle.histar_programs.specs.Start.{at_both, owners_label, owners_clearance};
 
 use histar_label::{Label, Level};
 use histar_layout::{read_category, write_category};

@@ -5,7 +5,8 @@ ghost use Rattle.histar_rules.specs.Sound.{root_number};
 ghost use Rattle.histar_programs.specs.Parts.{ask};
 ghost use Rattle.histar_programs.specs.Programs.{Runs, RunsPart};
 ghost use Rattle.histar_programs.specs.Refusals.{settled};
-ghost use Rattle.histar_login.specs.Login.{AreEntryLabels, user_label, user_clearance, gate_of, password_of, ask_password};
+ghost use Rattle.histar_login.specs.Login.{AreEntryLabels, ask_password};
+ghost use Rattle.histar_programs.specs.Users.{user_label, user_clearance, gate_of, password_of};
 ghost use Rattle.histar_login.specs.Login.{entering, label_if, clearance_if, take_due, reply_if, login_program, login_as_program};
 
 use crate::gates::gate_labels;

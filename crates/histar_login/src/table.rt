@@ -2,7 +2,7 @@
 //! objects.
 ghost use Rattle.std.specs.Prelude.{◌≡◌, ◌+◌, ◌<◌, ◌≤◌, ◌++◌, length, IfOk, OnOk};
 ghost use Rattle.histar_flat.specs.Accounts.{most_groups, most_users};
-ghost use Rattle.histar_login.specs.Start.{numbers_among, user_entry, group_entry, group_part, user_table};
+ghost use Rattle.histar_programs.specs.Start.{numbers_among, user_entry, group_entry, group_part, user_table};
 
 use histar_base::Bytes;
 use histar_flat::{Accounts, Group, User};

@@ -21,7 +21,7 @@ use Rattle.histar_layout.proofs.LabelLevels.{at_guarded, guarded_level}
 use Rattle.histar_layout.proofs.Members.{is_in}
 use Rattle.histar_programs.specs.declared.roots.Home.{Home as Where}
 use Rattle.histar_programs.specs.declared.roots.Roots.{Roots}
-use Rattle.histar_login.specs.Start.{roots_of, declared}
+use Rattle.histar_programs.specs.Start.{roots_of, declared}
 use Rattle.histar_programs.specs.Caller.{if_runs, is_zero, status_at}
 use Rattle.histar_refinement.specs.Addresses.{same_step, home_address}
 use Rattle.histar_refinement.specs.Addresses.Step.{Inside, Runner}

@@ -21,7 +21,7 @@ use Rattle.histar_layout.specs.declared.entry.Target.TheVariants as targets
 use Rattle.histar_layout.proofs.LookingUp.{found_in_directory}
 use Rattle.histar_programs.specs.declared.roots.Home.{Home as Where}
 use Rattle.histar_programs.specs.declared.roots.Roots.{Roots}
-use Rattle.histar_login.specs.Start.{roots_of}
+use Rattle.histar_programs.specs.Start.{roots_of}
 use Rattle.histar_programs.specs.Caller.{home_at}
 use Rattle.histar_refinement.specs.Addresses.{address_of, home_address, table_number, first_left}
 use Rattle.histar_refinement.specs.Addresses.Step.{Left, Slash, Listing, Inside, Runner}

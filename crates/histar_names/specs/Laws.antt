@@ -6,7 +6,7 @@ use Rattle.histar_flat.specs.Classes.{Process}
 use Rattle.histar_flat.specs.FlatState.{Flat}
 use Rattle.histar_object.specs.State.{State}
 use Rattle.histar_layout.specs.UserTable.{without_passwords}
-use Rattle.histar_login.specs.Start.{roots_of}
+use Rattle.histar_programs.specs.Start.{roots_of}
 use Rattle.histar_refinement.specs.Addresses.{home_address, table_number}
 use Rattle.histar_refinement.specs.Addresses.Step.{Left, Status, Inside, Runner}
 use Rattle.histar_refinement.specs.Categories.{CategoryName, CategoryName as names, IsUsed}

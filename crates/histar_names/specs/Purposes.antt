@@ -9,7 +9,7 @@ use Rattle.histar_object.specs.Objects.{label_there}
 use Rattle.histar_object.specs.State.{State}
 use Rattle.histar_layout.specs.Jobs.{is_three}
 use Rattle.histar_layout.specs.Reading.{◌>>=◌}
-use Rattle.histar_login.specs.Start.{declared}
+use Rattle.histar_programs.specs.Start.{declared}
 use Rattle.histar_programs.specs.Caller.{home_at, if_runs, is_zero, status_at}
 use Rattle.histar_programs.specs.Kin.{user_name}
 use Rattle.histar_programs.specs.declared.roots.Home.{Home}

@@ -3,7 +3,7 @@ ghost use Rattle.std.specs.Prelude.{◌≡◌, ◌+◌, ◌≤◌, length};
 ghost use Rattle.std.specs.Option.{option_copied};
 ghost use Rattle.histar_flat.specs.Words.{most_numbers};
 ghost use Rattle.histar_flat.specs.Accounts.{most_groups, most_users};
-ghost use Rattle.histar_login.specs.Start.{declared};
+ghost use Rattle.histar_programs.specs.Start.{declared};
 ghost use Rattle.histar_syscall.specs.KernelModel.{state};
 ghost use Rattle.histar_names.specs.Purposes.{boot_purpose, has_three, has_zero, inner_label, job_by, outer_label};
 ghost use Rattle.histar_names.specs.Purposes.{pair_purpose, purpose_born, purpose_by, purpose_of, purpose_up};

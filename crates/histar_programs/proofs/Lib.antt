@@ -7,3 +7,4 @@ pub mod Scanning
 pub mod DenialReplies
 pub mod RepliesOfParts
 pub mod Making
+pub mod StartLengths

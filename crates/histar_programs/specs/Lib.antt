@@ -6,3 +6,5 @@ pub mod Parts
 pub mod Laws
 pub mod Caller
 pub mod Kin
+pub mod Start
+pub mod Users

@@ -16,7 +16,7 @@ use Rattle.histar_layout.specs.Jobs.{jobs_in}
 use Rattle.histar_programs.specs.declared.roots.Home.{Home as Where}
 use Rattle.histar_programs.specs.Caller.{caller_by, caller_in}
 use Rattle.histar_programs.specs.declared.caller.Caller.{Caller}
-use Rattle.histar_login.specs.Start.{roots_of}
+use Rattle.histar_programs.specs.Start.{roots_of}
 use Rattle.histar_refinement.specs.Addresses.Step.{Home, Status}
 use Rattle.histar_refinement.specs.Guards.{guard_label, rights_label}
 use Rattle.histar_refinement.specs.Labels.{process_guard, thread_rights}

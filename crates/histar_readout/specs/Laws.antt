@@ -8,7 +8,7 @@ use Rattle.histar_object.specs.State.{State}
 use Rattle.histar_layout.specs.Listing.{is_directory}
 use Rattle.histar_layout.specs.declared.entry.Target.{Target}
 use Rattle.histar_programs.specs.declared.roots.Roots.{Roots}
-use Rattle.histar_login.specs.Start.{roots_of}
+use Rattle.histar_programs.specs.Start.{roots_of}
 use Rattle.histar_refinement.specs.Categories.{Categories}
 use Rattle.histar_refinement.specs.Represents.{Represents}
 use Rattle.histar_readout.specs.declared.tree.TreeNode.{TreeNode}

@@ -27,7 +27,7 @@ use Rattle.histar_refinement.specs.Directories.{directory_of}
 use Rattle.histar_refinement.specs.Agrees.{kind_bare, bare}
 use Rattle.histar_refinement.proofs.Expected.{bare_container, content_kind, guarded_object, node_object, listing_object, home_object, thread_object}
 use Rattle.histar_refinement.proofs.Expected.{expected}
-use Rattle.histar_login.specs.Start.{segment}
+use Rattle.histar_programs.specs.Start.{segment}
 use Rattle.histar_refinement.specs.Represents.{ObjectsMatch}
 use Rattle.histar_refinement.proofs.Steps.{step_tests_equality}
 use Rattle.histar_refinement.proofs.Moving.{bare_is, at_number}

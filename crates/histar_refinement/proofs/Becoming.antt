@@ -18,7 +18,7 @@ use Rattle.histar_container.specs.Tree.{Address, set_at}
 use Rattle.histar_container.proofs.Addresses.{same_tests_equality}
 use Rattle.histar_container.proofs.TableMoves.{put_here, put_other, changed_here, changed_other}
 use Rattle.histar_rules.specs.Rules.{greatest}
-use Rattle.histar_login.specs.Boot.{boot_thread_number}
+use Rattle.histar_programs.specs.Start.{boot_thread_number}
 use Rattle.histar_flat.specs.Accounts.{Accounts, has, user_number}
 use Rattle.histar_flat.specs.Classes.{Process, nobody, knows}
 use Rattle.histar_flat.specs.FlatState.{Flat, with_process, was_given, is_given}
@@ -32,7 +32,7 @@ use Rattle.histar_refinement.specs.Addresses.Step.{Inside, Runner}
 use Rattle.histar_refinement.specs.Processes.{process_bytes}
 use Rattle.histar_refinement.specs.Agrees.{kind_bare, bare}
 use Rattle.histar_refinement.proofs.Expected.{home_object, status_object, inside_object, thread_object, bytes_for, expected_status, expected}
-use Rattle.histar_login.specs.Start.{segment}
+use Rattle.histar_programs.specs.Start.{segment}
 use Rattle.histar_refinement.specs.Represents.{AreInOrder, IsProcess, ObjectsMatch}
 use Rattle.histar_refinement.proofs.ProcessBytes.{alike_bytes}
 use Rattle.histar_refinement.proofs.Roots.{AsksAlike, asked_alike, asked_runner}

@@ -17,7 +17,7 @@ use Rattle.histar_object.specs.State.{State}
 use Rattle.histar_layout.specs.Categories.{read_category, write_category, group_owner, owner_of_group, owners_of, owns, IsUserOf}
 use Rattle.histar_layout.specs.Labelling.{written_by, secret_of, guarded_by, owner_label, cleared_at}
 use Rattle.histar_programs.specs.declared.caller.Caller.{Caller}
-use Rattle.histar_login.specs.Login.{place_of, owned_as_user, user_label, user_clearance}
+use Rattle.histar_programs.specs.Users.{place_of, owned_as_user, user_label, user_clearance}
 use Rattle.histar_refinement.specs.Categories.CategoryName.{ReadsUser, WritesUser, ReadsProcess, WritesProcess, OfJob}
 use Rattle.histar_refinement.specs.Categories.{CategoryName, among}
 use Rattle.histar_refinement.specs.Processes.{or_zero}

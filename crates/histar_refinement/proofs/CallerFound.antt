@@ -21,7 +21,7 @@ use Rattle.histar_layout.proofs.Statuses.{status_again}
 use Rattle.histar_programs.specs.declared.roots.Home.{Home as Where}
 use Rattle.histar_programs.specs.declared.caller.Caller.{Caller}
 use Rattle.histar_programs.specs.Caller.{status_at, home_at, if_runs, caller_by, caller_at, write_category_in, read_category_in}
-use Rattle.histar_login.specs.Start.{roots_of}
+use Rattle.histar_programs.specs.Start.{roots_of}
 use Rattle.histar_refinement.specs.Categories.CategoryName.{ReadsProcess, WritesProcess}
 use Rattle.histar_refinement.specs.Guards.{guard_label}
 use Rattle.histar_refinement.specs.Labels.{process_guard, inside_guard}

@@ -17,7 +17,7 @@ use Rattle.histar_container.proofs.Addresses.{same_itself, same_other, longer}
 use Rattle.histar_container.proofs.Links.{none_linked}
 use Rattle.histar_container.proofs.TableMoves.{new_none}
 use Rattle.histar_rules.specs.Rules.{greatest}
-use Rattle.histar_login.specs.Boot.{boot_thread_number}
+use Rattle.histar_programs.specs.Start.{boot_thread_number}
 use Rattle.histar_flat.specs.Accounts.{Accounts}
 use Rattle.histar_flat.specs.Classes.{Class}
 use Rattle.histar_flat.specs.FlatState.{Node, Flat, is_dir_at, is_some_and, is_dir, entries_in, with_node}
@@ -31,7 +31,7 @@ use Rattle.histar_refinement.specs.Addresses.Step.{Listing, Named}
 use Rattle.histar_refinement.specs.Directories.{both_numbers, directory_of}
 use Rattle.histar_refinement.proofs.AgreesAt.{AgreesAt}
 use Rattle.histar_refinement.proofs.Expected.{bare_container, guarded_object, node_object, listing_object, expected}
-use Rattle.histar_login.specs.Start.{segment}
+use Rattle.histar_programs.specs.Start.{segment}
 use Rattle.histar_refinement.specs.Represents.{ObjectsMatch}
 use Rattle.histar_refinement.proofs.Steps.{step_tests_equality}
 use Rattle.histar_refinement.proofs.Moving.{number_below, agrees_added, number_new, number_old}

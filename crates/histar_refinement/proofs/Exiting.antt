@@ -17,7 +17,7 @@ use Rattle.histar_container.specs.Tree.{Address, Naming, wanted, without_below, 
 use Rattle.histar_container.proofs.Addresses.{same_tests_equality, same_itself, same_other}
 use Rattle.histar_container.proofs.Trees.{kind_held_links}
 use Rattle.histar_rules.specs.Rules.{greatest}
-use Rattle.histar_login.specs.Boot.{boot_thread_number}
+use Rattle.histar_programs.specs.Start.{boot_thread_number}
 use Rattle.histar_flat.specs.Accounts.{Accounts}
 use Rattle.histar_flat.specs.Classes.{Process, knows}
 use Rattle.histar_flat.specs.FlatState.{Flat, with_process, was_given, is_given}
@@ -35,7 +35,7 @@ use Rattle.histar_refinement.specs.Processes.{or_zero, children, listed_by, proc
 use Rattle.histar_refinement.proofs.AgreesAt.{AgreesAt}
 use Rattle.histar_refinement.proofs.Expected.{listing_object, home_object, status_object, inside_object, thread_object, expected_node, listing_at}
 use Rattle.histar_refinement.proofs.Expected.{expected_home, bytes_for, expected_status, container_inside, thread_at, expected}
-use Rattle.histar_login.specs.Start.{segment}
+use Rattle.histar_programs.specs.Start.{segment}
 use Rattle.histar_refinement.specs.Represents.{IsProcess, AreJobsGiven, ObjectsMatch, Represents}
 use Rattle.histar_refinement.proofs.ProcessBytes.{alike_bytes}
 use Rattle.histar_refinement.proofs.Roots.{address_path, address_process, address_inside, same_home, same_directory, AsksAlike, asked_alike}

@@ -11,7 +11,7 @@ use Rattle.histar_label.specs.declared.levels.Level.TheVariants.{Star, L1, L2, L
 use Rattle.histar_layout.specs.Categories.{read_category, write_category, group_owner, owners_of}
 use Rattle.histar_layout.specs.Labelling.{labelled, each_at, owner_label, cleared_at}
 use Rattle.histar_programs.specs.Kin.{categories_of}
-use Rattle.histar_login.specs.Start.{at_both, gate_label, gate_clearance}
+use Rattle.histar_programs.specs.Start.{at_both, gate_label, gate_clearance}
 use Rattle.histar_refinement.specs.Categories.{CategoryName, Categories, boot_category}
 use Rattle.histar_refinement.specs.Categories.CategoryName.{ReadsUser, WritesUser, ReadsGroup, WritesGroup}
 use Rattle.histar_refinement.specs.Guards.{rights_label, rights_clearance}

@@ -18,7 +18,7 @@ use Rattle.histar_container.specs.Tree.{Address, Naming, wanted, without_below, 
 use Rattle.histar_container.proofs.Addresses.{same_tests_equality, same_itself, same_other, above}
 use Rattle.histar_container.proofs.Trees.{kind_held_links}
 use Rattle.histar_rules.specs.Rules.{greatest}
-use Rattle.histar_login.specs.Boot.{boot_thread_number}
+use Rattle.histar_programs.specs.Start.{boot_thread_number}
 use Rattle.histar_flat.specs.Accounts.{Accounts}
 use Rattle.histar_flat.specs.Classes.{Process}
 use Rattle.histar_flat.specs.PathOrder.{under_process}
@@ -35,7 +35,7 @@ use Rattle.histar_refinement.specs.Processes.{process_bytes}
 use Rattle.histar_refinement.proofs.AgreesAt.{AgreesAt}
 use Rattle.histar_refinement.proofs.Expected.{listing_object, home_object, status_object, inside_object, thread_object, expected_node, listing_at}
 use Rattle.histar_refinement.proofs.Expected.{expected_home, bytes_for, expected_status, container_inside, thread_at, expected}
-use Rattle.histar_login.specs.Start.{segment}
+use Rattle.histar_programs.specs.Start.{segment}
 use Rattle.histar_refinement.specs.Represents.{AreJobsGiven, ObjectsMatch, Represents}
 use Rattle.histar_refinement.proofs.ProcessBytes.{alike_bytes}
 use Rattle.histar_layout.proofs.Members.{first_of, second_of}

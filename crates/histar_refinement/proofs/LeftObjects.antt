@@ -22,8 +22,8 @@ use Rattle.histar_object.specs.State.{State, Found}
 use Rattle.histar_rules.specs.Sound.{root_number}
 use Rattle.histar_layout.specs.Categories.{read_category, write_category}
 use Rattle.histar_layout.specs.Labelling.{guarded_by, secret_of}
-use Rattle.histar_login.specs.Start.{numbered, gate_label, gate_clearance, of_user}
-use Rattle.histar_login.specs.Login.{password_of, gate_of}
+use Rattle.histar_programs.specs.Start.{numbered, gate_label, gate_clearance, of_user}
+use Rattle.histar_programs.specs.Users.{password_of, gate_of}
 use Rattle.histar_refinement.specs.Categories.{CategoryName, boot_category, booted, among}
 use Rattle.histar_refinement.specs.Categories.CategoryName.{OfBoot, ReadsUser, WritesUser, ReadsGroup, WritesGroup}
 use Rattle.histar_refinement.specs.Guards.{guard_label, rights_label, rights_clearance}

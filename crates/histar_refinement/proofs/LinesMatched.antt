@@ -25,7 +25,7 @@ use Rattle.histar_refinement.specs.Addresses.Step.{Slash, Listing, Named}
 use Rattle.histar_refinement.specs.Agrees.{bare}
 use Rattle.histar_refinement.specs.Directories.{both_numbers, target_for, directory_of}
 use Rattle.histar_refinement.proofs.Expected.{guarded_object, listing_object}
-use Rattle.histar_login.specs.Start.{segment}
+use Rattle.histar_programs.specs.Start.{segment}
 use Rattle.histar_refinement.specs.Represents.{ObjectsMatch}
 use Rattle.histar_refinement.specs.Lines.{IsDirectoryAt}
 use Rattle.histar_refinement.proofs.Roots.{asked_listing}

@@ -23,7 +23,7 @@ use Rattle.histar_container.specs.Tree.{Address, Naming, set_at, same_steps}
 use Rattle.histar_container.proofs.Addresses.{same_tests_equality}
 use Rattle.histar_container.proofs.Trees.{kind_held_links}
 use Rattle.histar_rules.specs.Rules.{greatest}
-use Rattle.histar_login.specs.Boot.{boot_thread_number}
+use Rattle.histar_programs.specs.Start.{boot_thread_number}
 use Rattle.histar_flat.specs.Accounts.{Accounts, has}
 use Rattle.histar_flat.specs.Classes.{Class, Process}
 use Rattle.histar_flat.specs.Classes.Class.{Private, Readable, Open, Scratch, Grouped}
@@ -42,7 +42,7 @@ use Rattle.histar_refinement.specs.Directories.{both_numbers, target_for, direct
 use Rattle.histar_refinement.proofs.AgreesAt.{AgreesAt}
 use Rattle.histar_refinement.proofs.Expected.{guarded_object, content_kind, node_object, listing_object, status_object, bytes_for, expected_status}
 use Rattle.histar_refinement.proofs.Expected.{expected}
-use Rattle.histar_login.specs.Start.{segment}
+use Rattle.histar_programs.specs.Start.{segment}
 use Rattle.histar_refinement.specs.Represents.{IsInOrder, AreJobsGiven, ObjectsMatch}
 use Rattle.histar_refinement.proofs.ProcessBytes.{alike_status}
 use Rattle.histar_refinement.proofs.Roots.{path_address, AsksAlikeAt, asked_alike_at, asked_path, asked_listing}

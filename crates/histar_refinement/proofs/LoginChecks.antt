@@ -26,7 +26,7 @@ use Rattle.histar_rules.specs.declared.raw.Denied.TheVariants as denials
 use Rattle.histar_rules.specs.declared.raw.RawCall.TheVariants.{Enter, Read, SetLabel, SetClearance}
 use Rattle.histar_rules.specs.Rules.{no_link, known, check}
 use Rattle.histar_rules.specs.Sound.{root_number}
-use Rattle.histar_login.specs.Login.{password_of, gate_of}
+use Rattle.histar_programs.specs.Users.{password_of, gate_of}
 use Rattle.histar_layout.specs.Labelling.{cleared_at}
 use Rattle.histar_refinement.specs.Categories.{CategoryName, IsUsed, booted, among}
 use Rattle.histar_refinement.specs.Categories.CategoryName.{ReadsUser, WritesUser, ReadsGroup, WritesGroup, ReadsProcess, WritesProcess, OfJob}

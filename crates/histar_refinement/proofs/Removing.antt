@@ -21,7 +21,7 @@ use Rattle.histar_container.specs.ObjectsModel.{CutsOff}
 use Rattle.histar_container.specs.Tree.{Address, Naming, wanted, without_below, under, is_under, cut, same_steps, objects_at}
 use Rattle.histar_container.proofs.Addresses.{same_tests_equality, same_itself, same_other, above}
 use Rattle.histar_rules.specs.Rules.{greatest}
-use Rattle.histar_login.specs.Boot.{boot_thread_number}
+use Rattle.histar_programs.specs.Start.{boot_thread_number}
 use Rattle.histar_flat.specs.Accounts.{Accounts}
 use Rattle.histar_flat.specs.FlatState.{Node, Flat, is_dir, is_dir_at, is_some_and, without_below as without_below_path}
 use Rattle.histar_flat.specs.PathOrder.{under_path}

@@ -25,8 +25,8 @@ use Rattle.histar_container.specs.Tree.{Address, objects_at}
 use Rattle.histar_container.proofs.Addresses.{same_tests_equality}
 use Rattle.histar_layout.specs.Categories.{write_category}
 use Rattle.histar_layout.specs.Labelling.{written_by, guarded_by, owner_label, cleared_at}
-use Rattle.histar_login.specs.Start.{numbered, declared, of_user, of_users, of_directory, of_process, user_table, start_objects, start_state}
-use Rattle.histar_login.specs.Start.{object_at, first_process_bytes, own_read_category, own_write_category, segment}
+use Rattle.histar_programs.specs.Start.{numbered, declared, of_user, of_users, of_directory, of_process, user_table, start_objects, start_state}
+use Rattle.histar_programs.specs.Start.{object_at, first_process_bytes, own_read_category, own_write_category, segment}
 use Rattle.histar_flat.specs.Accounts.{Accounts, user_number}
 use Rattle.histar_flat.specs.Classes.{Process, nobody, knows}
 use Rattle.histar_flat.specs.Classes.Class.{Readable}

@@ -14,7 +14,7 @@ use Rattle.histar_object.specs.Objects.{Objects, is_present, links_in}
 use Rattle.histar_object.specs.State.{Found}
 use Rattle.histar_container.specs.Tree.{Address, Naming, wanted, same_steps, is_one_below, MatchesNaming, objects_at}
 use Rattle.histar_container.proofs.Addresses.{same_itself, same_other}
-use Rattle.histar_login.specs.Start.{start_objects, start_state, object_at}
+use Rattle.histar_programs.specs.Start.{start_objects, start_state, object_at}
 use Rattle.histar_refinement.specs.Addresses.{Step, same_step}
 use Rattle.histar_refinement.proofs.StartNumbers.{process_address, inside_address, start_number}
 use Rattle.histar_refinement.specs.Addresses.Step.{Left, Slash, Listing, Status, Runner}

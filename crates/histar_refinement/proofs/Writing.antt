@@ -13,7 +13,7 @@ use Rattle.histar_object.specs.State.{State, Found, with_segment_bytes}
 use Rattle.histar_container.specs.Tree.{Address, set_at}
 use Rattle.histar_container.proofs.Addresses.{same_tests_equality}
 use Rattle.histar_container.proofs.Trees.{kind_held_links}
-use Rattle.histar_login.specs.Boot.{boot_thread_number}
+use Rattle.histar_programs.specs.Start.{boot_thread_number}
 use Rattle.histar_flat.specs.Accounts.{Accounts}
 use Rattle.histar_flat.specs.Classes.{Class}
 use Rattle.histar_flat.specs.FlatState.{Node, Flat, is_some_and, is_dir, is_dir_at, class_of, with_node, with_bytes as with_file_bytes}

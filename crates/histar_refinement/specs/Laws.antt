@@ -15,7 +15,7 @@ use Rattle.histar_rules.specs.Rules.{greatest}
 use Rattle.histar_rules.specs.Sound.{root_number}
 use Rattle.histar_programs.specs.declared.caller.Caller.{Caller}
 use Rattle.histar_programs.specs.Caller.{caller_at}
-use Rattle.histar_login.specs.Start.{roots_of, start_state}
+use Rattle.histar_programs.specs.Start.{roots_of, start_state}
 use Rattle.histar_refinement.specs.Accounts.{AreAccounts}
 use Rattle.histar_refinement.specs.Categories.{CategoryName}
 use Rattle.histar_refinement.specs.Categories.CategoryName.{ReadsProcess, WritesProcess}

@@ -2,7 +2,7 @@
 use Rattle.std.specs.Prelude.{ℕ, [], ◌∷◌, ◌++◌, None}
 use Rattle.histar_flat.specs.Accounts.{Accounts}
 use Rattle.histar_object.specs.State.{Found}
-use Rattle.histar_login.specs.Start.{of_users, table_segment, object_at}
+use Rattle.histar_programs.specs.Start.{of_users, table_segment, object_at}
 
 -- what boot left under a number, from the object 3 on
 abbrev pub left_by_boot : Accounts → ℕ → Found

@@ -11,7 +11,7 @@ use Rattle.histar_container.specs.Tree.{Address, Naming}
 use Rattle.histar_rules.specs.Rules.{greatest}
 use Rattle.histar_layout.specs.ClassLabels.{IsRisingFrom}
 use Rattle.histar_layout.specs.Directory.{IsListable}
-use Rattle.histar_login.specs.Boot.{boot_thread_number}
+use Rattle.histar_programs.specs.Start.{boot_thread_number}
 use Rattle.histar_refinement.specs.Categories.{CategoryName, Categories, AreDifferent, IsMade, boot_category, IsKnown, IsServed, IsUsed}
 use Rattle.histar_refinement.specs.Labels.{class_guard}
 use Rattle.histar_refinement.specs.NumberedClasses.{job_numbers}

@@ -5,7 +5,7 @@ use Rattle.histar_flat.specs.declared.calls.UnixCall.TheVariants.{Create, Mkdir,
 use Rattle.histar_flat.specs.declared.calls.UnixCall.TheVariants.{Rename, Spawn, Exit, Status, Kill, Whoami, Login, Wrap}
 use Rattle.histar_flat.specs.Calls.{IsCall}
 use Rattle.histar_flat.specs.Accounts.{Accounts}
-use Rattle.histar_login.specs.Start.{roots_of}
+use Rattle.histar_programs.specs.Start.{roots_of}
 use Rattle.histar_refinement.specs.Accounts.{AreAccounts}
 use Rattle.histar_sim.specs.Refines.{CallerRefines}
 use Rattle.histar_sim.proofs.Read.{read_refines}

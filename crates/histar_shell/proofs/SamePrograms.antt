@@ -26,7 +26,8 @@ use Rattle.histar_process.specs.Birth.{birth}
 use Rattle.histar_programs.specs.Kin.{Kin}
 use Rattle.histar_process.specs.SpawnCall.{room_for_child, spawn_program}
 use Rattle.histar_process.specs.Whoami.{whoami_program}
-use Rattle.histar_login.specs.Login.{login_as_program, login_at, login_program, place_of}
+use Rattle.histar_login.specs.Login.{login_as_program, login_at, login_program}
+use Rattle.histar_programs.specs.Users.{place_of}
 use Rattle.histar_wrap.specs.Scratch.{hold_job, make_scratch}
 use Rattle.histar_wrap.specs.WrapCall.{wrap_program}
 use Rattle.histar_shell.specs.Machine.{program_of}

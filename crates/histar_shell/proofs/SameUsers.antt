@@ -28,7 +28,7 @@ use Rattle.histar_layout.specs.ShownClass.{class_at, class_from, class_shown, is
 use Rattle.histar_layout.specs.UserTable.{without_password, without_passwords}
 use Rattle.histar_programs.specs.Kin.{categories_of, kin_of, owned_by, user_name}
 use Rattle.histar_wrap.specs.Scratch.{directory_label, jobs_with, kin_in}
-use Rattle.histar_login.specs.Login.{place_of}
+use Rattle.histar_programs.specs.Users.{place_of}
 use Rattle.histar_readout.specs.declared.tree.TreeNode.{TreeNode}
 use Rattle.histar_readout.specs.Tree.{Listed, AreListed, IsBelow, IsNodeAt, IsTreeAt, IsTreeOf, levels_at}
 

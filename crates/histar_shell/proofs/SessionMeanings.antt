@@ -19,7 +19,8 @@ use Rattle.histar_script.specs.Reading.{script_of}
 use Rattle.histar_syscall.specs.declared.trace.TraceEntry.{TraceEntry}
 use Rattle.histar_syscall.specs.KernelModel.{KernelModel, state}
 use Rattle.histar_syscall.specs.Runs.{IsBy, IsRun}
-use Rattle.histar_login.specs.Boot.{boot_thread_number, boot_calls, IsBooted}
+use Rattle.histar_login.specs.Boot.{boot_calls, IsBooted}
+use Rattle.histar_programs.specs.Start.{boot_thread_number}
 use Rattle.histar_refinement.specs.Represents.{Represents}
 use Rattle.histar_shell.proofs.CallRefinements.{CallsRefine}
 use Rattle.histar_sim.specs.Simulation.{SimulatesLines}

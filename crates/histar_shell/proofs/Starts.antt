@@ -5,7 +5,7 @@ use Rattle.histar_flat.specs.Meaning.{boot}
 use Rattle.histar_object.specs.State.{State}
 use Rattle.histar_script.specs.Script.{IsDeclared}
 use Rattle.histar_rules.specs.Rules.{greatest}
-use Rattle.histar_login.specs.Start.{start_state}
+use Rattle.histar_programs.specs.Start.{start_state}
 use Rattle.histar_refinement.specs.Represents.{Represents}
 use Rattle.histar_refinement.proofs.Start.{start_represents}
 use Rattle.histar_refinement.proofs.StartTable.{length_start}

@@ -37,7 +37,7 @@ use Rattle.histar_process.specs.ExitCall.{exit_program}
 use Rattle.histar_process.specs.StatusCall.{status_program}
 use Rattle.histar_process.specs.KillCall.{kill_program}
 use Rattle.histar_process.specs.Whoami.{whoami_program}
-use Rattle.histar_login.specs.Start.{roots_of, start_state}
+use Rattle.histar_programs.specs.Start.{roots_of, start_state}
 use Rattle.histar_programs.specs.declared.call_error.Stopped.{Stopped}
 use Rattle.histar_shell.specs.declared.calls.CallKind.{CallKind}
 use Rattle.histar_shell.specs.declared.calls.CallKind.TheVariants.{Entries, Processes, Reading, Writing}

@@ -19,8 +19,8 @@ use Rattle.histar_syscall.specs.KernelModel.{state}
 use Rattle.histar_syscall.specs.Runs.{IsBy, IsRun}
 use Rattle.histar_programs.specs.declared.call_error.Stopped.{Stopped}
 use Rattle.histar_layout.specs.UserTable.{without_passwords}
-use Rattle.histar_login.specs.Boot.{boot_thread_number}
-use Rattle.histar_login.specs.Start.{roots_of}
+use Rattle.histar_programs.specs.Start.{boot_thread_number}
+use Rattle.histar_programs.specs.Start.{roots_of}
 use Rattle.histar_refinement.specs.Represents.{Represents}
 use Rattle.histar_refinement.specs.Lines.{IsThreadOf}
 use Rattle.histar_sim.specs.Simulation.{SimulatesLine, SimulatesLines, IsFirstFree, AreFilesSmall, IsBrokenOff}

@@ -32,7 +32,7 @@ use Rattle.histar_programs.specs.declared.caller.Caller.{Caller}
 use Rattle.histar_programs.specs.Caller.{status_at, caller_at}
 use Rattle.histar_process.specs.Parts.{read_status}
 use Rattle.histar_process.specs.SpawnCall.{must_have_room, room_for_child}
-use Rattle.histar_login.specs.Start.{roots_of}
+use Rattle.histar_programs.specs.Start.{roots_of}
 use Rattle.histar_refinement.specs.Guards.{guard_label, rights_label, rights_clearance}
 use Rattle.histar_refinement.specs.Labels.{process_guard, thread_rights}
 use Rattle.histar_refinement.specs.Addresses.{home_address}

@@ -27,7 +27,7 @@ use Rattle.histar_programs.specs.Programs.{Program, Runs}
 use Rattle.histar_programs.specs.Parts.{entry_at, given}
 use Rattle.histar_moves.specs.declared.entry.FoundEntry.{FoundEntry}
 use Rattle.histar_moves.specs.Parts.{find_entry}
-use Rattle.histar_login.specs.Start.{roots_of}
+use Rattle.histar_programs.specs.Start.{roots_of}
 use Rattle.histar_refinement.specs.Accounts.{AreAccounts}
 use Rattle.histar_refinement.specs.Addresses.{address_of}
 use Rattle.histar_refinement.specs.Directories.{directory_of}

@@ -35,7 +35,7 @@ use Rattle.histar_programs.specs.Programs.{Program, Runs}
 use Rattle.histar_programs.specs.Programs.Program.{Answers}
 use Rattle.histar_programs.specs.Parts.{find_file, file_at, given, ask}
 use Rattle.histar_programs.specs.Refusals.{write_errno_of}
-use Rattle.histar_login.specs.Start.{roots_of}
+use Rattle.histar_programs.specs.Start.{roots_of}
 use Rattle.histar_refinement.specs.Accounts.{AreAccounts}
 use Rattle.histar_refinement.specs.Addresses.{address_of}
 use Rattle.histar_refinement.specs.Directories.{directory_of}

@@ -18,7 +18,7 @@ use Rattle.histar_object.specs.State.{State, Found}
 use Rattle.histar_rules.specs.declared.raw.Denied.TheVariants.{Observe, Modify}
 use Rattle.histar_rules.specs.declared.raw.RawCall.TheVariants.{Read, Unlink}
 use Rattle.histar_rules.specs.Rules.{check}
-use Rattle.histar_login.specs.Start.{roots_of}
+use Rattle.histar_programs.specs.Start.{roots_of}
 use Rattle.histar_refinement.specs.Guards.{guard_label, rights_label, rights_clearance}
 use Rattle.histar_refinement.specs.Labels.{process_guard, thread_rights}
 use Rattle.histar_refinement.specs.Addresses.{Step, same_step, home_address, home_number, status_number}

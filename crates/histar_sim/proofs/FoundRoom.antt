@@ -30,7 +30,7 @@ use Rattle.histar_programs.specs.Programs.Program.{Answers}
 use Rattle.histar_programs.specs.Parts.{find_room, room_at, given}
 use Rattle.histar_programs.specs.declared.find.Room.{Room}
 use Rattle.histar_programs.specs.Replies.{is_access, is_permission}
-use Rattle.histar_login.specs.Start.{roots_of}
+use Rattle.histar_programs.specs.Start.{roots_of}
 use Rattle.histar_refinement.specs.Accounts.{AreAccounts}
 use Rattle.histar_refinement.proofs.Making.{count_entries}
 use Rattle.histar_sim.specs.Simulation.{IsReady}

@@ -43,7 +43,7 @@ use Rattle.histar_programs.specs.declared.caller.Caller.{Caller}
 use Rattle.histar_process.specs.Birth.{birth}
 use Rattle.histar_programs.specs.Caller.{caller_at}
 use Rattle.histar_programs.specs.Kin.{Kin}
-use Rattle.histar_login.specs.Start.{roots_of}
+use Rattle.histar_programs.specs.Start.{roots_of}
 use Rattle.histar_refinement.specs.Accounts.{AreAccounts}
 use Rattle.histar_refinement.specs.Categories.{naming_next, IsServed, IsUsed}
 use Rattle.histar_refinement.specs.Categories.CategoryName.{OfJob}

@@ -39,7 +39,7 @@ use Rattle.histar_programs.specs.Programs.Program.{Answers}
 use Rattle.histar_programs.specs.Parts.{ask, given}
 use Rattle.histar_process.specs.KillCall.{kill_program}
 use Rattle.histar_process.specs.Parts.{find_home, home_of as child_home, must_be_there, read_status}
-use Rattle.histar_login.specs.Start.{roots_of}
+use Rattle.histar_programs.specs.Start.{roots_of}
 use Rattle.histar_refinement.specs.Accounts.{AreAccounts}
 use Rattle.histar_refinement.specs.Addresses.{same_step, home_address, home_number}
 use Rattle.histar_refinement.specs.Addresses.Step.{Home, Child}

@@ -17,7 +17,7 @@ use Rattle.histar_programs.specs.declared.call_error.Stopped.{Stopped}
 use Rattle.histar_programs.specs.Programs.{Runs}
 use Rattle.histar_programs.specs.Programs.Program.{Answers}
 use Rattle.histar_calls.specs.ListCall.{list_program}
-use Rattle.histar_login.specs.Start.{roots_of}
+use Rattle.histar_programs.specs.Start.{roots_of}
 use Rattle.histar_refinement.specs.Accounts.{AreAccounts}
 use Rattle.histar_refinement.specs.Directories.{directory_of}
 use Rattle.histar_refinement.specs.Represents.{Represents}

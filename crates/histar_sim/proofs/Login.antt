@@ -37,8 +37,9 @@ use Rattle.histar_programs.specs.Programs.Program.{Answers}
 use Rattle.histar_programs.specs.Parts.{◌>>=◌, ◌>>◌, ask}
 use Rattle.histar_programs.specs.declared.caller.Caller.{Caller}
 use Rattle.histar_programs.specs.Caller.{caller_at}
-use Rattle.histar_login.specs.Start.{roots_of, owners_label, owners_clearance}
-use Rattle.histar_login.specs.Login.{place_of, password_of, gate_of, user_label, user_clearance, entering, label_if, clearance_if, reply_if, login_at}
+use Rattle.histar_programs.specs.Start.{roots_of, owners_label, owners_clearance}
+use Rattle.histar_login.specs.Login.{entering, label_if, clearance_if, reply_if, login_at}
+use Rattle.histar_programs.specs.Users.{place_of, password_of, gate_of, user_label, user_clearance}
 use Rattle.histar_login.specs.Login.{login_as_program}
 use Rattle.histar_refinement.specs.Categories.{CategoryName, among}
 use Rattle.histar_refinement.specs.Categories.CategoryName.{ReadsProcess, WritesProcess}

@@ -41,7 +41,7 @@ use Rattle.histar_programs.specs.Programs.Program.{Answers}
 use Rattle.histar_programs.specs.Parts.{ask, write_entries, find_room}
 use Rattle.histar_programs.specs.declared.find.Room.{Room}
 use Rattle.histar_programs.specs.declared.roots.Place.{Place}
-use Rattle.histar_login.specs.Start.{roots_of}
+use Rattle.histar_programs.specs.Start.{roots_of}
 use Rattle.histar_refinement.specs.Accounts.{AreAccounts}
 use Rattle.histar_refinement.specs.Guards.{guard_label}
 use Rattle.histar_refinement.specs.Represents.{ObjectsMatch, Represents}

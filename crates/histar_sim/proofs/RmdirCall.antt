@@ -29,7 +29,7 @@ use Rattle.histar_programs.specs.Parts.{given, read_directory}
 use Rattle.histar_moves.specs.declared.entry.FoundEntry.{FoundEntry}
 use Rattle.histar_moves.specs.Parts.{find_entry, must_be_directory, must_be_empty, take_away}
 use Rattle.histar_moves.specs.Rmdir.{rmdir_program}
-use Rattle.histar_login.specs.Start.{roots_of}
+use Rattle.histar_programs.specs.Start.{roots_of}
 use Rattle.histar_refinement.specs.Accounts.{AreAccounts}
 use Rattle.histar_refinement.proofs.Making.{count_entries}
 use Rattle.histar_sim.specs.Simulation.{IsReady}

@@ -17,7 +17,7 @@ use Rattle.histar_programs.specs.Programs.{Runs}
 use Rattle.histar_programs.specs.Programs.Program.{Answers}
 use Rattle.histar_moves.specs.Parts.{find_entry, take_away}
 use Rattle.histar_moves.specs.Rmtree.{rmtree_program}
-use Rattle.histar_login.specs.Start.{roots_of}
+use Rattle.histar_programs.specs.Start.{roots_of}
 use Rattle.histar_refinement.specs.Accounts.{AreAccounts}
 use Rattle.histar_sim.specs.Simulation.{IsReady}
 use Rattle.histar_sim.proofs.Steps.{Goal, refused_at_once}

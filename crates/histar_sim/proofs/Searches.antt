@@ -33,7 +33,7 @@ use Rattle.histar_programs.specs.declared.roots.Home.{Home}
 use Rattle.histar_programs.specs.Programs.{Program, Runs}
 use Rattle.histar_programs.specs.Parts.{given, if_there}
 use Rattle.histar_process.specs.Parts.{find_home, home_of, must_be_there, read_status}
-use Rattle.histar_login.specs.Start.{roots_of}
+use Rattle.histar_programs.specs.Start.{roots_of}
 use Rattle.histar_refinement.specs.Accounts.{AreAccounts}
 use Rattle.histar_refinement.specs.Represents.{ObjectsMatch}
 use Rattle.histar_refinement.specs.Laws.{RunsAs}

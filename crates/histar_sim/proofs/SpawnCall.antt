@@ -31,7 +31,7 @@ use Rattle.histar_process.specs.Birth.{birth}
 use Rattle.histar_programs.specs.Caller.{caller_at}
 use Rattle.histar_programs.specs.Kin.{kin_of}
 use Rattle.histar_process.specs.SpawnCall.{spawn_program}
-use Rattle.histar_login.specs.Start.{roots_of}
+use Rattle.histar_programs.specs.Start.{roots_of}
 use Rattle.histar_refinement.specs.Accounts.{AreAccounts}
 use Rattle.histar_refinement.specs.Represents.{Represents}
 use Rattle.histar_sim.specs.Simulation.{IsReady}

@@ -36,7 +36,7 @@ use Rattle.histar_programs.specs.Programs.{Program, Runs}
 use Rattle.histar_programs.specs.Programs.Program.{Answers}
 use Rattle.histar_programs.specs.Parts.{ask, given, entry_at}
 use Rattle.histar_calls.specs.StatCall.{find_object, class_reply, stat_program}
-use Rattle.histar_login.specs.Start.{roots_of}
+use Rattle.histar_programs.specs.Start.{roots_of}
 use Rattle.histar_refinement.specs.Accounts.{AreAccounts}
 use Rattle.histar_refinement.specs.Addresses.{address_of, slash_number}
 use Rattle.histar_refinement.specs.Addresses.Step.{Slash}

@@ -25,7 +25,7 @@ use Rattle.histar_programs.specs.Parts.{given}
 use Rattle.histar_moves.specs.declared.entry.FoundEntry.{FoundEntry}
 use Rattle.histar_moves.specs.Parts.{find_entry, must_be_file, take_away}
 use Rattle.histar_moves.specs.Unlink.{unlink_program}
-use Rattle.histar_login.specs.Start.{roots_of}
+use Rattle.histar_programs.specs.Start.{roots_of}
 use Rattle.histar_refinement.specs.Accounts.{AreAccounts}
 use Rattle.histar_sim.specs.Simulation.{IsReady}
 use Rattle.histar_sim.proofs.Chains.{all_granted, Chain}

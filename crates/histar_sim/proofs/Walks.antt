@@ -40,7 +40,7 @@ use Rattle.histar_programs.specs.declared.directory.Directory.{Directory}
 use Rattle.histar_programs.specs.declared.roots.Place.{Place}
 use Rattle.histar_programs.specs.Programs.{Program, Runs}
 use Rattle.histar_programs.specs.Parts.{ask, given, list, read_directory, look_in, find_place, walk_to, directory_at}
-use Rattle.histar_login.specs.Start.{roots_of}
+use Rattle.histar_programs.specs.Start.{roots_of}
 use Rattle.histar_refinement.specs.Accounts.{AreAccounts}
 use Rattle.histar_refinement.specs.Addresses.{AddressNumbers, address_of, slash_number, slash_listing_number}
 use Rattle.histar_refinement.specs.Addresses.Step.{Slash, Listing}

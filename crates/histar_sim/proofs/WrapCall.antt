@@ -36,7 +36,7 @@ use Rattle.histar_programs.specs.Parts.{ask, find_room}
 use Rattle.histar_programs.specs.declared.caller.Caller.{Caller}
 use Rattle.histar_process.specs.Birth.{birth}
 use Rattle.histar_programs.specs.Caller.{caller_at}
-use Rattle.histar_login.specs.Start.{roots_of}
+use Rattle.histar_programs.specs.Start.{roots_of}
 use Rattle.histar_wrap.specs.Scratch.{ask_or_give_back, directory_label, hold_job, kin_in, make_scratch, or_given_back}
 use Rattle.histar_wrap.specs.WrapCall.{wrap_program}
 use Rattle.histar_refinement.specs.Accounts.{AreAccounts}

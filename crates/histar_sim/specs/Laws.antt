@@ -13,7 +13,7 @@ use Rattle.histar_calls.specs.Append.{append_program}
 use Rattle.histar_calls.specs.ListCall.{list_program}
 use Rattle.histar_calls.specs.StatCall.{stat_program}
 use Rattle.histar_login.specs.Login.{login_program}
-use Rattle.histar_login.specs.Start.{roots_of}
+use Rattle.histar_programs.specs.Start.{roots_of}
 use Rattle.histar_refinement.specs.Accounts.{AreAccounts}
 use Rattle.histar_moves.specs.Unlink.{unlink_program}
 use Rattle.histar_moves.specs.Rmdir.{rmdir_program}

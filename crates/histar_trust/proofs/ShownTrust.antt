@@ -15,7 +15,7 @@ use Rattle.histar_object.specs.State.{State}
 use Rattle.histar_syscall.specs.KernelModel.{state}
 use Rattle.histar_layout.specs.UserTable.{without_password, without_passwords}
 use Rattle.histar_programs.specs.declared.roots.Roots.{Roots}
-use Rattle.histar_login.specs.Start.{roots_of}
+use Rattle.histar_programs.specs.Start.{roots_of}
 use Rattle.histar_refinement.specs.Categories.{CategoryName, split_category}
 use Rattle.histar_refinement.specs.Categories.CategoryName.{OfJob}
 use Rattle.histar_refinement.specs.Represents.{ObjectsMatch}

@@ -4,7 +4,7 @@ use Rattle.histar_container.proofs.Keeping.{on_err}
 use Rattle.histar_flat.specs.declared.calls.User.{User}
 use Rattle.histar_flat.specs.Accounts.{Group, Accounts}
 use Rattle.histar_login.specs.Booting.{BootsOn, IsAnywhere, categories_part}
-use Rattle.histar_login.specs.Start.{declared, roots_of}
+use Rattle.histar_programs.specs.Start.{declared, roots_of}
 use Rattle.histar_login.proofs.LastStage.{HasParts, has_parts, booted, started, first_parts, more_parts}
 use Rattle.histar_login.proofs.Stops.{categories_way, categories_stop, first_user_way, users_stop, directory_way, directory_stop, process_way}
 use Rattle.histar_login.proofs.Stops.{process_stop, unlink_way, unlink_stop}

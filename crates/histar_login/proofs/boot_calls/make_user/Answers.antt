@@ -1,5 +1,5 @@
 -- Proves the goals of `make_user` of src/boot_calls.rt that the search leaves open.
-use Rattle.std.proofs.Common.{◌≡◌, length, ◌∙◌, arith}
+use Rattle.std.proofs.Common.{length, ◌∙◌, arith}
 use Rattle.histar_container.proofs.Keeping.{on_err}
 use Rattle.histar_flat.proofs.WordLemmas.{short_password}
 use Rattle.histar_syscall.proofs.Runs.{same_kernel}

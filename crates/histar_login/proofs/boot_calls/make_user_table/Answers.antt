@@ -2,7 +2,7 @@
 use Rattle.std.proofs.Common.{◌≡◌, ◌≤◌, length, ap, ◌∙◌, subst}
 use Rattle.histar_rules.specs.declared.raw.RawCall.TheVariants.{MakeSegment}
 use Rattle.histar_layout.specs.Labelling.{written_by}
-use Rattle.histar_login.specs.Start.{root_category}
+use Rattle.histar_programs.specs.Start.{root_category}
 use Rattle.histar_login.proofs.DirectoryStage.{table_allowed}
 use Rattle.histar_login.proofs.Parts.{undenied_as}
 use Rattle.histar_login.proofs.boot_calls.make_user_table.Goals as goal

@@ -1,5 +1,5 @@
 -- Proves the goals of `login_as` of src/login.rt that the search leaves open.
-use Rattle.std.proofs.Common.{Bool, Ok, ap}
+use Rattle.std.proofs.Common.{Ok}
 use Rattle.histar_label.specs.Levels.{Levels}
 use Rattle.histar_rules.specs.declared.raw.RawCall.TheVariants.{OwnLabel}
 use Rattle.histar_programs.specs.Parts.{ask}

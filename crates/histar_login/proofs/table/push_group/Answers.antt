@@ -3,7 +3,7 @@ use Rattle.std.proofs.Common.{◌≡◌, ◌≤◌, ◌++◌, [], ◌∷◌, Lis
 use Rattle.histar_flat.specs.declared.calls.User.{User}
 use Rattle.std.specs.Int.{w64, to_be_bytes}
 use Rattle.std.proofs.lemmas.Result.{on_ok_weaker}
-use Rattle.histar_login.specs.Start.{numbers_among}
+use Rattle.histar_programs.specs.Start.{numbers_among}
 use Rattle.histar_layout.specs.Categories.{read_category, write_category, group_owner}
 use Rattle.histar_login.proofs.GroupLemmas.{group_grows}
 use Rattle.histar_flat.proofs.WordLemmas.{short_name}

@@ -3,7 +3,7 @@ use Rattle.std.proofs.Common.{◌≡◌, ◌<◌, ◌≤◌, ◌++◌, List, get
 use Rattle.std.proofs.lemmas.Bool.Decides.{nat_tests}
 use Rattle.std.proofs.lemmas.List.{take_all, length-append}
 use Rattle.histar_flat.specs.Accounts.{Group}
-use Rattle.histar_login.specs.Start.{numbered, group_entry}
+use Rattle.histar_programs.specs.Start.{numbered, group_entry}
 use Rattle.histar_login.proofs.GroupLemmas.{groups_next, groups_all}
 use Rattle.histar_login.proofs.table.push_groups.Goals as goal
 

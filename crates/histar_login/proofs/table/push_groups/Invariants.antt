@@ -1,6 +1,6 @@
 -- The invariants and measures of `push_groups` of src/table.rt.
 use Rattle.std.proofs.Common.{◌≡◌, ◌≤◌, ◌+◌, ◌*◌, ◌++◌, length, take}
-use Rattle.histar_login.specs.Start.{numbered, group_entry}
+use Rattle.histar_programs.specs.Start.{numbered, group_entry}
 use Rattle.histar_login.proofs.table.push_groups.Given as goal
 
 abbrev pub invariant-loop-k : goal.invariant-loop-k

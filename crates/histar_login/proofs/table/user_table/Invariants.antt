@@ -1,6 +1,6 @@
 -- The invariants and measures of `user_table` of src/table.rt.
 use Rattle.std.proofs.Common.{◌≡◌, ◌≤◌, ◌+◌, ◌*◌, length, take}
-use Rattle.histar_login.specs.Start.{user_entries}
+use Rattle.histar_programs.specs.Start.{user_entries}
 use Rattle.histar_login.proofs.table.user_table.Given as goal
 
 abbrev pub invariant-loop-i : goal.invariant-loop-i

@@ -18,6 +18,10 @@ use Rattle.histar_programs.specs.declared.roots.Roots.{Roots}
 use Rattle.histar_layout.specs.Categories.{read_category, write_category, group_owner, owners_of}
 use Rattle.histar_layout.specs.Labelling.{labelled, written_by, secret_of, owner_of, cleared_of}
 
+-- the boot thread, which makes all raw calls of boot
+abbrev pub boot_thread_number : ℕ
+boot_thread_number = 2
+
 -- what f gives for each user, or each group, with its number, one after another, where the first has the number i
 abbrev pub numbered : {A B : Type 0} → (ℕ → B → List A) → ℕ → List B → List A
 numbered f i [] = []
