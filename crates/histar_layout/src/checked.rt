@@ -9,7 +9,6 @@ use crate::entry::Target;
 use crate::lookup::look_up;
 use crate::read_entry::read_named;
 use histar_flat::Name;
-use std::cmp::Ordering;
 
 /// The bytes are no directory.
 #[derive(Clone, Copy, Debug, PartialEq, Eq)]
@@ -45,9 +44,21 @@ pub fn look_up_checked(bytes: &[u8], name: &Name) -> Result<Option<Target>, NotA
     Ok(look_up(bytes, name))
 }
 
-/// Checks whether the bytes of one name come before those of another.
+/// Checks whether the bytes of one name come before those of another: the first byte in which they differ decides,
+/// and otherwise the shorter name comes first.
 fn precedes(first: &[u8], second: &[u8]) -> bool
     ensures { result ≡ is_lt (slice_cmp nat_cmp first.now second.now) }
 {
-    matches!(first.cmp(second), Ordering::Less)
+    let (mut left, mut right) = (first, second);
+    'bytes: while let [own, lefts @ ..] = left {
+        let [other, rights @ ..] = right else {
+            return false;
+        };
+        if own != other {
+            return own < other;
+        }
+        left = lefts;
+        right = rights;
+    }
+    !right.is_empty()
 }
