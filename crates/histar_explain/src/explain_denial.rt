@@ -4,7 +4,7 @@ ghost use Rattle.std.specs.List.{AllZip};
 ghost use Rattle.histar_label.specs.declared.levels.Level.TheVariants.{L1};
 ghost use Rattle.histar_label.specs.Levels.{constant};
 ghost use Rattle.histar_syscall.specs.KernelModel.{state};
-ghost use Rattle.histar_explain.specs.Named.{label_in};
+ghost use Rattle.histar_explain.specs.Named.{clearance_in, label_in};
 ghost use Rattle.histar_explain.specs.Tests.{entering, ranging, tests, IsReasonOf};
 ghost use Rattle.histar_explain.specs.Explanations.{ExplainsDenial};
 
@@ -134,14 +134,30 @@ fn all_range_reasons<S: LabelStore + Drop>(
             span_reasons(alloc, own, label.label(), clearance.label(), own_clearance)
         }
         RawCall::Enter(_, gate, wanted, clearance, _) => {
-            let opening = Opening {
-                own,
-                own_clearance,
-                gate_label: label_in(kernel, *gate, ones),
-                gate_clearance: clearance_in(kernel, *gate, ones),
-            };
+            let opening = opening_of(kernel, thread, *gate, ones);
             opening_reasons(alloc, opening, wanted.label(), clearance.label())
         }
         _ => Ok(Vec::new(alloc)),
+    }
+}
+
+/// Returns the labels of a thread and of a gate.
+fn opening_of<'k, S: LabelStore + Drop>(
+    kernel: &'k Kernel<S>,
+    thread: ObjId,
+    gate: ObjId,
+    ones: &'k Label,
+) -> Opening<'k>
+    requires { ones.now ≡ constant L1 }
+    ensures own { result.own.now ≡ label_in (state kernel.now) thread }
+    ensures own_clearance { result.own_clearance.now ≡ clearance_in (state kernel.now) thread }
+    ensures gate_label { result.gate_label.now ≡ label_in (state kernel.now) gate }
+    ensures gate_clearance { result.gate_clearance.now ≡ clearance_in (state kernel.now) gate }
+{
+    Opening {
+        own: label_in(kernel, thread, ones),
+        own_clearance: clearance_in(kernel, thread, ones),
+        gate_label: label_in(kernel, gate, ones),
+        gate_clearance: clearance_in(kernel, gate, ones),
     }
 }

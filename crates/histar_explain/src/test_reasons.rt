@@ -124,6 +124,50 @@ pub(crate) fn gate_reasons(
     two(alloc, first, second)
 }
 
+/// A label that a test compares, and the party whose label it is.
+type Compared<'l> = (Party, &'l Label);
+
+/// Lists the reasons why a label isn't between two others.
+fn between(
+    alloc: Global,
+    low: Compared,
+    label: Compared,
+    high: Compared,
+) -> Result<Vec<Reason>, OutOfMemory>
+    ensures { IfOk result (λ reasons. AllZip IsReasonOf
+        (below low.entry.0 low.entry.1.now label.entry.0 label.entry.1.now
+        ∷ below label.entry.0 label.entry.1.now high.entry.0 high.entry.1.now ∷ []) reasons.items) }
+{
+    let first = below(alloc, low.0, low.1, label.0, label.1)?;
+    let second = below(alloc, label.0, label.1, high.0, high.1)?;
+    two(alloc, first, second)
+}
+
+/// Lists the reasons why a label and a clearance above it aren't between two others.
+fn both_between(
+    alloc: Global,
+    low: Compared,
+    label: &Label,
+    clearance: &Label,
+    high: Compared,
+) -> Result<Vec<Reason>, OutOfMemory>
+    ensures { IfOk result (λ reasons. AllZip IsReasonOf
+        (below low.entry.0 low.entry.1.now Party.LabelAsked label.now
+        ∷ below Party.LabelAsked label.now Party.ClearanceAsked clearance.now
+        ∷ below Party.ClearanceAsked clearance.now high.entry.0 high.entry.1.now ∷ []) reasons.items) }
+{
+    let first = below(alloc, low.0, low.1, Party::LabelAsked, label)?;
+    let second = below(
+        alloc,
+        Party::LabelAsked,
+        label,
+        Party::ClearanceAsked,
+        clearance,
+    )?;
+    let third = below(alloc, Party::ClearanceAsked, clearance, high.0, high.1)?;
+    three(alloc, first, second, third)
+}
+
 /// Lists the reasons why a label is out of a thread's range.
 pub(crate) fn range_reasons(
     alloc: Global,
@@ -133,15 +177,12 @@ pub(crate) fn range_reasons(
 ) -> Result<Vec<Reason>, OutOfMemory>
     ensures { IfOk result (λ reasons. AllZip IsReasonOf (in_range own.now label.now own_clearance.now) reasons.items) }
 {
-    let first = below(alloc, Party::Thread, own, Party::LabelAsked, label)?;
-    let second = below(
+    between(
         alloc,
-        Party::LabelAsked,
-        label,
-        Party::ThreadClearance,
-        own_clearance,
-    )?;
-    two(alloc, first, second)
+        (Party::Thread, own),
+        (Party::LabelAsked, label),
+        (Party::ThreadClearance, own_clearance),
+    )
 }
 
 /// Lists the reasons why a label that may own nothing is out of a thread's range.
@@ -178,15 +219,12 @@ pub(crate) fn clear_reasons(
         (clearing own.now clearance.now own_clearance.now) reasons.items) }
 {
     let above = own_clearance.join(&owning_high(alloc, own)?)?;
-    let first = below(alloc, Party::Thread, own, Party::ClearanceAsked, clearance)?;
-    let second = below(
+    between(
         alloc,
-        Party::ClearanceAsked,
-        clearance,
-        Party::ThreadClearanceAndLabel,
-        &above,
-    )?;
-    two(alloc, first, second)
+        (Party::Thread, own),
+        (Party::ClearanceAsked, clearance),
+        (Party::ThreadClearanceAndLabel, &above),
+    )
 }
 
 /// Lists the reasons why a label and a clearance are out of a thread's range.
@@ -200,22 +238,13 @@ pub(crate) fn span_reasons(
     ensures { IfOk result (λ reasons. AllZip IsReasonOf
         (in_span own.now label.now clearance.now own_clearance.now) reasons.items) }
 {
-    let first = below(alloc, Party::Thread, own, Party::LabelAsked, label)?;
-    let second = below(
+    both_between(
         alloc,
-        Party::LabelAsked,
+        (Party::Thread, own),
         label,
-        Party::ClearanceAsked,
         clearance,
-    )?;
-    let third = below(
-        alloc,
-        Party::ClearanceAsked,
-        clearance,
-        Party::ThreadClearance,
-        own_clearance,
-    )?;
-    three(alloc, first, second, third)
+        (Party::ThreadClearance, own_clearance),
+    )
 }
 
 /// The labels of a thread and of a gate that it tries to enter.
@@ -239,20 +268,11 @@ pub(crate) fn opening_reasons(
 {
     let floor = opening.own.floor(opening.gate_label)?;
     let clearances = opening.own_clearance.join(opening.gate_clearance)?;
-    let first = below(alloc, Party::Floor, &floor, Party::LabelAsked, label)?;
-    let second = below(
+    both_between(
         alloc,
-        Party::LabelAsked,
+        (Party::Floor, &floor),
         label,
-        Party::ClearanceAsked,
         clearance,
-    )?;
-    let third = below(
-        alloc,
-        Party::ClearanceAsked,
-        clearance,
-        Party::Clearances,
-        &clearances,
-    )?;
-    three(alloc, first, second, third)
+        (Party::Clearances, &clearances),
+    )
 }

@@ -1,6 +1,6 @@
 -- The label of a class shows the class, except for its jobs.
-use Rattle.std.proofs.Common.{◌≡◌, ◌≢◌, ℕ, zero, suc, ◌+◌, ◌*◌, ◌-◌, ◌<◌, ◌≤◌, ◌==◌, Bool, true, false, inl, inr, ◌&&◌, ◌||◌, List, [], ◌∷◌, length}
-use Rattle.std.proofs.Common.{Option, None, Some, arith, refl, sym, ap, ◌∙◌, if◌then◌else◌}
+use Rattle.std.proofs.Common.{◌≡◌, ◌≢◌, ℕ, zero, suc, ◌+◌, ◌<◌, ◌≤◌, ◌==◌, Bool, true, false, inl, inr, ◌&&◌, ◌||◌, List, [], ◌∷◌, length}
+use Rattle.std.proofs.Common.{None, Some, arith, refl, sym, ap, ◌∙◌, if◌then◌else◌}
 use Rattle.std.specs.Prelude.{position, slice_get}
 use Rattle.std.proofs.lemmas.Bool.Decides.{eqb_tells}
 use Rattle.std.proofs.lemmas.Option.{none-some, same_Some}
@@ -20,7 +20,7 @@ use Rattle.histar_layout.specs.ShownClass.{class_shown}
 use Rattle.histar_layout.specs.declared.shown.ShownClass.TheVariants as shown
 use Rattle.histar_layout.specs.declared.class.Class.{Class}
 use Rattle.histar_layout.specs.declared.class.Class.TheVariants.{Private, Readable, Open, Scratch, Group as Grouped}
-use Rattle.histar_layout.specs.ClassLabels.{IsRisingFrom, first_after_groups, owned_label, class_label, HasJobs, IsClassLabel, without_jobs}
+use Rattle.histar_layout.specs.ClassLabels.{IsRisingFrom, first_after_groups, owned_label, class_label, HasJobs, without_jobs}
 use Rattle.histar_layout.specs.ClassLabels.{ClassesAreShown}
 use Rattle.histar_layout.proofs.Members.{is_in, mapped_from, equal_itself}
 use Rattle.histar_layout.proofs.LabelLevels.{guarded_level, at_guarded}

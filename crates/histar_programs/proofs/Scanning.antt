@@ -1,5 +1,7 @@
 -- Going over the exceptions of a label, and over users.
-use Rattle.std.proofs.Common.{◌≡◌, ℕ, zero, suc, ◌-◌, ◌<◌, ◌≤◌, Bool, List, [], ◌∷◌, length, get_or, Option, refl, ap, ◌∙◌, arith}
+use Rattle.std.proofs.Common.{◌≡◌, ℕ, zero, suc, ◌+◌, ◌-◌, ◌<◌, ◌≤◌, Bool, List, [], ◌∷◌, ◌++◌, length, get_or, take, map, Option, refl, ap}
+use Rattle.std.proofs.Common.{sym, ◌∙◌, append_assoc, arith}
+use Rattle.std.proofs.lemmas.List.{map-append, take_more}
 use Rattle.std.specs.Prelude.{option_map}
 use Rattle.std.specs.List.{find}
 use Rattle.histar_flat.specs.declared.calls.User.{User}
@@ -15,6 +17,16 @@ module _ (test : Exception → Bool) where
   -- the category of the first exception that passes
   abbrev pub first_passed : List Exception → Option ℕ
   first_passed es = option_map (λ e. e.0) (find test es)
+
+-- one more value that is made of the next element
+pub mapped_more : (f : ℕ → ℕ) (xs before made : List ℕ) (i x : ℕ) → i < length xs → made ≡ before ++ map f (take i xs) → x ≡ f (get_or xs i 0)
+    → made ++ x ∷ [] ≡ before ++ map f (take (i + 1) xs)
+mapped_more f xs before made i x within so_far is =
+    ap (λ (ys : List ℕ). ys ++ x ∷ []) so_far
+    ∙ append_assoc before (map f (take i xs)) (x ∷ [])
+    ∙ ap (λ (ys : List ℕ). before ++ ys) (
+    ap (λ (y : ℕ). map f (take i xs) ++ y ∷ []) is
+    ∙ sym (ap (map f) (take_more xs i 0 within) ∙ map-append f (take i xs) (get_or xs i 0 ∷ [])))
 
 -- ---- names of users
 

@@ -45,6 +45,15 @@ abbrev pub if_runs : {A : Type 0} → Option ℕ → Option A → Option A
 if_runs None x = x
 if_runs (Some number) x = None
 
+-- a process that runs with this internal container and this thread, with its own two categories
+abbrev pub running_caller : State → Home → ℕ → ℕ → Option Caller
+running_caller s home internal thread = do
+  outer ← label_there (s.objects home.container)
+  inner ← label_there (s.objects internal)
+  write ← write_category_in outer
+  read ← read_category_in outer inner
+  Some (record { home = home; thread = thread; read = read; write = write })
+
 -- a process that runs, with its thread and its own two categories, by the status in its segment
 abbrev pub caller_by : State → Home → ProcessStatus → Option Caller
 caller_by s home status = if_runs status.exited (do

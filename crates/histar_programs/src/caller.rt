@@ -2,7 +2,7 @@
 ghost use Rattle.std.specs.Prelude.{◌≡◌, ◌&&◌, not};
 ghost use Rattle.histar_label.specs.Levels.{level_of};
 ghost use Rattle.histar_syscall.specs.KernelModel.{state};
-ghost use Rattle.histar_programs.specs.Caller.{caller_at, caller_in, home_at, is_zero, read_category_in, write_category_in};
+ghost use Rattle.histar_programs.specs.Caller.{caller_at, caller_in, home_at, is_zero, read_category_in, running_caller, write_category_in};
 ghost use Rattle.histar_layout.specs.Jobs.{is_three};
 
 use crate::roots::Home;
@@ -63,13 +63,25 @@ pub fn caller_in<S: LabelStore + Drop>(kernel: &Kernel<S>, home: Home) -> Option
     if head.exited.is_some() {
         return None;
     }
+    running_caller(kernel, home, head.internal, head.thread)
+}
+
+// Returns the process that runs there with this internal container and this thread.
+fn running_caller<S: LabelStore + Drop>(
+    kernel: &Kernel<S>,
+    home: Home,
+    internal: ObjId,
+    thread: ObjId,
+) -> Option<Caller>
+    ensures { result ≡ running_caller (state kernel.now) home internal thread }
+{
     let outer = kernel.label(home.container)?;
-    let inner = kernel.label(head.internal)?;
+    let inner = kernel.label(internal)?;
     let write = write_category_in(outer)?;
     let read = read_category_in(outer, inner)?;
     Some(Caller {
         home,
-        thread: head.thread,
+        thread,
         read,
         write,
     })

@@ -1,7 +1,8 @@
 -- Going over lists one by one.
 use Rattle.std.proofs.Common.{◌≡◌, ℕ, suc, ◌+◌, ◌<◌, ◌≤◌, Bool, true, false, cond, List, [], ◌∷◌, ◌++◌, length, map, drop, get_or, Bor}
-use Rattle.std.proofs.Common.{Option, Some, None, refl, sym, ap, ◌∙◌, arith}
+use Rattle.std.proofs.Common.{Option, Some, None, refl, sym, ap, ◌∙◌, append_assoc, arith}
 use Rattle.std.specs.Prelude.{option_map}
+use Rattle.std.specs.List.{flat_map}
 use Rattle.std.specs.Option.{option_map_or, option_to_list}
 use Rattle.std.proofs.lemmas.List.{drop_all}
 use Rattle.std.proofs.Math.Seq.{drop-cons}
@@ -138,3 +139,12 @@ popped parts rest (Some p) last is none same =
     let texts = map (λ (p : Bor (List ℕ)). p.now) rest in
     let both : map (λ (p : Bor (List ℕ)). p.now) parts ≡ texts ++ p.now ∷ [] = taken parts rest p is in
     ap part_rules both ∙ (λ i. list_rules ((last_is texts p.now ∙ sym same) i) (front_is texts p.now i))
+
+-- one more element whose list is appended
+pub flat_mapped_more : {X : Type 0} (f : X → List ℕ) (xs : List X) (d : X) (i : ℕ) (before said whole : List ℕ) → i < length xs
+    → before ++ flat_map f (drop i xs) ≡ whole → said ≡ before ++ f (get_or xs i d) → said ++ flat_map f (drop (i + 1) xs) ≡ whole
+flat_mapped_more f xs d i before said whole within so_far is =
+    rw is
+    (append_assoc before (f (get_or xs i d)) (flat_map f (drop (i + 1) xs))
+    ∙ ap (λ (ys : List ℕ). before ++ ys) (sym (ap (flat_map f) (cut xs i d within)))
+    ∙ so_far)

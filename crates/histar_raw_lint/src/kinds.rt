@@ -1,5 +1,5 @@
 //! The kinds of the arguments of raw calls.
-ghost use Rattle.std.specs.Prelude.{◌≡◌, ◌++◌, IfOk, OnOk, codes};
+ghost use Rattle.std.specs.Prelude.{◌≡◌, ◌++◌, IfOk, OnOk, codes, drop};
 ghost use Rattle.std.specs.List.{flat_map};
 ghost use Rattle.std.specs.Option.{option_copied};
 ghost use Rattle.histar_raw_lint.specs.Rules.{kind_name, kinds_among, object_calls, raw_calls, usage_text};
@@ -33,7 +33,16 @@ pub(crate) fn kinds_named(name: &[u8]) -> Option<&'static [Kind]>
         Some(&[Kind::Label])
     } else if name == b"set_clearance".as_slice() {
         Some(&[Kind::Clearance])
-    } else if name == b"make_segment".as_slice() {
+    } else {
+        making_kinds(name)
+    }
+}
+
+/// Returns the kinds of the arguments of a call that makes an object, or is on objects that are there.
+fn making_kinds(name: &[u8]) -> Option<&'static [Kind]>
+    ensures { option_copied result ≡ kinds_among (drop 4 raw_calls) name.now }
+{
+    if name == b"make_segment".as_slice() {
         Some(&[Kind::Container, Kind::Label, Kind::Bytes])
     } else if name == b"make_container".as_slice() {
         Some(&[Kind::Container, Kind::Label])
@@ -95,9 +104,17 @@ fn push_kinds(said: &mut Vec<u8>, kinds: &[Kind]) -> Result<(), AllocError>
         ≡ said.old.items ++ flat_map (λ k. codes " " ++ kind_name k) kinds.now) }
 {
     'kinds: for kind in kinds {
-        said.extend_from_slice(b" ")?;
-        said.extend_from_slice(kind_name(*kind).as_bytes())?;
+        push_kind(said, *kind)?;
     }
+    Ok(())
+}
+
+/// Adds the name of an argument, with a space before it.
+fn push_kind(said: &mut Vec<u8>, kind: Kind) -> Result<(), AllocError>
+    ensures { OnOk result (said.new.items ≡ said.old.items ++ (codes " " ++ kind_name kind)) }
+{
+    said.extend_from_slice(b" ")?;
+    said.extend_from_slice(kind_name(kind).as_bytes())?;
     Ok(())
 }
 

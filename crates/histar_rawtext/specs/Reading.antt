@@ -169,6 +169,50 @@ write_in words = do
   bytes ← bytes_in d.0
   Some (Write container segment keep bytes)
 
+-- a segment of the words for its container, its label and its bytes
+abbrev pub make_segment_of : List ℕ → List ℕ → List ℕ → Option RawCall
+make_segment_of a b c = do
+  container ← number_in a
+  label ← label_in b
+  bytes ← bytes_in c
+  Some (MakeSegment container label bytes)
+
+-- a thread of the words for its container, its label and its clearance
+abbrev pub make_thread_of : List ℕ → List ℕ → List ℕ → Option RawCall
+make_thread_of a b c = do
+  container ← number_in a
+  label ← label_in b
+  clearance ← label_in c
+  Some (MakeThread container label clearance)
+
+-- a gate of the words for its container, its label, its clearance and its entry
+abbrev pub make_gate_of : List ℕ → List ℕ → List ℕ → List ℕ → Option RawCall
+make_gate_of a b c d = do
+  container ← number_in a
+  label ← label_in b
+  clearance ← label_in c
+  entry ← entry_in d
+  Some (MakeGate container label clearance entry)
+
+-- an entering of a gate of the words for its container, the gate and its three labels
+abbrev pub enter_of : List ℕ → List ℕ → List ℕ → List ℕ → List ℕ → Option RawCall
+enter_of a b c d e = do
+  container ← number_in a
+  gate ← number_in b
+  wanted ← label_in c
+  clearance ← label_in d
+  verify ← label_in e
+  Some (Enter container gate wanted clearance verify)
+
+-- a write of the words for its container, its segment, how many bytes are kept, and its bytes
+abbrev pub write_of : List ℕ → List ℕ → List ℕ → List ℕ → Option RawCall
+write_of a b c d = do
+  container ← number_in a
+  segment ← number_in b
+  keep ← short_number_in c
+  bytes ← bytes_in d
+  Some (Write container segment keep bytes)
+
 -- a container, and an object in it
 unfoldable pub pair_in : Option (List ℕ) → Option (ℕ × ℕ)
 pair_in words = do

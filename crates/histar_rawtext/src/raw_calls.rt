@@ -1,11 +1,12 @@
 //! Writing raw calls.
 ghost use Rattle.std.specs.Prelude.{◌≡◌, ◌++◌, IfOk, OnOk};
-ghost use Rattle.histar_rawtext.specs.RawText.{call_name, call_text, call_words, label_word, number_word, thread_call_text};
+ghost use Rattle.histar_rawtext.specs.RawText.{bytes_word, call_name, call_text, call_words, entry_word, label_word, number_word, thread_call_text};
 
 use crate::labels::push_label_word;
 use crate::words::{push_bytes_word, push_entry_word, push_number, push_number_word};
+use histar_base::Bytes;
 use histar_label::Label;
-use histar_object::ObjId;
+use histar_object::{Entry, ObjId};
 use histar_rules::RawCall;
 use std::alloc::{AllocError, Global};
 
@@ -56,6 +57,51 @@ fn push_entering(
     push_label_word(line, verify)
 }
 
+/// Adds the words for a container, and for the label and the bytes of the new segment in it.
+fn push_segment(
+    line: &mut Vec<u8>,
+    container: ObjId,
+    label: &Label,
+    bytes: &Bytes,
+) -> Result<(), AllocError>
+    ensures { OnOk result (line.new.items
+        ≡ line.old.items ++ number_word container ++ label_word label.now ++ bytes_word bytes.now) }
+{
+    push_making(line, container, label)?;
+    push_bytes_word(line, bytes)
+}
+
+/// Adds the words for a container, and for the label, the clearance and the entry of the new gate in it.
+fn push_gate(
+    line: &mut Vec<u8>,
+    container: ObjId,
+    label: &Label,
+    clearance: &Label,
+    entry: Entry,
+) -> Result<(), AllocError>
+    ensures { OnOk result (line.new.items
+        ≡ line.old.items ++ number_word container ++ label_word label.now ++ label_word clearance.now ++ entry_word entry) }
+{
+    push_bounded(line, container, label, clearance)?;
+    push_entry_word(line, entry)
+}
+
+/// Adds the words for a container, for a segment in it, for how many of its bytes are kept, and for bytes.
+fn push_write(
+    line: &mut Vec<u8>,
+    container: ObjId,
+    segment: ObjId,
+    keep: u32,
+    bytes: &Bytes,
+) -> Result<(), AllocError>
+    ensures { OnOk result (line.new.items
+        ≡ line.old.items ++ number_word container ++ number_word segment ++ number_word keep ++ bytes_word bytes.now) }
+{
+    push_pair(line, container, segment)?;
+    push_number_word(line, u64::from(keep))?;
+    push_bytes_word(line, bytes)
+}
+
 /// Returns the name of a raw call.
 fn call_name(call: &RawCall) -> &'static str
     ensures { result.now ≡ call_name call.now }
@@ -86,16 +132,14 @@ fn push_words(line: &mut Vec<u8>, call: &RawCall) -> Result<(), AllocError>
         RawCall::SetLabel(label) => push_label_word(line, label.label()),
         RawCall::SetClearance(clearance) => push_label_word(line, clearance.label()),
         RawCall::MakeSegment(container, label, bytes) => {
-            push_making(line, *container, label.label())?;
-            push_bytes_word(line, bytes)
+            push_segment(line, *container, label.label(), bytes)
         }
         RawCall::MakeContainer(container, label) => push_making(line, *container, label.label()),
         RawCall::MakeThread(container, label, clearance) => {
             push_bounded(line, *container, label.label(), clearance.label())
         }
         RawCall::MakeGate(container, label, clearance, entry) => {
-            push_bounded(line, *container, label.label(), clearance.label())?;
-            push_entry_word(line, *entry)
+            push_gate(line, *container, label.label(), clearance.label(), *entry)
         }
         RawCall::Enter(container, gate, wanted, clearance, verify) => {
             push_pair(line, *container, *gate)?;
@@ -103,9 +147,7 @@ fn push_words(line: &mut Vec<u8>, call: &RawCall) -> Result<(), AllocError>
         }
         RawCall::Read(container, segment) => push_pair(line, *container, *segment),
         RawCall::Write(container, segment, keep, bytes) => {
-            push_pair(line, *container, *segment)?;
-            push_number_word(line, u64::from(*keep))?;
-            push_bytes_word(line, bytes)
+            push_write(line, *container, *segment, *keep, bytes)
         }
         RawCall::Unlink(container, object) => push_pair(line, *container, *object),
         RawCall::LabelOf(container, object) => push_pair(line, *container, *object),

@@ -1,11 +1,14 @@
 //! Reading raw calls.
 ghost use Rattle.std.specs.Prelude.{◌≡◌, IfOk};
 ghost use Rattle.std.specs.Option.{option_copied};
+ghost use Rattle.std.specs.Str.{bytes_eq};
+ghost use Rattle.histar_rawtext.specs.RawText.{thread_call_text};
 ghost use Rattle.histar_rawtext.specs.Outcome.{Gives};
 ghost use Rattle.histar_rawtext.specs.Readable.{IsReadAs};
 ghost use Rattle.histar_rawtext.specs.Reading.{make_segment_in, make_container_in, make_thread_in, make_gate_in, enter_in};
 ghost use Rattle.histar_rawtext.specs.Reading.{write_in, pair_in, own_label_in, pair_named, making_named, call_named};
 ghost use Rattle.histar_rawtext.specs.Reading.{thread_call_in};
+ghost use Rattle.histar_rawtext.specs.Reading.{make_segment_of, make_thread_of, make_gate_of, enter_of, write_of};
 
 use crate::raw_calls::write_call;
 use crate::read_labels::read_handed;
@@ -23,6 +26,18 @@ fn read_make_segment(alloc: Global, words: Option<&[u8]>) -> Result<RawCall, Unr
     let (container, words) = next_word(words)?;
     let (label, words) = next_word(words)?;
     let (bytes, _) = next_word(words)?;
+    make_segment_of(alloc, container, label, bytes)
+}
+
+// Reads the words of the same call.
+fn make_segment_of(
+    alloc: Global,
+    container: &[u8],
+    label: &[u8],
+    bytes: &[u8],
+) -> Result<RawCall, Unread>
+    ensures { Gives result (make_segment_of container.now label.now bytes.now) }
+{
     Ok(RawCall::MakeSegment(
         read_object(container)?,
         read_handed(alloc, label)?,
@@ -48,6 +63,18 @@ fn read_make_thread(alloc: Global, words: Option<&[u8]>) -> Result<RawCall, Unre
     let (container, words) = next_word(words)?;
     let (label, words) = next_word(words)?;
     let (clearance, _) = next_word(words)?;
+    make_thread_of(alloc, container, label, clearance)
+}
+
+// Reads the words of the same call.
+fn make_thread_of(
+    alloc: Global,
+    container: &[u8],
+    label: &[u8],
+    clearance: &[u8],
+) -> Result<RawCall, Unread>
+    ensures { Gives result (make_thread_of container.now label.now clearance.now) }
+{
     Ok(RawCall::MakeThread(
         read_object(container)?,
         read_handed(alloc, label)?,
@@ -64,6 +91,19 @@ fn read_make_gate(alloc: Global, words: Option<&[u8]>) -> Result<RawCall, Unread
     let (label, words) = next_word(words)?;
     let (clearance, words) = next_word(words)?;
     let (entry, _) = next_word(words)?;
+    make_gate_of(alloc, container, label, clearance, entry)
+}
+
+// Reads the words of the same call.
+fn make_gate_of(
+    alloc: Global,
+    container: &[u8],
+    label: &[u8],
+    clearance: &[u8],
+    entry: &[u8],
+) -> Result<RawCall, Unread>
+    ensures { Gives result (make_gate_of container.now label.now clearance.now entry.now) }
+{
     Ok(RawCall::MakeGate(
         read_object(container)?,
         read_handed(alloc, label)?,
@@ -82,12 +122,24 @@ fn read_enter(alloc: Global, words: Option<&[u8]>) -> Result<RawCall, Unread>
     let (wanted, words) = next_word(words)?;
     let (clearance, words) = next_word(words)?;
     let (verify, _) = next_word(words)?;
+    enter_of(alloc, (container, gate), (wanted, clearance, verify))
+}
+
+// Reads the words of the same call: those of the objects, and those of the labels.
+fn enter_of(
+    alloc: Global,
+    objects: (&[u8], &[u8]),
+    labels: (&[u8], &[u8], &[u8]),
+) -> Result<RawCall, Unread>
+    ensures { Gives result (enter_of objects.entry.0.now objects.entry.1.now
+        labels.entry.0.now labels.entry.1.now labels.entry.2.now) }
+{
     Ok(RawCall::Enter(
-        read_object(container)?,
-        read_object(gate)?,
-        read_handed(alloc, wanted)?,
-        read_handed(alloc, clearance)?,
-        read_handed(alloc, verify)?,
+        read_object(objects.0)?,
+        read_object(objects.1)?,
+        read_handed(alloc, labels.0)?,
+        read_handed(alloc, labels.1)?,
+        read_handed(alloc, labels.2)?,
     ))
 }
 
@@ -100,6 +152,19 @@ fn read_write(alloc: Global, words: Option<&[u8]>) -> Result<RawCall, Unread>
     let (segment, words) = next_word(words)?;
     let (keep, words) = next_word(words)?;
     let (bytes, _) = next_word(words)?;
+    write_of(alloc, container, segment, keep, bytes)
+}
+
+// Reads the words of the same call.
+fn write_of(
+    alloc: Global,
+    container: &[u8],
+    segment: &[u8],
+    keep: &[u8],
+    bytes: &[u8],
+) -> Result<RawCall, Unread>
+    ensures { Gives result (write_of container.now segment.now keep.now bytes.now) }
+{
     Ok(RawCall::Write(
         read_object(container)?,
         read_object(segment)?,
@@ -203,9 +268,22 @@ pub fn read_raw(alloc: Global, line: &[u8]) -> Result<Option<(ObjId, RawCall)>, 
         Err(Unread::NoCall) => return Ok(None),
         Err(Unread::OutOfMemory) => return Err(AllocError),
     };
-    let text = write_call(alloc, thread, &call)?;
-    if text.as_slice() != line {
-        return Ok(None);
+    match is_text_of(alloc, line, thread, &call) {
+        Ok(true) => Ok(Some((thread, call))),
+        Ok(false) => {
+            drop(call);
+            Ok(None)
+        }
+        Err(error) => {
+            drop(call);
+            Err(error)
+        }
     }
-    Ok(Some((thread, call)))
+}
+
+/// Checks whether a line is the text of a thread's raw call.
+fn is_text_of(alloc: Global, line: &[u8], thread: ObjId, call: &RawCall) -> Result<bool, AllocError>
+    ensures { IfOk result (λ is. is ≡ bytes_eq (thread_call_text thread call.now) line.now) }
+{
+    Ok(write_call(alloc, thread, call)?.as_slice() == line)
 }

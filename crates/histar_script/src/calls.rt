@@ -1,10 +1,10 @@
 //! Reading a line of a script. `Ok(None)` is a bad line. Paths, the bytes of a `write` or an `append` and the
 //! members of a group are copied, and memory may run out.
-ghost use Rattle.std.specs.Prelude.{◌≡◌, ◌++◌, Some, IfOk};
+ghost use Rattle.std.specs.Prelude.{◌≡◌, ◌++◌, drop, Some, IfOk};
 ghost use Rattle.std.specs.Option.{option_copied};
 ghost use Rattle.histar_script.specs.CallForms.{a_path, a_mode, any_bytes, a_name, a_password, writing_calls, reading_calls};
 ghost use Rattle.histar_script.specs.CallForms.{entry_calls, process_calls};
-ghost use Rattle.histar_script.specs.Reading.{user_of, two_values_of, lone_call_of, call_among, call_of, words_item, item_of};
+ghost use Rattle.histar_script.specs.Reading.{user_of, two_values_of, lone_call_of, call_among, call_of, call_item, words_item, item_of};
 
 use crate::groups::read_group;
 use crate::items::Item;
@@ -108,7 +108,10 @@ fn lone_call(call: UnixCall, rest: Option<&[u8]>) -> Option<UnixCall>
 {
     match rest {
         None => Some(call),
-        Some(_) => None,
+        Some(_) => {
+            drop(call);
+            None
+        }
     }
 }
 
@@ -124,7 +127,18 @@ fn writing_call(alloc: Global, word: &[u8], rest: &[u8]) -> Result<Option<UnixCa
     } else if word == b"mkdir".as_slice() {
         let values = read_path_and_mode(alloc, rest)?;
         Ok(values.map(|(path, mode)| UnixCall::Mkdir(path, mode)))
-    } else if word == b"write".as_slice() {
+    } else {
+        bytes_call(alloc, word, rest)
+    }
+}
+
+/// Reads the arguments of a call whose word is `word`, if it is a call that writes bytes, or one of the later
+/// groups.
+fn bytes_call(alloc: Global, word: &[u8], rest: &[u8]) -> Result<Option<UnixCall>, AllocError>
+    ensures { IfOk result (λ call.
+        call ≡ call_among (drop 2 writing_calls ++ reading_calls ++ entry_calls ++ process_calls) word.now (Some rest.now)) }
+{
+    if word == b"write".as_slice() {
         let values = read_path_and_bytes(alloc, rest)?;
         Ok(values.map(|(path, bytes)| UnixCall::Write(path, bytes)))
     } else if word == b"append".as_slice() {
@@ -163,7 +177,17 @@ fn entry_call(alloc: Global, word: &[u8], rest: &[u8]) -> Result<Option<UnixCall
         Ok(read_owned_path(alloc, rest)?.map(UnixCall::Rmdir))
     } else if word == b"rmtree".as_slice() {
         Ok(read_owned_path(alloc, rest)?.map(UnixCall::Rmtree))
-    } else if word == b"rename".as_slice() {
+    } else {
+        rename_or_wrap(alloc, word, rest)
+    }
+}
+
+/// Reads the arguments of a call whose word is `word`, if it is `rename`, `wrap` or a call of processes.
+fn rename_or_wrap(alloc: Global, word: &[u8], rest: &[u8]) -> Result<Option<UnixCall>, AllocError>
+    ensures { IfOk result (λ call.
+        call ≡ call_among (drop 3 entry_calls ++ process_calls) word.now (Some rest.now)) }
+{
+    if word == b"rename".as_slice() {
         let values = read_path_and_name(alloc, rest)?;
         Ok(values.map(|(path, name)| UnixCall::Rename(path, name)))
     } else if word == b"wrap".as_slice() {
@@ -206,6 +230,13 @@ fn read_words(alloc: Global, line: &[u8]) -> Result<Option<Item>, AllocError>
     if word == b"group".as_slice() {
         return Ok(read_group(alloc, rest)?.map(Item::Group));
     }
+    read_process_call(alloc, word, rest)
+}
+
+/// Reads `CALL` behind a word that may be a process.
+fn read_process_call(alloc: Global, word: &[u8], rest: &[u8]) -> Result<Option<Item>, AllocError>
+    ensures { IfOk result (λ item. item ≡ call_item word.now rest.now) }
+{
     let Some(process) = read_process(word) else {
         return Ok(None);
     };

@@ -3,7 +3,7 @@ ghost use Rattle.std.specs.Prelude.{ℕ, IfOk, false, ◌≡◌, ◌≤◌, leng
 ghost use Rattle.histar_script.specs.Lines.{lines_of, most_script_bytes, is_too_long as too_long};
 ghost use Rattle.histar_script.specs.Script.{ScriptModel, IsDeclared, IsNumbered, nothing_read, without_job};
 ghost use Rattle.histar_script.specs.Grammar.{IsScript, IsFirstBad};
-ghost use Rattle.histar_script.specs.Reading.{reading, script_of, with_item};
+ghost use Rattle.histar_script.specs.Reading.{reading, script_of, with_item, with_line};
 ghost use Rattle.histar_script.specs.Outcome.{Gives, GivesNext};
 
 use crate::calls::read_item;
@@ -118,6 +118,7 @@ impl Script {
             && are_users(self.accounts.users(), group.members())
             && are_distinct(group.members());
         if !is_right {
+            drop(group);
             return Err(Fault::BadScript(line));
         }
         self.accounts.add_group(group)?;
@@ -128,16 +129,28 @@ impl Script {
     fn add_call(&mut self, line: u32, process: ProcName, call: UnixCall) -> Result<(), Fault>
         ensures { GivesNext line result self.new (with_item self.old line (Item.Call process call)) }
     {
-        let is_right = !self.accounts.users().is_empty() && is_declared_call(&self.accounts, &call);
-        if !is_right {
-            return Err(Fault::BadScript(line));
-        }
-        self.calls.push(CallLine {
+        let added = CallLine {
             line,
             process,
             call,
-        })?;
+        };
+        if self.accounts.users().is_empty() || !is_declared_call(&self.accounts, &added.call) {
+            drop(added);
+            return Err(Fault::BadScript(line));
+        }
+        self.calls.push(added)?;
         Ok(())
+    }
+
+    // Adds what a line says, or returns its fault.
+    #[tactic(auto, unfolding(crate::specs::Reading::with_line))]
+    fn add_line(&mut self, alloc: Global, number: u32, line: &[u8]) -> Result<(), Fault>
+        ensures { GivesNext number result self.new (with_line self.old number line.now) }
+    {
+        let Some(item) = read_item(alloc, line)? else {
+            return Err(Fault::BadScript(number));
+        };
+        self.add(number, item)
     }
 }
 
@@ -184,10 +197,7 @@ fn read_lines(alloc: Global, text: &[u8]) -> Result<Script, Fault>
     while !rest.is_empty() {
         let (line, after) = split_line(rest);
         count += 1;
-        let Some(item) = read_item(alloc, line)? else {
-            return Err(Fault::BadScript(count));
-        };
-        script.add(count, item)?;
+        script.add_line(alloc, count, line)?;
         rest = after;
     }
     if script.accounts().users().is_empty() {
