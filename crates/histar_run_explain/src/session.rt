@@ -9,6 +9,7 @@ ghost use Rattle.histar_shell.specs.AnsweredCalls.{BeginsAnswer, BeginsAnswers};
 ghost use Rattle.histar_shell.specs.Ending.{HasTree};
 ghost use Rattle.histar_shell.specs.Machine.{IsTraced};
 ghost use Rattle.histar_run_explain.specs.Entries.{Adds, AddsEntries, EndsAsRun, IsRunFrom};
+ghost use Rattle.histar_names.specs.Births.{births_after};
 ghost use Rattle.histar_names.specs.NamedWords.{words_at};
 ghost use Rattle.histar_run_explain.specs.Session.{AppendsRest, BeginsRest, BeginsRun, EndsWithTree, WritesRun};
 ghost use Rattle.histar_run_explain.specs.Session.{ExplainsCall, ExplainsCalls, HasExplained, IsWithText, births_by};
@@ -234,13 +235,35 @@ fn answer_and_explain<S: LabelStore + Drop, T: LabelStore + Drop, W: Sink>(
     let clue = clue_of(&call.process, &call.call);
     let before = machine.trace().len();
     answer_call(alloc, machine, call, writer)?;
+    Ok(explain_answered(alloc, machine, explainer, &clue, before)?)
+}
+
+/// Notes the births of a line, and then explains it as `explain_line` does.
+fn explain_answered<S: LabelStore + Drop, T: LabelStore + Drop>(
+    alloc: Global,
+    machine: &Machine<S>,
+    explainer: &mut Explainer<T>,
+    clue: &Clue,
+    before: usize,
+) -> Result<(), OutOfMemory>
+    requires within { before ≤ length machine.now.kernel.trace }
+    requires run { IsRunFrom (state explainer.old.second) (drop before machine.now.kernel.trace) }
+    ensures explained { OnOk result (AddsEntries
+        (words_at machine.now.users machine.now.roots (state machine.now.kernel) clue.now explainer.new.births.items)
+        (state explainer.old.second) (drop before machine.now.kernel.trace) (state explainer.new.second)
+        explainer.old.text.items explainer.new.text.items) }
+    ensures births { OnOk result (explainer.new.births.items
+        ≡ births_after (state machine.now.kernel) machine.now.roots clue.now.caller explainer.old.births.items) }
+    ensures ends { OnOk result (EndsAsRun (state explainer.old.second) (drop before machine.now.kernel.trace)
+        (state explainer.new.second)) }
+{
     note_births(
         machine.kernel(),
         machine.roots(),
         &clue.caller,
         &mut explainer.births,
     )?;
-    Ok(explain_line(alloc, machine, explainer, &clue, before)?)
+    explain_line(alloc, machine, explainer, clue, before)
 }
 
 /// Returns the entries of a trace after this many.
