@@ -89,7 +89,9 @@ fn explain_text<W: Sink>(
     let Ok(mut machine) = Machine::boot(alloc, store, accounts) else {
         return Err(Fault::OutOfMemory);
     };
-    run_calls(alloc, &mut machine, calls, writer, options)
+    let outcome = run_calls(alloc, &mut machine, calls, writer, options);
+    drop(machine);
+    outcome
 }
 
 /// Makes the calls on a machine that was booted, and writes the replies, what follows them, and the
@@ -132,13 +134,23 @@ fn explain_calls<S: LabelStore + Drop, W: Sink>(
         text: Vec::new(alloc),
     };
     let outcome = answer_calls(alloc, machine, &mut explainer, calls, writer);
-    with_text(outcome, explainer.text)
+    with_text(outcome, explainer)
 }
 
-/// Returns a text where the outcome is no fault.
-fn with_text(outcome: Result<(), Fault>, text: Vec<u8>) -> Result<Vec<u8>, Fault>
-    ensures { IsWithText outcome text result }
+/// Returns the explanations so far where the outcome is no fault.
+fn with_text<S: LabelStore + Drop>(
+    outcome: Result<(), Fault>,
+    explainer: Explainer<S>,
+) -> Result<Vec<u8>, Fault>
+    ensures { IsWithText outcome explainer.text result }
 {
+    let Explainer {
+        second,
+        births,
+        text,
+    } = explainer;
+    drop(second);
+    drop(births);
     match outcome {
         Ok(()) => Ok(text),
         Err(fault) => Err(fault),
@@ -184,9 +196,26 @@ fn second_kernel<S: LabelStore + Drop>(
 {
     let store = InternStore::new(alloc, REMEMBERED_ANSWERS)?;
     let mut kernel = Kernel::new(alloc, store)?;
+    match replay_all(alloc, &mut kernel, machine.trace()) {
+        Ok(()) => Ok(kernel),
+        Err(error) => {
+            drop(kernel);
+            Err(error)
+        }
+    }
+}
+
+/// Brings a kernel to the state after entries, and explains none of them.
+fn replay_all<S: LabelStore + Drop>(
+    alloc: Global,
+    kernel: &mut Kernel<S>,
+    entries: &[TraceEntry],
+) -> Result<(), OutOfMemory>
+    requires { IsRunFrom (state kernel.old) entries.now }
+    ensures { OnOk result (EndsAsRun (state kernel.old) entries.now (state kernel.new)) }
+{
     let mut text = Vec::new(alloc);
-    explain_entries(alloc, &mut kernel, &ByNumber, &mut text, machine.trace())?;
-    Ok(kernel)
+    explain_entries(alloc, kernel, &ByNumber, &mut text, entries)
 }
 
 /// Makes the calls on the machine in their order, writes a line for each, and keeps the explanations of
