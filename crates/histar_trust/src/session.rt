@@ -8,7 +8,7 @@ use crate::files::secret_lines;
 use crate::output::trust_lines;
 use histar_flat::Path;
 use histar_io::{Sink, Source, read_input, write_bytes};
-use histar_prefix::machine_before;
+use histar_prefix::{discard, machine_before};
 use histar_script::Fault;
 use std::alloc::Global;
 
@@ -63,7 +63,7 @@ fn trust_text<W: Sink>(
 {
     let machine = machine_before(alloc, text, at)?;
     let shown = trust_lines(alloc, &machine, path);
-    drop(machine);
+    discard(machine);
     let lines = shown?;
     write_bytes(writer, lines.as_slice())?;
     Ok(())
@@ -111,7 +111,7 @@ fn secrets_text<W: Sink>(alloc: Global, text: &[u8], writer: &mut W) -> Result<(
 {
     let machine = machine_before(alloc, text, None)?;
     let shown = secret_lines(alloc, &machine);
-    drop(machine);
+    discard(machine);
     let lines = shown?;
     write_bytes(writer, lines.as_slice())?;
     Ok(())
