@@ -9,7 +9,7 @@ use Rattle.histar_programs.specs.declared.caller.Caller.{Caller}
 use Rattle.histar_programs.specs.Caller.{caller_at}
 use Rattle.histar_rights.specs.declared.rights.Rights.{Rights}
 use Rattle.histar_rights.specs.Rights.{above_root, rights_below}
-use Rattle.histar_rights.specs.Table.{AccessLine, Cell as NamedRights, cell_text}
+use Rattle.histar_rights.specs.Table.{AccessLine, Cell as NamedRights, access_line_text, cell_text}
 use Rattle.histar_readout.specs.declared.process.ProcessNode.{ProcessNode}
 use Rattle.histar_readout.specs.declared.tree.TreeNode.{TreeNode}
 use Rattle.histar_readout.specs.TreeLines.{node_stat}
@@ -44,6 +44,14 @@ shown_text c = cell_text (shown c)
 -- what `stat` shows of a file or a directory, and the rights there
 abbrev pub line_of_node : TreeNode → List Cell → AccessLine
 line_of_node node row = record { path = node.path; stat = node_stat node; cells = map shown row }
+
+-- the rights at a file or a directory, given those at the directory above it
+abbrev pub node_row : State → List Cell → TreeNode → List Cell
+node_row s above node = row_below s (object_of node.target) above
+
+-- the line of a file or a directory, given the rights at the directory above it
+abbrev pub node_line : State → List Cell → TreeNode → List ℕ
+node_line s above node = access_line_text (line_of_node node (node_row s above node))
 
 -- The lines of files and directories, each after that of its directory, computed from the rights on the way to the node before: those at
 -- the directories above the node are kept.

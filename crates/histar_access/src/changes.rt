@@ -10,7 +10,7 @@ ghost use Rattle.histar_access.specs.Diff.{ComparesInputs, ComparesTexts, Counts
 use crate::rights_table::table_of;
 use histar_diff::{Difference, Table, differences_between, push_difference};
 use histar_io::{Sink, Source, read_input, write_bytes};
-use histar_prefix::machine_before;
+use histar_prefix::{discard, machine_before};
 use histar_script::Fault;
 use std::alloc::Global;
 
@@ -77,8 +77,9 @@ fn table_before(alloc: Global, text: &[u8], at: Option<u32>) -> Result<Table, Fa
     ensures { ReadsTable at text.now result }
 {
     let machine = machine_before(alloc, text, at)?;
-    let table = table_of(alloc, &machine)?;
-    Ok(table)
+    let table = table_of(alloc, &machine);
+    discard(machine);
+    Ok(table?)
 }
 
 /// Writes a line for each of these differences.

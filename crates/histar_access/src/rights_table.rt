@@ -1,12 +1,12 @@
 //! The table of a machine, as a value.
-ghost use Rattle.std.specs.Prelude.{◌≡◌, IfOk, [], map};
+ghost use Rattle.std.specs.Prelude.{◌≡◌, IfOk, OnOk, [], map};
 ghost use Rattle.std.specs.List.{filter_map};
 ghost use Rattle.histar_diff.specs.Shown.{rights_line};
 ghost use Rattle.histar_diff.specs.Tables.{by_path};
 ghost use Rattle.histar_syscall.specs.KernelModel.{state};
-ghost use Rattle.histar_access.specs.Cells.{cell_rights, line_of_node, lines_from};
+ghost use Rattle.histar_access.specs.Cells.{cell_rights, line_of_node, lines_from, node_row};
 ghost use Rattle.histar_access.specs.Shown.{IsShown};
-ghost use Rattle.histar_access.specs.RightsTable.{line_rights, runner_of, ShowsTable};
+ghost use Rattle.histar_access.specs.RightsTable.{AddsLine, IsTableBy, line_rights, runner_of, ShowsTable};
 
 use crate::cells::row_below;
 use crate::table::{last_row, visitors_among};
@@ -30,9 +30,22 @@ pub fn table_of<S: LabelStore + Drop>(
 {
     let tree = machine.tree(alloc)?;
     let processes = processes(alloc, machine)?;
-    let visitors = visitors_among(alloc, machine, processes.as_slice())?;
-    let lines = table_lines(alloc, machine, visitors.as_slice(), tree.as_slice())?;
-    let runners = runners_among(alloc, processes.as_slice())?;
+    table_by(alloc, machine, processes.as_slice(), tree.as_slice())
+}
+
+/// Returns the running ones of these processes with their users, and their rights at the files and directories
+/// of a machine.
+fn table_by<S: LabelStore + Drop>(
+    alloc: Global,
+    machine: &Machine<S>,
+    processes: &[ProcessNode],
+    tree: &[TreeNode],
+) -> Result<Table, AllocError>
+    ensures { IfOk result (IsTableBy machine.now processes.now tree.now) }
+{
+    let visitors = visitors_among(alloc, machine, processes)?;
+    let lines = table_lines(alloc, machine, visitors.as_slice(), tree)?;
+    let runners = runners_among(alloc, processes)?;
     Ok(Table {
         processes: runners,
         lines,
@@ -80,12 +93,29 @@ fn table_lines<S: LabelStore + Drop>(
     'nodes: for node in tree {
         way.truncate(node.path.depth());
         let above = last_row(way.as_slice(), visitors);
-        let row = row_below(alloc, machine.kernel(), node.object(), above)?;
-        let line = table_line(alloc, node, row.as_slice())?;
-        lines.push(line)?;
+        let row = add_node(alloc, machine, above, node, &mut lines)?;
         way.push(row)?;
     }
     Ok(lines)
+}
+
+/// Adds the line of a file or a directory, given the rights at the directory above it, and returns the rights
+/// there.
+fn add_node<S: LabelStore + Drop>(
+    alloc: Global,
+    machine: &Machine<S>,
+    above: &[Cell],
+    node: &TreeNode,
+    lines: &mut Vec<TableLine>,
+) -> Result<Vec<Cell>, AllocError>
+    ensures row { IfOk result (λ row. row.items ≡ node_row (state machine.now.kernel) above.now node.now) }
+    ensures line { OnOk result (AddsLine node.now (node_row (state machine.now.kernel) above.now node.now)
+        lines.old.items lines.new.items) }
+{
+    let row = row_below(alloc, machine.kernel(), node.object(), above)?;
+    let line = table_line(alloc, node, row.as_slice())?;
+    lines.push(line)?;
+    Ok(row)
 }
 
 /// Returns the rights of processes at a file or a directory.

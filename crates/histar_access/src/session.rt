@@ -6,7 +6,7 @@ ghost use Rattle.histar_access.specs.Session.{AccessText};
 
 use crate::table::write_table;
 use histar_io::{Sink, Source, read_input};
-use histar_prefix::machine_before;
+use histar_prefix::{discard, machine_before};
 use histar_script::Fault;
 use std::alloc::Global;
 
@@ -54,5 +54,7 @@ fn access_text<W: Sink>(
     ensures runs { AccessText at text.now (W.written writer.old) (W.written writer.new) result }
 {
     let machine = machine_before(alloc, text, at)?;
-    write_table(alloc, &machine, writer)
+    let outcome = write_table(alloc, &machine, writer);
+    discard(machine);
+    outcome
 }

@@ -6,7 +6,7 @@ ghost use Rattle.histar_io.specs.Writing.{AppendsFront};
 ghost use Rattle.histar_rights.specs.Table.{access_line_text, access_text};
 ghost use Rattle.histar_script.specs.Runs.{IsOutputFault, is_write_failed};
 ghost use Rattle.histar_syscall.specs.KernelModel.{state};
-ghost use Rattle.histar_access.specs.Cells.{line_of_node, lines_from};
+ghost use Rattle.histar_access.specs.Cells.{line_of_node, lines_from, node_line, node_row};
 ghost use Rattle.histar_access.specs.Rows.{last_or};
 ghost use Rattle.histar_access.specs.Shown.{AppendsTable, BeginsTable, IsShown, visitors_in};
 
@@ -78,12 +78,33 @@ fn write_lines<S: LabelStore + Drop, W: Sink>(
     'lines: for node in tree {
         way.truncate(node.path.depth());
         let above = last_row(way.as_slice(), visitors);
-        let row = row_below(alloc, machine.kernel(), node.object(), above)?;
-        let line = access_line(alloc, node, row.as_slice())?;
-        write_bytes(writer, line.as_slice())?;
+        let row = write_node(alloc, machine, above, node, writer)?;
         way.push(row)?;
     }
     Ok(())
+}
+
+/// Writes the line of a file or a directory, given the rights at the directory above it, and returns the rights
+/// there.
+fn write_node<S: LabelStore + Drop, W: Sink>(
+    alloc: Global,
+    machine: &Machine<S>,
+    above: &[Cell],
+    node: &TreeNode,
+    writer: &mut W,
+) -> Result<Vec<Cell>, Fault>
+    ensures row { IfOk result (λ row. row.items ≡ node_row (state machine.now.kernel) above.now node.now) }
+    ensures ok { OnOk result (Appends (W.written writer.old) (W.written writer.new)
+        (node_line (state machine.now.kernel) above.now node.now)) }
+    ensures err { OnErr result (AppendsFront (W.written writer.old) (W.written writer.new)
+        (node_line (state machine.now.kernel) above.now node.now)) }
+    ensures faults { IfErr result IsOutputFault }
+    ensures count { CountsFailure (W.failures writer.old) (W.failures writer.new) (is_write_failed result) }
+{
+    let row = row_below(alloc, machine.kernel(), node.object(), above)?;
+    let line = access_line(alloc, node, row.as_slice())?;
+    write_bytes(writer, line.as_slice())?;
+    Ok(row)
 }
 
 /// Returns the last of these rows, or the processes as they are above `/` if there is none.

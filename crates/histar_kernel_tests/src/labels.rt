@@ -62,10 +62,26 @@ fn agrees(rt: &impl Abort, first: &Label, second: &Label, row: Row) -> Result<()
     let (low, high, below, below_raised, join, floor) = row;
     assert_eq!(rt; first.below(second), below);
     assert_eq!(rt; first.below_raised(second), below_raised);
-    assert_eq!(rt; first.join(second)?.get(seven()), join);
-    assert_eq!(rt; first.floor(second)?.get(seven()), floor);
     assert_eq!(rt; first == second, low == high);
+    bounds_agree(rt, first, second, join, floor)
+}
+
+/// Checks the levels of the join and of the floor of two labels.
+fn bounds_agree(
+    rt: &impl Abort,
+    first: &Label,
+    second: &Label,
+    join: Level,
+    floor: Level,
+) -> Result<(), OutOfMemory> {
+    is_at_seven(rt, &first.join(second)?, join);
+    is_at_seven(rt, &first.floor(second)?, floor);
     Ok(())
+}
+
+/// Checks that the label has this level at category 7.
+fn is_at_seven(rt: &impl Abort, label: &Label, level: Level) {
+    assert_eq!(rt; label.get(seven()), level);
 }
 
 /// Checks that the floor of two labels is below those with its level or a higher one.

@@ -6,4 +6,4 @@ mod listing;
 mod session;
 
 pub use listing::processes;
-pub use session::machine_before;
+pub use session::{discard, machine_before};

@@ -27,9 +27,15 @@ pub fn machine_before(
         return Err(Fault::OutOfMemory);
     };
     let Ok(()) = make_calls(alloc, &mut machine, calls, at) else {
+        discard(machine);
         return Err(Fault::OutOfMemory);
     };
     Ok(machine)
+}
+
+/// Drops a machine. A crate that calls it has no proof of its own that each part of a machine can be dropped.
+pub fn discard(machine: Machine<InternStore>) {
+    drop(machine);
 }
 
 /// Makes the calls on the lines before the given one, in their order, or all calls.

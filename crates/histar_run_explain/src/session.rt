@@ -9,6 +9,7 @@ ghost use Rattle.histar_shell.specs.AnsweredCalls.{BeginsAnswer, BeginsAnswers};
 ghost use Rattle.histar_shell.specs.Ending.{HasTree};
 ghost use Rattle.histar_shell.specs.Machine.{IsTraced};
 ghost use Rattle.histar_run_explain.specs.Entries.{Adds, AddsEntries, EndsAsRun, IsRunFrom};
+ghost use Rattle.histar_names.specs.Births.{births_after};
 ghost use Rattle.histar_names.specs.NamedWords.{words_at};
 ghost use Rattle.histar_run_explain.specs.Session.{AppendsRest, BeginsRest, BeginsRun, EndsWithTree, WritesRun};
 ghost use Rattle.histar_run_explain.specs.Session.{ExplainsCall, ExplainsCalls, HasExplained, IsWithText, births_by};
@@ -88,7 +89,9 @@ fn explain_text<W: Sink>(
     let Ok(mut machine) = Machine::boot(alloc, store, accounts) else {
         return Err(Fault::OutOfMemory);
     };
-    run_calls(alloc, &mut machine, calls, writer, options)
+    let outcome = run_calls(alloc, &mut machine, calls, writer, options);
+    drop(machine);
+    outcome
 }
 
 /// Makes the calls on a machine that was booted, and writes the replies, what follows them, and the
@@ -131,13 +134,23 @@ fn explain_calls<S: LabelStore + Drop, W: Sink>(
         text: Vec::new(alloc),
     };
     let outcome = answer_calls(alloc, machine, &mut explainer, calls, writer);
-    with_text(outcome, explainer.text)
+    with_text(outcome, explainer)
 }
 
-/// Returns a text where the outcome is no fault.
-fn with_text(outcome: Result<(), Fault>, text: Vec<u8>) -> Result<Vec<u8>, Fault>
-    ensures { IsWithText outcome text result }
+/// Returns the explanations so far where the outcome is no fault.
+fn with_text<S: LabelStore + Drop>(
+    outcome: Result<(), Fault>,
+    explainer: Explainer<S>,
+) -> Result<Vec<u8>, Fault>
+    ensures { IsWithText outcome explainer.text result }
 {
+    let Explainer {
+        second,
+        births,
+        text,
+    } = explainer;
+    drop(second);
+    drop(births);
     match outcome {
         Ok(()) => Ok(text),
         Err(fault) => Err(fault),
@@ -183,9 +196,26 @@ fn second_kernel<S: LabelStore + Drop>(
 {
     let store = InternStore::new(alloc, REMEMBERED_ANSWERS)?;
     let mut kernel = Kernel::new(alloc, store)?;
+    match replay_all(alloc, &mut kernel, machine.trace()) {
+        Ok(()) => Ok(kernel),
+        Err(error) => {
+            drop(kernel);
+            Err(error)
+        }
+    }
+}
+
+/// Brings a kernel to the state after entries, and explains none of them.
+fn replay_all<S: LabelStore + Drop>(
+    alloc: Global,
+    kernel: &mut Kernel<S>,
+    entries: &[TraceEntry],
+) -> Result<(), OutOfMemory>
+    requires { IsRunFrom (state kernel.old) entries.now }
+    ensures { OnOk result (EndsAsRun (state kernel.old) entries.now (state kernel.new)) }
+{
     let mut text = Vec::new(alloc);
-    explain_entries(alloc, &mut kernel, &ByNumber, &mut text, machine.trace())?;
-    Ok(kernel)
+    explain_entries(alloc, kernel, &ByNumber, &mut text, entries)
 }
 
 /// Makes the calls on the machine in their order, writes a line for each, and keeps the explanations of
@@ -234,13 +264,35 @@ fn answer_and_explain<S: LabelStore + Drop, T: LabelStore + Drop, W: Sink>(
     let clue = clue_of(&call.process, &call.call);
     let before = machine.trace().len();
     answer_call(alloc, machine, call, writer)?;
+    Ok(explain_answered(alloc, machine, explainer, &clue, before)?)
+}
+
+/// Notes the births of a line, and then explains it as `explain_line` does.
+fn explain_answered<S: LabelStore + Drop, T: LabelStore + Drop>(
+    alloc: Global,
+    machine: &Machine<S>,
+    explainer: &mut Explainer<T>,
+    clue: &Clue,
+    before: usize,
+) -> Result<(), OutOfMemory>
+    requires within { before ≤ length machine.now.kernel.trace }
+    requires run { IsRunFrom (state explainer.old.second) (drop before machine.now.kernel.trace) }
+    ensures explained { OnOk result (AddsEntries
+        (words_at machine.now.users machine.now.roots (state machine.now.kernel) clue.now explainer.new.births.items)
+        (state explainer.old.second) (drop before machine.now.kernel.trace) (state explainer.new.second)
+        explainer.old.text.items explainer.new.text.items) }
+    ensures births { OnOk result (explainer.new.births.items
+        ≡ births_after (state machine.now.kernel) machine.now.roots clue.now.caller explainer.old.births.items) }
+    ensures ends { OnOk result (EndsAsRun (state explainer.old.second) (drop before machine.now.kernel.trace)
+        (state explainer.new.second)) }
+{
     note_births(
         machine.kernel(),
         machine.roots(),
         &clue.caller,
         &mut explainer.births,
     )?;
-    Ok(explain_line(alloc, machine, explainer, &clue, before)?)
+    explain_line(alloc, machine, explainer, clue, before)
 }
 
 /// Returns the entries of a trace after this many.

@@ -1,5 +1,5 @@
 -- What a test guarantees.
-use Rattle.std.specs.Prelude.{◌≡◌, ◌↔◌, ℕ, ◌+◌, ◌||◌, true, Bool, List, [], ◌∷◌, ◌++◌, Option, Some, Ok, MatchOption, is_some, if◌then◌else◌}
+use Rattle.std.specs.Prelude.{◌≡◌, ◌↔◌, ℕ, ◌+◌, ◌||◌, true, Bool, List, [], ◌∷◌, ◌++◌, Some, Ok, MatchOption, is_some, if◌then◌else◌}
 use Rattle.std.specs.List.{AllZip}
 use Rattle.std.specs.Option.{IsSomeAnd}
 use Rattle.histar_flat.specs.Meaning.{RepliedCall, meaning}

@@ -16,6 +16,7 @@ use histar_base::Bytes;
 use histar_flat::{Accounts, CallLine};
 use histar_io::{Sink, write_bytes};
 use histar_label::InternStore;
+use histar_prefix::discard;
 use histar_script::Fault;
 use histar_shell::{Machine, reply_text};
 use std::alloc::Global;
@@ -55,6 +56,20 @@ impl Run {
             last: None,
             tally,
         })
+    }
+
+    /// Drops the run, and returns its tally.
+    pub(crate) fn finish(self) -> Tally
+        ensures { result ≡ self.tally }
+    {
+        let Run {
+            machine,
+            last,
+            tally,
+        } = self;
+        drop(last);
+        discard(machine);
+        tally
     }
 
     /// Makes a call on the machine; it is then the last one.

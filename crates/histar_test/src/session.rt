@@ -160,6 +160,8 @@ fn test_file<W: Sink>(
     let NamedTest { name, test } = named;
     let (accounts, steps) = test.into_parts();
     let mut run = Run::start(alloc, accounts, tally)?;
-    run.take_steps(alloc, name.as_slice(), steps, writer)?;
-    Ok(run.tally)
+    let outcome = run.take_steps(alloc, name.as_slice(), steps, writer);
+    let after = run.finish();
+    outcome?;
+    Ok(after)
 }

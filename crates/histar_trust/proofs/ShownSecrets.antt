@@ -34,13 +34,13 @@ use Rattle.histar_readout.specs.TreeEntries.{TreeEntry, flat_entry, tree_entry}
 use Rattle.histar_readout.specs.TreeLines.{TreeLine, flat_line, line_at}
 use Rattle.histar_shell.specs.Ending.{IsTreeIn}
 use Rattle.histar_shell.specs.Machine.{MachineModel}
-use Rattle.histar_trust.specs.Findings.{AddsSecrets, ShowsReached, class_flat, shown_members, shown_runners, shown_secret}
+use Rattle.histar_trust.specs.Findings.{AddsSecrets, AreMembers, ShowsReached, class_flat, shown_members, shown_runners}
+use Rattle.histar_trust.specs.Findings.{shown_secret}
 use Rattle.histar_trust.specs.Secrets.{is_secret, members_text, process_mark, runners_line, secret_text, secrets_text, user_mark}
 use Rattle.histar_trust.specs.TrustText.{is_for_everyone}
 use Rattle.histar_trust.proofs.Places.{IsAt, first_of_list, number_of, rest_of_list, same_class, same_everyone}
 use Rattle.histar_trust.proofs.Runners.{AllOf, runners_shown}
-use Rattle.histar_trust.proofs.ShownTrust.{AreMembers, chosen, confined_same, members_are as all_members, is_so, own_tree, same_names, same_tree}
-use Rattle.histar_trust.proofs.ShownTrust.{trusted_same}
+use Rattle.histar_trust.proofs.ShownTrust.{chosen, confined_same, members_are as all_members, is_so, own_tree, same_names, same_tree, trusted_same}
 
 -- ---- entries
 

@@ -33,7 +33,6 @@ use Rattle.histar_secrecy.specs.ShownRoles.{AreClassesTo, AreNumbered, IsShownPr
 use Rattle.histar_secrecy.specs.ShownRoles.{is_same_role, is_shown_changer, member_role, role_in, with_user}
 use Rattle.histar_secrecy.proofs.Learning.{roles_are_shown}
 use Rattle.histar_secrecy.proofs.ShownProcesses.{shown_is_so}
-use Rattle.histar_readout.specs.declared.process.ProcessNode.{ProcessNode}
 use Rattle.histar_readout.specs.declared.tree.TreeNode.{TreeNode}
 use Rattle.histar_readout.specs.Laws.{HasProcessesOf, HasTreeOf}
 use Rattle.histar_readout.specs.Processes.{AreProcessesOf, levels_at}
@@ -45,11 +44,11 @@ use Rattle.histar_readout.proofs.TreeMatched.{flat_states_have_their_trees}
 use Rattle.histar_shell.specs.Ending.{HasTree, IsTreeIn}
 use Rattle.histar_shell.specs.Machine.{MachineModel}
 use Rattle.histar_shell.proofs.SameUsers.{tree_unproved}
-use Rattle.histar_prefix.specs.Listing.{AreProcessesIn, HasProcesses}
+use Rattle.histar_prefix.specs.Listing.{HasProcesses}
 use Rattle.histar_prefix.proofs.Listed.{filter_map_map, processes_there, tree_there}
 use Rattle.histar_prefix.proofs.SameProcesses.{one_list, processes_unproved}
-use Rattle.histar_trust.specs.Findings.{ShowsReached, class_flat, classes_to, head_text, node_at, runner_of, running_node, shown_changers}
-use Rattle.histar_trust.specs.Findings.{shown_readers, shown_roles}
+use Rattle.histar_trust.specs.Findings.{AreMembers, ShowsReached, class_flat, classes_to, head_text, node_at, runner_of, running_node}
+use Rattle.histar_trust.specs.Findings.{shown_changers, shown_readers, shown_roles}
 use Rattle.histar_trust.specs.TrustText.{changers_text, is_for_everyone, process_lines, readers_text, running_where, roles_text, trust_text}
 use Rattle.histar_trust.specs.TrustText.{user_lines}
 use Rattle.histar_trust.proofs.Places.{AreAlike, IsAt, alike, classes_are, found_at, number_of, same_class, same_everyone}
@@ -82,12 +81,6 @@ confined_is t c reads bound te ce =
 pub same_names : (users : List User) → map (λ (u : User). u.name) (map without_password users) ≡ map (λ (u : User). u.name) users
 same_names [] = refl
 same_names (u ∷ users) = ap (λ (names : List Name). u.name ∷ names) (same_names users)
-
--- the processes of a machine were found, and these members are the running ones
-pub record AreMembers (m : MachineModel) (members : List Member) : Type 0 where
-  pub processes : List ProcessNode
-  pub are : AreProcessesIn m processes
-  pub runners : map runner_of members ≡ filter_map running_node processes
 
 -- the tree of a machine was found, with this node at the path, and these classes of the node and of the directories above
 pub record IsFound (m : MachineModel) (path : Path) (node : TreeNode) (classes : List FileClass) : Type 0 where

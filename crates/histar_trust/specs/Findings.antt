@@ -9,7 +9,7 @@ use Rattle.histar_flat.specs.Classes.Class.{Private as FlatPrivate, Readable as 
 use Rattle.histar_flat.specs.Classes.Class.{Grouped as FlatGrouped}
 use Rattle.histar_flat.specs.FlatState.{Flat}
 use Rattle.histar_flat.specs.Texts.{path_text}
-use Rattle.std.specs.List.{flat_map}
+use Rattle.std.specs.List.{filter_map, flat_map}
 use Rattle.histar_rights.specs.Table.{access_line_text}
 use Rattle.histar_layout.specs.Listing.{is_directory}
 use Rattle.histar_layout.specs.declared.class.Class.{Class}
@@ -27,6 +27,7 @@ use Rattle.histar_readout.specs.declared.tree.TreeNode.{TreeNode}
 use Rattle.histar_readout.specs.TreeLines.{node_stat}
 use Rattle.histar_shell.specs.Machine.{MachineModel}
 use Rattle.histar_shell.specs.Meaning.{Shows}
+use Rattle.histar_prefix.specs.Listing.{AreProcessesIn}
 use Rattle.histar_trust.specs.Secrets.{is_secret, process_mark, runner_mark, secrets_text, user_mark}
 use Rattle.histar_trust.specs.TrustText.{is_for_everyone, process_lines, trust_text, user_lines}
 
@@ -85,6 +86,10 @@ abbrev pub classes_to : List TreeNode → Path → List FlatClass
 classes_to tree [] = class_there (node_at [] tree)
 classes_to tree (n ∷ d) = class_there (node_at (n ∷ d) tree) ++ classes_to tree d
 
+-- the users as whom a process could log in to read a file of the class, as they are printed
+abbrev pub shown_login_readers : Accounts → FlatClass → List ℕ
+shown_login_readers accounts class = user_lines (codes "login") (filter (is_login_reader accounts.groups class) (names_of accounts))
+
 module _ (accounts : Accounts) (members : List Member) where
   -- the processes that have this role towards a file of the class
   abbrev pub those_of : FlatClass → Role → List (ProcName × Name)
@@ -96,7 +101,7 @@ module _ (accounts : Accounts) (members : List Member) where
       process_lines (codes "trusted") (those_of class Trusted)
       ++ process_lines (codes "confined") (those_of class Confined)
       ++ process_lines (codes "outside") (those_of class Outside)
-      ++ user_lines (codes "login") (filter (is_login_reader accounts.groups class) (names_of accounts))
+      ++ shown_login_readers accounts class
 
   -- the text of the roles towards a file or a directory of a tree
   abbrev pub shown_roles : TreeNode → List ℕ
@@ -132,6 +137,20 @@ module _ (accounts : Accounts) (members : List Member) where
 -- the line of a file or a directory, without processes
 abbrev pub head_text : TreeNode → List ℕ
 head_text node = access_line_text (record { path = node.path; stat = node_stat node; cells = [] })
+
+-- the text of a file or a directory of a tree, by its class and those of the directories above it
+abbrev pub shown_node : Accounts → List Member → TreeNode → List FileClass → List ℕ
+shown_node accounts members node classes = head_text node ++ shown_roles accounts members node ++ shown_changers accounts members classes
+
+-- the processes of a machine were found, and these members are the running ones
+pub record AreMembers (m : MachineModel) (members : List Member) : Type 0 where
+  pub processes : List ProcessNode
+  pub are : AreProcessesIn m processes
+  pub runners : map runner_of members ≡ filter_map running_node processes
+
+-- the text of a node of a tree by the running processes of a machine
+abbrev pub ShowsNode : MachineModel → TreeNode → List FileClass → List ℕ → Type 0
+ShowsNode m node classes text = (members : List Member) × AreMembers m members × (text ≡ shown_node m.users members node classes)
 
 -- a machine represents a flat state that calls lead to
 pub record ShowsReached (accounts : Accounts) (m : MachineModel) (f : Flat) : Type 0 where

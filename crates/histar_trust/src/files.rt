@@ -2,6 +2,7 @@
 ghost use Rattle.std.specs.Prelude.{◌≡◌, ◌++◌, [], ◌∷◌, codes, IfOk, OnOk};
 ghost use Rattle.std.specs.List.{flat_map};
 ghost use Rattle.histar_layout.specs.Listing.{is_directory};
+ghost use Rattle.histar_shell.specs.Ending.{IsTreeIn};
 ghost use Rattle.histar_secrecy.specs.ShownRoles.{flat_class};
 ghost use Rattle.histar_trust.specs.Findings.{AddsSecrets, HasState, ShowsSecrets, shown_members, shown_runner, shown_runners};
 ghost use Rattle.histar_trust.specs.Secrets.{is_secret, process_mark, user_mark};
@@ -30,17 +31,37 @@ pub fn secret_lines<S: LabelStore + Drop>(
     ensures { IfOk result (λ text. ShowsSecrets machine.now text.items) }
 {
     let tree = machine.tree(alloc)?;
+    lines_in(alloc, machine, tree.as_slice())
+}
+
+/// Returns the line of the processes that run on a machine, and those of the files of its tree.
+fn lines_in<S: LabelStore + Drop>(
+    alloc: Global,
+    machine: &Machine<S>,
+    tree: &[TreeNode],
+) -> Result<Vec<u8>, AllocError>
+    requires shows { HasState machine.now }
+    requires tree { IsTreeIn machine.now tree.now }
+    ensures { IfOk result (λ text. ShowsSecrets machine.now text.items) }
+{
     let processes = processes(alloc, machine)?;
     let members = members_among(alloc, processes.as_slice())?;
+    member_lines(alloc, machine.users(), members.as_slice(), tree)
+}
+
+/// Returns the line of the processes that run, and those of the files of a tree.
+fn member_lines(
+    alloc: Global,
+    users: &UserTable,
+    members: &[Member],
+    tree: &[TreeNode],
+) -> Result<Vec<u8>, AllocError>
+    ensures { IfOk result (λ text.
+        AddsSecrets users.now members.now tree.now (shown_runners members.now) text.items) }
+{
     let mut text = Vec::new(alloc);
-    push_runners(&mut text, members.as_slice())?;
-    push_secrets(
-        alloc,
-        &mut text,
-        machine.users(),
-        members.as_slice(),
-        tree.as_slice(),
-    )?;
+    push_runners(&mut text, members)?;
+    push_secrets(alloc, &mut text, users, members, tree)?;
     Ok(text)
 }
 

@@ -1,7 +1,10 @@
 //! The lines on which processes and users have to be trusted.
 ghost use Rattle.std.specs.Prelude.{◌≡◌, ◌++◌, IfOk, OnOk};
+ghost use Rattle.histar_shell.specs.Ending.{IsTreeIn};
 ghost use Rattle.histar_secrecy.specs.ShownRoles.{flat_class};
-ghost use Rattle.histar_trust.specs.Findings.{HasState, ShowsTrust, head_text, shown_changers, shown_readers, shown_roles};
+ghost use Rattle.histar_trust.specs.Findings.{HasState, ShowsNode, ShowsTrust};
+ghost use Rattle.histar_trust.specs.Findings.{head_text, shown_changers, shown_login_readers, shown_node};
+ghost use Rattle.histar_trust.specs.Findings.{shown_readers, shown_roles};
 ghost use Rattle.histar_trust.specs.TrustText.{is_for_everyone, process_line, process_lines, user_lines};
 
 use crate::members::{members_among, user_names};
@@ -30,23 +33,58 @@ pub fn trust_lines<S: LabelStore + Drop>(
     ensures { IfOk result (λ text. ShowsTrust machine.now path.now text.items) }
 {
     let tree = machine.tree(alloc)?;
-    let Some(node) = node_at(tree.as_slice(), path.names()) else {
+    lines_in(alloc, machine, path, tree.as_slice())
+}
+
+/// Returns the lines on what is at a path of the tree of a machine.
+fn lines_in<S: LabelStore + Drop>(
+    alloc: Global,
+    machine: &Machine<S>,
+    path: &Path,
+    tree: &[TreeNode],
+) -> Result<Vec<u8>, AllocError>
+    requires shows { HasState machine.now }
+    requires tree { IsTreeIn machine.now tree.now }
+    ensures { IfOk result (λ text. ShowsTrust machine.now path.now text.items) }
+{
+    let Some(node) = node_at(tree, path.names()) else {
         return Vec::from_slice(alloc, b"no entry\n");
     };
     let mut classes = Vec::new(alloc);
-    push_classes(alloc, tree.as_slice(), path.names(), &mut classes)?;
+    push_classes(alloc, tree, path.names(), &mut classes)?;
+    lines_at(alloc, machine, node, classes.as_slice())
+}
+
+/// Returns the lines on a node of a tree, by its class and those of the directories above it.
+fn lines_at<S: LabelStore + Drop>(
+    alloc: Global,
+    machine: &Machine<S>,
+    node: &TreeNode,
+    classes: &[FileClass],
+) -> Result<Vec<u8>, AllocError>
+    requires { HasState machine.now }
+    ensures { IfOk result (λ text. ShowsNode machine.now node.now classes.now text.items) }
+{
     let processes = processes(alloc, machine)?;
     let members = members_among(alloc, processes.as_slice())?;
+    node_lines(alloc, machine.users(), members.as_slice(), node, classes)
+}
+
+/// Returns the lines on a node of a tree, by the processes that run.
+fn node_lines(
+    alloc: Global,
+    users: &UserTable,
+    members: &[Member],
+    node: &TreeNode,
+    classes: &[FileClass],
+) -> Result<Vec<u8>, AllocError>
+    ensures { IfOk result (λ text. text.items
+        ≡ shown_node users.now members.now node.now classes.now) }
+{
     let mut text = Vec::new(alloc);
     push_head(&mut text, node)?;
-    push_roles(alloc, &mut text, machine.users(), members.as_slice(), node)?;
-    push_changers(
-        alloc,
-        &mut text,
-        machine.users(),
-        members.as_slice(),
-        classes.as_slice(),
-    )?;
+    push_roles(alloc, &mut text, users, members, node)?;
+    push_changers(alloc, &mut text, users, members, classes)?;
     Ok(text)
 }
 
@@ -108,8 +146,21 @@ fn push_readers(
     push_processes(text, b"confined", confined.as_slice())?;
     let outside = with_role(alloc, groups, class, Role::Outside, members)?;
     push_processes(text, b"outside", outside.as_slice())?;
+    push_login_readers(alloc, text, users, class)
+}
+
+/// Adds a line for each user as whom a process could log in to read a file of the class.
+fn push_login_readers(
+    alloc: Global,
+    text: &mut Vec<u8>,
+    users: &UserTable,
+    class: &FileClass,
+) -> Result<(), AllocError>
+    ensures { OnOk result (text.new.items
+        ≡ text.old.items ++ shown_login_readers users.now (flat_class class.now)) }
+{
     let names = user_names(alloc, users)?;
-    let readers = login_readers(alloc, groups, class, names.as_slice())?;
+    let readers = login_readers(alloc, users.groups(), class, names.as_slice())?;
     push_users(text, b"login", readers.as_slice())
 }
 

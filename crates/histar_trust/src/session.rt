@@ -8,7 +8,7 @@ use crate::files::secret_lines;
 use crate::output::trust_lines;
 use histar_flat::Path;
 use histar_io::{Sink, Source, read_input, write_bytes};
-use histar_prefix::machine_before;
+use histar_prefix::{discard, machine_before};
 use histar_script::Fault;
 use std::alloc::Global;
 
@@ -62,7 +62,9 @@ fn trust_text<W: Sink>(
         result }
 {
     let machine = machine_before(alloc, text, at)?;
-    let lines = trust_lines(alloc, &machine, path)?;
+    let shown = trust_lines(alloc, &machine, path);
+    discard(machine);
+    let lines = shown?;
     write_bytes(writer, lines.as_slice())?;
     Ok(())
 }
@@ -108,7 +110,9 @@ fn secrets_text<W: Sink>(alloc: Global, text: &[u8], writer: &mut W) -> Result<(
     ensures runs { SecretsText text.now (W.written writer.old) (W.written writer.new) result }
 {
     let machine = machine_before(alloc, text, None)?;
-    let lines = secret_lines(alloc, &machine)?;
+    let shown = secret_lines(alloc, &machine);
+    discard(machine);
+    let lines = shown?;
     write_bytes(writer, lines.as_slice())?;
     Ok(())
 }

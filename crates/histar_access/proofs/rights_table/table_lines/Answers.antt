@@ -3,7 +3,7 @@ use Rattle.std.proofs.Common.{take, length, rules, ap, ◌∙◌}
 use Rattle.std.specs.Prelude.{map}
 use Rattle.histar_syscall.specs.KernelModel.{state}
 use Rattle.histar_diff.specs.Shown.{rights_line}
-use Rattle.histar_access.specs.Cells.{line_of_node, row_below}
+use Rattle.histar_access.specs.Cells.{line_of_node, node_row}
 use Rattle.histar_access.specs.Rows.{last_or}
 use Rattle.histar_access.proofs.RightsLines.{all_lines, line_more, no_lines, same_lines}
 use Rattle.histar_access.proofs.RowLemmas.{cells_of, kept_way, way_more}
@@ -27,12 +27,12 @@ nodes-preserved g c =
     let kept = c.truncate.ensures.items ∙ ap (λ n. take n ways) c.depth.ensures.value in
     let above = c.last_row-above.ensures ∙ ap (λ rows. last_or visitors (map cells_of rows)) c.as_slice.ensures.value
     ∙ ap (last_or visitors) (kept_way ways _ (length node.path) kept) in
-    let row = c.in_ok-row.ensures ∙ (λ j. row_below (state (c.kernel.ensures j)) (c.object.ensures j) (above j)) in
-    let line = c.in_ok-line.ensures ∙ ap (λ cells. rights_line (line_of_node node cells)) (c.as_slice-in-nodes.ensures.value ∙ row) in
-    let more = line_more s visitors tree node c.in_ok-line.line
-    (next_left tree i node (search rules) c.node-item.is) line c.nodes.invariant in
+    let row = c.in_ok-row.ensures.row ∙ ap (λ cells. node_row s cells node) above in
+    let added = c.in_ok-row.ensures.line in
+    let line = added.is ∙ ap (λ cells. rights_line (line_of_node node (node_row s cells node))) above in
+    let more = line_more s visitors tree node added.line (next_left tree i node (search rules) c.node-item.is) line c.nodes.invariant in
     same_lines s visitors tree
-    (way_more ways _ _ (length node.path) c.in_ok-row.row _ kept c.in_ok-push-2.ensures.items row) c.in_ok-push.ensures.items more
+    (way_more ways _ _ (length node.path) c.in_ok-row.row _ kept c.in_ok-push.ensures.items row) added.added more
 
 pub returns : goal.returns
 returns g c =

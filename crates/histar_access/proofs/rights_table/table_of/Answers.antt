@@ -2,6 +2,7 @@
 use Rattle.std.proofs.Common.{[], ap, ◌∙◌}
 use Rattle.std.specs.Prelude.{map}
 use Rattle.std.specs.List.{filter_map}
+use Rattle.std.proofs.lemmas.Result.{IfOk-weaker}
 use Rattle.histar_syscall.specs.KernelModel.{state}
 use Rattle.histar_diff.specs.Shown.{rights_line}
 use Rattle.histar_access.specs.Cells.{lines_from}
@@ -20,8 +21,9 @@ processes-requires g c = shown_processes c.args.machine.now c.requires
 pub returns : goal.returns
 returns g c =
     let m = c.args.machine.now in
-    let runners = c.in_ok-runners.ensures ∙ ap (filter_map runner_of) c.as_slice-4.ensures.value in
-    let visitors = c.as_slice-2.ensures.value ∙ c.in_ok-visitors.ensures ∙ ap (visitors_in m) c.as_slice.ensures.value in
-    let lines = c.in_ok-lines.ensures ∙ (λ i. map rights_line (lines_from (state m.kernel) (visitors i) [] (c.as_slice-3.ensures.value i))) in
-    table_shows m c.in_ok-tree.tree.items c.in_ok-tree.ensures c.in_ok-processes.processes.items c.in_ok-processes.ensures
-    (record { processes = c.in_ok-runners.runners; lines = c.in_ok-lines.lines }) runners lines
+    IfOk-weaker c.table_by.result _ _
+    (λ table is. table_shows m c.in_ok-tree.tree.items c.in_ok-tree.ensures c.in_ok-processes.processes.items c.in_ok-processes.ensures table
+    (is.runners ∙ ap (filter_map runner_of) c.as_slice.ensures.value)
+    (is.lines
+    ∙ (λ i. map rights_line (lines_from (state m.kernel) (visitors_in m (c.as_slice.ensures.value i)) [] (c.as_slice-2.ensures.value i)))))
+    c.table_by.ensures

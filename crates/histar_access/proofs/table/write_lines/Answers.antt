@@ -4,9 +4,8 @@ use Rattle.std.specs.Prelude.{map}
 use Rattle.std.proofs.KnownBytes.{Appends-nil}
 use Rattle.std.proofs.lemmas.Result.{err_from_is_err_and}
 use Rattle.histar_syscall.specs.KernelModel.{state}
-use Rattle.histar_rights.specs.Table.{access_line_text}
 use Rattle.histar_cells.specs.declared.cells.Cell.{Cell}
-use Rattle.histar_access.specs.Cells.{line_of_node, row_below}
+use Rattle.histar_access.specs.Cells.{node_line, node_row}
 use Rattle.histar_access.specs.Rows.{last_or}
 use Rattle.histar_access.proofs.RowLemmas.{cells_of, kept_way, way_more}
 use Rattle.histar_access.proofs.Writing.{IsWritten, begun_more, front_written, next_left, written_more}
@@ -23,16 +22,6 @@ lines-init g c = record {
 pub returns-in_err-row-clause-err : goal.returns-in_err-row-clause-err
 returns-in_err-row-clause-err g c =
     let p = err_from_is_err_and c.from_residual.result c.from_residual.ensures.1 in
-    rw p.1 (front_written _ c.args.visitors.now c.args.tree.now _ _ _ _ c.lines.invariant.written)
-
-pub returns-in_err-line-clause-err : goal.returns-in_err-line-clause-err
-returns-in_err-line-clause-err g c =
-    let p = err_from_is_err_and c.from_residual-in_err-line.result c.from_residual-in_err-line.ensures.1 in
-    rw p.1 (front_written _ c.args.visitors.now c.args.tree.now _ _ _ _ c.lines.invariant.written)
-
-pub returns-in_err-write_bytes-clause-err : goal.returns-in_err-write_bytes-clause-err
-returns-in_err-write_bytes-clause-err g c =
-    let p = err_from_is_err_and c.from_residual-in_err-write_bytes.result c.from_residual-in_err-write_bytes.ensures.1 in
     let s = state c.args.machine.now.kernel in
     let tree = c.args.tree.now in
     let i = c.lines.node-index in
@@ -41,11 +30,9 @@ returns-in_err-write_bytes-clause-err g c =
     let kept = c.truncate.ensures.items ∙ ap (λ n. take n ways) c.depth.ensures.value in
     let above = c.last_row-above.ensures ∙ ap (λ rows. last_or c.args.visitors.now (map cells_of rows)) c.as_slice.ensures.value
     ∙ ap (last_or c.args.visitors.now) (kept_way ways _ (length node.path) kept) in
-    let row = c.in_ok-row.ensures ∙ (λ j. row_below (state (c.kernel.ensures j)) (c.object.ensures j) (above j)) in
-    let line = c.as_slice-in-lines-2.ensures.value ∙ c.in_ok-line.ensures
-    ∙ ap (λ cells. access_line_text (line_of_node node cells)) (c.as_slice-in-lines.ensures.value ∙ row) in
     rw p.1 (begun_more s c.args.visitors.now tree _ _ _ (map cells_of ways) (drop i tree) (drop (i + 1) tree) node _
-    (next_left tree i node (search rules) c.node-item.is) c.lines.invariant.written line c.in_err-write_bytes.ensures.err)
+    (next_left tree i node (search rules) c.node-item.is) c.lines.invariant.written (ap (λ cells. node_line s cells node) above)
+    c.in_err-row.ensures.err)
 
 pub returns-in_err-push-clause-err : goal.returns-in_err-push-clause-err
 returns-in_err-push-clause-err g c =
@@ -58,12 +45,10 @@ returns-in_err-push-clause-err g c =
     let kept = c.truncate.ensures.items ∙ ap (λ n. take n ways) c.depth.ensures.value in
     let above = c.last_row-above.ensures ∙ ap (λ rows. last_or c.args.visitors.now (map cells_of rows)) c.as_slice.ensures.value
     ∙ ap (last_or c.args.visitors.now) (kept_way ways _ (length node.path) kept) in
-    let row = c.in_ok-row.ensures ∙ (λ j. row_below (state (c.kernel.ensures j)) (c.object.ensures j) (above j)) in
-    let line = c.as_slice-in-lines-2.ensures.value ∙ c.in_ok-line.ensures
-    ∙ ap (λ cells. access_line_text (line_of_node node cells)) (c.as_slice-in-lines.ensures.value ∙ row) in
     rw p.1 (front_written s c.args.visitors.now tree _ _ _ _
     (written_more s c.args.visitors.now tree _ _ _ (map cells_of ways) (drop i tree) (drop (i + 1) tree) node _
-    (next_left tree i node (search rules) c.node-item.is) c.lines.invariant.written line c.in_ok-write_bytes.ensures.ok))
+    (next_left tree i node (search rules) c.node-item.is) c.lines.invariant.written (ap (λ cells. node_line s cells node) above)
+    c.in_ok-row.ensures.ok))
 
 pub lines-preserved : goal.lines-preserved
 lines-preserved g c =
@@ -75,14 +60,13 @@ lines-preserved g c =
     let kept = c.truncate.ensures.items ∙ ap (λ n. take n ways) c.depth.ensures.value in
     let above = c.last_row-above.ensures ∙ ap (λ rows. last_or c.args.visitors.now (map cells_of rows)) c.as_slice.ensures.value
     ∙ ap (last_or c.args.visitors.now) (kept_way ways _ (length node.path) kept) in
-    let row = c.in_ok-row.ensures ∙ (λ j. row_below (state (c.kernel.ensures j)) (c.object.ensures j) (above j)) in
-    let line = c.as_slice-in-lines-2.ensures.value ∙ c.in_ok-line.ensures
-    ∙ ap (λ cells. access_line_text (line_of_node node cells)) (c.as_slice-in-lines.ensures.value ∙ row) in
+    let row = c.in_ok-row.ensures.row ∙ ap (λ cells. node_row s cells node) above in
     record {
       written = subst (λ (way : List (List Cell)). IsWritten s c.args.visitors.now tree (g.W.Sink.written c.args.writer.now)
-          (g.W.Sink.written c.write_bytes.new.writer) way (drop (i + 1) tree))
+          (g.W.Sink.written c.write_node.new.writer) way (drop (i + 1) tree))
           (sym (way_more ways _ _ (length node.path) c.in_ok-row.row _ kept c.in_ok-push.ensures.items row))
           (written_more s c.args.visitors.now tree _ _ _ (map cells_of ways) (drop i tree) (drop (i + 1) tree) node _
-          (next_left tree i node (search rules) c.node-item.is) c.lines.invariant.written line c.in_ok-write_bytes.ensures.ok);
+          (next_left tree i node (search rules) c.node-item.is) c.lines.invariant.written (ap (λ cells. node_line s cells node) above)
+          c.in_ok-row.ensures.ok);
       count = search rules;
     }

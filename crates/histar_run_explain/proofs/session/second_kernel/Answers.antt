@@ -2,8 +2,8 @@
 use Rattle.histar_run_explain.proofs.Turns.{boot_runs, boot_end}
 use Rattle.histar_run_explain.proofs.session.second_kernel.Goals as goal
 
-pub explain_entries-requires : goal.explain_entries-requires
-explain_entries-requires g c = boot_runs c.args.machine.now.kernel c.requires _ c.in_ok-kernel.ensures.state _ c.trace.ensures
+pub replay_all-requires : goal.replay_all-requires
+replay_all-requires g c = boot_runs c.args.machine.now.kernel c.requires _ c.in_ok-kernel.ensures.state _ c.trace.ensures
 
-pub returns : goal.returns
-returns g c = boot_end c.args.machine.now.kernel c.requires _ c.in_ok-kernel.ensures.state _ c.trace.ensures _ c.in_ok-explain_entries.ensures.ends
+pub returns-in-Ok : goal.returns-in-Ok
+returns-in-Ok g c = boot_end c.args.machine.now.kernel c.requires _ c.in_ok-kernel.ensures.state _ c.trace.ensures _ c.in-Ok.ensures

@@ -1,5 +1,5 @@
 -- Proves the goals of `test_file` of src/session.rt that the search leaves open.
-use Rattle.std.proofs.Common.{◌≡◌, ℕ, ◌+◌, List, None, subst}
+use Rattle.std.proofs.Common.{◌≡◌, ℕ, ◌+◌, List, None, subst, ◌∙◌}
 use Rattle.std.specs.Io.KnownBytes.{Appends}
 use Rattle.std.proofs.lemmas.Result.{err_from_is_err_and}
 use Rattle.histar_io.specs.Writing.{AppendsFront}
@@ -17,34 +17,37 @@ returns-in_err-run-clause-err g c =
     let p = err_from_is_err_and c.from_residual.result c.from_residual.ensures.1 in
     rw p.1 (_, sent_none (g.W.Sink.written c.args.writer.now) _)
 
-pub returns-in_err-take_steps-clause-err : goal.returns-in_err-take_steps-clause-err
-returns-in_err-take_steps-clause-err g c =
-    let p = err_from_is_err_and c.from_residual-in_err-take_steps.result c.from_residual-in_err-take_steps.ensures.1 in
+pub returns-in_err-outcome-clause-err : goal.returns-in_err-outcome-clause-err
+returns-in_err-outcome-clause-err g c =
+    let p = err_from_is_err_and c.from_residual-in_err-outcome.result c.from_residual-in_err-outcome.ensures.1 in
+    let old = g.W.Sink.written c.args.writer.now in
+    let new = g.W.Sink.written c.take_steps-outcome.new.writer in
     let parts = c.into_parts-accounts.ensures in
     let begun =
-    test_begun (g.W.Sink.written c.args.writer.now) (g.W.Sink.written c.take_steps.new.writer) c.as_slice.result.now
-    c.into_parts-accounts.result.1.items c.in_ok-run.ensures.ok c.in_err-take_steps.ensures.err in
+    test_begun old new c.as_slice.result.now
+    c.into_parts-accounts.result.1.items c.in_ok-run.ensures.ok (rw c.in_err-outcome.was at c.take_steps-outcome.ensures.err) in
     rw p.1
-    (subst (λ (t : List ℕ × (Accounts × List Step)). AppendsFront (g.W.Sink.written c.args.writer.now) (g.W.Sink.written c.take_steps.new.writer)
-    (checks_text t.0 (c.args.tally.count + 1) (checks_from t.1.0 (boot t.1.0) None t.1.1)))
+    (subst (λ (t : List ℕ × (Accounts × List Step)).
+    AppendsFront old new (checks_text t.0 (c.args.tally.count + 1) (checks_from t.1.0 (boot t.1.0) None t.1.1)))
     (λ i. (c.as_slice.ensures i, (parts.accounts i, parts.steps i))) begun)
 
-pub returns-in_err-take_steps-clause-count : goal.returns-in_err-take_steps-clause-count
-returns-in_err-take_steps-clause-count g c =
-    let p = err_from_is_err_and c.from_residual-in_err-take_steps.result c.from_residual-in_err-take_steps.ensures.1 in
-    rw (p.1, p.2) c.in_err-take_steps.ensures.count
+pub returns-in_err-outcome-clause-count : goal.returns-in_err-outcome-clause-count
+returns-in_err-outcome-clause-count g c =
+    let p = err_from_is_err_and c.from_residual-in_err-outcome.result c.from_residual-in_err-outcome.ensures.1 in
+    rw (p.1, p.2) (rw c.in_err-outcome.was at c.take_steps-outcome.ensures.count)
 
-pub returns-in_err-take_steps-clause-faults : goal.returns-in_err-take_steps-clause-faults
-returns-in_err-take_steps-clause-faults g c =
-    let p = err_from_is_err_and c.from_residual-in_err-take_steps.result c.from_residual-in_err-take_steps.ensures.1 in
-    rw (p.1, p.2) c.in_err-take_steps.ensures.faults
+pub returns-in_err-outcome-clause-faults : goal.returns-in_err-outcome-clause-faults
+returns-in_err-outcome-clause-faults g c =
+    let p = err_from_is_err_and c.from_residual-in_err-outcome.result c.from_residual-in_err-outcome.ensures.1 in
+    rw (p.1, p.2) (rw c.in_err-outcome.was at c.take_steps-outcome.ensures.faults)
 
 pub returns-clause-ok : goal.returns-clause-ok
 returns-clause-ok g c =
     let old = g.W.Sink.written c.args.writer.now in
-    let new = g.W.Sink.written c.take_steps.new.writer in
+    let new = g.W.Sink.written c.take_steps-outcome.new.writer in
     let parts = c.into_parts-accounts.ensures in
-    let taken = test_taken old new c.as_slice.result.now c.into_parts-accounts.result.1.items c.in_ok-run.ensures.ok c.in_ok-take_steps.ensures.ok in
+    let taken = test_taken old new c.as_slice.result.now c.into_parts-accounts.result.1.items c.in_ok-run.ensures.ok
+    (rw c.in_ok-outcome.was at c.take_steps-outcome.ensures.ok) in
     subst (λ (t : List ℕ × (Accounts × List Step)).
     Appends old new (checks_text t.0 (c.args.tally.count + 1) (checks_from t.1.0 (boot t.1.0) None t.1.1)))
     (λ i. (c.as_slice.ensures i, (parts.accounts i, parts.steps i))) taken.0
@@ -52,8 +55,9 @@ returns-clause-ok g c =
 pub returns-clause-tally : goal.returns-clause-tally
 returns-clause-tally g c =
     let old = g.W.Sink.written c.args.writer.now in
-    let new = g.W.Sink.written c.take_steps.new.writer in
+    let new = g.W.Sink.written c.take_steps-outcome.new.writer in
     let parts = c.into_parts-accounts.ensures in
-    let taken = test_taken old new c.as_slice.result.now c.into_parts-accounts.result.1.items c.in_ok-run.ensures.ok c.in_ok-take_steps.ensures.ok in
-    subst (λ (t : Accounts × List Step). c.take_steps.new.self.tally ≡ tally_with c.args.tally (checks_from t.0 (boot t.0) None t.1))
-    (λ i. (parts.accounts i, parts.steps i)) taken.1
+    let taken = test_taken old new c.as_slice.result.now c.into_parts-accounts.result.1.items c.in_ok-run.ensures.ok
+    (rw c.in_ok-outcome.was at c.take_steps-outcome.ensures.ok) in
+    subst (λ (t : Accounts × List Step). c.finish-after.result ≡ tally_with c.args.tally (checks_from t.0 (boot t.0) None t.1))
+    (λ i. (parts.accounts i, parts.steps i)) (c.finish-after.ensures ∙ taken.1)

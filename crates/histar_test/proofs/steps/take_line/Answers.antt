@@ -1,8 +1,8 @@
 -- Proves the goals of `take_line` of src/steps.rt that the search leaves open.
-use Rattle.std.proofs.Common.{◌≡◌, Bool, List, None, Ok, Option, Result, Some, ap, refl, rules, subst, sym, ◌∙◌}
+use Rattle.std.proofs.Common.{◌≡◌, List, None, Some, refl, rules, subst, sym}
 use Rattle.std.proofs.lemmas.Result.{err_from_is_err_and}
 use Rattle.histar_test.specs.declared.steps.Step.{Step}
-use Rattle.histar_test.specs.Steps.{AddsLine, open_after, step_of}
+use Rattle.histar_test.specs.Steps.{AddsLine, open_after}
 use Rattle.histar_test.proofs.StepLemmas.{line_refused, nothing_added, read_as, step_added, step_refused}
 use Rattle.histar_test.proofs.steps.take_line.Goals as goal
 

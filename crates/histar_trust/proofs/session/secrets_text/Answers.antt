@@ -6,8 +6,8 @@ use Rattle.histar_trust.specs.Secrets.{secrets_after}
 use Rattle.histar_trust.proofs.Runs.{begun_text, has_state, shows_reached, unwritten_text, written_text}
 use Rattle.histar_trust.proofs.session.secrets_text.Goals as goal
 
-pub secret_lines-requires : goal.secret_lines-requires
-secret_lines-requires g c = has_state None c.args.text.now c.in_ok-machine.machine c.in_ok-machine.ensures
+pub secret_lines-shown-requires : goal.secret_lines-shown-requires
+secret_lines-shown-requires g c = has_state None c.args.text.now c.in_ok-machine.machine c.in_ok-machine.ensures
 
 pub returns-in_err-lines-clause-nothing : goal.returns-in_err-lines-clause-nothing
 returns-in_err-lines-clause-nothing g c =
@@ -50,7 +50,7 @@ returns-in_err-write_bytes-clause-runs g c =
     let is = c.in_ok-machine.ensures in
     let shown : c.as_slice.result.now ≡ secrets_after is.script =
     c.as_slice.ensures.value
-    ∙ c.in_ok-lines.ensures is.script.accounts (state_before None is.script)
+    ∙ (rw c.in_ok-lines.was at c.secret_lines-shown.ensures) is.script.accounts (state_before None is.script)
     (shows_reached None c.args.text.now c.in_ok-machine.machine is) in
     rw (p.1, p.2) (begun_text secrets_after c.in_ok-machine.ensures _ shown _ _ c.in_err-write_bytes.ensures.err)
 
@@ -59,6 +59,6 @@ returns-clause-runs g c =
     let is = c.in_ok-machine.ensures in
     let shown : c.as_slice.result.now ≡ secrets_after is.script =
     c.as_slice.ensures.value
-    ∙ c.in_ok-lines.ensures is.script.accounts (state_before None is.script)
+    ∙ (rw c.in_ok-lines.was at c.secret_lines-shown.ensures) is.script.accounts (state_before None is.script)
     (shows_reached None c.args.text.now c.in_ok-machine.machine is) in
     written_text secrets_after c.in_ok-machine.ensures _ shown _ _ c.in_ok-write_bytes.ensures.ok
