@@ -4,7 +4,7 @@ ghost use Rattle.histar_rules.specs.declared.raw.RawCall.TheVariants as calls;
 
 use histar_label::LabelStore;
 use histar_object::{Entry, Kind, ObjId};
-use histar_rules::{HandedLabel, LabelledObjects, Refusal};
+use histar_rules::{HandedLabel, HandedLabels, LabelledObjects, Refusal};
 
 /// Makes a gate in a container, and returns its number. The gate gives its label to each thread that enters
 /// it, so its maker must own what the gate is to own.
@@ -36,17 +36,11 @@ pub fn enter<S: LabelStore + Drop>(
     thread: ObjId,
     container: ObjId,
     gate: ObjId,
-    wanted: &HandedLabel,
-    clearance: &HandedLabel,
-    verify: &HandedLabel,
+    labels: HandedLabels,
 ) -> Result<Entry, Refusal>
-    ensures { Decides objects.old objects.new thread
-        (calls.Enter container gate wanted.now clearance.now verify.now) result (IsEntryOf objects.old gate) }
+    ensures { Decides objects.old objects.new thread (calls.Enter container gate
+        labels.entry.wanted.now labels.entry.clearance.now labels.entry.verify.now) result
+        (IsEntryOf objects.old gate) }
 {
-    let wanted = wanted.label();
-    let clearance = clearance.label();
-    let verify = verify.label();
-    let entry = objects.check_enter(thread, container, gate, wanted, clearance, verify)?;
-    objects.set_own(thread, wanted.copy()?, clearance.copy()?)?;
-    Ok(entry)
+    objects.enter(thread, container, gate, labels)
 }

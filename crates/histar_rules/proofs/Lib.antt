@@ -10,3 +10,5 @@ pub mod Observed
 pub mod LinkedObjects
 pub mod Relabelled
 pub mod Moving
+pub mod OwnLabels
+pub mod EnteringGates

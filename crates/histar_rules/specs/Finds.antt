@@ -1,14 +1,20 @@
 -- What a look-up finds of a thread, a container, a segment or a gate, stated once by its parts.
 use Rattle.std.specs.Prelude.{◌≡◌, ℕ, List, false, Option, None, Some}
 use Rattle.std.specs.Borrow.{Bor}
-use Rattle.histar_label.specs.Levels.{Levels}
+use Rattle.histar_base.specs.Refusals.{unless, ◌orelse◌}
+use Rattle.histar_label.specs.Levels.{Levels, is_below, is_made}
+use Rattle.histar_label.specs.Store.{label_at}
 use Rattle.histar_object.specs.declared.objects.Entry.{Entry}
 use Rattle.histar_object.specs.declared.objects.Object.{Object}
 use Rattle.histar_object.specs.declared.objects.Kind.TheVariants.{Segment, Container, Gate}
 use Rattle.histar_object.specs.Objects.{TableModel, Numbers, thread_of, is_thread}
 use Rattle.histar_object.specs.State.{State, Found}
 use Rattle.histar_container.specs.Shown.{objects_shown}
+use Rattle.histar_rules.specs.declared.entering.Opening.{Opening}
 use Rattle.histar_rules.specs.declared.limits.Next.{Next}
+use Rattle.histar_rules.specs.declared.raw.Denied.{Denied}
+use Rattle.histar_rules.specs.declared.raw.Denied.TheVariants as denials
+use Rattle.histar_rules.specs.Rights.{lies_between}
 
 -- the look-up found a thread with this label and this clearance, or the object there is no thread
 abbrev pub FindsThread : {L : Type 0} → Option (Object L) → Option (L × L) → Type 0
@@ -39,3 +45,15 @@ state_shown labels es = record { objects = objects_shown labels es; next_object 
 -- the same, with the next numbers
 abbrev pub state_with : {Id : Type 0} → (Id → Option Levels) → TableModel Id → Next → State
 state_with labels es next = record { objects = objects_shown labels es; next_object = next.object; next_category = next.category }
+
+-- the last checks of entering a gate, on labels that have Ids, and a verify label
+abbrev pub no_opening : {Id : Type 0} → (Id → Option Levels) → Opening Id → Levels → Next → Option Denied
+no_opening labels opening verify next =
+    (unless (is_below (label_at labels opening.own.0) (label_at labels opening.gate.1)) denials.Gate
+    orelse unless (is_below (label_at labels opening.own.0) verify) denials.Gate)
+    orelse unless (lies_between (label_at labels opening.own.0) (label_at labels opening.gate.0)
+    (label_at labels opening.wanted.0) (label_at labels opening.wanted.1)
+    (label_at labels opening.own.1) (label_at labels opening.gate.1)) denials.Range
+    orelse unless (is_made next.category (label_at labels opening.wanted.0)) denials.Range
+    orelse unless (is_made next.category (label_at labels opening.wanted.1)) denials.Range
+    orelse unless (is_made next.category verify) denials.Range

@@ -89,3 +89,14 @@ impl HandedLabel {
         Ok((wanted, others))
     }
 }
+
+/// The labels with which a thread enters a gate.
+#[derive(Clone, Copy)]
+pub struct HandedLabels<'l> {
+    /// The label that the thread wants.
+    pub wanted: &'l HandedLabel,
+    /// The clearance that it wants.
+    pub clearance: &'l HandedLabel,
+    /// The verify label, by which the gate decides.
+    pub verify: &'l HandedLabel,
+}

@@ -13,16 +13,19 @@ ghost use Rattle.histar_container.specs.ObjectsModel.{state_of, CutsOff};
 ghost use Rattle.histar_container.specs.Tree.{AreTree};
 ghost use Rattle.histar_rules.specs.Finds.{LendsThread};
 ghost use Rattle.histar_rules.specs.Kinds.{kind_there};
-ghost use Rattle.histar_rules.specs.Rights.{kind_with_clearance, with_changed, with_clearance, with_label};
+ghost use Rattle.histar_rules.specs.Rights.{with_changed, with_clearance, with_label};
 ghost use Rattle.histar_rules.specs.Rules.{check, greatest, no_new, no_new_owner, FailsAt, FailsAtUnlessExhausted, Decides};
 ghost use Rattle.histar_rules.specs.Rules.{AreBytesOf, IsLabelOf, IsEntryOf};
 ghost use Rattle.histar_rules.specs.declared.raw.RawCall.TheVariants as calls;
 
+use crate::entering::enter_in;
+use crate::handed::HandedLabels;
 use crate::in_use::{LEAST_WEIGHT, forget_unused_in};
 use crate::kinds::ObjectKind;
 use crate::limits::Next;
-use crate::linked::{enter_in, label_in, read_in, unlink_in, write_in};
+use crate::linked::{label_in, read_in, unlink_in, write_in};
 use crate::lookup::{new_in, new_owner_in, thread_in};
+use crate::own::{set_clearance_in, set_label_in};
 use crate::raw::{Denied, Refusal};
 use histar_base::Bytes;
 use histar_container::{link_new, remove_tree};
@@ -248,35 +251,6 @@ impl<S: LabelStore + Drop> LabelledObjects<S> {
         )
     }
 
-    /// Checks that a gate may be entered, and returns what the gate gives.
-    pub fn check_enter(
-        &mut self,
-        thread: ObjId,
-        container: ObjId,
-        gate: ObjId,
-        wanted: &Label,
-        clearance: &Label,
-        verify: &Label,
-    ) -> Result<Entry, Denied>
-        ensures answer { FailsAt
-            (check (state_of self.old) thread (calls.Enter container gate wanted.now clearance.now verify.now)) result }
-        ensures entry { IfOk result (IsEntryOf self.old gate) }
-        ensures unchanged { self.new ≡ self.old }
-    {
-        let next = self.next();
-        enter_in(
-            &mut self.store,
-            &self.table,
-            next,
-            thread,
-            container,
-            gate,
-            wanted,
-            clearance,
-            verify,
-        )
-    }
-
     /// Checks that a segment may be read.
     pub fn check_read(
         &mut self,
@@ -403,23 +377,59 @@ impl<S: LabelStore + Drop> LabelledObjects<S> {
         remove_tree(alloc, &mut self.table, container, object)
     }
 
-    /// Gives a thread another label.
-    pub fn set_label(&mut self, thread: ObjId, label: Label) -> Result<(), AllocError>
-        ensures ok { OnOk result (state_of self.new ≡ with_changed (state_of self.old) thread (with_label label)) }
+    /// Gives a thread another label, which lies between its own label and its clearance. A label that the
+    /// store has is not copied.
+    pub fn set_label(&mut self, thread: ObjId, label: &Label) -> Result<(), Refusal>
+        ensures answer { FailsAtUnlessExhausted (check (state_of self.old) thread (calls.SetLabel label.now)) result }
+        ensures ok { OnOk result (state_of self.new ≡ with_changed (state_of self.old) thread (with_label label.now)) }
         ensures err { OnErr result (state_of self.new ≡ state_of self.old) }
     {
         self.forget_unused_labels();
-        set_label_in(&mut self.store, &mut self.table, thread, label)
+        let next = self.next();
+        set_label_in(&mut self.store, &mut self.table, next, thread, label)
     }
 
-    /// Gives a thread another clearance.
-    pub fn set_clearance(&mut self, thread: ObjId, clearance: Label) -> Result<(), AllocError>
+    /// Gives a thread another clearance, which is above its own label, and exceeds its old clearance only
+    /// where the thread owns. A label that the store has is not copied.
+    pub fn set_clearance(&mut self, thread: ObjId, clearance: &Label) -> Result<(), Refusal>
+        ensures answer { FailsAtUnlessExhausted
+            (check (state_of self.old) thread (calls.SetClearance clearance.now)) result }
         ensures ok { OnOk result (state_of self.new
-            ≡ with_changed (state_of self.old) thread (with_clearance clearance)) }
+            ≡ with_changed (state_of self.old) thread (with_clearance clearance.now)) }
         ensures err { OnErr result (state_of self.new ≡ state_of self.old) }
     {
         self.forget_unused_labels();
-        set_clearance_in(&mut self.store, &mut self.table, thread, clearance)
+        let next = self.next();
+        set_clearance_in(&mut self.store, &mut self.table, next, thread, clearance)
+    }
+
+    /// Lets a thread enter a gate with these labels, within what the gate and its own labels allow, and
+    /// returns what the gate gives. Labels that the store has are not copied.
+    pub fn enter(
+        &mut self,
+        thread: ObjId,
+        container: ObjId,
+        gate: ObjId,
+        labels: HandedLabels,
+    ) -> Result<Entry, Refusal>
+        ensures answer { FailsAtUnlessExhausted (check (state_of self.old) thread (calls.Enter container gate
+            labels.entry.wanted.now labels.entry.clearance.now labels.entry.verify.now)) result }
+        ensures entry { IfOk result (IsEntryOf self.old gate) }
+        ensures ok { OnOk result (state_of self.new ≡ with_own (state_of self.old) thread
+            labels.entry.wanted.now labels.entry.clearance.now) }
+        ensures err { OnErr result (state_of self.new ≡ state_of self.old) }
+    {
+        self.forget_unused_labels();
+        let next = self.next();
+        enter_in(
+            &mut self.store,
+            &mut self.table,
+            next,
+            thread,
+            container,
+            gate,
+            labels,
+        )
     }
 
     /// Gives a thread another label and another clearance.
@@ -526,59 +536,6 @@ fn add_in<S: LabelStore>(
     let kind = put_kind(store, kind)?;
     let label = store.put(label)?;
     link_new(table, container, number, Object { label, kind })
-}
-
-// Puts the new label of an object into the store, and then changes the object.
-fn set_label_in<S: LabelStore>(
-    store: &mut S,
-    table: &mut Table<S::Id>,
-    object: ObjId,
-    label: Label,
-) -> Result<(), AllocError>
-    requires { AllStand (S.labels store.old) (objects_of table.old) }
-    ensures stand { AllStand (S.labels store.new) (objects_of table.new) }
-    ensures ok { OnOk result (objects_shown (S.labels store.new) table.new
-        ≡ changed_at (objects_shown (S.labels store.old) table.old) object (with_label label)) }
-    ensures err { OnErr result (objects_shown (S.labels store.new) table.new
-        ≡ objects_shown (S.labels store.old) table.old) }
-{
-    let label = store.put(label)?;
-    if let Some(found) = table.get_mut(object) {
-        found.label = label;
-    }
-    Ok(())
-}
-
-// Puts the new clearance of a thread or a gate into the store, and then changes the thread or the gate.
-fn set_clearance_in<S: LabelStore>(
-    store: &mut S,
-    table: &mut Table<S::Id>,
-    object: ObjId,
-    clearance: Label,
-) -> Result<(), AllocError>
-    requires { AllStand (S.labels store.old) (objects_of table.old) }
-    ensures stand { AllStand (S.labels store.new) (objects_of table.new) }
-    ensures ok { OnOk result (objects_shown (S.labels store.new) table.new
-        ≡ changed_at (objects_shown (S.labels store.old) table.old) object (with_clearance clearance)) }
-    ensures err { OnErr result (objects_shown (S.labels store.new) table.new
-        ≡ objects_shown (S.labels store.old) table.old) }
-{
-    let clearance = store.put(clearance)?;
-    if let Some(found) = table.get_mut(object) {
-        set_kind_clearance(&mut found.kind, clearance);
-    }
-    Ok(())
-}
-
-// Gives a thread or a gate another clearance.
-fn set_kind_clearance<L: Drop>(kind: &mut Kind<L>, clearance: L)
-    ensures { kind.new ≡ kind_with_clearance clearance kind.old }
-{
-    match kind {
-        Kind::Thread(own) => *own = clearance,
-        Kind::Gate(own, _) => *own = clearance,
-        _ => {}
-    }
 }
 
 // Puts the new labels of a thread into the store, and then changes the thread.

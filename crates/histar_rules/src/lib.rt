@@ -3,6 +3,7 @@
 #![tactic(auto)]
 
 mod checks;
+mod entering;
 mod handed;
 mod in_use;
 mod kinds;
@@ -10,12 +11,12 @@ mod labelled;
 mod limits;
 mod linked;
 mod lookup;
+mod own;
 mod ranges;
 mod raw;
 
 pub use checks::require;
-pub use handed::HandedLabel;
+pub use handed::{HandedLabel, HandedLabels};
 pub use kinds::ObjectKind;
 pub use labelled::LabelledObjects;
-pub use ranges::in_range;
 pub use raw::{Denied, RawCall, Refusal};

@@ -4,21 +4,20 @@ ghost use Rattle.std.specs.Prelude.{◌≡◌, ◌+◌, ◌&&◌, not, IfOk, IsS
 ghost use Rattle.histar_base.specs.Refusals.{unless, ◌orelse◌};
 ghost use Rattle.histar_label.specs.Levels.{is_below, is_below_raised};
 ghost use Rattle.histar_label.specs.Store.{label_at};
-ghost use Rattle.histar_object.specs.Objects.{objects_of, label_there, bytes_there, entry_there, is_segment, is_thread, is_gate};
+ghost use Rattle.histar_object.specs.Objects.{objects_of, label_there, bytes_there, is_segment, is_thread};
 ghost use Rattle.histar_container.specs.Shown.{AllStand};
-ghost use Rattle.histar_rules.specs.Finds.{state_shown, state_with, segment_of, gate_of};
+ghost use Rattle.histar_rules.specs.Finds.{state_shown, segment_of};
 ghost use Rattle.histar_rules.specs.Rules.{check, fits_segment, FailsAt};
 ghost use Rattle.histar_rules.specs.declared.raw.RawCall.TheVariants as calls;
 ghost use Rattle.histar_rules.specs.declared.raw.Denied.TheVariants.{BadKind, Modify, TooBig};
 
 use crate::checks::require;
-use crate::limits::{Next, fits};
-use crate::lookup::{labels_in, linked_in};
-use crate::ranges::{Opening, check_opening};
+use crate::limits::fits;
+use crate::lookup::linked_in;
 use crate::raw::Denied;
 use histar_base::Bytes;
-use histar_label::{Label, LabelStore};
-use histar_object::{Entry, Kind, ObjId, Table};
+use histar_label::LabelStore;
+use histar_object::{Kind, ObjId, Table};
 
 // Looks up a segment: its label and its bytes.
 fn segment_in<L: Copy>(table: &Table<L>, segment: ObjId) -> Result<(L, &Bytes), Denied>
@@ -32,20 +31,6 @@ fn segment_in<L: Copy>(table: &Table<L>, segment: ObjId) -> Result<(L, &Bytes), 
         return Err(Denied::BadKind);
     };
     Ok((object.label, bytes))
-}
-
-// Looks up a gate: its label, its clearance, and what it gives to threads that enter it.
-fn gate_in<L: Copy>(table: &Table<L>, gate: ObjId) -> Result<(L, L, Entry), Denied>
-    ensures answer { FailsAt (unless (is_gate (objects_of table.now gate)) BadKind) result }
-    ensures found { IfOk result (λ found. objects_of table.now gate ≡ Some (gate_of found.0 found.1 found.2)) }
-{
-    let Some(object) = table.get(gate) else {
-        return Err(Denied::BadKind);
-    };
-    let Kind::Gate(clearance, entry) = &object.kind else {
-        return Err(Denied::BadKind);
-    };
-    Ok((object.label, *clearance, *entry))
 }
 
 /// Checks that a segment may be read, and returns its bytes.
@@ -162,36 +147,4 @@ fn label_unless_thread<L: Copy>(table: &Table<L>, object: ObjId) -> Result<Optio
         },
         None => Ok(None),
     }
-}
-
-/// Checks that a gate may be entered, and returns what the gate gives.
-pub(crate) fn enter_in<S: LabelStore>(
-    store: &mut S,
-    table: &Table<S::Id>,
-    next: Next,
-    thread: ObjId,
-    container: ObjId,
-    gate: ObjId,
-    wanted: &Label,
-    clearance: &Label,
-    verify: &Label,
-) -> Result<Entry, Denied>
-    requires { AllStand (S.labels store.old) (objects_of table.now) }
-    ensures answer { FailsAt
-        (check (state_with (S.labels store.old) table.now next) thread (calls.Enter container gate wanted.now clearance.now verify.now)) result }
-    ensures entry { IfOk result (λ entry. Some entry ≡ entry_there (objects_of table.now gate)) }
-    ensures unchanged { S.labels store.new ≡ S.labels store.old }
-{
-    let found = linked_in(store, table, thread, container, gate)?;
-    let (gate_label, gate_clearance, entry) = gate_in(table, gate)?;
-    let (own, own_clearance) = labels_in(store, found.own, found.own_clearance);
-    let (gate_label, gate_clearance) = labels_in(store, gate_label, gate_clearance);
-    let opening = Opening {
-        own,
-        own_clearance,
-        gate_label,
-        gate_clearance,
-    };
-    check_opening(opening, wanted, clearance, verify, next)?;
-    Ok(entry)
 }

@@ -13,7 +13,7 @@ use histar_base::Bytes;
 use histar_gate::{enter, make_gate};
 use histar_label::{Category, Label, LabelStore};
 use histar_object::{Entry, ObjId};
-use histar_rules::{LabelledObjects, RawCall, Refusal};
+use histar_rules::{HandedLabels, LabelledObjects, RawCall, Refusal};
 use histar_thread::{make_category, make_thread, own_label, set_clearance, set_label};
 use std::alloc::Global;
 
@@ -45,9 +45,14 @@ pub(crate) fn decide<S: LabelStore + Drop>(
         RawCall::MakeGate(container, label, clearance, entry) => {
             made(make_gate(objects, thread, *container, label, clearance, *entry))
         }
-        RawCall::Enter(container, gate, wanted, clearance, verify) => entry(enter(
-            objects, thread, *container, *gate, wanted, clearance, verify,
-        )),
+        RawCall::Enter(container, gate, wanted, clearance, verify) => {
+            let labels = HandedLabels {
+                wanted,
+                clearance,
+                verify,
+            };
+            entry(enter(objects, thread, *container, *gate, labels))
+        }
         RawCall::Read(container, segment) => {
             bytes(read(objects, alloc, thread, *container, *segment))
         }

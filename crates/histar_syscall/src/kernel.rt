@@ -20,7 +20,7 @@ use histar_base::Bytes;
 use histar_gate::{enter, make_gate};
 use histar_label::{Category, Label, LabelStore, OutOfMemory};
 use histar_object::{Entry, ObjId};
-use histar_rules::{HandedLabel, LabelledObjects, ObjectKind, RawCall, Refusal};
+use histar_rules::{HandedLabel, HandedLabels, LabelledObjects, ObjectKind, RawCall, Refusal};
 use histar_thread::{make_category, make_thread, own_label, set_clearance, set_label};
 use std::alloc::Global;
 use std::marker::Model;
@@ -252,15 +252,12 @@ impl<S: LabelStore + Drop> Kernel<S> {
         let (wanted, clearance) = HandedLabel::pair(self.alloc, wanted, clearance)?;
         let verify = HandedLabel::new(self.alloc, verify)?;
         self.trace.make_room()?;
-        let answer = enter(
-            &mut self.objects,
-            thread,
-            container,
-            gate,
-            &wanted,
-            &clearance,
-            &verify,
-        );
+        let labels = HandedLabels {
+            wanted: &wanted,
+            clearance: &clearance,
+            verify: &verify,
+        };
+        let answer = enter(&mut self.objects, thread, container, gate, labels);
         let call = RawCall::Enter(container, gate, wanted, clearance, verify);
         self.trace.record(thread, call, answer)
     }

@@ -1,7 +1,6 @@
 //! The raw calls by which threads make categories, learn and change their own labels, and make threads.
 #![tactic(auto)]
 
-mod ranges;
 mod threads;
 
 pub use threads::{make_category, make_thread, own_label, set_clearance, set_label};

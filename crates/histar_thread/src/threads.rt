@@ -5,10 +5,9 @@ ghost use Rattle.histar_container.specs.ObjectsModel.{state_of};
 ghost use Rattle.histar_rules.specs.Rules.{check, FailsAt, Decides, IsNextNumber, AreLabelsOf};
 ghost use Rattle.histar_rules.specs.declared.raw.RawCall.TheVariants as calls;
 
-use crate::ranges::may_clear;
 use histar_label::{Category, Label, LabelStore, Level};
 use histar_object::{Kind, ObjId};
-use histar_rules::{Denied, HandedLabel, LabelledObjects, Refusal, in_range, require};
+use histar_rules::{Denied, HandedLabel, LabelledObjects, Refusal, require};
 
 /// Returns the thread's own label and clearance.
 pub fn own_label<S: LabelStore + Drop>(
@@ -57,24 +56,6 @@ pub fn make_category<S: LabelStore + Drop>(
     Ok(category)
 }
 
-/// Checks a new label for the thread itself.
-fn check_set_label<S: LabelStore + Drop>(
-    objects: &LabelledObjects<S>,
-    thread: ObjId,
-    label: &Label,
-) -> Result<(), Denied>
-    ensures { FailsAt (check (state_of objects.now) thread (calls.SetLabel label.now)) result }
-{
-    let Some((own, own_clearance)) = objects.own(thread) else {
-        return Err(Denied::NoThread);
-    };
-    require(in_range(own, own_clearance, label), Denied::Range)?;
-    require(
-        label.names_only_made(objects.next_category()),
-        Denied::Range,
-    )
-}
-
 /// Gives the thread another label, which lies between its own label and its clearance: it may give up what it
 /// owns, and taint itself, but not the other way.
 pub fn set_label<S: LabelStore + Drop>(
@@ -84,28 +65,7 @@ pub fn set_label<S: LabelStore + Drop>(
 ) -> Result<(), Refusal>
     ensures { Decides objects.old objects.new thread (calls.SetLabel label.now) result (λ _. Unit {0}) }
 {
-    let label = label.label();
-    check_set_label(objects, thread, label)?;
-    objects.set_label(thread, label.copy()?)?;
-    Ok(())
-}
-
-/// Checks a new clearance for the thread itself.
-fn check_set_clearance<S: LabelStore + Drop>(
-    objects: &LabelledObjects<S>,
-    thread: ObjId,
-    clearance: &Label,
-) -> Result<(), Denied>
-    ensures { FailsAt (check (state_of objects.now) thread (calls.SetClearance clearance.now)) result }
-{
-    let Some((own, own_clearance)) = objects.own(thread) else {
-        return Err(Denied::NoThread);
-    };
-    require(may_clear(own, own_clearance, clearance), Denied::Range)?;
-    require(
-        clearance.names_only_made(objects.next_category()),
-        Denied::Range,
-    )
+    objects.set_label(thread, label.label())
 }
 
 /// Gives the thread another clearance, which is above its own label, and exceeds its old clearance only where
@@ -117,10 +77,7 @@ pub fn set_clearance<S: LabelStore + Drop>(
 ) -> Result<(), Refusal>
     ensures { Decides objects.old objects.new thread (calls.SetClearance clearance.now) result (λ _. Unit {0}) }
 {
-    let clearance = clearance.label();
-    check_set_clearance(objects, thread, clearance)?;
-    objects.set_clearance(thread, clearance.copy()?)?;
-    Ok(())
+    objects.set_clearance(thread, clearance.label())
 }
 
 /// Makes a thread in a container, and returns its number. The new thread owns no more than its maker, and its

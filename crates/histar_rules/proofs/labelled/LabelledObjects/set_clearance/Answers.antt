@@ -1,4 +1,10 @@
 -- Proves the goals of `LabelledObjects::set_clearance` of src/labelled.rt that the search leaves open.
+use Rattle.std.proofs.Common.{◌≡◌, ◌∙◌, subst}
+use Rattle.histar_object.specs.State.{State}
+use Rattle.histar_container.specs.ObjectsModel.{state_of}
+use Rattle.histar_rules.specs.declared.raw.RawCall.TheVariants.{SetClearance}
+use Rattle.histar_rules.specs.Finds.{state_with}
+use Rattle.histar_rules.specs.Rules.{check, FailsAtUnlessExhausted}
 use Rattle.histar_object.specs.Objects.{objects_of}
 use Rattle.histar_container.specs.Shown.{shown}
 use Rattle.histar_container.proofs.Keeping.{kept_changed}
@@ -10,3 +16,15 @@ invariant_of-self g c =
     (objects_of (shown (g.S.LabelStore.labels c.self.inside.store) c.self.inside.table))
     c.set_clearance_in.new.table c.self.inside.next_object c.args.thread _ c.set_clearance_in.result
     c.set_clearance_in.ensures.stand c.self.invariant.unused c.self.invariant.positive c.set_clearance_in.ensures.ok c.set_clearance_in.ensures.err
+
+pub returns-clause-answer : goal.returns-clause-answer
+returns-clause-answer g c =
+    let same : state_with (g.S.LabelStore.labels c.self.inside.store) c.self.inside.table c.next-next.result ≡ state_of c.args.self.now =
+    (λ i. record {
+      objects = objects_of (c.self.view_is i).objects;
+      next_object = c.next-next.ensures.object i;
+      next_category = c.next-next.ensures.category i;
+    })
+    ∙ c.forget_unused_labels.ensures in
+    subst (λ (s : State). FailsAtUnlessExhausted (check s c.args.thread (SetClearance c.args.clearance.now)) c.set_clearance_in.result) same
+    c.set_clearance_in.ensures.answer

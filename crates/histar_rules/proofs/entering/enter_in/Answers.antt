@@ -1,0 +1,152 @@
+-- Proves the goals of `enter_in` of src/entering.rt that the search leaves open.
+use Rattle.std.proofs.Common.{Option, Some, sym, ap, ◌∙◌}
+use Rattle.std.specs.Prelude.{is_some}
+use Rattle.histar_label.specs.Levels.{Levels}
+use Rattle.histar_label.specs.Store.{label_at}
+use Rattle.histar_object.specs.Objects.{Objects, objects_of, entry_there}
+use Rattle.histar_container.proofs.Keeping.{trans, all_on, shown_on, on_err}
+use Rattle.histar_rules.specs.declared.raw.RawCall.TheVariants.{Enter}
+use Rattle.histar_rules.specs.Finds.{state_with}
+use Rattle.histar_rules.specs.Rules.{check}
+use Rattle.histar_rules.proofs.OwnLabels.{refused_at_denial, keeps_same}
+use Rattle.histar_rules.proofs.EnteringGates.{check_put_both, own_stand, own_shown}
+use Rattle.histar_rules.proofs.entering.enter_in.Goals as goal
+
+pub returns-in_err-clearance-clause-stand : goal.returns-in_err-clearance-clause-stand
+returns-in_err-clearance-clause-stand g c =
+    let one = g.S.LabelStore.labels c.args.store.now in
+    let two = g.S.LabelStore.labels c.put_copy.new.store in
+    all_on one two c.put_copy.ensures.keeps (objects_of c.args.table.now) c.requires
+
+pub returns-in_err-clearance-clause-err : goal.returns-in_err-clearance-clause-err
+returns-in_err-clearance-clause-err g c =
+    let one = g.S.LabelStore.labels c.args.store.now in
+    let two = g.S.LabelStore.labels c.put_copy.new.store in
+    on_err _ _ (shown_on one two c.put_copy.ensures.keeps c.args.table.now c.requires)
+
+pub returns-in_err-label-clause-stand : goal.returns-in_err-label-clause-stand
+returns-in_err-label-clause-stand g c =
+    let one = g.S.LabelStore.labels c.args.store.now in
+    let two = g.S.LabelStore.labels c.put_copy.new.store in
+    let three = g.S.LabelStore.labels c.put_copy-2.new.store in
+    let keeps = trans one two three c.put_copy.ensures.keeps c.put_copy-2.ensures.keeps in
+    all_on one three keeps (objects_of c.args.table.now) c.requires
+
+pub returns-in_err-label-clause-err : goal.returns-in_err-label-clause-err
+returns-in_err-label-clause-err g c =
+    let one = g.S.LabelStore.labels c.args.store.now in
+    let two = g.S.LabelStore.labels c.put_copy.new.store in
+    let three = g.S.LabelStore.labels c.put_copy-2.new.store in
+    let keeps = trans one two three c.put_copy.ensures.keeps c.put_copy-2.ensures.keeps in
+    on_err _ _ (shown_on one three keeps c.args.table.now c.requires)
+
+pub check_enter_in-requires-clause-stand : goal.check_enter_in-requires-clause-stand
+check_enter_in-requires-clause-stand g c =
+    let one = g.S.LabelStore.labels c.args.store.now in
+    let two = g.S.LabelStore.labels c.put_copy.new.store in
+    let three = g.S.LabelStore.labels c.put_copy-2.new.store in
+    let keeps = trans one two three c.put_copy.ensures.keeps c.put_copy-2.ensures.keeps in
+    all_on one three keeps (objects_of c.args.table.now) c.requires
+
+pub check_enter_in-requires-clause-wanted : goal.check_enter_in-requires-clause-wanted
+check_enter_in-requires-clause-wanted g c =
+    ap is_some (c.in_ok-label.ensures.stands ∙ ap Some c.label-2.ensures)
+
+pub check_enter_in-requires-clause-clearance : goal.check_enter_in-requires-clause-clearance
+check_enter_in-requires-clause-clearance g c =
+    ap is_some
+    (c.put_copy-2.ensures.keeps c.in_ok-clearance.clearance c.args.labels.clearance.now
+    (c.in_ok-clearance.ensures.stands ∙ ap Some c.label.ensures))
+
+pub returns-in_err-entry-clause-stand : goal.returns-in_err-entry-clause-stand
+returns-in_err-entry-clause-stand g c =
+    let one = g.S.LabelStore.labels c.args.store.now in
+    let two = g.S.LabelStore.labels c.put_copy.new.store in
+    let three = g.S.LabelStore.labels c.put_copy-2.new.store in
+    let keeps = trans one two three c.put_copy.ensures.keeps c.put_copy-2.ensures.keeps in
+    let four = g.S.LabelStore.labels c.check_enter_in.new.store in
+    let kept = keeps_same one three keeps four c.check_enter_in.ensures.unchanged in
+    all_on one four kept (objects_of c.args.table.now) c.requires
+
+pub returns-in_err-entry-clause-answer : goal.returns-in_err-entry-clause-answer
+returns-in_err-entry-clause-answer g c =
+    let one = g.S.LabelStore.labels c.args.store.now in
+    let two = g.S.LabelStore.labels c.put_copy.new.store in
+    let three = g.S.LabelStore.labels c.put_copy-2.new.store in
+    let keeps = trans one two three c.put_copy.ensures.keeps c.put_copy-2.ensures.keeps in
+    refused_at_denial _ _ c.from_residual-in_err-entry.result c.from_residual-in_err-entry.ensures.1
+    (check_put_both one three keeps c.args.table.now c.args.thread c.requires c.in_ok-label.label c.in_ok-clearance.clearance
+    c.args.labels.wanted.now c.args.labels.clearance.now (c.in_ok-label.ensures.stands ∙ ap Some c.label-2.ensures)
+    (c.put_copy-2.ensures.keeps c.in_ok-clearance.clearance c.args.labels.clearance.now
+    (c.in_ok-clearance.ensures.stands ∙ ap Some c.label.ensures))
+    c.args.next c.args.container c.args.gate c.args.labels.verify.now
+    ∙ ap (λ (verify : Levels). check (state_with three c.args.table.now c.args.next) c.args.thread (Enter c.args.container c.args.gate
+    (label_at three c.in_ok-label.label) (label_at three c.in_ok-clearance.clearance) verify)) (sym c.label-verify.ensures)
+    ∙ c.in_err-entry.ensures.answer)
+
+pub returns-in_err-entry-clause-err : goal.returns-in_err-entry-clause-err
+returns-in_err-entry-clause-err g c =
+    let one = g.S.LabelStore.labels c.args.store.now in
+    let two = g.S.LabelStore.labels c.put_copy.new.store in
+    let three = g.S.LabelStore.labels c.put_copy-2.new.store in
+    let keeps = trans one two three c.put_copy.ensures.keeps c.put_copy-2.ensures.keeps in
+    let four = g.S.LabelStore.labels c.check_enter_in.new.store in
+    let kept = keeps_same one three keeps four c.check_enter_in.ensures.unchanged in
+    on_err _ _ (shown_on one four kept c.args.table.now c.requires)
+
+pub returns-clause-stand : goal.returns-clause-stand
+returns-clause-stand g c =
+    let one = g.S.LabelStore.labels c.args.store.now in
+    let two = g.S.LabelStore.labels c.put_copy.new.store in
+    let three = g.S.LabelStore.labels c.put_copy-2.new.store in
+    let keeps = trans one two three c.put_copy.ensures.keeps c.put_copy-2.ensures.keeps in
+    let four = g.S.LabelStore.labels c.check_enter_in.new.store in
+    let kept = keeps_same one three keeps four c.check_enter_in.ensures.unchanged in
+    own_stand one four kept c.args.table.now c.args.thread c.requires c.in_ok-label.label c.in_ok-clearance.clearance
+    c.args.labels.wanted.now c.args.labels.clearance.now
+    (ap (λ (labels : g.row.S-Id.Denot → Option Levels). labels c.in_ok-label.label) c.check_enter_in.ensures.unchanged
+    ∙ (c.in_ok-label.ensures.stands ∙ ap Some c.label-2.ensures))
+    (ap (λ (labels : g.row.S-Id.Denot → Option Levels). labels c.in_ok-clearance.clearance) c.check_enter_in.ensures.unchanged
+    ∙ (c.put_copy-2.ensures.keeps c.in_ok-clearance.clearance c.args.labels.clearance.now
+    (c.in_ok-clearance.ensures.stands ∙ ap Some c.label.ensures)))
+    c.give_own.new.table c.give_own.ensures
+
+pub returns-clause-answer : goal.returns-clause-answer
+returns-clause-answer g c =
+    let one = g.S.LabelStore.labels c.args.store.now in
+    let two = g.S.LabelStore.labels c.put_copy.new.store in
+    let three = g.S.LabelStore.labels c.put_copy-2.new.store in
+    let keeps = trans one two three c.put_copy.ensures.keeps c.put_copy-2.ensures.keeps in
+    check_put_both one three keeps c.args.table.now c.args.thread c.requires c.in_ok-label.label c.in_ok-clearance.clearance
+    c.args.labels.wanted.now c.args.labels.clearance.now (c.in_ok-label.ensures.stands ∙ ap Some c.label-2.ensures)
+    (c.put_copy-2.ensures.keeps c.in_ok-clearance.clearance c.args.labels.clearance.now
+    (c.in_ok-clearance.ensures.stands ∙ ap Some c.label.ensures))
+    c.args.next c.args.container c.args.gate c.args.labels.verify.now
+    ∙ ap (λ (verify : Levels). check (state_with three c.args.table.now c.args.next) c.args.thread (Enter c.args.container c.args.gate
+    (label_at three c.in_ok-label.label) (label_at three c.in_ok-clearance.clearance) verify)) (sym c.label-verify.ensures)
+    ∙ c.in_ok-entry.ensures.answer
+
+pub returns-clause-ok : goal.returns-clause-ok
+returns-clause-ok g c =
+    let one = g.S.LabelStore.labels c.args.store.now in
+    let two = g.S.LabelStore.labels c.put_copy.new.store in
+    let three = g.S.LabelStore.labels c.put_copy-2.new.store in
+    let keeps = trans one two three c.put_copy.ensures.keeps c.put_copy-2.ensures.keeps in
+    let four = g.S.LabelStore.labels c.check_enter_in.new.store in
+    let kept = keeps_same one three keeps four c.check_enter_in.ensures.unchanged in
+    own_shown one four kept c.args.table.now c.args.thread c.requires c.in_ok-label.label c.in_ok-clearance.clearance
+    c.args.labels.wanted.now c.args.labels.clearance.now
+    (ap (λ (labels : g.row.S-Id.Denot → Option Levels). labels c.in_ok-label.label) c.check_enter_in.ensures.unchanged
+    ∙ (c.in_ok-label.ensures.stands ∙ ap Some c.label-2.ensures))
+    (ap (λ (labels : g.row.S-Id.Denot → Option Levels). labels c.in_ok-clearance.clearance) c.check_enter_in.ensures.unchanged
+    ∙ (c.put_copy-2.ensures.keeps c.in_ok-clearance.clearance c.args.labels.clearance.now
+    (c.in_ok-clearance.ensures.stands ∙ ap Some c.label.ensures)))
+    c.give_own.new.table c.give_own.ensures
+
+pub returns-clause-entry : goal.returns-clause-entry
+returns-clause-entry g c =
+    let one = g.S.LabelStore.labels c.args.store.now in
+    let two = g.S.LabelStore.labels c.put_copy.new.store in
+    let three = g.S.LabelStore.labels c.put_copy-2.new.store in
+    let keeps = trans one two three c.put_copy.ensures.keeps c.put_copy-2.ensures.keeps in
+    c.in_ok-entry.ensures.entry ∙ ap (λ (objects : Objects Levels). entry_there (objects c.args.gate)) (shown_on one three keeps c.args.table.now c.requires)

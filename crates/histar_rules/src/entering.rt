@@ -1,0 +1,214 @@
+//! Entering a gate. The labels that the thread takes are put into the store before the checks, which compare
+//! them by their Ids.
+ghost use Rattle.std.specs.Prelude.{◌≡◌, IfOk, IsSome, IsTrue, OnOk, OnErr, Some};
+ghost use Rattle.histar_base.specs.Refusals.{unless, ◌orelse◌};
+ghost use Rattle.histar_label.specs.Floors.{floor_of};
+ghost use Rattle.histar_label.specs.Levels.{is_below};
+ghost use Rattle.histar_label.specs.Store.{label_at};
+ghost use Rattle.histar_object.specs.Objects.{objects_of, entry_there, is_gate, is_thread, put, thread_of};
+ghost use Rattle.histar_container.specs.Shown.{objects_shown, AllStand};
+ghost use Rattle.histar_rules.specs.Finds.{state_with, gate_of, no_opening};
+ghost use Rattle.histar_rules.specs.Rights.{lies_between};
+ghost use Rattle.histar_rules.specs.Rules.{check, FailsAt, FailsAtUnlessExhausted};
+ghost use Rattle.histar_rules.specs.declared.raw.RawCall.TheVariants as calls;
+ghost use Rattle.histar_rules.specs.declared.raw.Denied.TheVariants.{BadKind, Gate};
+
+use crate::checks::require;
+use crate::handed::HandedLabels;
+use crate::limits::Next;
+use crate::lookup::linked_in;
+use crate::own::{is_known, put_copy};
+use crate::raw::{Denied, Refusal};
+use histar_label::{Label, LabelStore};
+use histar_object::{Entry, Kind, ObjId, Object, Table};
+
+/// The Ids of the labels of a thread that wants to enter a gate, and of those of the gate.
+#[derive(Clone, Copy)]
+struct Opening<L> {
+    /// The thread's own label and its clearance.
+    own: (L, L),
+    /// The label that the gate gives, and its clearance.
+    gate: (L, L),
+    /// The label and the clearance that the thread wants.
+    wanted: (L, L),
+}
+
+// Looks up a gate: its label, its clearance, and what it gives to threads that enter it.
+fn gate_in<L: Copy>(table: &Table<L>, gate: ObjId) -> Result<(L, L, Entry), Denied>
+    ensures answer { FailsAt (unless (is_gate (objects_of table.now gate)) BadKind) result }
+    ensures found { IfOk result (λ found. objects_of table.now gate ≡ Some (gate_of found.0 found.1 found.2)) }
+{
+    let Some(object) = table.get(gate) else {
+        return Err(Denied::BadKind);
+    };
+    let Kind::Gate(clearance, entry) = &object.kind else {
+        return Err(Denied::BadKind);
+    };
+    Ok((object.label, *clearance, *entry))
+}
+
+// Checks whether the label that a thread wants is above the floor of its own label and the gate's.
+fn is_above_floor<S: LabelStore>(store: &S, own: S::Id, gate: S::Id, wanted: S::Id) -> bool
+    requires own { IsSome (S.labels store.now own) }
+    requires gate { IsSome (S.labels store.now gate) }
+    requires wanted { IsSome (S.labels store.now wanted) }
+    ensures { result ≡ is_below (floor_of (label_at (S.labels store.now) own) (label_at (S.labels store.now) gate))
+        (label_at (S.labels store.now) wanted) }
+{
+    let wanted = store.get(wanted).unwrap();
+    store
+        .get(own)
+        .unwrap()
+        .floor_below(store.get(gate).unwrap(), wanted)
+}
+
+// Checks whether the label that a thread wants is above the floor of its own label and the gate's, and the
+// clearance between it and the join of both clearances.
+fn is_between<S: LabelStore>(
+    store: &mut S,
+    own: (S::Id, S::Id),
+    gate: (S::Id, S::Id),
+    wanted: (S::Id, S::Id),
+) -> bool
+    requires own { IsSome (S.labels store.old own.0) }
+    requires own_clearance { IsSome (S.labels store.old own.1) }
+    requires gate { IsSome (S.labels store.old gate.0) }
+    requires gate_clearance { IsSome (S.labels store.old gate.1) }
+    requires wanted { IsSome (S.labels store.old wanted.0) }
+    requires clearance { IsSome (S.labels store.old wanted.1) }
+    ensures answer { result ≡ lies_between
+        (label_at (S.labels store.old) own.0) (label_at (S.labels store.old) gate.0)
+        (label_at (S.labels store.old) wanted.0) (label_at (S.labels store.old) wanted.1)
+        (label_at (S.labels store.old) own.1) (label_at (S.labels store.old) gate.1) }
+    ensures unchanged { S.labels store.new ≡ S.labels store.old }
+{
+    is_above_floor(store, own.0, gate.0, wanted.0)
+        && store.below(wanted.0, wanted.1)
+        && store.below_join(wanted.1, own.1, gate.1)
+}
+
+// Checks whether the gate lets the thread in: its own label is below the gate's clearance, and below the
+// verify label.
+fn check_entry<S: LabelStore>(
+    store: &mut S,
+    own: S::Id,
+    gate_clearance: S::Id,
+    verify: &Label,
+) -> Result<(), Denied>
+    requires own { IsSome (S.labels store.old own) }
+    requires gate_clearance { IsSome (S.labels store.old gate_clearance) }
+    ensures answer { FailsAt
+        (unless (is_below (label_at (S.labels store.old) own) (label_at (S.labels store.old) gate_clearance)) Gate
+        orelse unless (is_below (label_at (S.labels store.old) own) verify.now) Gate) result }
+    ensures unchanged { S.labels store.new ≡ S.labels store.old }
+{
+    let is_let_in = store.below(own, gate_clearance);
+    require(is_let_in, Denied::Gate)?;
+    require(store.get(own).unwrap().below(verify), Denied::Gate)
+}
+
+// Makes the last checks of entering a gate: the gate lets in a thread with this verify label, and gives it
+// the label and the clearance that it wants. The thread may own behind the gate what it or the gate owns.
+// Elsewhere the label is at least both labels, so that no taint is lost, and the clearance is at most the
+// greater of both clearances.
+fn check_opening<S: LabelStore>(
+    store: &mut S,
+    opening: Opening<S::Id>,
+    verify: &Label,
+    next: Next,
+) -> Result<(), Denied>
+    requires own { IsSome (S.labels store.old opening.own.0) }
+    requires own_clearance { IsSome (S.labels store.old opening.own.1) }
+    requires gate { IsSome (S.labels store.old opening.gate.0) }
+    requires gate_clearance { IsSome (S.labels store.old opening.gate.1) }
+    requires wanted { IsSome (S.labels store.old opening.wanted.0) }
+    requires clearance { IsSome (S.labels store.old opening.wanted.1) }
+    ensures answer { FailsAt (no_opening (S.labels store.old) opening verify.now next) result }
+    ensures unchanged { S.labels store.new ≡ S.labels store.old }
+{
+    let Opening { own, gate, wanted } = opening;
+    check_entry(store, own.0, gate.1, verify)?;
+    let is_between = is_between(store, own, gate, wanted);
+    require(is_between, Denied::Range)?;
+    require(is_known(store, wanted.0, next), Denied::Range)?;
+    require(is_known(store, wanted.1, next), Denied::Range)?;
+    require(verify.names_only_made(next.category), Denied::Range)
+}
+
+// Checks that a thread may enter a gate with a label and a clearance that the store has under these Ids, and
+// returns what the gate gives.
+fn check_enter_in<S: LabelStore>(
+    store: &mut S,
+    table: &Table<S::Id>,
+    next: Next,
+    thread: ObjId,
+    container: ObjId,
+    gate: ObjId,
+    wanted: (S::Id, S::Id),
+    verify: &Label,
+) -> Result<Entry, Denied>
+    requires stand { AllStand (S.labels store.old) (objects_of table.now) }
+    requires wanted { IsSome (S.labels store.old wanted.0) }
+    requires clearance { IsSome (S.labels store.old wanted.1) }
+    ensures answer { FailsAt (check (state_with (S.labels store.old) table.now next) thread
+        (calls.Enter container gate (label_at (S.labels store.old) wanted.0)
+        (label_at (S.labels store.old) wanted.1) verify.now)) result }
+    ensures entry { IfOk result (λ entry. Some entry
+        ≡ entry_there (objects_shown (S.labels store.old) table.now gate)) }
+    ensures thread { IfOk result (λ _. IsTrue (is_thread (objects_of table.now thread))) }
+    ensures unchanged { S.labels store.new ≡ S.labels store.old }
+{
+    let found = linked_in(store, table, thread, container, gate)?;
+    let (gate_label, gate_clearance, entry) = gate_in(table, gate)?;
+    let opening = Opening {
+        own: (found.own, found.own_clearance),
+        gate: (gate_label, gate_clearance),
+        wanted,
+    };
+    check_opening(store, opening, verify, next)?;
+    Ok(entry)
+}
+
+// Gives a thread another label and another clearance.
+fn give_own<L: Copy>(table: &mut Table<L>, thread: ObjId, own: (L, L))
+    requires { IsTrue (is_thread (objects_of table.old thread)) }
+    ensures { objects_of table.new ≡ put (objects_of table.old) thread (thread_of own.0 own.1) }
+{
+    if let Some(object) = table.get_mut(thread) {
+        *object = Object {
+            label: own.0,
+            kind: Kind::Thread(own.1),
+        };
+    }
+}
+
+/// Lets a thread enter a gate with these labels, if it may, and returns what the gate gives.
+pub(crate) fn enter_in<S: LabelStore>(
+    store: &mut S,
+    table: &mut Table<S::Id>,
+    next: Next,
+    thread: ObjId,
+    container: ObjId,
+    gate: ObjId,
+    labels: HandedLabels,
+) -> Result<Entry, Refusal>
+    requires { AllStand (S.labels store.old) (objects_of table.old) }
+    ensures stand { AllStand (S.labels store.new) (objects_of table.new) }
+    ensures answer { FailsAtUnlessExhausted (check (state_with (S.labels store.old) table.old next) thread
+        (calls.Enter container gate labels.entry.wanted.now labels.entry.clearance.now labels.entry.verify.now)) result }
+    ensures entry { IfOk result (λ entry. Some entry
+        ≡ entry_there (objects_shown (S.labels store.old) table.old gate)) }
+    ensures ok { OnOk result (objects_shown (S.labels store.new) table.new
+        ≡ put (objects_shown (S.labels store.old) table.old) thread
+        (thread_of labels.entry.wanted.now labels.entry.clearance.now)) }
+    ensures err { OnErr result (objects_shown (S.labels store.new) table.new
+        ≡ objects_shown (S.labels store.old) table.old) }
+{
+    let clearance = put_copy(store, labels.clearance.label())?;
+    let label = put_copy(store, labels.wanted.label())?;
+    let own = (label, clearance);
+    let verify = labels.verify.label();
+    let entry = check_enter_in(store, table, next, thread, container, gate, own, verify)?;
+    give_own(table, thread, own);
+    Ok(entry)
+}
