@@ -19,7 +19,7 @@ use Rattle.histar_flat.specs.Words.{ProcName}
 use Rattle.histar_shell.specs.Machine.{MachineModel}
 use Rattle.histar_shell.specs.Meaning.{Shows}
 use Rattle.histar_readout.specs.declared.tree.TreeNode.{TreeNode}
-use Rattle.histar_access.specs.declared.cells.Cell.{Cell}
+use Rattle.histar_cells.specs.declared.cells.Cell.{Cell}
 use Rattle.histar_access.specs.Cells.{line_of_node, lines_from}
 use Rattle.histar_access.specs.Shown.{visitors_in}
 
