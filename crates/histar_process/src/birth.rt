@@ -9,12 +9,12 @@ ghost use Rattle.histar_programs.specs.Programs.{RunsPart};
 ghost use Rattle.histar_process.specs.Births.{RunsBirth, make_categories, make_containers, make_thread, make_segment};
 
 use crate::find::write_segment;
-use histar_label::{Category, LabelStore};
+use histar_label::{Category, Label, LabelStore};
 use histar_layout::{add_child, cleared_at, first_status, guarded_by, owner_label};
 use histar_object::ObjId;
 use histar_programs::{CallError, Home, joined};
 use histar_syscall::Kernel;
-use std::alloc::Global;
+use std::alloc::{AllocError, Global};
 
 /// Makes a child of the process that is found there, whose segment has these bytes: the child owns its two
 /// categories and these, and is in the jobs of these. Its objects are made, and it is added to the
@@ -109,12 +109,27 @@ fn make_thread<S: LabelStore + Drop>(
 ) -> Result<ObjId, CallError>
     ensures { RunsPart (make_thread internal owned.now jobs.now read write) kernel.old kernel.new thread result }
 {
+    let (label, clearance) = thread_labels(alloc, owned, jobs, read, write)?;
+    let made = kernel.make_thread(thread, internal, label, clearance)?;
+    Ok(made)
+}
+
+/// Makes the label and the clearance of the thread of a child.
+fn thread_labels(
+    alloc: Global,
+    owned: &[Category],
+    jobs: &[Category],
+    read: Category,
+    write: Category,
+) -> Result<(Label, Label), AllocError>
+    ensures label { IfOk result (λ made. made.0 ≡ owner_label (read ∷ write ∷ owned.now) jobs.now) }
+    ensures clearance { IfOk result (λ made. made.1 ≡ cleared_at ((read ∷ write ∷ owned.now) ++ jobs.now)) }
+{
     let all = joined(alloc, &[read, write], owned)?;
     let label = owner_label(alloc, all.as_slice(), jobs)?;
     let known = joined(alloc, all.as_slice(), jobs)?;
     let clearance = cleared_at(alloc, known.as_slice())?;
-    let made = kernel.make_thread(thread, internal, label, clearance)?;
-    Ok(made)
+    Ok((label, clearance))
 }
 
 /// Makes the process segment of a child in its container.

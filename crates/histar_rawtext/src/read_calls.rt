@@ -187,14 +187,12 @@ fn read_pair(words: Option<&[u8]>) -> Result<(ObjId, ObjId), Unread>
 fn read_pair_named(name: &[u8], words: Option<&[u8]>) -> Result<RawCall, Unread>
     ensures { Gives result (pair_named name.now (option_copied words.entry)) }
 {
+    let (container, object) = read_pair(words)?;
     if name == b"read".as_slice() {
-        let (container, segment) = read_pair(words)?;
-        Ok(RawCall::Read(container, segment))
+        Ok(RawCall::Read(container, object))
     } else if name == b"unlink".as_slice() {
-        let (container, object) = read_pair(words)?;
         Ok(RawCall::Unlink(container, object))
     } else if name == b"label".as_slice() {
-        let (container, object) = read_pair(words)?;
         Ok(RawCall::LabelOf(container, object))
     } else {
         Err(Unread::NoCall)
