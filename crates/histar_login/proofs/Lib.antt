@@ -16,3 +16,4 @@ pub mod Beginnings
 pub mod MadeLabels
 pub mod RepliesOfLogins
 pub mod Numbers
+pub mod UserLabels

@@ -17,8 +17,8 @@ pub(crate) fn gate_labels(alloc: Global, owners: &[u8]) -> Result<(Label, Label)
 }
 
 /// Returns the label with one level at both categories of each of these users and groups, and another at all
-/// others.
-fn label_at_both(
+/// others. It has room for the two categories of a process.
+pub(crate) fn label_at_both(
     alloc: Global,
     default: Level,
     level: Level,
@@ -26,7 +26,11 @@ fn label_at_both(
 ) -> Result<Label, AllocError>
     ensures { IfOk result (λ label. label ≡ labelled (at_both level owners.now) default) }
 {
-    let mut label = Label::new(alloc, default);
+    let mut label = Label::with_room(
+        alloc,
+        default,
+        owners.len().saturating_mul(2).saturating_add(2),
+    )?;
     for &owner in owners {
         label.set(read_category(owner), level)?;
         label.set(write_category(owner), level)?;

@@ -1,6 +1,7 @@
 //! Logging in, by raw calls of the thread that logs in.
 ghost use Rattle.std.specs.Prelude.{◌≡◌, IfOk};
 ghost use Rattle.std.specs.Str.{bytes_eq};
+ghost use Rattle.histar_label.specs.Levels.{with_level};
 ghost use Rattle.histar_rules.specs.Sound.{root_number};
 ghost use Rattle.histar_programs.specs.Parts.{ask};
 ghost use Rattle.histar_programs.specs.Programs.{Runs, RunsPart};
@@ -9,13 +10,12 @@ ghost use Rattle.histar_login.specs.Login.{AreEntryLabels, ask_password};
 ghost use Rattle.histar_programs.specs.Users.{user_label, user_clearance, gate_of, password_of};
 ghost use Rattle.histar_login.specs.Login.{entering, label_if, clearance_if, take_due, reply_if, login_program, login_as_program};
 
-use crate::gates::gate_labels;
-use histar_base::Bytes;
+use crate::gates::{gate_labels, label_at_both};
 use histar_flat::{Errno, Name, Password, Reply};
-use histar_label::{Label, LabelStore};
-use histar_layout::{UserTable, cleared_at, owner_label, owners_of};
+use histar_label::{Label, LabelStore, Level};
+use histar_layout::{UserTable, owners_of};
 use histar_object::{Entry, ObjId};
-use histar_programs::{CallError, Caller, categories_of, joined};
+use histar_programs::{CallError, Caller};
 use histar_syscall::Kernel;
 use std::alloc::{AllocError, Global};
 
@@ -25,11 +25,22 @@ fn user_labels(alloc: Global, caller: &Caller, owners: &[u8]) -> Result<(Label, 
     ensures { IfOk result (λ own. (own.0 ≡ user_label caller.now owners.now)
         × (own.1 ≡ user_clearance caller.now owners.now)) }
 {
-    let categories = categories_of(alloc, owners, true)?;
-    let owned = joined(alloc, &[caller.read, caller.write], categories.as_slice())?;
-    let label = owner_label(alloc, owned.as_slice(), &[])?;
-    let clearance = cleared_at(alloc, owned.as_slice())?;
+    let label = label_at_both(alloc, Level::L1, Level::Star, owners)?;
+    let clearance = label_at_both(alloc, Level::L2, Level::L3, owners)?;
+    let label = with_own(label, Level::Star, caller)?;
+    let clearance = with_own(clearance, Level::L3, caller)?;
     Ok((label, clearance))
+}
+
+/// Sets one level at both categories of a process. They were made after those of users, so this is quick.
+fn with_own(label: Label, level: Level, caller: &Caller) -> Result<Label, AllocError>
+    ensures { IfOk result (λ made. made ≡
+        with_level (with_level label caller.now.read level) caller.now.write level) }
+{
+    let mut label = label;
+    label.set(caller.read, level)?;
+    label.set(caller.write, level)?;
+    Ok(label)
 }
 
 /// Returns the segment with a user's password.
@@ -90,9 +101,8 @@ fn enter_gate<S: LabelStore + Drop>(
     Ok(entry)
 }
 
-/// Checks whether this is the password of a user, by reading it.
+/// Checks whether this is the password of a user, which is read in place.
 fn ask_password<S: LabelStore + Drop>(
-    alloc: Global,
     kernel: &mut Kernel<S>,
     thread: ObjId,
     number: u8,
@@ -100,8 +110,8 @@ fn ask_password<S: LabelStore + Drop>(
 ) -> Result<bool, CallError>
     ensures { RunsPart (ask_password number password) kernel.old kernel.new thread result }
 {
-    let kept = kernel.read_copy(alloc, thread, ObjId::new(1), password_segment(number))?;
-    Ok(is_password(&kept, password))
+    let kept = kernel.read(thread, ObjId::new(1), password_segment(number))?;
+    Ok(is_password(kept, password))
 }
 
 /// Returns the label and the clearance that a thread takes after entering the gate: the user's where the
@@ -150,10 +160,10 @@ fn reply_if(right: bool) -> Reply
 }
 
 /// Checks whether these bytes are the password.
-fn is_password(kept: &Bytes, password: Password) -> bool
+fn is_password(kept: &[u8], password: Password) -> bool
     ensures { result ≡ bytes_eq kept.now password }
 {
-    kept.as_slice() == password.as_bytes()
+    kept == password.as_bytes()
 }
 
 /// Gives the thread of a process the label and the clearance of a user, by the user's password: ENOENT
@@ -193,7 +203,7 @@ fn login_as<S: LabelStore + Drop>(
     let thread = caller.thread;
     let own = kernel.own_label(thread)?;
     enter_gate(alloc, kernel, thread, number, owners, &own)?;
-    let right = ask_password(alloc, kernel, thread, number, password)?;
+    let right = ask_password(kernel, thread, number, password)?;
     take_due(alloc, kernel, right, caller, owners, own)?;
     Ok(reply_if(right))
 }

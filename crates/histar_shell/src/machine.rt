@@ -175,13 +175,14 @@ impl<S: LabelStore + Drop> Machine<S> {
         &self.users
     }
 
-    /// Moves out the raw calls made so far: a run of the kernel from its empty state to the machine's.
-    pub fn into_trace(self) -> Trace
+    /// Moves out the raw calls made so far: a run of the kernel from its empty state to the machine's. It leaks
+    /// the kernel's objects: a program that ends soon takes no time to free them.
+    pub fn leak_into_trace(self) -> Trace
         ensures trace { result ≡ self.kernel.trace }
         ensures run { IsTraced self.kernel }
     {
         Trace {
-            entries: self.kernel.into_trace(),
+            entries: self.kernel.leak_into_trace(),
         }
     }
 }

@@ -99,7 +99,7 @@ fn run_text<S: LabelStore + Drop, W: Sink>(
         return Err(Fault::OutOfMemory);
     };
     answer_all(alloc, &mut machine, calls, writer, options)?;
-    Ok(machine.into_trace())
+    Ok(machine.leak_into_trace())
 }
 
 /// Makes the calls on the machine in their order, writes a line for each, and then what is asked for.

@@ -24,6 +24,7 @@ use histar_rules::{HandedLabel, HandedLabels, LabelledObjects, ObjectKind, RawCa
 use histar_thread::{make_category, make_thread, own_label, set_clearance, set_label};
 use std::alloc::Global;
 use std::marker::Model;
+use std::mem::forget;
 
 /// A labelled kernel over any store of labels: its objects, the trace of all its calls, and the line that was
 /// begun last. Each raw call makes room in the trace, is decided on the objects by the function of its kind,
@@ -88,10 +89,11 @@ impl<S: LabelStore + Drop> Kernel<S> {
         self.trace.entries.as_slice()
     }
 
-    /// Moves out the calls so far.
-    pub fn into_trace(self) -> Vec<TraceEntry>
+    /// Moves out the calls so far, and leaks the objects: a program that ends soon takes no time to free them.
+    pub fn leak_into_trace(self) -> Vec<TraceEntry>
         ensures { result.items ≡ self.trace }
     {
+        forget(self.objects);
         self.trace.entries
     }
 

@@ -58,5 +58,5 @@ returns-clause-runs g c =
     let starts = starts_with c.args.options c.in-Ok.machine c.in_ok-script.script _ c.into_parts-accounts.ensures.accounts c.in-Ok.ensures.starts in
     let answers =
     answers_script c.args.options _ _ c.in_ok-script.script c.in-Ok.machine c.answer_all.new.machine _ _ starts
-    c.into_parts-accounts.ensures.calls c.in_ok-answer_all.ensures.ok c.into_trace.ensures.trace _ given in
+    c.into_parts-accounts.ensures.calls c.in_ok-answer_all.ensures.ok c.leak_into_trace.ensures.trace _ given in
     answered_text c.args.options calls_refine c.args.text.now _ _ _ c.in_ok-script.script given answers

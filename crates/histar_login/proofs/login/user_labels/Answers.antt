@@ -1,0 +1,18 @@
+-- Proves the goals of `user_labels` of src/login.rt that the search leaves open.
+use Rattle.std.proofs.Common.{sym, ap, ◌∙◌}
+use Rattle.histar_label.specs.declared.levels.Level.TheVariants.{Star, L3}
+use Rattle.histar_label.specs.Levels.{Levels, with_level}
+use Rattle.histar_login.proofs.UserLabels.{user_label-own_last, user_clearance-own_last}
+use Rattle.histar_login.proofs.login.user_labels.Goals as goal
+
+pub returns : goal.returns
+returns c =
+    let r = c.args.caller.now.read in
+    let w = c.args.caller.now.write in (
+      c.in_ok-label-2.ensures
+          ∙ ap (λ (L : Levels). with_level (with_level L r Star) w Star) c.in_ok-label.ensures
+          ∙ sym (user_label-own_last c.args.caller.now c.args.owners.now),
+      c.in_ok-clearance-2.ensures
+          ∙ ap (λ (L : Levels). with_level (with_level L r L3) w L3) c.in_ok-clearance.ensures
+          ∙ sym (user_clearance-own_last c.args.caller.now c.args.owners.now),
+    )
