@@ -29,13 +29,23 @@ pub fn meet<'a, 'b>(
     ensures first_left { IfSome result (λ m. m.first_left.now ≡ after first.now m.category) }
     ensures second_left { IfSome result (λ m. m.second_left.now ≡ after second.now m.category) }
 {
-    let category = lower(first, second)?;
+    let (category, first_level, first_left, second_level, second_left) = match (first, second) {
+        ([], []) => return None,
+        ([(c, level), left @ ..], [(d, other), other_left @ ..]) if *c == *d => {
+            (*c, *level, left, *other, other_left)
+        }
+        ([(c, level), left @ ..], [(d, _), ..]) if *c < *d => {
+            (*c, *level, left, second_default, second)
+        }
+        ([(c, level), left @ ..], []) => (*c, *level, left, second_default, second),
+        (_, [(d, other), other_left @ ..]) => (*d, first_default, first, *other, other_left),
+    };
     Some(Met {
         category,
-        first: level_at(first, category, first_default),
-        second: level_at(second, category, second_default),
-        first_left: after(first, category),
-        second_left: after(second, category),
+        first: first_level,
+        second: second_level,
+        first_left,
+        second_left,
     })
 }
 
@@ -64,17 +74,25 @@ pub fn meet_three<'a, 'b, 'c>(
     ensures second_left { IfSome result (λ m. m.others.first_left.now ≡ after second.now m.others.category) }
     ensures third_left { IfSome result (λ m. m.others.second_left.now ≡ after third.now m.others.category) }
 {
-    let category = lowest(first, second, third)?;
-    let others = Met {
-        category,
-        first: level_at(second, category, defaults.1),
-        second: level_at(third, category, defaults.2),
-        first_left: after(second, category),
-        second_left: after(third, category),
+    let (level, left, others) = match (first, meet(second, third, defaults.1, defaults.2)) {
+        ([], None) => return None,
+        ([], Some(met)) => (defaults.0, first, met),
+        ([(c, level), left @ ..], Some(met)) if *c == met.category => (*level, left, met),
+        ([(c, _), ..], Some(met)) if met.category < *c => (defaults.0, first, met),
+        ([(c, level), left @ ..], _) => {
+            let met = Met {
+                category: *c,
+                first: defaults.1,
+                second: defaults.2,
+                first_left: second,
+                second_left: third,
+            };
+            (*level, left, met)
+        }
     };
     Some(MetByThree {
-        first: level_at(first, category, defaults.0),
-        first_left: after(first, category),
+        first: level,
+        first_left: left,
         others,
     })
 }
