@@ -31,7 +31,8 @@ const REMEMBERED_ANSWERS: usize = 256;
 /// as the call is done; and then, where they are asked for, the tree and the trace.
 ///
 /// The whole script is read and checked before the first call. It doesn't flush the sink. Equal labels are
-/// kept once, and the answers of the latest comparisons are remembered.
+/// kept once, and the answers of the latest comparisons are remembered. The kernel's objects are never freed,
+/// since a program ends behind its run.
 pub fn run<R: Source, W: Sink>(
     alloc: Global,
     reader: &mut R,
