@@ -117,17 +117,20 @@ fn a_link_without_memory(rt: HostRuntime) -> Result<(), Fail> {
     Ok(())
 }
 
+// Checks that of objects 1 to 201 those up to a last one are there, and no others.
+fn check_up_to(rt: &impl Abort, table: &Table<u8>, last: u64) {
+    for number in 1..202 {
+        check_there(rt, table, number, number <= last);
+    }
+}
+
 #[test]
 fn a_chain_goes_from_the_cut_on(rt: HostRuntime) -> Result<(), Fail> {
     let mut table = tree_of(&rt, rt.alloc(), Shape::Chain, 202)?;
     cut(&rt, rt.alloc(), &mut table, 150, 151)?;
-    for number in 1..202 {
-        check_there(&rt, &table, number, number <= 150);
-    }
+    check_up_to(&rt, &table, 150);
     cut(&rt, rt.alloc(), &mut table, 1, 2)?;
-    for number in 1..202 {
-        check_there(&rt, &table, number, number <= 1);
-    }
+    check_up_to(&rt, &table, 1);
     Ok(())
 }
 
@@ -167,14 +170,19 @@ fn of_many_links_one_goes(rt: HostRuntime) -> Result<(), Fail> {
     Ok(())
 }
 
+// Checks that of objects 1 to 63 all are there but 5 and those below it.
+fn check_without_five(rt: &impl Abort, table: &Table<u8>) {
+    for number in 1..64 {
+        let below_five = number == 5 || number / 2 == 5 || number / 4 == 5 || number / 8 == 5;
+        check_there(rt, table, number, !below_five);
+    }
+}
+
 #[test]
 fn of_two_branches_one_goes_whole(rt: HostRuntime) -> Result<(), Fail> {
     let mut table = tree_of(&rt, rt.alloc(), Shape::Halves, 64)?;
     cut(&rt, rt.alloc(), &mut table, 2, 5)?;
-    for number in 1..64 {
-        let below_five = number == 5 || number / 2 == 5 || number / 4 == 5 || number / 8 == 5;
-        check_there(&rt, &table, number, !below_five);
-    }
+    check_without_five(&rt, &table);
     cut(&rt, rt.alloc(), &mut table, 1, 2)?;
     check_there(&rt, &table, 3, true);
     check_there(&rt, &table, 4, false);

@@ -302,15 +302,21 @@ fn put_level<S: LabelStore>(
     store.put(at_seven(alloc, level)?)
 }
 
+/// Puts one label twice and another once, and checks which Ids are equal.
+fn puts_again(rt: &impl Abort, alloc: Global, store: &mut InternStore) -> Result<(), OutOfMemory> {
+    let first = put_level(alloc, store, Level::L2)?;
+    let other = put_level(alloc, store, Level::L3)?;
+    let again = put_level(alloc, store, Level::L2)?;
+    is_answer(rt, again == first, true);
+    is_answer(rt, other == first, false);
+    Ok(())
+}
+
 /// Checks that a label that is put again has its old Id, and that no other label has it.
 #[test]
 fn equal_labels_have_one_id(rt: HostRuntime) -> Result<(), Fail> {
     let mut store = InternStore::new(rt.alloc(), 1)?;
-    let first = put_level(rt.alloc(), &mut store, Level::L2)?;
-    let other = put_level(rt.alloc(), &mut store, Level::L3)?;
-    let again = put_level(rt.alloc(), &mut store, Level::L2)?;
-    is_answer(&rt, again == first, true);
-    is_answer(&rt, other == first, false);
+    puts_again(&rt, rt.alloc(), &mut store)?;
     Ok(())
 }
 

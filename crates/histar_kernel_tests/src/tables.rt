@@ -48,18 +48,24 @@ fn has_slot(rt: &impl Abort, table: &Table<u8>, number: u64, wanted: Option<usiz
     assert_eq!(rt; table.slot(ObjId::new(number)), wanted);
 }
 
-#[test]
-fn objects_are_found_by_their_numbers(rt: HostRuntime) -> Result<(), Fail> {
-    let mut table = Table::new(rt.alloc());
-    add(&mut table, 5, 1)?;
-    add(&mut table, 3, 3)?;
+/// Adds objects 5 and 3, changes the label of 3, and checks what is found.
+fn add_and_find(rt: &impl Abort, table: &mut Table<u8>) -> Result<(), AllocError> {
+    add(table, 5, 1)?;
+    add(table, 3, 3)?;
     if let Some(object) = table.get_mut(ObjId::new(3)) {
         object.label = 9;
     }
-    has_label(&rt, &table, 5, Some(1));
-    has_label(&rt, &table, 3, Some(9));
-    has_label(&rt, &table, 4, None);
+    has_label(rt, table, 5, Some(1));
+    has_label(rt, table, 3, Some(9));
+    has_label(rt, table, 4, None);
     assert!(rt; table.bytes(ObjId::new(3)).is_none());
+    Ok(())
+}
+
+#[test]
+fn objects_are_found_by_their_numbers(rt: HostRuntime) -> Result<(), Fail> {
+    let mut table = Table::new(rt.alloc());
+    add_and_find(&rt, &mut table)?;
     Ok(())
 }
 
