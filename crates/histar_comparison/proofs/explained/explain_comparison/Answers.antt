@@ -40,7 +40,8 @@ returns-clause-exact c =
     let seen = ap (λ (o : ObservationModel). o.replies.is_started) (sym c.first.view_is) ∙ some in
     let again = read_again text script c.in_ok-read_script.field-0 read c.in_ok-read_script.ensures.exact in
     let second = c.in_ok-second.ensures ∙ ap (observation job) (c.without-rest.ensures ∙ ap (without_job job) again) in
-    let found = compared_found job text script read finds_first_path c.in_ok-first.first c.in_ok-second.second c.in_ok-first.ensures second seen v refl in
+    let found = compared_found job text script read finds_first_path c.in_ok-first.first c.in_ok-second.second c.in_ok-first.ensures second
+    seen v refl in
     let with_job = ap (λ (o : ObservationModel). seen_of o v) c.in_ok-first.ensures ∙ seen_printed job script v in
     let without = ap (λ (o : ObservationModel). seen_of o v) second ∙ seen_printed job (without_job job script) v in
     rw c.in_ok-explain_difference.ensures

@@ -8,7 +8,8 @@ show_tree-requires g c = c.requires _ _ _ c.in_ok-observe_calls.ensures
 
 pub returns : goal.returns
 returns g c = record {
-  replies = subst (λ old. KeepsReplies c.args.job.now c.args.machine.now c.observe_calls.new.machine old c.observe_calls.new.replies c.args.calls.items)
+  replies = subst
+      (λ old. KeepsReplies c.args.job.now c.args.machine.now c.observe_calls.new.machine old c.observe_calls.new.replies c.args.calls.items)
       c.new-replies.ensures c.in_ok-observe_calls.ensures;
   tree = c.in_ok-tree.ensures;
 }
