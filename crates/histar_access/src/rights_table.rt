@@ -33,8 +33,8 @@ pub fn table_of<S: LabelStore + Drop>(
     table_by(alloc, machine, processes.as_slice(), tree.as_slice())
 }
 
-/// Returns the running ones of these processes with their users, and their rights at the files and directories
-/// of a machine.
+/// Returns the running ones of these processes with their users, and their rights at the files and
+/// directories of a machine.
 fn table_by<S: LabelStore + Drop>(
     alloc: Global,
     machine: &Machine<S>,
@@ -99,8 +99,8 @@ fn table_lines<S: LabelStore + Drop>(
     Ok(lines)
 }
 
-/// Adds the line of a file or a directory, given the rights at the directory above it, and returns the rights
-/// there.
+/// Adds the line of a file or a directory, given the rights at the directory above it, and returns the
+/// rights there.
 fn add_node<S: LabelStore + Drop>(
     alloc: Global,
     machine: &Machine<S>,

@@ -84,8 +84,8 @@ fn write_lines<S: LabelStore + Drop, W: Sink>(
     Ok(())
 }
 
-/// Writes the line of a file or a directory, given the rights at the directory above it, and returns the rights
-/// there.
+/// Writes the line of a file or a directory, given the rights at the directory above it, and returns the
+/// rights there.
 fn write_node<S: LabelStore + Drop, W: Sink>(
     alloc: Global,
     machine: &Machine<S>,

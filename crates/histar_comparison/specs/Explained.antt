@@ -17,6 +17,7 @@ use Rattle.histar_script.specs.Script.{ScriptModel}
 use Rattle.histar_script.specs.Reading.{script_of}
 use Rattle.histar_comparison.specs.declared.explained.Explained.{Explained}
 use Rattle.histar_comparison.specs.Observation.{ObservationModel}
+use Rattle.histar_comparison.specs.Compared.{difference}
 
 -- the text of the reply to line n
 abbrev pub reply_on : ℕ → List RepliedCall → List ℕ
@@ -63,6 +64,11 @@ seen_of seen Same = []
 seen_of seen NoJob = []
 seen_of seen (Line n) = kept_on n seen.replies.shown
 seen_of seen (Tree q) = line_at_path q seen.tree
+
+-- the verdict on two observed runs, with what each printed where they differ
+abbrev pub explained_difference : ObservationModel → ObservationModel → Explained
+explained_difference first second =
+    let found = difference first second in record { verdict = found; with_job = seen_of first found; without_job = seen_of second found }
 
 -- what one run prints, or the word `nothing`
 abbrev pub side_text : List ℕ → List ℕ

@@ -15,7 +15,7 @@ use Rattle.histar_shell.specs.Machine.{MachineModel, AnswersLine}
 use Rattle.histar_shell.specs.AnsweredCalls.{AnswersInTurn}
 use Rattle.histar_shell.specs.Answers.{calls_of}
 use Rattle.histar_shell.specs.Meaning.{last_state}
-use Rattle.histar_shell.specs.Ending.{IsTreeIn}
+use Rattle.histar_shell.specs.Ending.{HasTree, IsTreeIn}
 use Rattle.histar_shell.specs.TreeText.{node_text}
 use Rattle.histar_comparison.specs.Replies.{RepliesModel, no_replies, with_reply, with_replies}
 
@@ -53,3 +53,12 @@ line_text line = (line.path, node_text line)
 -- these are the lines of the tree that the objects of a machine's kernel list
 abbrev pub ShowsTree : MachineModel → List PathText → Type 0
 ShowsTree m lines = (tree : List TreeNode) × IsTreeIn m tree × (lines ≡ map (λ node. line_text (line_at (state m.kernel) node)) tree)
+
+-- a machine that has made these calls has a tree
+abbrev pub EndsWithTree : ProcName → MachineModel → List CallLine → Type 0
+EndsWithTree job m calls = (end : MachineModel) (old new : RepliesModel) → KeepsReplies job m end old new calls → HasTree end
+
+-- the machine answered these call lines, and the replies and the tree after the last were kept
+pub record Observes (job : ProcName) (before after : MachineModel) (calls : List CallLine) (seen : ObservationModel) : Type 0 where
+  pub replies : KeepsReplies job before after no_replies seen.replies calls
+  pub tree : ShowsTree after seen.tree

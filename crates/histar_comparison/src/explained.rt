@@ -1,6 +1,7 @@
 //! A verdict, with what each of two runs prints where they differ.
 ghost use Rattle.std.specs.Prelude.{◌≡◌, ◌++◌, codes, IfOk, IsErrOf, IsTrue, OnOk};
-ghost use Rattle.histar_comparison.specs.Explained.{asked_sides, explanation, found_text, kept_on, line_at_path, seen_of, side_text};
+ghost use Rattle.histar_comparison.specs.Explained.{asked_sides, explained_difference, explanation, found_text};
+ghost use Rattle.histar_comparison.specs.Explained.{kept_on, line_at_path, seen_of, side_text};
 ghost use Rattle.histar_script.specs.Lines.{is_too_long as too_long};
 ghost use Rattle.histar_script.specs.Outcome.{Gives};
 
@@ -40,11 +41,22 @@ pub fn explain_comparison(alloc: Global, text: &[u8], job: &ProcName) -> Result<
     }
     let rest = read_script(alloc, text)?.without(job);
     let second = observe(alloc, rest, job)?;
-    let verdict = find_difference(&first, &second);
+    Ok(explain_difference(alloc, &first, &second)?)
+}
+
+/// Returns the verdict on two observed runs, with what each printed where they differ.
+fn explain_difference(
+    alloc: Global,
+    first: &Observation,
+    second: &Observation,
+) -> Result<Explained, AllocError>
+    ensures { IfOk result (λ found. found ≡ explained_difference first.now second.now) }
+{
+    let verdict = find_difference(first, second);
     Ok(Explained {
         verdict,
-        with_job: printed(alloc, &first, &verdict)?,
-        without_job: printed(alloc, &second, &verdict)?,
+        with_job: printed(alloc, first, &verdict)?,
+        without_job: printed(alloc, second, &verdict)?,
     })
 }
 

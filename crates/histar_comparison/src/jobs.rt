@@ -59,7 +59,9 @@ fn jobs_of(alloc: Global, script: Script) -> Result<Vec<ProcName>, AllocError>
         return Err(AllocError);
     };
     let mut jobs = Vec::new(alloc);
-    make_calls(alloc, &mut machine, calls, &mut jobs)?;
+    let outcome = make_calls(alloc, &mut machine, calls, &mut jobs);
+    drop(machine);
+    outcome?;
     Ok(jobs)
 }
 

@@ -1,6 +1,7 @@
 //! Running a script, and keeping what a comparison needs.
 ghost use Rattle.std.specs.Prelude.{◌≡◌, IfOk, OnOk};
-ghost use Rattle.histar_comparison.specs.Observation.{CanRun, KeepsReplies, KeepsReply, ShowsTree, observation};
+ghost use Rattle.histar_comparison.specs.Observation.{CanRun, EndsWithTree, KeepsReplies, KeepsReply};
+ghost use Rattle.histar_comparison.specs.Observation.{Observes, ShowsTree, observation};
 ghost use Rattle.histar_shell.specs.Ending.{HasTree};
 
 use crate::replies::{Replies, once_done, wrap_path};
@@ -37,9 +38,24 @@ pub fn observe(alloc: Global, script: Script, job: &ProcName) -> Result<Observat
     let Ok(mut machine) = Machine::boot(alloc, PlainStore::new(alloc), accounts) else {
         return Err(AllocError);
     };
+    let seen = observe_run(alloc, &mut machine, job, calls);
+    drop(machine);
+    seen
+}
+
+/// Makes the calls on a machine that was booted, and keeps the replies and the tree after the last call.
+fn observe_run<S: LabelStore + Drop>(
+    alloc: Global,
+    machine: &mut Machine<S>,
+    job: &ProcName,
+    calls: Vec<CallLine>,
+) -> Result<Observation, AllocError>
+    requires { EndsWithTree job.now machine.old calls.items }
+    ensures { IfOk result (Observes job.now machine.old machine.new calls.items) }
+{
     let mut replies = Replies::new(alloc);
-    observe_calls(alloc, &mut machine, job, calls, &mut replies)?;
-    let tree = show_tree(alloc, &machine)?;
+    observe_calls(alloc, machine, job, calls, &mut replies)?;
+    let tree = show_tree(alloc, machine)?;
     Ok(Observation { replies, tree })
 }
 

@@ -92,6 +92,16 @@ fn is_there(table: &Table<u8>, number: u64) -> bool {
     table.get(ObjId::new(number)).is_some()
 }
 
+// Checks whether an object of this number is there.
+fn check_there(rt: &impl Abort, table: &Table<u8>, number: u64, wanted: bool) {
+    assert_eq!(rt; is_there(table, number), wanted);
+}
+
+// Checks whether container 1 links an object.
+fn check_linked(rt: &impl Abort, table: &Table<u8>, number: u64, wanted: bool) {
+    assert_eq!(rt; linked(table, ObjId::new(1), ObjId::new(number)), wanted);
+}
+
 // Tried with each of its allocations failing in turn: a link that runs out of memory leaves no object and no
 // link behind.
 #[test]
@@ -100,24 +110,27 @@ fn a_link_without_memory(rt: HostRuntime) -> Result<(), Fail> {
     let (holder, number) = (ObjId::new(1), ObjId::new(3));
     assert!(rt; is_container(&table, holder));
     let made = link_new(&mut table, holder, number, empty_container(rt.alloc())).is_ok();
-    assert_eq!(rt; is_there(&table, 3), made);
-    assert_eq!(rt; linked(&table, holder, number), made);
-    assert!(rt; is_there(&table, 2));
-    assert!(rt; linked(&table, holder, ObjId::new(2)));
+    check_there(&rt, &table, 3, made);
+    check_linked(&rt, &table, 3, made);
+    check_there(&rt, &table, 2, true);
+    check_linked(&rt, &table, 2, true);
     Ok(())
+}
+
+// Checks that of objects 1 to 201 those up to a last one are there, and no others.
+fn check_up_to(rt: &impl Abort, table: &Table<u8>, last: u64) {
+    for number in 1..202 {
+        check_there(rt, table, number, number <= last);
+    }
 }
 
 #[test]
 fn a_chain_goes_from_the_cut_on(rt: HostRuntime) -> Result<(), Fail> {
     let mut table = tree_of(&rt, rt.alloc(), Shape::Chain, 202)?;
     cut(&rt, rt.alloc(), &mut table, 150, 151)?;
-    for number in 1..202 {
-        assert_eq!(rt; is_there(&table, number), number <= 150);
-    }
+    check_up_to(&rt, &table, 150);
     cut(&rt, rt.alloc(), &mut table, 1, 2)?;
-    for number in 1..202 {
-        assert_eq!(rt; is_there(&table, number), number <= 1);
-    }
+    check_up_to(&rt, &table, 1);
     Ok(())
 }
 
@@ -126,9 +139,9 @@ fn a_chain_is_cut_at_each_link(rt: HostRuntime) -> Result<(), Fail> {
     for at in 1..201 {
         let mut table = tree_of(&rt, rt.alloc(), Shape::Chain, 202)?;
         cut(&rt, rt.alloc(), &mut table, at, at + 1)?;
-        assert!(rt; is_there(&table, at));
-        assert!(rt; !is_there(&table, at + 1));
-        assert!(rt; !is_there(&table, 201));
+        check_there(&rt, &table, at, true);
+        check_there(&rt, &table, at + 1, false);
+        check_there(&rt, &table, 201, false);
     }
     Ok(())
 }
@@ -137,10 +150,10 @@ fn a_chain_is_cut_at_each_link(rt: HostRuntime) -> Result<(), Fail> {
 fn of_many_links_each_goes(rt: HostRuntime) -> Result<(), Fail> {
     let mut table = tree_of(&rt, rt.alloc(), Shape::Wide, 2002)?;
     'numbers: for number in 2..2002 {
-        assert!(rt; is_there(&table, number));
+        check_there(&rt, &table, number, true);
         cut(&rt, rt.alloc(), &mut table, 1, number)?;
-        assert!(rt; !is_there(&table, number));
-        assert!(rt; is_there(&table, 1));
+        check_there(&rt, &table, number, false);
+        check_there(&rt, &table, 1, true);
     }
     Ok(())
 }
@@ -150,24 +163,29 @@ fn of_many_links_one_goes(rt: HostRuntime) -> Result<(), Fail> {
     let mut table = tree_of(&rt, rt.alloc(), Shape::Wide, 2002)?;
     cut(&rt, rt.alloc(), &mut table, 1, 1000)?;
     for number in 1..2002 {
-        assert_eq!(rt; is_there(&table, number), number != 1000);
+        check_there(&rt, &table, number, number != 1000);
     }
-    assert!(rt; linked(&table, ObjId::new(1), ObjId::new(999)));
-    assert!(rt; linked(&table, ObjId::new(1), ObjId::new(1001)));
+    check_linked(&rt, &table, 999, true);
+    check_linked(&rt, &table, 1001, true);
     Ok(())
+}
+
+// Checks that of objects 1 to 63 all are there but 5 and those below it.
+fn check_without_five(rt: &impl Abort, table: &Table<u8>) {
+    for number in 1..64 {
+        let below_five = number == 5 || number / 2 == 5 || number / 4 == 5 || number / 8 == 5;
+        check_there(rt, table, number, !below_five);
+    }
 }
 
 #[test]
 fn of_two_branches_one_goes_whole(rt: HostRuntime) -> Result<(), Fail> {
     let mut table = tree_of(&rt, rt.alloc(), Shape::Halves, 64)?;
     cut(&rt, rt.alloc(), &mut table, 2, 5)?;
-    for number in 1..64 {
-        let below_five = number == 5 || number / 2 == 5 || number / 4 == 5 || number / 8 == 5;
-        assert_eq!(rt; is_there(&table, number), !below_five);
-    }
+    check_without_five(&rt, &table);
     cut(&rt, rt.alloc(), &mut table, 1, 2)?;
-    assert!(rt; is_there(&table, 3));
-    assert!(rt; !is_there(&table, 4));
-    assert!(rt; is_there(&table, 63));
+    check_there(&rt, &table, 3, true);
+    check_there(&rt, &table, 4, false);
+    check_there(&rt, &table, 63, true);
     Ok(())
 }

@@ -58,11 +58,16 @@ fn at_seven(alloc: Global, level: Level) -> Result<Label, OutOfMemory> {
     Label::new(alloc, Level::L1).with(seven(), level)
 }
 
+/// Checks the answer of a comparison.
+fn is_answer(rt: &impl Abort, answer: bool, wanted: bool) {
+    assert_eq!(rt; answer, wanted);
+}
+
 fn agrees(rt: &impl Abort, first: &Label, second: &Label, row: Row) -> Result<(), OutOfMemory> {
     let (low, high, below, below_raised, join, floor) = row;
-    assert_eq!(rt; first.below(second), below);
-    assert_eq!(rt; first.below_raised(second), below_raised);
-    assert_eq!(rt; first == second, low == high);
+    is_answer(rt, first.below(second), below);
+    is_answer(rt, first.below_raised(second), below_raised);
+    is_answer(rt, first == second, low == high);
     bounds_agree(rt, first, second, join, floor)
 }
 
@@ -122,14 +127,11 @@ fn tests_agree<S: LabelStore>(rt: &impl Abort, store: &mut S, first: S::Id, seco
     ensures { S.labels store.new ≡ S.labels store.old }
 {
     let (_, _, below, below_raised, _, _) = row;
-    let answer = store.below(first, second);
-    assert_eq!(rt; answer, below);
-    let answer = store.below_raised(first, second);
-    assert_eq!(rt; answer, below_raised);
-    let answer = store.below_join(first, first, second);
-    assert!(rt; answer);
+    is_answer(rt, store.below(first, second), below);
+    is_answer(rt, store.below_raised(first, second), below_raised);
+    is_answer(rt, store.below_join(first, first, second), true);
     let answer = store.below_join_raised(first, second, second);
-    assert_eq!(rt; answer, below_raised);
+    is_answer(rt, answer, below_raised);
 }
 
 /// Checks that the Id stands for a label with this level.
@@ -234,12 +236,9 @@ fn answers_in_turn<S: LabelStore>(
     let open = store.put(Label::new(alloc, Level::L1))?;
     let secret = store.put(at_seven(alloc, Level::L3)?)?;
     let owner = store.put(at_seven(alloc, Level::Star)?)?;
-    let answer = store.below(open, secret);
-    assert!(rt; answer);
-    let answer = store.below(secret, open);
-    assert!(rt; !answer);
-    let answer = store.below(open, secret);
-    assert!(rt; answer);
+    is_answer(rt, store.below(open, secret), true);
+    is_answer(rt, store.below(secret, open), false);
+    is_answer(rt, store.below(open, secret), true);
     answers_by_kind(rt, store, secret, owner);
     Ok(())
 }
@@ -249,12 +248,9 @@ fn answers_by_kind<S: LabelStore>(rt: &impl Abort, store: &mut S, secret: S::Id,
     requires first_stands { IsSome (S.labels store.old secret) }
     requires second_stands { IsSome (S.labels store.old owner) }
 {
-    let answer = store.below(secret, owner);
-    assert!(rt; !answer);
-    let answer = store.below_raised(secret, owner);
-    assert!(rt; answer);
-    let answer = store.below(secret, owner);
-    assert!(rt; !answer);
+    is_answer(rt, store.below(secret, owner), false);
+    is_answer(rt, store.below_raised(secret, owner), true);
+    is_answer(rt, store.below(secret, owner), false);
 }
 
 /// Checks the same for comparisons with a label of many exceptions.
@@ -265,12 +261,9 @@ fn answers_of_many<S: LabelStore>(
 ) -> Result<(), OutOfMemory> {
     let open = store.put(Label::new(alloc, Level::L1))?;
     let long = store.put(at_many(alloc, Level::L3)?)?;
-    let answer = store.below(open, long);
-    assert!(rt; answer);
-    let answer = store.below(long, open);
-    assert!(rt; !answer);
-    let answer = store.below(long, long);
-    assert!(rt; answer);
+    is_answer(rt, store.below(open, long), true);
+    is_answer(rt, store.below(long, open), false);
+    is_answer(rt, store.below(long, long), true);
     Ok(())
 }
 
@@ -309,16 +302,28 @@ fn put_level<S: LabelStore>(
     store.put(at_seven(alloc, level)?)
 }
 
+/// Puts one label twice and another once, and checks which Ids are equal.
+fn puts_again(rt: &impl Abort, alloc: Global, store: &mut InternStore) -> Result<(), OutOfMemory> {
+    let first = put_level(alloc, store, Level::L2)?;
+    let other = put_level(alloc, store, Level::L3)?;
+    let again = put_level(alloc, store, Level::L2)?;
+    is_answer(rt, again == first, true);
+    is_answer(rt, other == first, false);
+    Ok(())
+}
+
 /// Checks that a label that is put again has its old Id, and that no other label has it.
 #[test]
 fn equal_labels_have_one_id(rt: HostRuntime) -> Result<(), Fail> {
     let mut store = InternStore::new(rt.alloc(), 1)?;
-    let first = put_level(rt.alloc(), &mut store, Level::L2)?;
-    let other = put_level(rt.alloc(), &mut store, Level::L3)?;
-    let again = put_level(rt.alloc(), &mut store, Level::L2)?;
-    assert_eq!(rt; again, first);
-    assert!(rt; other != first);
+    puts_again(&rt, rt.alloc(), &mut store)?;
     Ok(())
+}
+
+/// Checks that the Id stands for a label, and that the label has this level.
+fn has_level<S: LabelStore>(rt: &impl Abort, store: &S, id: S::Id, level: Level) {
+    let found = store.get(id).map(|label| label.get(seven()));
+    assert_eq!(rt; found, Some(level));
 }
 
 /// Tried with each allocation failing in turn: a put that runs out of memory leaves the labels of a store as
@@ -331,11 +336,9 @@ fn stays_without_memory<S: LabelStore>(
     let first = store.put(at_seven(alloc, Level::L2)?)?;
     for &row in &ROWS {
         if let Ok(id) = store.put(at_seven(alloc, row.0)?) {
-            let found = store.get(id).map(|label| label.get(seven()));
-            assert_eq!(rt; found, Some(row.0));
+            has_level(rt, store, id, row.0);
         }
-        let found = store.get(first).map(|label| label.get(seven()));
-        assert_eq!(rt; found, Some(Level::L2));
+        has_level(rt, store, first, Level::L2);
     }
     Ok(())
 }

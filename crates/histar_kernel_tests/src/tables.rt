@@ -4,17 +4,22 @@ use std::alloc::AllocError;
 use std::process::Abort;
 use std::test::Fail;
 
+/// Checks whether there is a link to the object of this number.
+fn has_link(rt: &impl Abort, links: &Links, number: u64, wanted: bool) {
+    assert_eq!(rt; links.contains(ObjId::new(number)), wanted);
+}
+
 #[test]
 fn links_are_what_was_inserted_and_not_removed(rt: HostRuntime) -> Result<(), Fail> {
     let mut links = Links::new(rt.alloc());
-    assert!(rt; !links.contains(ObjId::new(7)));
+    has_link(&rt, &links, 7, false);
     links.insert(ObjId::new(7))?;
     links.insert(ObjId::new(9))?;
     links.insert(ObjId::new(7))?;
-    assert!(rt; links.contains(ObjId::new(7)));
+    has_link(&rt, &links, 7, true);
     links.remove(ObjId::new(7));
-    assert!(rt; !links.contains(ObjId::new(7)));
-    assert!(rt; links.contains(ObjId::new(9)));
+    has_link(&rt, &links, 7, false);
+    has_link(&rt, &links, 9, true);
     Ok(())
 }
 
@@ -33,18 +38,34 @@ fn label(table: &Table<u8>, number: u64) -> Option<u8> {
     table.get(ObjId::new(number)).map(|object| object.label)
 }
 
-#[test]
-fn objects_are_found_by_their_numbers(rt: HostRuntime) -> Result<(), Fail> {
-    let mut table = Table::new(rt.alloc());
-    add(&mut table, 5, 1)?;
-    add(&mut table, 3, 3)?;
+/// Checks the label of the object of this number.
+fn has_label(rt: &impl Abort, table: &Table<u8>, number: u64, wanted: Option<u8>) {
+    assert_eq!(rt; label(table, number), wanted);
+}
+
+/// Checks which slot the object of this number has.
+fn has_slot(rt: &impl Abort, table: &Table<u8>, number: u64, wanted: Option<usize>) {
+    assert_eq!(rt; table.slot(ObjId::new(number)), wanted);
+}
+
+/// Adds objects 5 and 3, changes the label of 3, and checks what is found.
+fn add_and_find(rt: &impl Abort, table: &mut Table<u8>) -> Result<(), AllocError> {
+    add(table, 5, 1)?;
+    add(table, 3, 3)?;
     if let Some(object) = table.get_mut(ObjId::new(3)) {
         object.label = 9;
     }
-    assert_eq!(rt; label(&table, 5), Some(1));
-    assert_eq!(rt; label(&table, 3), Some(9));
-    assert!(rt; table.get(ObjId::new(4)).is_none());
+    has_label(rt, table, 5, Some(1));
+    has_label(rt, table, 3, Some(9));
+    has_label(rt, table, 4, None);
     assert!(rt; table.bytes(ObjId::new(3)).is_none());
+    Ok(())
+}
+
+#[test]
+fn objects_are_found_by_their_numbers(rt: HostRuntime) -> Result<(), Fail> {
+    let mut table = Table::new(rt.alloc());
+    add_and_find(&rt, &mut table)?;
     Ok(())
 }
 
@@ -55,8 +76,8 @@ fn use_slot_again(rt: &impl Abort, table: &mut Table<u8>) -> Result<(), AllocErr
     assert!(rt; slot.is_some() && other.is_some() && other != slot);
     assert!(rt; table.remove(ObjId::new(1)).is_some());
     add(table, 3, 3)?;
-    assert_eq!(rt; table.slot(ObjId::new(3)), slot);
-    assert_eq!(rt; table.slot(ObjId::new(2)), other);
+    has_slot(rt, table, 3, slot);
+    has_slot(rt, table, 2, other);
     Ok(())
 }
 
@@ -68,9 +89,9 @@ fn a_slot_is_used_again(rt: HostRuntime) -> Result<(), Fail> {
     add(&mut table, 1, 1)?;
     add(&mut table, 2, 2)?;
     use_slot_again(&rt, &mut table)?;
-    assert!(rt; table.slot(ObjId::new(1)).is_none());
-    assert_eq!(rt; label(&table, 2), Some(2));
-    assert_eq!(rt; label(&table, 3), Some(3));
+    has_slot(&rt, &table, 1, None);
+    has_label(&rt, &table, 2, Some(2));
+    has_label(&rt, &table, 3, Some(3));
     Ok(())
 }
 
@@ -80,10 +101,10 @@ fn objects_stay_without_memory(rt: HostRuntime) -> Result<(), Fail> {
     let mut table = Table::new(rt.alloc());
     add(&mut table, 1, 1)?;
     if add(&mut table, 2, 2).is_ok() {
-        assert!(rt; table.get(ObjId::new(2)).is_some());
+        has_label(&rt, &table, 2, Some(2));
     } else {
-        assert!(rt; table.slot(ObjId::new(2)).is_none());
+        has_slot(&rt, &table, 2, None);
     }
-    assert_eq!(rt; label(&table, 1), Some(1));
+    has_label(&rt, &table, 1, Some(1));
     Ok(())
 }

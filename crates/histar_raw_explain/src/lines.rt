@@ -30,14 +30,27 @@ fn opening<V: Wording>(
     ensures { IfOk result (λ text. text.items ≡ opening_text (V.words words.now) line thread act) }
 {
     let mut text = Vec::with_capacity(alloc, OPENING_LEN)?;
-    text.extend_from_slice(b"?")?;
-    push_number(&mut text, u64::from(line))?;
-    text.extend_from_slice(b" ")?;
-    words.push_thread(&mut text, thread)?;
-    text.extend_from_slice(b" may not ")?;
-    push_act(&mut text, words, act)?;
-    text.extend_from_slice(b": ")?;
+    push_opening(&mut text, words, line, thread, act)?;
     Ok(text)
+}
+
+/// Adds the beginning of a line of an explanation.
+fn push_opening<V: Wording>(
+    text: &mut Vec<u8>,
+    words: &V,
+    line: u32,
+    thread: ObjId,
+    act: Act,
+) -> Result<(), AllocError>
+    ensures { OnOk result (text.new.items ≡ text.old.items ++ opening_text (V.words words.now) line thread act) }
+{
+    text.extend_from_slice(b"?")?;
+    push_number(text, u64::from(line))?;
+    text.extend_from_slice(b" ")?;
+    words.push_thread(text, thread)?;
+    text.extend_from_slice(b" may not ")?;
+    push_act(text, words, act)?;
+    text.extend_from_slice(b": ")
 }
 
 /// Adds the line of a category that was never made.

@@ -6,7 +6,8 @@ pub write_table-outcome-requires : goal.write_table-outcome-requires
 write_table-outcome-requires g c = is_shown c.args.at c.args.text.now c.in_ok-machine.machine c.in_ok-machine.ensures
 
 pub returns-clause-nothing : goal.returns-clause-nothing
-returns-clause-nothing g c = sink_after c.args.writer.now c.write_table-outcome.new.writer c.write_table-outcome.result c.write_table-outcome.ensures.faults
+returns-clause-nothing g c =
+    sink_after c.args.writer.now c.write_table-outcome.new.writer c.write_table-outcome.result c.write_table-outcome.ensures.faults
 
 pub returns-clause-reads : goal.returns-clause-reads
 returns-clause-reads g c = no_read_fails c.write_table-outcome.result c.write_table-outcome.ensures.faults

@@ -1,8 +1,9 @@
 -- Proves the goals of `explain_comparison` of src/explained.rt that the search leaves open.
-use Rattle.std.proofs.Common.{◌≡◌, true, false, sym, ap, subst, ◌∙◌, rules}
+use Rattle.std.proofs.Common.{◌≡◌, true, false, refl, sym, ap, subst, ◌∙◌, rules}
 use Rattle.histar_script.specs.Script.{without_job}
 use Rattle.histar_noninterference.proofs.TreeLines.{finds_first_path}
 use Rattle.histar_noninterference.specs.declared.verdict.Verdict.TheVariants.{NoJob}
+use Rattle.histar_comparison.specs.Compared.{difference}
 use Rattle.histar_comparison.specs.Explained.{seen_of}
 use Rattle.histar_comparison.specs.Observation.{CanRun, ObservationModel, observation}
 use Rattle.histar_comparison.proofs.Explanations.{explained_as, seen_printed, verdict_is}
@@ -34,13 +35,14 @@ returns-clause-exact c =
     let text = c.args.text.now in
     let script = c.in_ok-script.script in
     let read = c.in_ok-script.ensures.exact in
-    let v = c.find_difference-verdict.result in
+    let v = difference c.in_ok-first.first c.in_ok-second.second in
     let some : c.first.inside.replies.is_started ≡ true = search rules in
     let seen = ap (λ (o : ObservationModel). o.replies.is_started) (sym c.first.view_is) ∙ some in
     let again = read_again text script c.in_ok-read_script.field-0 read c.in_ok-read_script.ensures.exact in
     let second = c.in_ok-second.ensures ∙ ap (observation job) (c.without-rest.ensures ∙ ap (without_job job) again) in
-    let found = compared_found job text script read finds_first_path c.in_ok-first.first c.in_ok-second.second c.in_ok-first.ensures second seen v
-    c.find_difference-verdict.ensures in
-    let with_job = c.in_ok-printed.ensures ∙ ap (λ (o : ObservationModel). seen_of o v) c.in_ok-first.ensures ∙ seen_printed job script v in
-    let without = c.in_ok-printed-2.ensures ∙ ap (λ (o : ObservationModel). seen_of o v) second ∙ seen_printed job (without_job job script) v in
-    explained_as job text script read v _ _ (verdict_is job text script read v found) with_job without
+    let found = compared_found job text script read finds_first_path c.in_ok-first.first c.in_ok-second.second c.in_ok-first.ensures second
+    seen v refl in
+    let with_job = ap (λ (o : ObservationModel). seen_of o v) c.in_ok-first.ensures ∙ seen_printed job script v in
+    let without = ap (λ (o : ObservationModel). seen_of o v) second ∙ seen_printed job (without_job job script) v in
+    rw c.in_ok-explain_difference.ensures
+    (explained_as job text script read v _ _ (verdict_is job text script read v found) with_job without)

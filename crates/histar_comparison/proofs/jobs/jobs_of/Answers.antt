@@ -10,8 +10,8 @@ use Rattle.histar_comparison.proofs.jobs.jobs_of.Goals as goal
 pub returns : goal.returns
 returns c =
     let machine = c.in-Ok.machine in
-    let end = c.make_calls.new.machine in
+    let end = c.make_calls-outcome.new.machine in
     let starts = subst (λ (declared : Accounts). IsStart declared machine) c.into_parts-accounts.ensures.accounts c.in-Ok.ensures.starts in
-    let kept = subst (λ (calls : List CallLine). KeepsJobs machine end c.new-jobs.result.items c.make_calls.new.jobs.items calls)
-    c.into_parts-accounts.ensures.calls c.in_ok-make_calls.ensures in
+    let kept = subst (λ (calls : List CallLine). KeepsJobs machine end c.new-jobs.result.items c.make_calls-outcome.new.jobs.items calls)
+    c.into_parts-accounts.ensures.calls (rw c.in_ok-outcome.was at c.make_calls-outcome.ensures) in
     jobs_are c.args.script c.requires machine end starts _ _ kept c.new-jobs.ensures.items
