@@ -7,8 +7,8 @@ use Rattle.histar_label.specs.Levels.{Levels, constant, level_of, with_level, le
 use Rattle.histar_layout.specs.Categories.{read_category, write_category}
 use Rattle.histar_layout.specs.Labelling.{with_levels, labelled, each_at}
 use Rattle.histar_programs.specs.declared.caller.Caller.{Caller}
-use Rattle.histar_login.specs.Login.{owned_as_user, user_label, user_clearance}
-use Rattle.histar_login.specs.Start.{at_both}
+use Rattle.histar_programs.specs.Users.{owned_as_user, user_label, user_clearance}
+use Rattle.histar_programs.specs.Start.{at_both}
 
 -- of two tests for one answer, either may come first
 either_first : {A : Type 0} (a b : Bool) (x y : A) → (if a then x else if b then x else y) ≡ (if b then x else if a then x else y)
