@@ -26,11 +26,12 @@ use Rattle.histar_refinement.specs.Guards.{Guard, guard_label, rights_label, rig
 use Rattle.histar_refinement.specs.Labels.{class_guard, inside_guard, thread_rights}
 use Rattle.histar_refinement.specs.Represents.{ObjectsMatch}
 use Rattle.histar_refinement.proofs.AgreesAt.{AgreesAt}
-use Rattle.histar_refinement.proofs.Expected.{bare_container, content_kind, guarded_object, node_object, listing_object, home_object, status_object, inside_object}
-use Rattle.histar_refinement.proofs.Expected.{thread_object, path_at, process_at, inside_at, expected_node, listing_at, expected_home, bytes_for, expected_status}
-use Rattle.histar_refinement.proofs.Expected.{container_inside, thread_at, expected}
-use Rattle.histar_refinement.proofs.Roots.{address_path, address_process, address_inside, asked_path, asked_listing, asked_home, asked_status, asked_inside}
-use Rattle.histar_refinement.proofs.Roots.{asked_runner}
+use Rattle.histar_refinement.proofs.Expected.{bare_container, content_kind, guarded_object, node_object, listing_object, home_object, status_object}
+use Rattle.histar_refinement.proofs.Expected.{inside_object, thread_object, path_at, process_at}
+use Rattle.histar_refinement.proofs.Expected.{inside_at, expected_node, listing_at, expected_home, bytes_for}
+use Rattle.histar_refinement.proofs.Expected.{expected_status, container_inside, thread_at, expected}
+use Rattle.histar_refinement.proofs.Roots.{address_path, address_process, address_inside, asked_path, asked_listing, asked_home, asked_status}
+use Rattle.histar_refinement.proofs.Roots.{asked_inside, asked_runner}
 
 -- what a step after a value gives comes from that value
 pub then_some : {A B : Type 0} (g : A → Option B) (x : Option A) (y : B) → option_and_then g x ≡ Some y → (w : A) × (x ≡ Some w) × (g w ≡ Some y)
@@ -59,7 +60,8 @@ module _ (accounts : Accounts) (category : Categories) (f : Flat) (number : Addr
   asked_is AtRoot = refl
   asked_is (AtLeft q o e) = e
   asked_is (AtFile q bytes g there) =
-      asked_path accounts category f number q ∙ ap (node_object accounts category) there.1 ∙ ap (guarded_object accounts category (Segment bytes)) there.2
+      asked_path accounts category f number q ∙ ap (node_object accounts category) there.1
+      ∙ ap (guarded_object accounts category (Segment bytes)) there.2
   asked_is (AtDirectory d g there) =
       asked_path accounts category f number d ∙ ap (node_object accounts category) there.1
       ∙ ap (guarded_object accounts category (content_kind Dir)) there.2
@@ -87,7 +89,8 @@ module _ (accounts : Accounts) (category : Categories) (f : Flat) (number : Addr
 
   -- a file or a directory
   of_node : (q : Path) (class : Class) (content : Content) (o : Object Levels) → get f.files q ≡ Some (record { class = class; content = content })
-      → guarded_object accounts category (content_kind content) (class_guard accounts class) ≡ Some o → AsksFor accounts category f number (address_of q) o
+      → guarded_object accounts category (content_kind content) (class_guard accounts class) ≡ Some o
+      → AsksFor accounts category f number (address_of q) o
   of_node q class Dir o here e =
       let g = mapped_some (λ (g : Guard). guarded category g (content_kind Dir)) (class_guard accounts class) o e in
       subst (λ (x : Object Levels). AsksFor accounts category f number (address_of q) x) g.2 (AtDirectory q g.0 (class, here, g.1))
@@ -95,7 +98,8 @@ module _ (accounts : Accounts) (category : Categories) (f : Flat) (number : Addr
       let g = mapped_some (λ (g : Guard). guarded category g (Segment bytes)) (class_guard accounts class) o e in
       subst (λ (x : Object Levels). AsksFor accounts category f number (address_of q) x) g.2 (AtFile q bytes g.0 (class, here, g.1))
 
-  of_path : (a : Address Step) (o : Object Levels) → expected_node accounts category f number (path_at a) ≡ Some o → AsksFor accounts category f number a o
+  of_path : (a : Address Step) (o : Object Levels) → expected_node accounts category f number (path_at a) ≡ Some o
+      → AsksFor accounts category f number a o
   of_path a o e =
       let at = then_some (λ (q : Path). node_object accounts category (get f.files q)) (path_at a) o e in
       let there =
@@ -148,7 +152,8 @@ module _ (accounts : Accounts) (category : Categories) (f : Flat) (number : Addr
       let at = then_some (λ (me : ProcName). status me (f.processes me)) (process_at a) o e in
       let by : (there : Option Process) → f.processes at.0 ≡ there → status at.0 there ≡ Some o
       → AsksFor accounts category f number (Status ∷ home_address at.0) o =
-      λ there. elim there as (λ t. f.processes at.0 ≡ t → status at.0 t ≡ Some o → AsksFor accounts category f number (Status ∷ home_address at.0) o) [
+      λ there. elim there as (λ t. f.processes at.0 ≡ t → status at.0 t ≡ Some o
+      → AsksFor accounts category f number (Status ∷ home_address at.0) o) [
         | None ↦ λ here got. absurd (none-some o got)
         | Some p ↦ λ here got. subst (λ (x : Object Levels). AsksFor accounts category f number (Status ∷ home_address at.0) x) (same_Some _ o got)
             (AtStatus at.0 p here)
@@ -188,7 +193,8 @@ module _ (accounts : Accounts) (category : Categories) (f : Flat) (number : Addr
           ]) ≡ Some o
           → AsksFor accounts category f number (Runner ∷ Inside ∷ home_address me) o
       by me p here None runs got =
-          subst (λ (x : Object Levels). AsksFor accounts category f number (Runner ∷ Inside ∷ home_address me) x) (same_Some _ o got) (AtRunner me p here runs)
+          subst (λ (x : Object Levels). AsksFor accounts category f number (Runner ∷ Inside ∷ home_address me) x) (same_Some _ o got)
+          (AtRunner me p here runs)
       by me p here (Some n) runs got = absurd (none-some o got)
 
   -- what is computed is asked for
