@@ -144,6 +144,20 @@ mod tests {
         })
     }
 
+    fn changes_text(
+        alloc: Global,
+        columns: &[Column],
+        old: &[TableLine],
+        new: &[TableLine],
+    ) -> Result<Vec<u8>, AllocError> {
+        let listed = lines_differences(alloc, columns, old, new)?;
+        let mut text = Vec::new(alloc);
+        for difference in listed.as_slice() {
+            push_difference(&mut text, difference)?;
+        }
+        Ok(text)
+    }
+
     /// Tests a new table in which bob, who read the notes, is gone, and a process of carol reads a letter.
     #[test]
     fn lists_what_changed(rt: HostRuntime) -> Result<(), Fail> {
@@ -160,11 +174,7 @@ mod tests {
             line(alloc, letter, [Rights::NONE, READER].as_slice())?,
             line(alloc, notes, [READER, Rights::NONE].as_slice())?,
         ];
-        let listed = lines_differences(alloc, columns.as_slice(), old.as_slice(), new.as_slice())?;
-        let mut text = Vec::new(alloc);
-        for difference in listed.as_slice() {
-            push_difference(&mut text, difference)?;
-        }
+        let text = changes_text(alloc, columns.as_slice(), old.as_slice(), new.as_slice())?;
         let expected =
             b"/letter 0.10 carol ---- sr-d\n/notes 0 root ---- sr-d\n/notes 0.2 bob sr-d ----\n";
         assert_eq!(rt; text.as_slice(), expected.as_slice());
