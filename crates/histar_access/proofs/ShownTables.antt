@@ -154,5 +154,6 @@ module _ (accounts : Accounts) (m : MachineModel) (f : Flat) (shows : Shows acco
       (Directory (roots_of (length accounts.users)).slash.container
       (roots_of (length accounts.users)).slash.listing) has_tree.tree has_tree.is_tree in
       let match = tree_matched accounts s f l ok has_tree.tree labelled has_tree.same has_tree.lines in
-      (λ i. lines_from s ((are.2 ∙ cells_found are.0 are.1) i) [] (states_have_one_tree m.users s m.roots tree has_tree.tree is (tree_here accounts m f shows named) i))
+      (λ i. lines_from s ((are.2 ∙ cells_found are.0 are.1) i) []
+      (states_have_one_tree m.users s m.roots tree has_tree.tree is (tree_here accounts m f shows named) i))
       ∙ lines_are accounts s f l (few_bytes f shows.small) ok vs shows.shallow has_tree.tree match (named_found are.0 are.1)
