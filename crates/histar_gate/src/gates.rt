@@ -2,9 +2,9 @@
 ghost use Rattle.histar_rules.specs.Rules.{Decides, IsNextNumber, IsEntryOf};
 ghost use Rattle.histar_rules.specs.declared.raw.RawCall.TheVariants as calls;
 
-use histar_label::LabelStore;
+use histar_label::{Label, LabelStore};
 use histar_object::{Entry, Kind, ObjId};
-use histar_rules::{HandedLabel, HandedLabels, LabelledObjects, Refusal};
+use histar_rules::{HandedLabels, LabelledObjects, Refusal};
 
 /// Makes a gate in a container, and returns its number. The gate gives its label to each thread that enters
 /// it, so its maker must own what the gate is to own.
@@ -12,19 +12,16 @@ pub fn make_gate<S: LabelStore + Drop>(
     objects: &mut LabelledObjects<S>,
     thread: ObjId,
     container: ObjId,
-    label: &HandedLabel,
-    clearance: &HandedLabel,
+    label: Label,
+    clearance: Label,
     entry: Entry,
 ) -> Result<ObjId, Refusal>
     ensures { Decides objects.old objects.new thread
-        (calls.MakeGate container label.now clearance.now entry) result (IsNextNumber objects.old) }
+        (calls.MakeGate container label clearance entry) result (IsNextNumber objects.old) }
 {
-    let label = label.label();
-    let clearance = clearance.label();
-    objects.check_new_owner(thread, container, label, clearance)?;
+    objects.check_new_owner(thread, container, &label, &clearance)?;
     let number = objects.next_object();
-    let clearance = clearance.copy()?;
-    objects.add(container, label.copy()?, Kind::Gate(clearance, entry))?;
+    objects.add(container, label, Kind::Gate(clearance, entry))?;
     Ok(number)
 }
 

@@ -13,19 +13,18 @@ use Rattle.histar_programs.specs.Parts.{ask}
 use Rattle.histar_programs.proofs.Exits.{Leaves}
 use Rattle.histar_programs.proofs.Running.{hands, part_fails, then_part}
 use Rattle.histar_programs.specs.declared.caller.Caller.{Caller}
-use Rattle.histar_login.specs.declared.login.EntryLabels.{EntryLabels}
 use Rattle.histar_login.specs.Login.{AreEntryLabels, ask_password, clearance_if, entering, label_if, login_as_program, reply_if}
 use Rattle.histar_programs.specs.Users.{gate_of, password_of}
 use Rattle.histar_login.specs.Login.{take_due}
 
 -- a gate that is entered by the labels that were made is the user's
 pub enters : (t : ℕ) (old new : KernelModel) (result : Result Entry CallError) (owners : List ℕ) (i : ℕ) (own : Levels × Levels)
-    → (d gate : ℕ) (labels : EntryLabels) → d ≡ root_number → gate ≡ gate_of i → AreEntryLabels owners own.0 own.1 labels
-    → RunsPart {A = Entry} (ask (Enter d gate labels.wanted labels.clearance labels.verify)) old new t result
+    → (d gate : ℕ) (labels : Levels × Levels) → d ≡ root_number → gate ≡ gate_of i → AreEntryLabels owners own labels
+    → RunsPart {A = Entry} (ask (Enter d gate labels.0 labels.1 own.0)) old new t result
     → RunsPart {A = Entry} (ask (entering owners i own.0 own.1)) old new t result
 enters t old new result owners i own d gate labels root_is gate_is are runs =
     subst (λ (p : Part Entry). RunsPart {A = Entry} p old new t result)
-    (λ j. ask (Enter (root_is j) (gate_is j) (are.wanted_is j) (are.clearance_is j) (are.verify_is j))) runs
+    (λ j. ask (Enter (root_is j) (gate_is j) (are.wanted_is j) (are.clearance_is j) own.0)) runs
 
 -- the password of a user is asked for
 module _ (t i : ℕ) (password : List ℕ) (old new : KernelModel) where

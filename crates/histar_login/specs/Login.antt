@@ -19,18 +19,16 @@ use Rattle.histar_programs.specs.Parts.{◌>>=◌, ◌>>◌, ask}
 use Rattle.histar_programs.specs.declared.caller.Caller.{Caller}
 use Rattle.histar_programs.specs.Start.{owners_label, owners_clearance}
 use Rattle.histar_programs.specs.Users.{place_of, password_of, gate_of, user_label, user_clearance}
-use Rattle.histar_login.specs.declared.login.EntryLabels.{EntryLabels}
 
 -- a thread that has this label and this clearance enters the gate of user i, which gives the categories of these users and groups: it
 -- wants all that it owns and all that the gate gives, and its verify label is its own label
 abbrev pub entering : List ℕ → ℕ → Levels → Levels → RawCall
 entering owners i own clearance = Enter root_number (gate_of i) (floor_of own (owners_label owners)) (join_of clearance (owners_clearance owners)) own
 
--- these are the labels with which the thread enters the gate
-pub record AreEntryLabels (owners : List ℕ) (own clearance : Levels) (labels : EntryLabels) : Type 0 where
-  pub wanted_is : labels.wanted ≡ floor_of own (owners_label owners)
-  pub clearance_is : labels.clearance ≡ join_of clearance (owners_clearance owners)
-  pub verify_is : labels.verify ≡ own
+-- these are the label and the clearance that a thread with these labels wants behind the gate
+pub record AreEntryLabels (owners : List ℕ) (own labels : Levels × Levels) : Type 0 where
+  pub wanted_is : labels.0 ≡ floor_of own.0 (owners_label owners)
+  pub clearance_is : labels.1 ≡ join_of own.1 (owners_clearance owners)
 
 -- the thread reads the password of user i, and compares it with this one
 abbrev pub ask_password : ℕ → List ℕ → Part Bool

@@ -16,9 +16,32 @@ pub(crate) fn gate_labels(alloc: Global, owners: &[u8]) -> Result<(Label, Label)
     Ok((given, clearance))
 }
 
+/// What the gate of a user gives to a thread: the label that owns the categories of these users and groups, and
+/// the clearance at which they are 3.
+#[derive(Drop)]
+pub(crate) struct Given<'a> {
+    pub(crate) owners: &'a [u8],
+    pub(crate) label: Label,
+    pub(crate) clearance: Label,
+    ghost label_is: { label ≡ owners_label owners.now },
+    ghost clearance_is: { clearance ≡ owners_clearance owners.now },
+}
+
+/// Makes what the gate of a user with these users and groups gives.
+pub(crate) fn given_by<'a>(alloc: Global, owners: &'a [u8]) -> Result<Given<'a>, AllocError>
+    ensures { IfOk result (λ given. given.owners.now ≡ owners.now) }
+{
+    let (label, clearance) = gate_labels(alloc, owners)?;
+    Ok(Given {
+        owners,
+        label,
+        clearance,
+    })
+}
+
 /// Returns the label with one level at both categories of each of these users and groups, and another at all
 /// others. It has room for the two categories of a process.
-pub(crate) fn label_at_both(
+fn label_at_both(
     alloc: Global,
     default: Level,
     level: Level,

@@ -10,23 +10,24 @@ ghost use Rattle.histar_login.specs.Login.{AreEntryLabels, ask_password};
 ghost use Rattle.histar_programs.specs.Users.{user_label, user_clearance, gate_of, password_of};
 ghost use Rattle.histar_login.specs.Login.{entering, label_if, clearance_if, take_due, reply_if, login_program, login_as_program};
 
-use crate::gates::{gate_labels, label_at_both};
+use crate::gates::{Given, given_by};
 use histar_flat::{Errno, Name, Password, Reply};
 use histar_label::{Label, LabelStore, Level};
 use histar_layout::{UserTable, owners_of};
 use histar_object::{Entry, ObjId};
 use histar_programs::{CallError, Caller};
-use histar_syscall::Kernel;
+use histar_syscall::{HandedLabels, Kernel};
 use std::alloc::{AllocError, Global};
 
-/// Returns the label and the clearance of a process's thread as a user with the categories of these users
-/// and groups: it owns these and the process's own.
-fn user_labels(alloc: Global, caller: &Caller, owners: &[u8]) -> Result<(Label, Label), AllocError>
-    ensures { IfOk result (λ own. (own.0 ≡ user_label caller.now owners.now)
-        × (own.1 ≡ user_clearance caller.now owners.now)) }
+/// Returns the label and the clearance of a process's thread as a user whose gate gives this: it owns what the
+/// gate gives, and the process's own categories.
+fn user_labels(caller: &Caller, given: Given) -> Result<(Label, Label), AllocError>
+    ensures { IfOk result (λ own. (own.0 ≡ user_label caller.now given.entry.owners.now)
+        × (own.1 ≡ user_clearance caller.now given.entry.owners.now)) }
 {
-    let label = label_at_both(alloc, Level::L1, Level::Star, owners)?;
-    let clearance = label_at_both(alloc, Level::L2, Level::L3, owners)?;
+    let Given {
+        label, clearance, ..
+    } = given;
     let label = with_own(label, Level::Star, caller)?;
     let clearance = with_own(clearance, Level::L3, caller)?;
     Ok((label, clearance))
@@ -50,54 +51,35 @@ fn password_segment(number: u8) -> ObjId
     ObjId::new(1 + 2 * u64::from(number))
 }
 
-/// The labels with which a thread enters a gate.
-#[derive(Drop)]
-struct EntryLabels {
-    /// The label that it wants.
-    wanted: Label,
-    /// The clearance that it wants.
-    clearance: Label,
-    /// The verify label, by which the gate decides.
-    verify: Label,
-}
-
-/// Makes the labels with which a thread enters the gate of a user: it wants all that it owns and all that the
-/// gate gives.
-fn entry_labels(
-    alloc: Global,
-    owners: &[u8],
-    own: &Label,
-    clearance: &Label,
-) -> Result<EntryLabels, AllocError>
-    ensures { IfOk result (AreEntryLabels owners.now own.now clearance.now) }
+/// Makes the label and the clearance that a thread wants behind the gate of a user: it wants all that it owns
+/// and all that the gate gives.
+fn entry_labels(given: &Given, own: &(Label, Label)) -> Result<(Label, Label), AllocError>
+    ensures { IfOk result (AreEntryLabels given.now.owners.now own.now) }
 {
-    let (given, limit) = gate_labels(alloc, owners)?;
-    Ok(EntryLabels {
-        wanted: own.floor(&given)?,
-        clearance: clearance.join(&limit)?,
-        verify: own.copy()?,
-    })
+    let wanted = own.0.floor(&given.label)?;
+    let clearance = own.1.join(&given.clearance)?;
+    Ok((wanted, clearance))
 }
 
 /// Enters the gate of a user with all that the thread owns and all that the gate gives. EACCES where
 /// the gate doesn't let it in.
 fn enter_gate<S: LabelStore + Drop>(
-    alloc: Global,
     kernel: &mut Kernel<S>,
     thread: ObjId,
     number: u8,
-    owners: &[u8],
+    given: &Given,
     own: &(Label, Label),
 ) -> Result<Entry, CallError>
-    ensures { RunsPart (ask (entering owners.now number own.now.0 own.now.1)) kernel.old kernel.new thread result }
+    ensures { RunsPart (ask (entering given.now.owners.now number own.now.0 own.now.1)) kernel.old kernel.new thread result }
 {
-    let EntryLabels {
-        wanted,
-        clearance,
-        verify,
-    } = entry_labels(alloc, owners, &own.0, &own.1)?;
+    let (wanted, clearance) = entry_labels(given, own)?;
     let gate = ObjId::new(2 + 2 * u64::from(number));
-    let entry = kernel.enter(thread, ObjId::new(1), gate, wanted, clearance, verify)?;
+    let labels = HandedLabels {
+        wanted: &wanted,
+        clearance: &clearance,
+        verify: &own.0,
+    };
+    let entry = kernel.enter(thread, ObjId::new(1), gate, labels)?;
     Ok(entry)
 }
 
@@ -117,33 +99,31 @@ fn ask_password<S: LabelStore + Drop>(
 /// Returns the label and the clearance that a thread takes after entering the gate: the user's where the
 /// password is right, and else its own again.
 fn due_labels(
-    alloc: Global,
     right: bool,
     caller: &Caller,
-    owners: &[u8],
+    given: Given,
     own: (Label, Label),
 ) -> Result<(Label, Label), AllocError>
-    ensures { IfOk result (λ due. (due.0 ≡ label_if right caller.now owners.now own.0)
-        × (due.1 ≡ clearance_if right caller.now owners.now own.1)) }
+    ensures { IfOk result (λ due. (due.0 ≡ label_if right caller.now given.entry.owners.now own.0)
+        × (due.1 ≡ clearance_if right caller.now given.entry.owners.now own.1)) }
 {
     if right {
-        return user_labels(alloc, caller, owners);
+        return user_labels(caller, given);
     }
     Ok(own)
 }
 
 /// Gives the thread the label and the clearance that are expected: the user's, or its own again.
 fn take_due<S: LabelStore + Drop>(
-    alloc: Global,
     kernel: &mut Kernel<S>,
     right: bool,
     caller: &Caller,
-    owners: &[u8],
+    given: Given,
     own: (Label, Label),
 ) -> Result<(), CallError>
-    ensures { RunsPart (take_due right caller.now owners.now own) kernel.old kernel.new caller.now.thread result }
+    ensures { RunsPart (take_due right caller.now given.entry.owners.now own) kernel.old kernel.new caller.now.thread result }
 {
-    let (label, clearance) = due_labels(alloc, right, caller, owners, own)?;
+    let (label, clearance) = due_labels(right, caller, given, own)?;
     kernel.set_label(caller.thread, label)?;
     kernel.set_clearance(caller.thread, clearance)?;
     Ok(())
@@ -185,25 +165,25 @@ pub fn login<S: LabelStore + Drop>(
         return Ok(Reply::Refused(Errno::ENOENT));
     };
     let owners = owners_of(alloc, users, number, name)?;
-    login_as(alloc, kernel, caller, number, owners.as_slice(), password)
+    let given = given_by(alloc, owners.as_slice())?;
+    login_as(kernel, caller, number, given, password)
 }
 
-/// Logs in as the user of this number, which owns the categories of these users and groups.
+/// Logs in as the user of this number, whose gate gives this.
 fn login_as<S: LabelStore + Drop>(
-    alloc: Global,
     kernel: &mut Kernel<S>,
     caller: &Caller,
     number: u8,
-    owners: &[u8],
+    given: Given,
     password: Password,
 ) -> Result<Reply, CallError>
-    ensures { Runs (login_as_program caller.now number owners.now password) kernel.old kernel.new
+    ensures { Runs (login_as_program caller.now number given.entry.owners.now password) kernel.old kernel.new
         caller.now.thread (settled result) }
 {
     let thread = caller.thread;
     let own = kernel.own_label(thread)?;
-    enter_gate(alloc, kernel, thread, number, owners, &own)?;
+    enter_gate(kernel, thread, number, &given, &own)?;
     let right = ask_password(kernel, thread, number, password)?;
-    take_due(alloc, kernel, right, caller, owners, own)?;
+    take_due(kernel, right, caller, given, own)?;
     Ok(reply_if(right))
 }

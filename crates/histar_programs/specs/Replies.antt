@@ -7,7 +7,7 @@ use Rattle.histar_flat.specs.declared.replies.Reply.{Reply}
 use Rattle.histar_flat.specs.declared.replies.Reply.TheVariants.{Refused}
 use Rattle.histar_rules.specs.declared.raw.RawCall.{RawCall}
 use Rattle.histar_rules.specs.declared.raw.RawCall.TheVariants as raw
-use Rattle.histar_syscall.specs.declared.trace.TraceEntry.{TraceEntry}
+use Rattle.histar_trace.specs.declared.entries.TraceEntry.{TraceEntry}
 use Rattle.histar_syscall.specs.KernelModel.{KernelModel}
 use Rattle.histar_syscall.specs.Runs.{Ran, some_label_refusal, some_range_refusal}
 

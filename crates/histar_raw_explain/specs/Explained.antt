@@ -8,7 +8,7 @@ use Rattle.histar_rules.specs.declared.raw.Denied.{Denied}
 use Rattle.histar_rules.specs.declared.raw.RawCall.{RawCall}
 use Rattle.histar_rules.specs.Rules.{check, Leaves}
 use Rattle.histar_script.specs.declared.fault.Fault.{Fault}
-use Rattle.histar_syscall.specs.declared.trace.TraceEntry.{TraceEntry}
+use Rattle.histar_trace.specs.declared.entries.TraceEntry.{TraceEntry}
 use Rattle.histar_syscall.specs.KernelModel.{KernelModel, state}
 use Rattle.histar_raw_session.specs.declared.read_session.RawLine.{RawLine}
 use Rattle.histar_raw_session.specs.Session.{IsSession}

@@ -132,14 +132,16 @@ fn explain_last<S: LabelStore + Drop>(
 ) -> Result<Vec<u8>, OutOfMemory>
     ensures { IfOk result (λ lines. ExplainsLast kernel.now lines.items) }
 {
-    let Some(entry) = kernel.trace().last() else {
+    let trace = kernel.trace();
+    if trace.is_empty() {
         return Ok(Vec::new(alloc));
-    };
+    }
+    let entry = trace.entry(alloc, trace.len() - 1)?;
     let Some(denied) = entry.denied else {
         return Ok(Vec::new(alloc));
     };
     let explanation = explain(alloc, kernel, entry.thread, &entry.call, denied)?;
     let mut text = Vec::new(alloc);
-    push_explanation(alloc, &mut text, &ByNumber, entry, &explanation)?;
+    push_explanation(alloc, &mut text, &ByNumber, &entry, &explanation)?;
     Ok(text)
 }

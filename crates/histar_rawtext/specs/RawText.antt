@@ -14,7 +14,7 @@ use Rattle.histar_rules.specs.declared.raw.RawCall.TheVariants.{MakeCategory, Ow
 use Rattle.histar_rules.specs.declared.raw.RawCall.TheVariants.{MakeThread, MakeGate, Enter, Read, Write, Unlink, LabelOf}
 use Rattle.histar_syscall.specs.declared.answers.Answer.{Answer}
 use Rattle.histar_syscall.specs.declared.answers.Answer.TheVariants as answers
-use Rattle.histar_syscall.specs.declared.trace.TraceEntry.{TraceEntry}
+use Rattle.histar_trace.specs.declared.entries.TraceEntry.{TraceEntry}
 
 -- the text of a level
 abbrev pub level_text : Level → List ℕ

@@ -204,10 +204,10 @@ pub(crate) fn enter_in<S: LabelStore>(
     ensures err { OnErr result (objects_shown (S.labels store.new) table.new
         ≡ objects_shown (S.labels store.old) table.old) }
 {
-    let clearance = put_copy(store, labels.clearance.label())?;
-    let label = put_copy(store, labels.wanted.label())?;
+    let clearance = put_copy(store, labels.clearance)?;
+    let label = put_copy(store, labels.wanted)?;
     let own = (label, clearance);
-    let verify = labels.verify.label();
+    let verify = labels.verify;
     let entry = check_enter_in(store, table, next, thread, container, gate, own, verify)?;
     give_own(table, thread, own);
     Ok(entry)

@@ -5,8 +5,8 @@ use histar_label::Label;
 use std::alloc::{AllocError, Global};
 use std::marker::Model;
 
-/// A label that a raw call is given. It lies on the heap, so that an entry of the trace stays small: most raw
-/// calls are given no label, and an entry has room for the largest of them.
+/// A label that a raw call as data is given. It lies on the heap, so that a list of calls stays small: most raw
+/// calls are given no label, and each has room for the largest of them.
 #[derive(Drop)]
 pub struct HandedLabel {
     label: Box<Label>,
@@ -32,26 +32,18 @@ impl HandedLabel {
         })
     }
 
-    /// Keeps a label and a clearance on the heap.
-    // Inlined, so that each label is moved once, onto the heap.
-    #[inline(always)]
-    pub fn pair(
-        alloc: Global,
-        label: Label,
-        clearance: Label,
-    ) -> Result<(HandedLabel, HandedLabel), AllocError>
-        ensures { IfOk result (λ handed. (handed.0 ≡ label) × (handed.1 ≡ clearance)) }
-    {
-        let label = HandedLabel::new(alloc, label)?;
-        let clearance = HandedLabel::new(alloc, clearance)?;
-        Ok((label, clearance))
-    }
-
     /// Returns the label itself.
     pub fn label(&self) -> &Label
         ensures { result.now ≡ self.now }
     {
         &self.label
+    }
+
+    /// Takes the label off the heap.
+    pub fn into_label(self) -> Label
+        ensures { result ≡ self }
+    {
+        Box::into_inner(self.label)
     }
 
     /// Copies the label.
@@ -94,9 +86,9 @@ impl HandedLabel {
 #[derive(Clone, Copy)]
 pub struct HandedLabels<'l> {
     /// The label that the thread wants.
-    pub wanted: &'l HandedLabel,
+    pub wanted: &'l Label,
     /// The clearance that it wants.
-    pub clearance: &'l HandedLabel,
+    pub clearance: &'l Label,
     /// The verify label, by which the gate decides.
-    pub verify: &'l HandedLabel,
+    pub verify: &'l Label,
 }

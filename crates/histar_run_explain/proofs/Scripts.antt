@@ -11,7 +11,7 @@ use Rattle.histar_flat.specs.FlatCalls.{flat_after}
 use Rattle.histar_flat.specs.Meaning.{boot, RepliedCall}
 use Rattle.histar_object.specs.State.{State, empty_state}
 use Rattle.histar_script.specs.Script.{ScriptModel, IsDeclared}
-use Rattle.histar_syscall.specs.declared.trace.TraceEntry.{TraceEntry}
+use Rattle.histar_trace.specs.declared.entries.TraceEntry.{TraceEntry}
 use Rattle.histar_syscall.specs.KernelModel.{state}
 use Rattle.histar_syscall.specs.Runs.{IsRun}
 use Rattle.histar_programs.specs.declared.roots.Roots.{Roots}

@@ -17,7 +17,7 @@ use Rattle.histar_object.specs.State.{State, empty_state}
 use Rattle.histar_programs.specs.declared.roots.Roots.{Roots}
 use Rattle.histar_programs.specs.declared.caller.Caller.{Caller}
 use Rattle.histar_programs.specs.Caller.{caller_at}
-use Rattle.histar_syscall.specs.declared.trace.TraceEntry.{TraceEntry}
+use Rattle.histar_trace.specs.declared.entries.TraceEntry.{TraceEntry}
 use Rattle.histar_syscall.specs.KernelModel.{KernelModel, state}
 use Rattle.histar_syscall.specs.Runs.{IsRun}
 use Rattle.histar_shell.specs.Answers.{answer_text, answers_text}

@@ -5,7 +5,7 @@ use Rattle.histar_rules.specs.declared.raw.Denied.{Denied}
 use Rattle.histar_rules.specs.declared.raw.RawCall.{RawCall}
 use Rattle.histar_rules.specs.declared.raw.RawCall.TheVariants.{OwnLabel, Read, LabelOf}
 use Rattle.histar_rules.specs.Rules.{check, Leaves}
-use Rattle.histar_syscall.specs.declared.trace.TraceEntry.{TraceEntry}
+use Rattle.histar_trace.specs.declared.entries.TraceEntry.{TraceEntry}
 use Rattle.histar_syscall.specs.Runs.{IsRun}
 use Rattle.histar_explain.specs.declared.explanations.Explanation.{Explanation}
 use Rattle.histar_explain.specs.Explanations.{ExplainsDenial}

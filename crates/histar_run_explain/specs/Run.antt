@@ -12,7 +12,7 @@ use Rattle.histar_script.specs.Script.{ScriptModel}
 use Rattle.histar_script.specs.Reading.{script_of}
 use Rattle.histar_script.specs.declared.fault.Fault.{Fault}
 use Rattle.histar_script.specs.declared.fault.Fault.TheVariants.{OutOfMemory, WriteFailed}
-use Rattle.histar_syscall.specs.declared.trace.TraceEntry.{TraceEntry}
+use Rattle.histar_trace.specs.declared.entries.TraceEntry.{TraceEntry}
 use Rattle.histar_layout.specs.UserTable.{without_passwords}
 use Rattle.histar_programs.specs.Start.{roots_of}
 use Rattle.histar_sim.specs.Simulation.{SimulatesLine}

@@ -6,7 +6,7 @@ use Rattle.histar_io.specs.Writing.{AppendsFront}
 use Rattle.histar_flat.specs.declared.calls.CallLine.{CallLine}
 use Rattle.histar_flat.specs.Meaning.{RepliedCall}
 use Rattle.histar_script.specs.declared.fault.Fault.{Fault}
-use Rattle.histar_syscall.specs.declared.trace.TraceEntry.{TraceEntry}
+use Rattle.histar_trace.specs.declared.entries.TraceEntry.{TraceEntry}
 use Rattle.histar_syscall.specs.KernelModel.{state}
 use Rattle.histar_shell.specs.Answers.{answers_text, calls_of}
 use Rattle.histar_shell.specs.AnsweredCalls.{AnswersCall, AnswersCalls, BeginsAnswers}

@@ -1,5 +1,5 @@
 //! Raw calls of a trace that change something, made once more on a second kernel.
-ghost use Rattle.std.specs.Prelude.{◌≡◌, ◌++◌, [], ◌∷◌, IfOk, OnOk};
+ghost use Rattle.std.specs.Prelude.{◌≡◌, [], ◌∷◌, OnOk, drop};
 ghost use Rattle.histar_object.specs.State.{empty_state};
 ghost use Rattle.histar_rules.specs.Sound.{IsSound};
 ghost use Rattle.histar_syscall.specs.Runs.{IsMade};
@@ -10,8 +10,15 @@ use histar_explain::explain;
 use histar_label::{LabelStore, OutOfMemory};
 use histar_raw_explain::{Wording, push_explanation};
 use histar_rules::{RawCall, Refusal};
-use histar_syscall::{Kernel, TraceEntry};
+use histar_syscall::{Kernel, Trace, TraceEntry};
 use std::alloc::Global;
+
+/// The entries of a trace from one on.
+#[derive(Clone, Copy)]
+pub(crate) struct Entries<'a> {
+    pub trace: &'a Trace,
+    pub from: usize,
+}
 
 /// Checks whether a granted call only looks.
 fn only_looks(call: &RawCall) -> bool
@@ -81,23 +88,25 @@ fn explain_outcome<S: LabelStore + Drop, V: Wording>(
     push_explanation(alloc, text, words, entry, &explanation)
 }
 
-/// Brings a second kernel to the state after entries, and adds the lines that explain why the denied ones
-/// were denied, each at the state before it.
+/// Brings a second kernel to the state after the entries of a trace from this one on, and adds the lines that
+/// explain why the denied ones were denied, each at the state before it.
 pub(crate) fn explain_entries<S: LabelStore + Drop, V: Wording>(
     alloc: Global,
     kernel: &mut Kernel<S>,
     words: &V,
     text: &mut Vec<u8>,
-    entries: &[TraceEntry],
+    entries: Entries,
 ) -> Result<(), OutOfMemory>
-    requires { IsRunFrom (state kernel.old) entries.now }
-    ensures explained { OnOk result (AddsEntries (V.words words.now) (state kernel.old) entries.now (state kernel.new)
-        text.old.items text.new.items) }
-    ensures ends { OnOk result (EndsAsRun (state kernel.old) entries.now (state kernel.new)) }
+    requires { IsRunFrom (state kernel.old) (drop entries.entry.from entries.entry.trace.now.entries) }
+    ensures explained { OnOk result (AddsEntries (V.words words.now) (state kernel.old)
+        (drop entries.entry.from entries.entry.trace.now.entries) (state kernel.new) text.old.items text.new.items) }
+    ensures ends { OnOk result (EndsAsRun (state kernel.old)
+        (drop entries.entry.from entries.entry.trace.now.entries) (state kernel.new)) }
 {
-    for entry in entries {
-        explain_outcome(alloc, kernel, words, text, entry)?;
-        replay(alloc, kernel, entry)?;
+    for at in entries.from..entries.trace.len() {
+        let entry = entries.trace.entry(alloc, at)?;
+        explain_outcome(alloc, kernel, words, text, &entry)?;
+        replay(alloc, kernel, &entry)?;
     }
     Ok(())
 }

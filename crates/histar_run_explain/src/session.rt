@@ -15,7 +15,7 @@ ghost use Rattle.histar_run_explain.specs.Session.{AppendsRest, BeginsRest, Begi
 ghost use Rattle.histar_run_explain.specs.Session.{ExplainsCall, ExplainsCalls, HasExplained, IsWithText, births_by};
 ghost use Rattle.histar_run_explain.specs.Run.{ExplainsText};
 
-use crate::replaying::explain_entries;
+use crate::replaying::{Entries, explain_entries};
 use histar_flat::{CallLine, ProcName};
 use histar_io::{Sink, Source, read_input, write_bytes};
 use histar_label::{InternStore, LabelStore, OutOfMemory};
@@ -23,7 +23,7 @@ use histar_names::{Clue, Names, clue_of, note_births};
 use histar_raw_explain::ByNumber;
 use histar_script::{Fault, read_script};
 use histar_shell::{Machine, Options, answer_call, write_ending};
-use histar_syscall::{Kernel, TraceEntry};
+use histar_syscall::{Kernel, Trace};
 use std::alloc::Global;
 
 /// How many answers of label comparisons each of the two kernels remembers.
@@ -205,16 +205,17 @@ fn second_kernel<S: LabelStore + Drop>(
     }
 }
 
-/// Brings a kernel to the state after entries, and explains none of them.
+/// Brings a kernel to the state after a trace, and explains none of its entries.
 fn replay_all<S: LabelStore + Drop>(
     alloc: Global,
     kernel: &mut Kernel<S>,
-    entries: &[TraceEntry],
+    trace: &Trace,
 ) -> Result<(), OutOfMemory>
-    requires { IsRunFrom (state kernel.old) entries.now }
-    ensures { OnOk result (EndsAsRun (state kernel.old) entries.now (state kernel.new)) }
+    requires { IsRunFrom (state kernel.old) trace.now.entries }
+    ensures { OnOk result (EndsAsRun (state kernel.old) trace.now.entries (state kernel.new)) }
 {
     let mut text = Vec::new(alloc);
+    let entries = Entries { trace, from: 0 };
     explain_entries(alloc, kernel, &ByNumber, &mut text, entries)
 }
 
@@ -295,15 +296,6 @@ fn explain_answered<S: LabelStore + Drop, T: LabelStore + Drop>(
     explain_line(alloc, machine, explainer, clue, before)
 }
 
-/// Returns the entries of a trace after this many.
-fn entries_behind(trace: &[TraceEntry], before: usize) -> &[TraceEntry]
-    requires { before ≤ length trace.now }
-    ensures { result.now ≡ drop before trace.now }
-{
-    let (_, entries) = trace.split_at(before);
-    entries
-}
-
 /// Brings the second kernel to the state after a line, whose raw calls come after this many entries of the
 /// machine's trace, and keeps the lines that explain those that were denied.
 fn explain_line<S: LabelStore + Drop, T: LabelStore + Drop>(
@@ -330,11 +322,15 @@ fn explain_line<S: LabelStore + Drop, T: LabelStore + Drop>(
         clue,
         births: explainer.births.as_slice(),
     };
+    let entries = Entries {
+        trace: machine.trace(),
+        from: before,
+    };
     explain_entries(
         alloc,
         &mut explainer.second,
         &names,
         &mut explainer.text,
-        entries_behind(machine.trace(), before),
+        entries,
     )
 }

@@ -14,7 +14,7 @@ use Rattle.histar_flat.specs.FlatState.{Flat}
 use Rattle.histar_flat.specs.FlatCalls.{running, reply_to, flat_after}
 use Rattle.histar_flat.proofs.Laws.{not_running_is_gone}
 use Rattle.histar_object.specs.State.{State}
-use Rattle.histar_syscall.specs.declared.trace.TraceEntry.{TraceEntry}
+use Rattle.histar_trace.specs.declared.entries.TraceEntry.{TraceEntry}
 use Rattle.histar_syscall.specs.KernelModel.{KernelModel, state}
 use Rattle.histar_syscall.specs.Runs.{IsBy}
 use Rattle.histar_programs.specs.declared.roots.Roots.{Roots}

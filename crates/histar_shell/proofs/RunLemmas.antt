@@ -26,7 +26,7 @@ use Rattle.histar_shell.specs.Run.{RunsText}
 use Rattle.histar_shell.specs.Machine.{MachineModel, IsStart}
 use Rattle.histar_shell.specs.AnsweredCalls.{AnswersCalls}
 use Rattle.histar_shell.specs.AllAnswers.{AnswersAll, BeginsAll}
-use Rattle.histar_syscall.specs.declared.trace.TraceEntry.{TraceEntry}
+use Rattle.histar_trace.specs.declared.entries.TraceEntry.{TraceEntry}
 use Rattle.histar_flat.specs.declared.calls.CallLine.{CallLine}
 use Rattle.histar_shell.proofs.CallRefinements.{CallsRefine}
 use Rattle.histar_shell.proofs.SessionMeanings.{meant_run}

@@ -10,7 +10,7 @@ use Rattle.histar_io.specs.Writing.{AppendsFront}
 use Rattle.histar_shell.specs.declared.session.Options.{Options}
 use Rattle.histar_shell.specs.Ending.{IsEnding}
 use Rattle.histar_shell.specs.AnsweredCalls.{AnswersCalls, BeginsAnswers}
-use Rattle.histar_syscall.specs.declared.trace.TraceEntry.{TraceEntry}
+use Rattle.histar_trace.specs.declared.entries.TraceEntry.{TraceEntry}
 
 -- A fault in a script is returned as it is. The other faults are not of the script, and a write fails only after a
 -- script without fault.

@@ -18,7 +18,7 @@ use histar_label::LabelStore;
 use histar_rawtext::trace_line;
 use histar_readout::TreeNode;
 use histar_script::Fault;
-use histar_syscall::TraceEntry;
+use histar_syscall::Trace;
 use std::alloc::Global;
 
 /// Writes the tree of a machine and then its trace, if they are asked for.
@@ -83,35 +83,34 @@ fn write_nodes<S: LabelStore + Drop, W: Sink>(
 /// Writes a trace, if it is asked for.
 fn write_trace<W: Sink>(
     alloc: Global,
-    entries: &[TraceEntry],
+    trace: &Trace,
     writer: &mut W,
     options: Options,
 ) -> Result<(), Fault>
-    ensures ok { OnOk result (Appends (W.written writer.old) (W.written writer.new) (asked_trace options entries.now)) }
+    ensures ok { OnOk result (Appends (W.written writer.old) (W.written writer.new)
+        (asked_trace options trace.now.entries)) }
     ensures err { OnErr result (AppendsFront (W.written writer.old) (W.written writer.new)
-        (asked_trace options entries.now)) }
+        (asked_trace options trace.now.entries)) }
     ensures faults { IfErr result IsOutputFault }
     ensures count { CountsFailure (W.failures writer.old) (W.failures writer.new) (is_write_failed result) }
 {
     if !options.trace {
         return Ok(());
     }
-    write_entries(alloc, entries, writer)
+    write_entries(alloc, trace, writer)
 }
 
 /// Writes the lines of the entries of a trace.
-fn write_entries<W: Sink>(
-    alloc: Global,
-    entries: &[TraceEntry],
-    writer: &mut W,
-) -> Result<(), Fault>
-    ensures ok { OnOk result (Appends (W.written writer.old) (W.written writer.new) (trace_text entries.now)) }
-    ensures err { OnErr result (AppendsFront (W.written writer.old) (W.written writer.new) (trace_text entries.now)) }
+fn write_entries<W: Sink>(alloc: Global, trace: &Trace, writer: &mut W) -> Result<(), Fault>
+    ensures ok { OnOk result (Appends (W.written writer.old) (W.written writer.new) (trace_text trace.now.entries)) }
+    ensures err { OnErr result (AppendsFront (W.written writer.old) (W.written writer.new)
+        (trace_text trace.now.entries)) }
     ensures faults { IfErr result IsOutputFault }
     ensures count { CountsFailure (W.failures writer.old) (W.failures writer.new) (is_write_failed result) }
 {
-    'lines: for entry in entries {
-        let line = trace_line(alloc, entry)?;
+    'lines: for at in 0..trace.len() {
+        let entry = trace.entry(alloc, at)?;
+        let line = trace_line(alloc, &entry)?;
         write_bytes(writer, line.as_slice())?;
     }
     Ok(())

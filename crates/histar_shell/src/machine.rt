@@ -18,35 +18,35 @@ use histar_layout::UserTable;
 use histar_login::boot;
 use histar_programs::{CallError, Caller, Roots, Stopped, find_caller, settle};
 use histar_readout::{TreeNode, bytes_of, tree_of};
-use histar_syscall::{Kernel, TraceEntry};
+use histar_syscall::{Kernel, Trace as KernelTrace};
 use std::alloc::{AllocError, Global};
 use std::marker::Model;
 
 /// The raw calls of a run, in their order.
 #[derive(Drop)]
 pub struct Trace {
-    entries: Vec<TraceEntry>,
+    kept: KernelTrace,
 }
 
 impl Model for Trace {
     ghost use Rattle.std.specs.Prelude.{List};
     ghost use Rattle.std.specs.Coded.{coded_list};
-    ghost use Rattle.histar_syscall.specs.declared.trace.TraceEntry.{TraceEntry};
-    ghost use Rattle.histar_syscall.specs.contracts.trace.TraceEntry as entry;
+    ghost use Rattle.histar_trace.specs.declared.entries.TraceEntry.{TraceEntry};
+    ghost use Rattle.histar_trace.specs.contracts.entries.TraceEntry as entry;
 
     ghost Value = { List TraceEntry };
 
     ghost coded = { coded_list entry.the_row.coded };
 
-    ghost view = { λ t. t.entries.items };
+    ghost view = { λ t. t.kept.entries };
 }
 
 impl Trace {
-    /// Lends the entries of the trace.
-    pub fn entries(&self) -> &[TraceEntry]
-        ensures { result.now ≡ self.now }
+    /// Lends the trace as the kernel kept it.
+    pub fn kept(&self) -> &KernelTrace
+        ensures { result.now.entries ≡ self.now }
     {
-        self.entries.as_slice()
+        &self.kept
     }
 }
 
@@ -128,8 +128,8 @@ impl<S: LabelStore + Drop> Machine<S> {
     }
 
     /// Lends the raw calls made so far.
-    pub fn trace(&self) -> &[TraceEntry]
-        ensures { result.now ≡ self.now.kernel.trace }
+    pub fn trace(&self) -> &KernelTrace
+        ensures { result.now.entries ≡ self.now.kernel.trace }
     {
         self.kernel.trace()
     }
@@ -182,7 +182,7 @@ impl<S: LabelStore + Drop> Machine<S> {
         ensures run { IsTraced self.kernel }
     {
         Trace {
-            entries: self.kernel.leak_into_trace(),
+            kept: self.kernel.leak_into_trace(),
         }
     }
 }

@@ -1,10 +1,13 @@
 //! A run, from bytes to bytes.
-ghost use Rattle.std.specs.Prelude.{◌≡◌, false, IfErr, IfSome, OnOk, OnErr};
+ghost use Rattle.std.specs.Prelude.{◌≡◌, false, IfErr, IfOk, IfSome, OnOk, OnErr};
 ghost use Rattle.histar_io.specs.Device.{CountsFailure};
 ghost use Rattle.histar_script.specs.Runs.{IsOutputFault, LeavesSink, is_read_failed, is_write_failed, RunsInput};
 ghost use Rattle.histar_shell.specs.AllAnswers.{AnswersAll, BeginsAll, EndsWithTree};
 ghost use Rattle.histar_shell.specs.AnsweredCalls.{AnswersCall, AnswersCalls, BeginsAnswer, BeginsAnswers};
 ghost use Rattle.histar_shell.specs.Run.{RunsText};
+ghost use Rattle.histar_script.specs.Outcome.{Gives};
+ghost use Rattle.histar_script.specs.Reading.{script_of};
+ghost use Rattle.histar_script.specs.Script.{IsDeclared};
 
 use crate::ending::write_ending;
 use crate::machine::{Machine, Trace};
@@ -12,7 +15,7 @@ use crate::output::set_reply_line;
 use histar_flat::CallLine;
 use histar_io::{Sink, Source, read_input, write_bytes};
 use histar_label::{InternStore, LabelStore};
-use histar_script::{Fault, read_script};
+use histar_script::{Fault, Script, read_script};
 use std::alloc::Global;
 
 /// What a run writes beside the replies.
@@ -78,29 +81,37 @@ pub fn run_with<S: LabelStore + Drop, R: Source, W: Sink>(
         (λ input. RunsText options input (W.written writer.old) (W.written writer.new) result) }
 {
     let input = read_input(alloc, reader)?;
-    run_text(alloc, store, input.as_slice(), writer, options)
+    run_text(alloc, store, input, writer, options)
 }
 
-/// Runs the script of a text.
+/// Runs the script of a text, which it keeps no longer than it reads it.
 fn run_text<S: LabelStore + Drop, W: Sink>(
     alloc: Global,
     store: S,
-    text: &[u8],
+    text: Vec<u8>,
     writer: &mut W,
     options: Options,
 ) -> Result<Trace, Fault>
     ensures nothing { IfErr result (LeavesSink writer.old writer.new) }
     ensures reads { is_read_failed result ≡ false }
     ensures writes { CountsFailure (W.failures writer.old) (W.failures writer.new) (is_write_failed result) }
-    ensures runs { RunsText options text.now (W.written writer.old) (W.written writer.new) result }
+    ensures runs { RunsText options text.items (W.written writer.old) (W.written writer.new) result }
 {
-    let script = read_script(alloc, text)?;
+    let script = read_text(alloc, text)?;
     let (accounts, calls) = script.into_parts();
     let Ok(mut machine) = Machine::boot(alloc, store, accounts) else {
         return Err(Fault::OutOfMemory);
     };
     answer_all(alloc, &mut machine, calls, writer, options)?;
     Ok(machine.leak_into_trace())
+}
+
+/// Reads the script that a text is, and frees the text: a session's trace takes its room.
+fn read_text(alloc: Global, text: Vec<u8>) -> Result<Script, Fault>
+    ensures exact { Gives result (script_of text.items) }
+    ensures declared { IfOk result (λ script. IsDeclared script.accounts) }
+{
+    read_script(alloc, text.as_slice())
 }
 
 /// Makes the calls on the machine in their order, writes a line for each, and then what is asked for.

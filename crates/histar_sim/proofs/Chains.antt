@@ -9,7 +9,7 @@ use Rattle.histar_rules.specs.declared.raw.Denied.{Denied}
 use Rattle.histar_rules.specs.declared.raw.Denied.TheVariants.{TooBig}
 use Rattle.histar_rules.specs.declared.raw.RawCall.{RawCall}
 use Rattle.histar_rules.specs.Rules.{has_number}
-use Rattle.histar_syscall.specs.declared.trace.TraceEntry.{TraceEntry}
+use Rattle.histar_trace.specs.declared.entries.TraceEntry.{TraceEntry}
 use Rattle.histar_syscall.specs.KernelModel.{KernelModel, state, Called, IsUnchanged}
 use Rattle.histar_syscall.specs.Runs.{IsBy, IsRun, GoesOn, Made}
 use Rattle.histar_syscall.proofs.Runs.{entry_of, still_same, call_after}

@@ -10,7 +10,7 @@ use Rattle.histar_flat.specs.Classes.{Process}
 use Rattle.histar_flat.specs.FlatState.{Flat}
 use Rattle.histar_flat.specs.FlatCalls.{life_reply}
 use Rattle.histar_object.specs.State.{State}
-use Rattle.histar_syscall.specs.declared.trace.TraceEntry.{TraceEntry}
+use Rattle.histar_trace.specs.declared.entries.TraceEntry.{TraceEntry}
 use Rattle.histar_syscall.specs.KernelModel.{KernelModel, state}
 use Rattle.histar_programs.specs.declared.call_error.Stopped.{Stopped}
 use Rattle.histar_programs.specs.Programs.{Runs}

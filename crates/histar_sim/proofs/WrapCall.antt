@@ -25,7 +25,7 @@ use Rattle.histar_rules.specs.declared.raw.RawCall.{RawCall}
 use Rattle.histar_rules.specs.declared.raw.RawCall.TheVariants.{MakeCategory, MakeContainer, OwnLabel, SetLabel, SetClearance}
 use Rattle.histar_rules.specs.Rules.{check, has_number}
 use Rattle.histar_syscall.specs.KernelModel.{KernelModel, state}
-use Rattle.histar_syscall.specs.declared.trace.TraceEntry.{TraceEntry}
+use Rattle.histar_trace.specs.declared.entries.TraceEntry.{TraceEntry}
 use Rattle.histar_layout.specs.Status.{ProcessStatus}
 use Rattle.histar_programs.specs.declared.call_error.Stopped.{Stopped}
 use Rattle.histar_programs.specs.declared.find.Room.{Room}

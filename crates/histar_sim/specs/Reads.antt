@@ -15,7 +15,7 @@ use Rattle.histar_object.specs.State.{State}
 use Rattle.histar_rules.specs.declared.raw.RawCall.{RawCall}
 use Rattle.histar_rules.specs.declared.raw.RawCall.TheVariants as raw
 use Rattle.histar_rules.specs.Sound.{root_number}
-use Rattle.histar_syscall.specs.declared.trace.TraceEntry.{TraceEntry}
+use Rattle.histar_trace.specs.declared.entries.TraceEntry.{TraceEntry}
 use Rattle.histar_programs.specs.Users.{place_of, password_of}
 use Rattle.histar_refinement.specs.Lines.{IsStatusSegment, IsDirectoryAt, IsObjectAt}
 

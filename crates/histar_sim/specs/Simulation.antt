@@ -19,7 +19,7 @@ use Rattle.histar_rules.specs.declared.raw.Denied.{Denied}
 use Rattle.histar_rules.specs.declared.raw.Denied.TheVariants.{TooBig}
 use Rattle.histar_rules.specs.declared.raw.RawCall.TheVariants.{Read}
 use Rattle.histar_rules.specs.Rules.{check, Leaves, greatest, has_number}
-use Rattle.histar_syscall.specs.declared.trace.TraceEntry.{TraceEntry}
+use Rattle.histar_trace.specs.declared.entries.TraceEntry.{TraceEntry}
 use Rattle.histar_syscall.specs.KernelModel.{KernelModel, state}
 use Rattle.histar_syscall.specs.Runs.{IsBy, IsRun, some_label_refusal, some_range_refusal}
 use Rattle.histar_programs.specs.declared.call_error.Stopped.{Stopped}

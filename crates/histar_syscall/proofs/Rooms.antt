@@ -6,8 +6,9 @@ use Rattle.histar_rules.specs.declared.raw.RawCall.{RawCall}
 use Rattle.histar_rules.specs.declared.raw.Refusal.{Refusal}
 use Rattle.histar_rules.specs.declared.raw.Refusal.TheVariants as refusals
 use Rattle.histar_rules.specs.Rules.{Decides}
-use Rattle.histar_syscall.specs.declared.trace.TraceEntry.{TraceEntry}
-use Rattle.histar_syscall.specs.KernelModel.{KernelModel, IsUnchanged, Answered, logged}
+use Rattle.histar_trace.specs.declared.entries.TraceEntry.{TraceEntry}
+use Rattle.histar_trace.specs.Traces.{logged}
+use Rattle.histar_syscall.specs.KernelModel.{KernelModel, IsUnchanged, Answered}
 
 -- where memory runs out nothing has changed
 pub exits : {A : Type 0} (old new : KernelModel) (t : ℕ) (call : RawCall) (r : Result A Refusal) (P : A → Type 0)

@@ -10,8 +10,8 @@ use Rattle.histar_rules.specs.declared.raw.RawCall.{RawCall}
 use Rattle.histar_rules.specs.declared.raw.RawCall.TheVariants.{Read}
 use Rattle.histar_rules.specs.declared.raw.Refusal.{Refusal}
 use Rattle.histar_rules.specs.declared.raw.Refusal.TheVariants as refusals
-use Rattle.histar_syscall.specs.declared.trace.TraceEntry.{TraceEntry}
-use Rattle.histar_syscall.specs.contracts.trace.TraceEntry as entry
+use Rattle.histar_trace.specs.declared.entries.TraceEntry.{TraceEntry}
+use Rattle.histar_trace.specs.contracts.entries.TraceEntry as entry
 use Rattle.histar_rules.specs.Rules.{check, Leaves, AreBytesOf}
 
 -- the content of a kernel: its objects, the line that was begun last, and the trace of its calls
@@ -46,12 +46,6 @@ abbrev pub Answered : {A : Type 0} → KernelModel → KernelModel → ℕ → R
 Answered old new t call (Ok answer) IsRight = Called old new t call None × IsRight answer
 Answered old new t call (Err (refusals.Denied denied)) IsRight = Called old new t call (Some denied)
 Answered old new t call (Err refusals.OutOfMemory) IsRight = IsUnchanged old new
-
--- the trace after a call with this answer: it has one more entry, unless memory ran out
-abbrev pub logged : {A : Type 0} → List TraceEntry → ℕ → ℕ → RawCall → Result A Refusal → List TraceEntry
-logged trace line t call (Ok answer) = trace ++ record { line = line; thread = t; call = call; denied = None } ∷ []
-logged trace line t call (Err (refusals.Denied denied)) = trace ++ record { line = line; thread = t; call = call; denied = Some denied } ∷ []
-logged trace line t call (Err refusals.OutOfMemory) = trace
 
 -- a read was made, and it lends the bytes of the segment
 abbrev pub ReadsLent : KernelModel → ℕ → ℕ → ℕ → Result (Bor (List ℕ)) Refusal → KernelModel → Type 0

@@ -2,7 +2,7 @@
 use Rattle.std.specs.Prelude.{◌≡◌, List}
 use Rattle.histar_object.specs.State.{State}
 use Rattle.histar_rules.specs.Sound.{IsSound}
-use Rattle.histar_syscall.specs.declared.trace.TraceEntry.{TraceEntry}
+use Rattle.histar_trace.specs.declared.entries.TraceEntry.{TraceEntry}
 use Rattle.histar_syscall.specs.Runs.{IsRun}
 
 -- from a sound state a list of entries leads to one state at most

@@ -6,7 +6,7 @@ ghost use Rattle.histar_rules.specs.declared.raw.RawCall.TheVariants as calls;
 
 use histar_label::{Label, LabelStore};
 use histar_object::{Kind, Links, ObjId};
-use histar_rules::{HandedLabel, LabelledObjects, Refusal};
+use histar_rules::{LabelledObjects, Refusal};
 use std::alloc::Global;
 
 /// Returns the label of an object that the container links. A thread that may observe a container may learn
@@ -30,15 +30,14 @@ pub fn make_container<S: LabelStore + Drop>(
     alloc: Global,
     thread: ObjId,
     container: ObjId,
-    label: &HandedLabel,
+    label: Label,
 ) -> Result<ObjId, Refusal>
-    ensures { Decides objects.old objects.new thread (calls.MakeContainer container label.now)
+    ensures { Decides objects.old objects.new thread (calls.MakeContainer container label)
         result (IsNextNumber objects.old) }
 {
-    let label = label.label();
-    objects.check_new(thread, container, label, 0)?;
+    objects.check_new(thread, container, &label, 0)?;
     let number = objects.next_object();
-    objects.add(container, label.copy()?, Kind::Container(Links::new(alloc)))?;
+    objects.add(container, label, Kind::Container(Links::new(alloc)))?;
     Ok(number)
 }
 

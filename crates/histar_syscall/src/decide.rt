@@ -22,48 +22,54 @@ pub(crate) fn decide<S: LabelStore + Drop>(
     objects: &mut LabelledObjects<S>,
     alloc: Global,
     thread: ObjId,
-    call: &RawCall,
+    call: RawCall,
 ) -> Result<Answer, Refusal>
     requires { AreTree (objects_of objects.old.objects) }
-    ensures { Decides objects.old objects.new thread call.now result
-        (λ a. IsAnswerValue (state_of objects.old) thread call.now a) }
+    ensures { Decides objects.old objects.new thread call result
+        (λ a. IsAnswerValue (state_of objects.old) thread call a) }
 {
     match call {
         RawCall::MakeCategory => category(make_category(objects, thread)),
         RawCall::OwnLabel => own(own_label(objects, thread)),
-        RawCall::SetLabel(label) => done(set_label(objects, thread, label)),
-        RawCall::SetClearance(clearance) => done(set_clearance(objects, thread, clearance)),
+        RawCall::SetLabel(label) => done(set_label(objects, thread, label.label())),
+        RawCall::SetClearance(clearance) => {
+            done(set_clearance(objects, thread, clearance.label()))
+        }
         RawCall::MakeSegment(container, label, bytes) => {
-            made(make_segment(objects, alloc, thread, *container, label, bytes))
+            let label = label.into_label();
+            made(make_segment(objects, alloc, thread, container, label, &bytes))
         }
         RawCall::MakeContainer(container, label) => {
-            made(make_container(objects, alloc, thread, *container, label))
+            let label = label.into_label();
+            made(make_container(objects, alloc, thread, container, label))
         }
         RawCall::MakeThread(container, label, clearance) => {
-            made(make_thread(objects, thread, *container, label, clearance))
+            let (label, clearance) = (label.into_label(), clearance.into_label());
+            made(make_thread(objects, thread, container, label, clearance))
         }
         RawCall::MakeGate(container, label, clearance, entry) => {
-            made(make_gate(objects, thread, *container, label, clearance, *entry))
+            let (label, clearance) = (label.into_label(), clearance.into_label());
+            made(make_gate(objects, thread, container, label, clearance, entry))
         }
         RawCall::Enter(container, gate, wanted, clearance, verify) => {
             let labels = HandedLabels {
-                wanted,
-                clearance,
-                verify,
+                wanted: wanted.label(),
+                clearance: clearance.label(),
+                verify: verify.label(),
             };
-            entry(enter(objects, thread, *container, *gate, labels))
+            entry(enter(objects, thread, container, gate, labels))
         }
         RawCall::Read(container, segment) => {
-            bytes(read(objects, alloc, thread, *container, *segment))
+            bytes(read(objects, alloc, thread, container, segment))
         }
         RawCall::Write(container, segment, keep, bytes) => {
-            done(write(objects, alloc, thread, *container, *segment, *keep, bytes))
+            done(write(objects, alloc, thread, container, segment, keep, &bytes))
         }
         RawCall::Unlink(container, object) => {
-            done(unlink(objects, alloc, thread, *container, *object))
+            done(unlink(objects, alloc, thread, container, object))
         }
         RawCall::LabelOf(container, object) => {
-            label(label_of(objects, thread, *container, *object))
+            label(label_of(objects, thread, container, object))
         }
     }
 }

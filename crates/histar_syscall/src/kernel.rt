@@ -15,13 +15,13 @@ use crate::containers::{label_of, make_container, unlink};
 use crate::decide::decide;
 use crate::empty_objects::empty_objects;
 use crate::segments::{check_read, make_segment, read, write};
-use crate::trace::{Trace, TraceEntry};
 use histar_base::Bytes;
 use histar_gate::{enter, make_gate};
 use histar_label::{Category, Label, LabelStore, OutOfMemory};
 use histar_object::{Entry, ObjId};
-use histar_rules::{HandedLabel, HandedLabels, LabelledObjects, ObjectKind, RawCall, Refusal};
+use histar_rules::{HandedLabels, LabelledObjects, ObjectKind, RawCall, Refusal};
 use histar_thread::{make_category, make_thread, own_label, set_clearance, set_label};
+use histar_trace::{StoredCall, Trace};
 use std::alloc::Global;
 use std::marker::Model;
 use std::mem::forget;
@@ -37,8 +37,7 @@ use std::mem::forget;
 pub struct Kernel<S: LabelStore + Drop> {
     objects: LabelledObjects<S>,
     trace: Trace,
-    // The allocator of calls that are given none.
-    alloc: Global,
+    line: u32,
 }
 
 impl<S: LabelStore + Drop> Model for Kernel<S> {
@@ -50,7 +49,7 @@ impl<S: LabelStore + Drop> Model for Kernel<S> {
 
     ghost coded = { coded_kernel_model };
 
-    ghost view = { λ k. record { kept = k.objects; line = k.trace.line; trace = k.trace.entries.items } };
+    ghost view = { λ k. record { kept = k.objects; line = k.line; trace = k.trace.entries } };
 
     ghost invariant = { λ k. IsSound (state_of k.objects) };
 }
@@ -70,8 +69,8 @@ impl<S: LabelStore + Drop> Kernel<S> {
         let objects = empty_objects(alloc, store)?;
         Ok(Kernel {
             objects,
-            trace: Trace::new(alloc),
-            alloc,
+            trace: Trace::new(alloc)?,
+            line: 0,
         })
     }
 
@@ -79,22 +78,22 @@ impl<S: LabelStore + Drop> Kernel<S> {
     pub fn begin(&mut self, line: u32)
         ensures { self.new ≡ record self.old { line = line } }
     {
-        self.trace.line = line;
+        self.line = line;
     }
 
-    /// Returns the calls so far, in their order.
-    pub fn trace(&self) -> &[TraceEntry]
-        ensures { result.now ≡ self.now.trace }
+    /// Lends the calls so far, in their order.
+    pub fn trace(&self) -> &Trace
+        ensures { result.now.entries ≡ self.now.trace }
     {
-        self.trace.entries.as_slice()
+        &self.trace
     }
 
     /// Moves out the calls so far, and leaks the objects: a program that ends soon takes no time to free them.
-    pub fn leak_into_trace(self) -> Vec<TraceEntry>
-        ensures { result.items ≡ self.trace }
+    pub fn leak_into_trace(self) -> Trace
+        ensures { result.entries ≡ self.trace }
     {
         forget(self.objects);
-        self.trace.entries
+        self.trace
     }
 
     /// Makes one raw call of any kind.
@@ -105,9 +104,9 @@ impl<S: LabelStore + Drop> Kernel<S> {
         // The objects of every kernel are sound.
         ensures sound { IsSound (state self.old) × IsSound (state self.new) }
     {
-        self.trace.make_room()?;
-        let answer = decide(&mut self.objects, alloc, thread, &call);
-        self.trace.record(thread, call, answer)
+        let stored = self.trace.store(alloc, &call)?;
+        let answer = decide(&mut self.objects, alloc, thread, call);
+        self.trace.record(self.line, thread, stored, answer)
     }
 
     /// Makes a category. The thread owns it from then on, and its clearance there is 3.
@@ -117,7 +116,8 @@ impl<S: LabelStore + Drop> Kernel<S> {
     {
         self.trace.make_room()?;
         let answer = make_category(&mut self.objects, thread);
-        self.trace.record(thread, RawCall::MakeCategory, answer)
+        let call = StoredCall::MakeCategory;
+        self.trace.record(self.line, thread, call, answer)
     }
 
     /// Returns the thread's own label and clearance.
@@ -126,17 +126,17 @@ impl<S: LabelStore + Drop> Kernel<S> {
     {
         self.trace.make_room()?;
         let answer = own_label(&self.objects, thread);
-        self.trace.record(thread, RawCall::OwnLabel, answer)
+        let call = StoredCall::OwnLabel;
+        self.trace.record(self.line, thread, call, answer)
     }
 
     /// Gives the thread another label, which lies between its own label and its clearance.
     pub fn set_label(&mut self, thread: ObjId, label: Label) -> Result<(), Refusal>
         ensures { Answered self.old self.new thread (calls.SetLabel label) result (λ _. Unit {0}) }
     {
-        let label = HandedLabel::new(self.alloc, label)?;
-        self.trace.make_room()?;
+        let call = self.trace.store_set_label(&label)?;
         let answer = set_label(&mut self.objects, thread, &label);
-        self.trace.record(thread, RawCall::SetLabel(label), answer)
+        self.trace.record(self.line, thread, call, answer)
     }
 
     /// Gives the thread another clearance, which is above its own label, and exceeds its old clearance only
@@ -144,11 +144,9 @@ impl<S: LabelStore + Drop> Kernel<S> {
     pub fn set_clearance(&mut self, thread: ObjId, clearance: Label) -> Result<(), Refusal>
         ensures { Answered self.old self.new thread (calls.SetClearance clearance) result (λ _. Unit {0}) }
     {
-        let clearance = HandedLabel::new(self.alloc, clearance)?;
-        self.trace.make_room()?;
+        let call = self.trace.store_set_clearance(&clearance)?;
         let answer = set_clearance(&mut self.objects, thread, &clearance);
-        self.trace
-            .record(thread, RawCall::SetClearance(clearance), answer)
+        self.trace.record(self.line, thread, call, answer)
     }
 
     /// Makes a segment in a container, and returns its number.
@@ -163,14 +161,10 @@ impl<S: LabelStore + Drop> Kernel<S> {
         ensures { Answered self.old self.new thread (calls.MakeSegment container label bytes) result
             (IsNextNumber self.old.kept) }
     {
-        let label = HandedLabel::new(alloc, label)?;
-        self.trace.make_room()?;
-        let answer = make_segment(&mut self.objects, alloc, thread, container, &label, &bytes);
-        self.trace.record(
-            thread,
-            RawCall::MakeSegment(container, label, bytes),
-            answer,
-        )
+        let (call, bytes) = self.trace.store_make_segment(container, &label, bytes)?;
+        let bytes = self.trace.bytes(bytes);
+        let answer = make_segment(&mut self.objects, alloc, thread, container, label, bytes);
+        self.trace.record(self.line, thread, call, answer)
     }
 
     /// Makes a container in a container, and returns its number.
@@ -184,11 +178,9 @@ impl<S: LabelStore + Drop> Kernel<S> {
         ensures { Answered self.old self.new thread (calls.MakeContainer container label) result
             (IsNextNumber self.old.kept) }
     {
-        let label = HandedLabel::new(alloc, label)?;
-        self.trace.make_room()?;
-        let answer = make_container(&mut self.objects, alloc, thread, container, &label);
-        self.trace
-            .record(thread, RawCall::MakeContainer(container, label), answer)
+        let call = self.trace.store_make_container(container, &label)?;
+        let answer = make_container(&mut self.objects, alloc, thread, container, label);
+        self.trace.record(self.line, thread, call, answer)
     }
 
     /// Makes a thread in a container, and returns its number. The new thread owns no more than its maker, and
@@ -203,11 +195,9 @@ impl<S: LabelStore + Drop> Kernel<S> {
         ensures { Answered self.old self.new thread (calls.MakeThread container label clearance)
             result (IsNextNumber self.old.kept) }
     {
-        let (label, clearance) = HandedLabel::pair(self.alloc, label, clearance)?;
-        self.trace.make_room()?;
-        let answer = make_thread(&mut self.objects, thread, container, &label, &clearance);
-        let call = RawCall::MakeThread(container, label, clearance);
-        self.trace.record(thread, call, answer)
+        let call = self.trace.store_make_thread(container, &label, &clearance)?;
+        let answer = make_thread(&mut self.objects, thread, container, label, clearance);
+        self.trace.record(self.line, thread, call, answer)
     }
 
     /// Makes a gate in a container, and returns its number. The gate gives its label to each thread that
@@ -223,18 +213,9 @@ impl<S: LabelStore + Drop> Kernel<S> {
         ensures { Answered self.old self.new thread (calls.MakeGate container label clearance entry)
             result (IsNextNumber self.old.kept) }
     {
-        let (label, clearance) = HandedLabel::pair(self.alloc, label, clearance)?;
-        self.trace.make_room()?;
-        let answer = make_gate(
-            &mut self.objects,
-            thread,
-            container,
-            &label,
-            &clearance,
-            entry,
-        );
-        let call = RawCall::MakeGate(container, label, clearance, entry);
-        self.trace.record(thread, call, answer)
+        let call = self.trace.store_make_gate(container, &label, &clearance, entry)?;
+        let answer = make_gate(&mut self.objects, thread, container, label, clearance, entry);
+        self.trace.record(self.line, thread, call, answer)
     }
 
     /// Enters a gate that a container links, and returns its entry. The thread gets the label and the
@@ -244,24 +225,14 @@ impl<S: LabelStore + Drop> Kernel<S> {
         thread: ObjId,
         container: ObjId,
         gate: ObjId,
-        wanted: Label,
-        clearance: Label,
-        verify: Label,
+        labels: HandedLabels,
     ) -> Result<Entry, Refusal>
-        ensures { Answered self.old self.new thread
-            (calls.Enter container gate wanted clearance verify) result (IsEntryOf self.old.kept gate) }
+        ensures { Answered self.old self.new thread (calls.Enter container gate labels.entry.wanted.now
+            labels.entry.clearance.now labels.entry.verify.now) result (IsEntryOf self.old.kept gate) }
     {
-        let (wanted, clearance) = HandedLabel::pair(self.alloc, wanted, clearance)?;
-        let verify = HandedLabel::new(self.alloc, verify)?;
-        self.trace.make_room()?;
-        let labels = HandedLabels {
-            wanted: &wanted,
-            clearance: &clearance,
-            verify: &verify,
-        };
+        let call = self.trace.store_enter(container, gate, labels)?;
         let answer = enter(&mut self.objects, thread, container, gate, labels);
-        let call = RawCall::Enter(container, gate, wanted, clearance, verify);
-        self.trace.record(thread, call, answer)
+        self.trace.record(self.line, thread, call, answer)
     }
 
     /// Lends the bytes of a segment that the container links. The kernel is free again when they are no
@@ -285,8 +256,8 @@ impl<S: LabelStore + Drop> Kernel<S> {
     {
         self.trace.make_room()?;
         let answer = check_read(&mut self.objects, thread, container, segment);
-        self.trace
-            .record(thread, RawCall::Read(container, segment), answer)
+        let call = StoredCall::Read(container, segment);
+        self.trace.record(self.line, thread, call, answer)
     }
 
     /// Returns the bytes of a segment, and none for another object. This is no raw call, and leaves no entry:
@@ -356,8 +327,8 @@ impl<S: LabelStore + Drop> Kernel<S> {
     {
         self.trace.make_room()?;
         let answer = read(&mut self.objects, alloc, thread, container, segment);
-        self.trace
-            .record(thread, RawCall::Read(container, segment), answer)
+        let call = StoredCall::Read(container, segment);
+        self.trace.record(self.line, thread, call, answer)
     }
 
     /// Keeps the first bytes of a segment that the container links, at most `keep`, and appends new ones.
@@ -372,7 +343,7 @@ impl<S: LabelStore + Drop> Kernel<S> {
     ) -> Result<(), Refusal>
         ensures { Answered self.old self.new thread (calls.Write container segment keep bytes) result (λ _. Unit {0}) }
     {
-        self.trace.make_room()?;
+        let (call, bytes) = self.trace.store_write(container, segment, keep, bytes)?;
         let answer = write(
             &mut self.objects,
             alloc,
@@ -380,13 +351,9 @@ impl<S: LabelStore + Drop> Kernel<S> {
             container,
             segment,
             keep,
-            &bytes,
+            self.trace.bytes(bytes),
         );
-        self.trace.record(
-            thread,
-            RawCall::Write(container, segment, keep, bytes),
-            answer,
-        )
+        self.trace.record(self.line, thread, call, answer)
     }
 
     /// Unlinks an object from a container, and removes it with all that hangs below it, its threads too.
@@ -401,8 +368,8 @@ impl<S: LabelStore + Drop> Kernel<S> {
     {
         self.trace.make_room()?;
         let answer = unlink(&mut self.objects, alloc, thread, container, object);
-        self.trace
-            .record(thread, RawCall::Unlink(container, object), answer)
+        let call = StoredCall::Unlink(container, object);
+        self.trace.record(self.line, thread, call, answer)
     }
 
     /// Returns the label of an object that the container links and that is no thread.
@@ -417,7 +384,7 @@ impl<S: LabelStore + Drop> Kernel<S> {
     {
         self.trace.make_room()?;
         let answer = label_of(&mut self.objects, thread, container, object);
-        self.trace
-            .record(thread, RawCall::LabelOf(container, object), answer)
+        let call = StoredCall::LabelOf(container, object);
+        self.trace.record(self.line, thread, call, answer)
     }
 }

@@ -9,10 +9,9 @@ mod kernel;
 mod raw_calls;
 pub mod run_laws;
 mod segments;
-mod trace;
 
 pub use answers::Answer;
-pub use histar_rules::{Denied, HandedLabel, ObjectKind, RawCall, Refusal};
+pub use histar_rules::{Denied, HandedLabel, HandedLabels, ObjectKind, RawCall, Refusal};
+pub use histar_trace::{Trace, TraceEntry};
 pub use kernel::Kernel;
 pub use raw_calls::run_raw;
-pub use trace::TraceEntry;

@@ -3,9 +3,9 @@ ghost use Rattle.histar_rules.specs.Rules.{Decides, AreBytesOf, IsNextNumber};
 ghost use Rattle.histar_rules.specs.declared.raw.RawCall.TheVariants as calls;
 
 use histar_base::Bytes;
-use histar_label::LabelStore;
+use histar_label::{Label, LabelStore};
 use histar_object::{Kind, ObjId};
-use histar_rules::{HandedLabel, LabelledObjects, Refusal};
+use histar_rules::{LabelledObjects, Refusal};
 use std::alloc::Global;
 
 /// Makes a segment in a container, and returns its number.
@@ -14,17 +14,16 @@ pub fn make_segment<S: LabelStore + Drop>(
     alloc: Global,
     thread: ObjId,
     container: ObjId,
-    label: &HandedLabel,
+    label: Label,
     bytes: &Bytes,
 ) -> Result<ObjId, Refusal>
     ensures { Decides objects.old objects.new thread
-        (calls.MakeSegment container label.now bytes.now) result (IsNextNumber objects.old) }
+        (calls.MakeSegment container label bytes.now) result (IsNextNumber objects.old) }
 {
-    let label = label.label();
-    objects.check_new(thread, container, label, bytes.len())?;
+    objects.check_new(thread, container, &label, bytes.len())?;
     let number = objects.next_object();
     let content = bytes.copy(alloc)?;
-    objects.add(container, label.copy()?, Kind::Segment(content))?;
+    objects.add(container, label, Kind::Segment(content))?;
     Ok(number)
 }
 

@@ -4,7 +4,7 @@
 use histar_base::Bytes;
 use histar_label::{Category, Label, LabelStore, Level, OutOfMemory};
 use histar_object::{Entry, ObjId};
-use histar_syscall::{Answer, Denied, HandedLabel, Kernel, RawCall, Refusal, TraceEntry, run_raw};
+use histar_syscall::{Answer, Denied, HandedLabel, Kernel, RawCall, Refusal, Trace, run_raw};
 use std::alloc::Global;
 use std::process::Abort;
 
@@ -220,14 +220,22 @@ fn denial(expected: Expected) -> Option<Denied> {
 }
 
 /// Checks that the trace has the rows, in their order, and nothing else, on the lines that were begun.
-fn is_traced(rt: &impl Abort, trace: &[TraceEntry], rows: &[Row], is_begun: bool) {
+fn is_traced(
+    rt: &impl Abort,
+    alloc: Global,
+    trace: &Trace,
+    rows: &[Row],
+    is_begun: bool,
+) -> Result<(), OutOfMemory> {
     assert_eq!(rt; trace.len(), rows.len());
-    for (entry, row) in trace.iter().zip(rows.iter()) {
+    for (at, row) in rows.iter().enumerate() {
+        let entry = trace.entry(alloc, at)?;
         let (line, thread, _, expected) = *row;
         assert_eq!(rt; entry.thread.number(), thread, "on line {line}");
         assert_eq!(rt; entry.denied, denial(expected), "on line {line}");
         assert_eq!(rt; entry.line, if is_begun { line } else { 0 });
     }
+    Ok(())
 }
 
 /// Makes all calls at once, whatever each of them answers.
@@ -243,8 +251,7 @@ fn run_at_once<S: LabelStore + Drop>(
     }
     let mut kernel = Kernel::new(alloc, store)?;
     run_raw(alloc, &mut kernel, calls.as_slice())?;
-    is_traced(rt, kernel.trace(), rows, false);
-    Ok(())
+    is_traced(rt, alloc, kernel.trace(), rows, false)
 }
 
 /// Makes one call after another, and checks each answer against the table.
@@ -258,7 +265,7 @@ fn run_by_call<S: LabelStore + Drop>(
     for &row in rows {
         check_call(rt, alloc, &mut kernel, row)?;
     }
-    is_traced(rt, kernel.trace(), rows, true);
+    is_traced(rt, alloc, kernel.trace(), rows, true)?;
     Ok(())
 }
 

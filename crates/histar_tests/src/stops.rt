@@ -5,7 +5,7 @@ use histar_label::PlainStore;
 use histar_rawtext::trace_line;
 use histar_script::read_script;
 use histar_shell::Machine;
-use histar_syscall::TraceEntry;
+use histar_syscall::Trace;
 use std::alloc::{AllocError, Global};
 use std::process::Abort;
 use std::test::Fail;
@@ -72,13 +72,14 @@ fn machine_after(
 fn check_beginning(
     rt: &impl Abort,
     alloc: Global,
-    trace: &[TraceEntry],
-    ample: &[TraceEntry],
+    trace: &Trace,
+    ample: &Trace,
 ) -> Result<(), Fail> {
     assert!(rt; trace.len() <= ample.len());
-    for (entry, other) in trace.iter().zip(ample.iter()) {
-        let line = trace_line(alloc, entry)?;
-        assert_eq!(rt; line.as_slice(), trace_line(alloc, other)?.as_slice());
+    for at in 0..trace.len() {
+        let line = trace_line(alloc, &trace.entry(alloc, at)?)?;
+        let other = trace_line(alloc, &ample.entry(alloc, at)?)?;
+        assert_eq!(rt; line.as_slice(), other.as_slice());
     }
     Ok(())
 }
@@ -88,8 +89,8 @@ fn compare(
     rt: &impl Abort,
     alloc: Global,
     stopped: (bool, bool),
-    trace: &[TraceEntry],
-    other: &[TraceEntry],
+    trace: &Trace,
+    other: &Trace,
 ) -> Result<(), Fail> {
     let (is_stopped, is_other_stopped) = stopped;
     if is_other_stopped {

@@ -7,7 +7,7 @@ ghost use Rattle.histar_rules.specs.declared.raw.RawCall.TheVariants as calls;
 
 use histar_label::{Category, Label, LabelStore, Level};
 use histar_object::{Kind, ObjId};
-use histar_rules::{Denied, HandedLabel, LabelledObjects, Refusal, require};
+use histar_rules::{Denied, LabelledObjects, Refusal, require};
 
 /// Returns the thread's own label and clearance.
 pub fn own_label<S: LabelStore + Drop>(
@@ -61,11 +61,11 @@ pub fn make_category<S: LabelStore + Drop>(
 pub fn set_label<S: LabelStore + Drop>(
     objects: &mut LabelledObjects<S>,
     thread: ObjId,
-    label: &HandedLabel,
+    label: &Label,
 ) -> Result<(), Refusal>
     ensures { Decides objects.old objects.new thread (calls.SetLabel label.now) result (λ _. Unit {0}) }
 {
-    objects.set_label(thread, label.label())
+    objects.set_label(thread, label)
 }
 
 /// Gives the thread another clearance, which is above its own label, and exceeds its old clearance only where
@@ -73,11 +73,11 @@ pub fn set_label<S: LabelStore + Drop>(
 pub fn set_clearance<S: LabelStore + Drop>(
     objects: &mut LabelledObjects<S>,
     thread: ObjId,
-    clearance: &HandedLabel,
+    clearance: &Label,
 ) -> Result<(), Refusal>
     ensures { Decides objects.old objects.new thread (calls.SetClearance clearance.now) result (λ _. Unit {0}) }
 {
-    objects.set_clearance(thread, clearance.label())
+    objects.set_clearance(thread, clearance)
 }
 
 /// Makes a thread in a container, and returns its number. The new thread owns no more than its maker, and its
@@ -86,17 +86,14 @@ pub fn make_thread<S: LabelStore + Drop>(
     objects: &mut LabelledObjects<S>,
     thread: ObjId,
     container: ObjId,
-    label: &HandedLabel,
-    clearance: &HandedLabel,
+    label: Label,
+    clearance: Label,
 ) -> Result<ObjId, Refusal>
     ensures { Decides objects.old objects.new thread
-        (calls.MakeThread container label.now clearance.now) result (IsNextNumber objects.old) }
+        (calls.MakeThread container label clearance) result (IsNextNumber objects.old) }
 {
-    let label = label.label();
-    let clearance = clearance.label();
-    objects.check_new_owner(thread, container, label, clearance)?;
+    objects.check_new_owner(thread, container, &label, &clearance)?;
     let number = objects.next_object();
-    let clearance = clearance.copy()?;
-    objects.add(container, label.copy()?, Kind::Thread(clearance))?;
+    objects.add(container, label, Kind::Thread(clearance))?;
     Ok(number)
 }

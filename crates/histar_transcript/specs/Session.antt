@@ -6,7 +6,7 @@ use Rattle.histar_io.specs.Writing.{AppendsFront}
 use Rattle.histar_script.specs.declared.fault.Fault.{Fault}
 use Rattle.histar_script.specs.declared.fault.Fault.TheVariants.{BadScript, TooLong, OutOfMemory, ReadFailed, WriteFailed}
 use Rattle.histar_script.specs.Reading.{script_of}
-use Rattle.histar_syscall.specs.declared.trace.TraceEntry.{TraceEntry}
+use Rattle.histar_trace.specs.declared.entries.TraceEntry.{TraceEntry}
 use Rattle.histar_shell.specs.declared.session.Options.{Options}
 use Rattle.histar_shell.specs.Run.{RunsText}
 use Rattle.histar_run_explain.specs.Output.{GivesText, IsExplainedOutput}

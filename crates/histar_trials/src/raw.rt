@@ -8,7 +8,7 @@ use histar_rawtext::{denial_name, read_raw};
 use histar_rules::RawCall;
 use histar_script::{Fault, split_line};
 use histar_shell::Counted;
-use histar_syscall::{Kernel, TraceEntry, run_raw};
+use histar_syscall::{Kernel, Trace, TraceEntry, run_raw};
 use std::alloc::Global;
 
 /// Reads the raw calls of a session; other lines are skipped.
@@ -34,19 +34,19 @@ fn agrees(line: &[u8], entry: &TraceEntry) -> bool {
 }
 
 /// Checks that the lines of answers show the denials of a trace, line by line.
-fn shows(text: &[u8], trace: &[TraceEntry]) -> bool {
+fn shows(alloc: Global, text: &[u8], trace: &Trace) -> Result<bool, Fault> {
     let mut rest = text;
-    for entry in trace {
+    for at in 0..trace.len() {
         if rest.is_empty() {
-            return false;
+            return Ok(false);
         }
         let (line, after) = split_line(rest);
-        if !agrees(line, entry) {
-            return false;
+        if !agrees(line, &trace.entry(alloc, at)?) {
+            return Ok(false);
         }
         rest = after;
     }
-    rest.is_empty()
+    Ok(rest.is_empty())
 }
 
 /// Checks that all calls of a session, made at once, are granted and denied as these answers say, over every
@@ -67,7 +67,7 @@ fn is_so_over<S: LabelStore + Drop>(
 ) -> Result<bool, Fault> {
     let mut kernel = Kernel::new(alloc, store)?;
     run_raw(alloc, &mut kernel, calls)?;
-    Ok(shows(text, kernel.trace()))
+    shows(alloc, text, kernel.trace())
 }
 
 /// Runs a session as the program does, and returns what it writes.

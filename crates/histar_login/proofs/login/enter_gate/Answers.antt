@@ -1,5 +1,6 @@
 -- Proves the goals of `enter_gate` of src/login.rt that the search leaves open.
 use Rattle.std.proofs.Common.{ℕ, ◌+◌, ◌*◌, ap, ◌∙◌}
+use Rattle.histar_label.specs.Levels.{Levels}
 use Rattle.histar_rules.specs.declared.raw.RawCall.TheVariants.{Enter}
 use Rattle.histar_programs.specs.declared.call_error.CallError.TheVariants.{Stopped}
 use Rattle.histar_programs.specs.Parts.{ask}
@@ -12,7 +13,7 @@ pub returns-in_err-wanted : goal.returns-in_err-wanted
 returns-in_err-wanted g c =
     let t = c.args.thread in
     let old = c.args.kernel.now in
-    let call = entering c.args.owners.now c.args.number c.args.own.now.0 c.args.own.now.1 in
+    let call = entering c.args.given.now.owners.now c.args.number c.args.own.now.0 c.args.own.now.1 in
     fails_so t (ask call) old old Stopped _ c.from_residual.ensures.1 (before_ask t call old)
 
 pub returns-in_err-entry : goal.returns-in_err-entry
@@ -21,11 +22,11 @@ returns-in_err-entry g c =
     let old = c.args.kernel.now in
     let new = c.enter.new.self in
     let own = c.args.own.now in
-    let call = entering c.args.owners.now c.args.number own.0 own.1 in
-    let labels = c.in_ok-wanted.field-0 in
-    let raw = Enter c.new.result c.new-gate.result labels.wanted labels.clearance labels.verify in
+    let call = entering c.args.given.now.owners.now c.args.number own.0 own.1 in
+    let labels : Levels × Levels = c.in_ok-wanted.field-0 in
+    let raw = Enter c.new.result c.new-gate.result labels.0 labels.1 own.0 in
     fails_so t (ask call) old new _ _ c.from_residual-in_err-entry.ensures.1
-    (enters t old new _ c.args.owners.now c.args.number own c.new.result c.new-gate.result labels c.new.ensures
+    (enters t old new _ c.args.given.now.owners.now c.args.number own c.new.result c.new-gate.result labels c.new.ensures
     (c.new-gate.ensures ∙ ap (λ (n : ℕ). 2 + 2 * n) c.from.ensures) c.in_ok-wanted.ensures
     (refuses t raw old new _ c.in_err-entry.field-0.0 c.in_err-entry.ensures))
 
@@ -35,8 +36,8 @@ returns g c =
     let old = c.args.kernel.now in
     let new = c.enter.new.self in
     let own = c.args.own.now in
-    let labels = c.in_ok-wanted.field-0 in
-    let raw = Enter c.new.result c.new-gate.result labels.wanted labels.clearance labels.verify in
-    enters t old new _ c.args.owners.now c.args.number own c.new.result c.new-gate.result labels c.new.ensures
+    let labels : Levels × Levels = c.in_ok-wanted.field-0 in
+    let raw = Enter c.new.result c.new-gate.result labels.0 labels.1 own.0 in
+    enters t old new _ c.args.given.now.owners.now c.args.number own c.new.result c.new-gate.result labels c.new.ensures
     (c.new-gate.ensures ∙ ap (λ (n : ℕ). 2 + 2 * n) c.from.ensures) c.in_ok-wanted.ensures
     (grants t raw old new c.in_ok-entry.entry c.in_ok-entry.ensures.0 c.in_ok-entry.ensures.1)

@@ -13,7 +13,7 @@ pub returns-in_err-own : goal.returns-in_err-own
 returns-in_err-own g c =
     let t = c.args.caller.now.thread in
     let caller = c.args.caller.now in
-    let owners = c.args.owners.now in
+    let owners = c.args.given.owners.now in
     let old = c.args.kernel.now in
     let k1 = c.own_label.new.self in
     let whole = login_as_program caller c.args.number owners c.args.password in
@@ -25,7 +25,7 @@ pub returns-in_err-enter_gate : goal.returns-in_err-enter_gate
 returns-in_err-enter_gate g c =
     let t = c.args.caller.now.thread in
     let caller = c.args.caller.now in
-    let owners = c.args.owners.now in
+    let owners = c.args.given.owners.now in
     let old = c.args.kernel.now in
     let k1 = c.own_label.new.self in
     let k2 = c.enter_gate.new.kernel in
@@ -45,7 +45,7 @@ pub returns-in_err-right : goal.returns-in_err-right
 returns-in_err-right g c =
     let t = c.args.caller.now.thread in
     let caller = c.args.caller.now in
-    let owners = c.args.owners.now in
+    let owners = c.args.given.owners.now in
     let old = c.args.kernel.now in
     let k1 = c.own_label.new.self in
     let k2 = c.enter_gate.new.kernel in
@@ -70,7 +70,7 @@ pub returns-in_err-take_due : goal.returns-in_err-take_due
 returns-in_err-take_due g c =
     let t = c.args.caller.now.thread in
     let caller = c.args.caller.now in
-    let owners = c.args.owners.now in
+    let owners = c.args.given.owners.now in
     let old = c.args.kernel.now in
     let k1 = c.own_label.new.self in
     let k2 = c.enter_gate.new.kernel in
@@ -100,7 +100,7 @@ pub returns : goal.returns
 returns g c =
     let t = c.args.caller.now.thread in
     let caller = c.args.caller.now in
-    let owners = c.args.owners.now in
+    let owners = c.args.given.owners.now in
     let old = c.args.kernel.now in
     let k1 = c.own_label.new.self in
     let k2 = c.enter_gate.new.kernel in

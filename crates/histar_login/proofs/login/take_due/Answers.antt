@@ -11,7 +11,7 @@ pub returns-in_err-label : goal.returns-in_err-label
 returns-in_err-label g c =
     let t = c.args.caller.now.thread in
     let caller = c.args.caller.now in
-    let owners = c.args.owners.now in
+    let owners = c.args.given.owners.now in
     let old = c.args.kernel.now in
     fails_so t (take_due c.args.right caller owners c.args.own) old old Stopped _ c.from_residual.ensures.1
     (takes_none t c.args.right caller owners c.args.own old old Stopped
@@ -21,7 +21,7 @@ pub returns-in_err-set_label : goal.returns-in_err-set_label
 returns-in_err-set_label g c =
     let t = c.args.caller.now.thread in
     let caller = c.args.caller.now in
-    let owners = c.args.owners.now in
+    let owners = c.args.given.owners.now in
     let old = c.args.kernel.now in
     let mid = c.set_label.new.self in
     let label = c.in_ok-label.label in
@@ -34,7 +34,7 @@ pub returns-in_err-set_clearance : goal.returns-in_err-set_clearance
 returns-in_err-set_clearance g c =
     let t = c.args.caller.now.thread in
     let caller = c.args.caller.now in
-    let owners = c.args.owners.now in
+    let owners = c.args.given.owners.now in
     let old = c.args.kernel.now in
     let mid = c.set_label.new.self in
     let new = c.set_clearance.new.self in
@@ -50,7 +50,7 @@ pub returns : goal.returns
 returns g c =
     let t = c.args.caller.now.thread in
     let caller = c.args.caller.now in
-    let owners = c.args.owners.now in
+    let owners = c.args.given.owners.now in
     let old = c.args.kernel.now in
     let mid = c.set_label.new.self in
     let new = c.set_clearance.new.self in

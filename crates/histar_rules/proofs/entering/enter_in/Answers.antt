@@ -1,13 +1,9 @@
 -- Proves the goals of `enter_in` of src/entering.rt that the search leaves open.
-use Rattle.std.proofs.Common.{Option, Some, sym, ap, ◌∙◌}
+use Rattle.std.proofs.Common.{Option, ap, ◌∙◌}
 use Rattle.std.specs.Prelude.{is_some}
 use Rattle.histar_label.specs.Levels.{Levels}
-use Rattle.histar_label.specs.Store.{label_at}
 use Rattle.histar_object.specs.Objects.{Objects, objects_of, entry_there}
 use Rattle.histar_container.proofs.Keeping.{trans, all_on, shown_on, on_err}
-use Rattle.histar_rules.specs.declared.raw.RawCall.TheVariants.{Enter}
-use Rattle.histar_rules.specs.Finds.{state_with}
-use Rattle.histar_rules.specs.Rules.{check}
 use Rattle.histar_rules.proofs.OwnLabels.{refused_at_denial, keeps_same}
 use Rattle.histar_rules.proofs.EnteringGates.{check_put_both, own_stand, own_shown}
 use Rattle.histar_rules.proofs.entering.enter_in.Goals as goal
@@ -50,13 +46,13 @@ check_enter_in-requires-clause-stand g c =
 
 pub check_enter_in-requires-clause-wanted : goal.check_enter_in-requires-clause-wanted
 check_enter_in-requires-clause-wanted g c =
-    ap is_some (c.in_ok-label.ensures.stands ∙ ap Some c.label-2.ensures)
+    ap is_some c.in_ok-label.ensures.stands
 
 pub check_enter_in-requires-clause-clearance : goal.check_enter_in-requires-clause-clearance
 check_enter_in-requires-clause-clearance g c =
     ap is_some
     (c.put_copy-2.ensures.keeps c.in_ok-clearance.clearance c.args.labels.clearance.now
-    (c.in_ok-clearance.ensures.stands ∙ ap Some c.label.ensures))
+    c.in_ok-clearance.ensures.stands)
 
 pub returns-in_err-entry-clause-stand : goal.returns-in_err-entry-clause-stand
 returns-in_err-entry-clause-stand g c =
@@ -76,12 +72,10 @@ returns-in_err-entry-clause-answer g c =
     let keeps = trans one two three c.put_copy.ensures.keeps c.put_copy-2.ensures.keeps in
     refused_at_denial _ _ c.from_residual-in_err-entry.result c.from_residual-in_err-entry.ensures.1
     (check_put_both one three keeps c.args.table.now c.args.thread c.requires c.in_ok-label.label c.in_ok-clearance.clearance
-    c.args.labels.wanted.now c.args.labels.clearance.now (c.in_ok-label.ensures.stands ∙ ap Some c.label-2.ensures)
+    c.args.labels.wanted.now c.args.labels.clearance.now c.in_ok-label.ensures.stands
     (c.put_copy-2.ensures.keeps c.in_ok-clearance.clearance c.args.labels.clearance.now
-    (c.in_ok-clearance.ensures.stands ∙ ap Some c.label.ensures))
+    c.in_ok-clearance.ensures.stands)
     c.args.next c.args.container c.args.gate c.args.labels.verify.now
-    ∙ ap (λ (verify : Levels). check (state_with three c.args.table.now c.args.next) c.args.thread (Enter c.args.container c.args.gate
-    (label_at three c.in_ok-label.label) (label_at three c.in_ok-clearance.clearance) verify)) (sym c.label-verify.ensures)
     ∙ c.in_err-entry.ensures.answer)
 
 pub returns-in_err-entry-clause-err : goal.returns-in_err-entry-clause-err
@@ -105,10 +99,10 @@ returns-clause-stand g c =
     own_stand one four kept c.args.table.now c.args.thread c.requires c.in_ok-label.label c.in_ok-clearance.clearance
     c.args.labels.wanted.now c.args.labels.clearance.now
     (ap (λ (labels : g.row.S-Id.Denot → Option Levels). labels c.in_ok-label.label) c.check_enter_in.ensures.unchanged
-    ∙ (c.in_ok-label.ensures.stands ∙ ap Some c.label-2.ensures))
+    ∙ c.in_ok-label.ensures.stands)
     (ap (λ (labels : g.row.S-Id.Denot → Option Levels). labels c.in_ok-clearance.clearance) c.check_enter_in.ensures.unchanged
     ∙ (c.put_copy-2.ensures.keeps c.in_ok-clearance.clearance c.args.labels.clearance.now
-    (c.in_ok-clearance.ensures.stands ∙ ap Some c.label.ensures)))
+    c.in_ok-clearance.ensures.stands))
     c.give_own.new.table c.give_own.ensures
 
 pub returns-clause-answer : goal.returns-clause-answer
@@ -118,12 +112,10 @@ returns-clause-answer g c =
     let three = g.S.LabelStore.labels c.put_copy-2.new.store in
     let keeps = trans one two three c.put_copy.ensures.keeps c.put_copy-2.ensures.keeps in
     check_put_both one three keeps c.args.table.now c.args.thread c.requires c.in_ok-label.label c.in_ok-clearance.clearance
-    c.args.labels.wanted.now c.args.labels.clearance.now (c.in_ok-label.ensures.stands ∙ ap Some c.label-2.ensures)
+    c.args.labels.wanted.now c.args.labels.clearance.now c.in_ok-label.ensures.stands
     (c.put_copy-2.ensures.keeps c.in_ok-clearance.clearance c.args.labels.clearance.now
-    (c.in_ok-clearance.ensures.stands ∙ ap Some c.label.ensures))
+    c.in_ok-clearance.ensures.stands)
     c.args.next c.args.container c.args.gate c.args.labels.verify.now
-    ∙ ap (λ (verify : Levels). check (state_with three c.args.table.now c.args.next) c.args.thread (Enter c.args.container c.args.gate
-    (label_at three c.in_ok-label.label) (label_at three c.in_ok-clearance.clearance) verify)) (sym c.label-verify.ensures)
     ∙ c.in_ok-entry.ensures.answer
 
 pub returns-clause-ok : goal.returns-clause-ok
@@ -137,10 +129,10 @@ returns-clause-ok g c =
     own_shown one four kept c.args.table.now c.args.thread c.requires c.in_ok-label.label c.in_ok-clearance.clearance
     c.args.labels.wanted.now c.args.labels.clearance.now
     (ap (λ (labels : g.row.S-Id.Denot → Option Levels). labels c.in_ok-label.label) c.check_enter_in.ensures.unchanged
-    ∙ (c.in_ok-label.ensures.stands ∙ ap Some c.label-2.ensures))
+    ∙ c.in_ok-label.ensures.stands)
     (ap (λ (labels : g.row.S-Id.Denot → Option Levels). labels c.in_ok-clearance.clearance) c.check_enter_in.ensures.unchanged
     ∙ (c.put_copy-2.ensures.keeps c.in_ok-clearance.clearance c.args.labels.clearance.now
-    (c.in_ok-clearance.ensures.stands ∙ ap Some c.label.ensures)))
+    c.in_ok-clearance.ensures.stands))
     c.give_own.new.table c.give_own.ensures
 
 pub returns-clause-entry : goal.returns-clause-entry

@@ -6,6 +6,6 @@ use Rattle.histar_shell.proofs.ending.write_entries.Given as goal
 
 abbrev pub invariant-lines : goal.invariant-lines
 invariant-lines g l = record {
-  written : Appends (g.W.Sink.written l.fn.writer) (g.W.Sink.written l.writer) (trace_text (take l.entry-index l.entries));
+  written : Appends (g.W.Sink.written l.fn.writer) (g.W.Sink.written l.writer) (trace_text (take l.at l.trace.entries));
   count : g.W.Sink.failures l.writer ≡ g.W.Sink.failures l.fn.writer;
 }

@@ -15,15 +15,15 @@ returns-in_err-script-clause-nothing g c =
 pub returns-in_err-script-clause-runs : goal.returns-in_err-script-clause-runs
 returns-in_err-script-clause-runs g c =
     let p = err_from_is_err_and c.from_residual.result c.from_residual.ensures.1 in
-    rw (p.1, p.2) (faulty_text c.args.options calls_refine c.args.text.now _ c.in_err-script.field-0.0 c.in_err-script.ensures.exact)
+    rw (p.1, p.2) (faulty_text c.args.options calls_refine c.args.text.items _ c.in_err-script.field-0.0 c.in_err-script.ensures.exact)
 
 pub returns-in_default-clause-runs : goal.returns-in_default-clause-runs
-returns-in_default-clause-runs g c = unbooted_text c.args.options calls_refine c.args.text.now _
+returns-in_default-clause-runs g c = unbooted_text c.args.options calls_refine c.args.text.items _
 
 pub answer_all-requires : goal.answer_all-requires
 answer_all-requires g c =
     let starts = starts_with c.args.options c.in-Ok.machine c.in_ok-script.script _ c.into_parts-accounts.ensures.accounts c.in-Ok.ensures.starts in
-    λ end. tree_at_last calls_refine c.args.text.now c.in_ok-script.script c.in_ok-script.ensures.exact c.in-Ok.machine end starts _
+    λ end. tree_at_last calls_refine c.args.text.items c.in_ok-script.script c.in_ok-script.ensures.exact c.in-Ok.machine end starts _
     c.into_parts-accounts.ensures.calls
 
 pub returns-in_err-answer_all-clause-nothing : goal.returns-in_err-answer_all-clause-nothing
@@ -49,7 +49,7 @@ returns-in_err-answer_all-clause-runs g c =
     let begun =
     begins_script c.args.options _ _ c.in_ok-script.script c.in-Ok.machine _ starts
     c.into_parts-accounts.ensures.calls c.in_err-answer_all.ensures.err _ given in
-    rw (p.1, p.2) (begun_text c.args.options calls_refine c.args.text.now _ _ c.in_err-answer_all.field-0.0
+    rw (p.1, p.2) (begun_text c.args.options calls_refine c.args.text.items _ _ c.in_err-answer_all.field-0.0
     c.in_ok-script.script given c.in_err-answer_all.ensures.faults begun)
 
 pub returns-clause-runs : goal.returns-clause-runs
@@ -59,4 +59,4 @@ returns-clause-runs g c =
     let answers =
     answers_script c.args.options _ _ c.in_ok-script.script c.in-Ok.machine c.answer_all.new.machine _ _ starts
     c.into_parts-accounts.ensures.calls c.in_ok-answer_all.ensures.ok c.leak_into_trace.ensures.trace _ given in
-    answered_text c.args.options calls_refine c.args.text.now _ _ _ c.in_ok-script.script given answers
+    answered_text c.args.options calls_refine c.args.text.items _ _ _ c.in_ok-script.script given answers

@@ -1,4 +1,5 @@
 -- Proves the goals of `run_with` of src/session.rt that the search leaves open.
+use Rattle.std.proofs.Common.{refl}
 use Rattle.std.proofs.lemmas.Result.{err_from_is_err_and}
 use Rattle.histar_script.specs.Outcome.{input_fault}
 use Rattle.histar_script.proofs.Sinks.{sink_left}
@@ -20,8 +21,8 @@ returns-in_err-input-clause-known g c = input_known c.args.options _ _ _ _ _ (re
 
 pub returns-clause-runs : goal.returns-clause-runs
 returns-clause-runs g c =
-    runs_taken c.args.options _ _ _ _ c.in_ok-input.input.items c.as_slice.result.now _ c.in_ok-input.ensures.ok
-    c.as_slice.ensures.value c.run_text.ensures.runs c.run_text.ensures.reads
+    runs_taken c.args.options _ _ _ _ c.in_ok-input.input.items c.in_ok-input.input.items _ c.in_ok-input.ensures.ok
+    refl c.run_text.ensures.runs c.run_text.ensures.reads
 
 pub returns-clause-known : goal.returns-clause-known
 returns-clause-known g c = input_known c.args.options _ _ _ _ _ (returns-clause-runs g c)

@@ -1,0 +1,4 @@
+-- The definitions of this crate that contracts cite.
+pub mod Stored
+pub mod Traces
+pub use Rattle.histar_rules.specs.Rules
